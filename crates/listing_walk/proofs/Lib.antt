@@ -12,3 +12,4 @@ mod Verdict_walks
 mod Shown_walks
 mod Sweep_walks
 mod Reported_walks
+mod Insert_walks

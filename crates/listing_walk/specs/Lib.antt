@@ -5,3 +5,4 @@ pub mod Choosing
 pub mod Asking
 pub mod Solving_verbs
 pub mod Sweeping_verbs
+pub mod Inserting

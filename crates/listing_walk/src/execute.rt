@@ -8,6 +8,7 @@ ghost use Rattle.listing_walk.specs.Walking.{Walks, Steps};
 
 use crate::chosen::Chosen;
 use crate::follow::follow;
+use crate::inserting::insert;
 use crate::place::Place;
 use crate::reporting::{punch_basis, show_ranges};
 use crate::setup::set_up;
@@ -80,8 +81,7 @@ fn execute<'a>(
         Verb::Pararhs => sweep(alloc, machine, place, card, ParametricVerb::Pararhs),
         Verb::Ranging => show_ranges(alloc, machine, place, card),
         Verb::Punch => punch_basis(alloc, machine, place, card),
-        // the basis that INSERT reads isn't followed here yet
-        Verb::Insert => Err(NoMemory),
+        Verb::Insert => insert(alloc, machine, cards, place, card),
     }
 }
 

@@ -9,6 +9,7 @@ mod course;
 mod execute;
 mod follow;
 mod found;
+mod inserting;
 mod place;
 mod reporting;
 mod selecting;

@@ -1,0 +1,153 @@
+-- What INSERT comes to in the walk.
+use Rattle.std.proofs.Common.{◌≡◌, ℕ, ◌-◌, Bool, true, false, List, [], Option, Some, None, Result, Ok, Err, IfOk, drop, refl, sym, ap, subst, ◌∙◌}
+use Rattle.job_devices.specs.declared.device.NoMemory.{NoMemory}
+use Rattle.card_definitions.specs.Cards.{Card, live, numbered_cards, cards_between}
+use Rattle.lp_definitions.specs.LinearProgram.{LinearProgram}
+use Rattle.problem_definitions.specs.Names.{Name}
+use Rattle.problem_definitions.specs.Problem.{Problem}
+use Rattle.problem_file.specs.Filed.{filed_under}
+use Rattle.deck_definitions.specs.declared.DeckFault.{DeckFault}
+use Rattle.deck_definitions.specs.Conversion.{deck_name}
+use Rattle.deck_definitions.specs.Decks.{decks_of, deck_taken}
+use Rattle.basis_deck_definitions.specs.Reading.{basis_reading}
+use Rattle.job_decks.specs.declared.deck.Deck.{Deck}
+use Rattle.control_definitions.specs.Cells.{Cells}
+use Rattle.control_definitions.specs.Program.{Insert}
+use Rattle.listing_definitions.specs.declared.VerbFault.TheVariants.{NoSetup, DeckNotFound}
+use Rattle.question_definitions.specs.Answers.{Basis, OfInstall}
+use Rattle.run_definitions.specs.State.{Present, State, choice_of}
+use Rattle.run_definitions.specs.Moves.{Nothing, stops, Move, Does, or_fault}
+use Rattle.run_definitions.specs.Verbs.{or_deck_fault, deck_stop, asks, after_install, verb_move}
+use Rattle.run_machine.specs.declared.act.Act.TheVariants as acts
+use Rattle.run_machine.specs.declared.end.End.TheVariants as ends
+use Rattle.run_machine.specs.declared.machine.Machine.{Machine}
+use Rattle.run_machine.specs.Standing as machines
+use Rattle.walk_definitions.specs.Forms.{is_inserted}
+use Rattle.walk_definitions.specs.Walker as walks
+use Rattle.listing_walk.specs.declared.chosen.Chosen.{Chosen}
+use Rattle.listing_walk.specs.declared.found.Found.{Found}
+use Rattle.listing_walk.specs.declared.place.Place.{Place}
+use Rattle.listing_walk.specs.declared.selecting.Unselected.{Unselected}
+use Rattle.listing_walk.specs.declared.selecting.Unselected.TheVariants as unselected
+use Rattle.listing_walk.specs.declared.went.Went.{Went}
+use Rattle.listing_walk.specs.declared.went.Went.TheVariants as went
+use Rattle.listing_walk.specs.Choosing.{IsMade, IsRefused, IsNotMade}
+use Rattle.listing_walk.specs.Standing.{IsShown, Faces}
+use Rattle.listing_walk.specs.Walking.{open_by, Comes, Passes, IsUnchecked, Walks}
+use Rattle.listing_walk.specs.Inserting.{taken_of, is_line_of, open_install, IsInstallDue, RefusesInstall}
+use Rattle.listing_walk.proofs.Setting_up.{faulted}
+use Rattle.listing_walk.proofs.Solving_walks.{present_with, present_at, selecting, no_setup_walks, unselected_walks, made_walks, unmade_here}
+
+-- what INSERT does with the basis that a deck stands for, and with the deck that is taken
+abbrev asks_install : ℕ → State → Present → LinearProgram → List Card × List (List Card) → Basis → Move
+asks_install card state present lp taken s = asks (OfInstall s) (record { problem = present.problem; lp = lp }) present (after_install card lp s taken present state)
+
+abbrev insert_by : ℕ → State → Present → LinearProgram → Option (List Card × List (List Card)) → Move
+insert_by card state present lp found = or_fault card DeckNotFound found (λ taken. or_deck_fault (basis_reading present.problem lp taken.0) (asks_install card state present lp taken))
+
+abbrev insert_move : ℕ → State → Present → LinearProgram → Move
+insert_move card state present lp = insert_by card state present lp (deck_taken state.cells.xdata state.decks)
+
+inserting_move : (card : ℕ) (state : State) → verb_move Insert card state ≡ selecting card state (insert_move card state)
+unfolding verb_move
+inserting_move card state = refl
+
+-- the end by a fault of a deck
+deck_faulted : (cards : List (List ℕ)) (machine : Machine Chosen) (old new : Place) (fault : DeckFault) (card : ℕ) (w' : Went) → Passes machine old new (acts.Ends (ends.Deck fault)) [] w' →
+    (w : walks.Walker) (move : Move) (position executed : ℕ) → Faces old w → move ≡ Does (stops (deck_stop fault)) → Comes (walks.walk_move w move) cards machine position executed new w'
+deck_faulted cards machine old new fault card w' passes w move position executed f is =
+    subst (λ (m : Move). Comes (walks.walk_move w m) cards machine position executed new w') (sym is)
+    (passes w card (Does (stops (deck_stop fault))) cards position executed Nothing f refl refl refl)
+
+module _ (card : ℕ) (state : State) (present : Present) (lp : LinearProgram) (w : walks.Walker) where
+  -- where the line doesn't stand, a stop and what is pending are what is open
+  opened_read : (taken : List Card × List (List Card)) (read : Result Basis DeckFault) → is_inserted (deck_name (live taken.0)) w.rest ≡ false →
+      walks.opened w (or_deck_fault read (asks_install card state present lp taken)) ≡ open_by true true w
+  opened_read taken (Err fault) none = refl
+  opened_read taken (Ok s) none = ap (λ (b : Bool). open_install b w) none
+
+  opened_so : (cards : List (List ℕ)) (deck : Option Deck) → is_line_of cards deck w.rest ≡ false → walks.opened w (insert_by card state present lp (taken_of cards deck)) ≡ open_by true true w
+  opened_so cards None none = refl
+  opened_so cards (Some deck) none =
+      let taken : List Card × List (List Card) = (cards_between deck.first deck.last cards, decks_of (drop deck.last (numbered_cards cards))) in
+      opened_read taken (basis_reading present.problem lp taken.0) none
+
+-- the deck that is taken of the machine's cards
+pub taken_by : (cards : List (List ℕ)) (machine : Machine Chosen) (wanted : Option Name) → wanted ≡ machine.cells.xdata → (deck : Option Deck) →
+    deck_taken wanted (decks_of (drop (machine.decks_from - 1) (numbered_cards cards))) ≡ taken_of cards deck → deck_taken machine.cells.xdata (decks_of (drop (machine.decks_from - 1) (numbered_cards cards))) ≡ taken_of cards deck
+taken_by cards machine wanted same deck is = ap (λ (n : Option Name). deck_taken n (decks_of (drop (machine.decks_from - 1) (numbered_cards cards)))) (sym same) ∙ is
+
+-- its line stands, or doesn't, in what is left
+pub line_by : (cards : List (List ℕ)) (place : Place) (deck : Option Deck) (rest : List ℕ) → rest ≡ place.cursor → (stands : Bool) → stands ≡ is_line_of cards deck rest → stands ≡ is_line_of cards deck place.cursor
+line_by cards place deck rest same stands is = is ∙ ap (is_line_of cards deck) same
+
+module _ (card : ℕ) (cards : List (List ℕ)) (machine : Machine Chosen) (old new : Place) where
+  pub insert_no_setup : machine.setup ≡ None → (result : Result Went NoMemory) → IfOk result (Passes machine old new (acts.Ends (ends.Verb NoSetup card)) []) → IfOk result (Walks Insert card cards machine machine old new)
+  insert_no_setup = no_setup_walks Insert card (insert_move card) (inserting_move card) cards machine old new
+
+  module _ (chosen : Chosen) (is_setup : machine.setup ≡ Some chosen) (problem : Problem ℕ) (on_file : filed_under chosen.name machine.file ≡ Some problem) (deck : Option Deck)
+      (is_taken : deck_taken machine.cells.xdata (decks_of (drop (machine.decks_from - 1) (numbered_cards cards))) ≡ taken_of cards deck) where
+    -- the state has the decks that are left
+    deck_at : {position executed : ℕ} {state : State} → machines.Stands IsShown cards machine position executed state → deck_taken state.cells.xdata state.decks ≡ taken_of cards deck
+    deck_at {state = state} s = ap (λ (c : Cells). deck_taken c.xdata state.decks) s.cells ∙ ap (deck_taken machine.cells.xdata) s.decks ∙ is_taken
+
+    -- ---- a selection is refused
+
+    unmade_walks : IsRefused problem (choice_of machine.cells chosen.options) → is_line_of cards deck old.cursor ≡ false → (found : Found) → IsUnchecked old found → Walks Insert card cards machine machine old new (went.Finds found)
+    unmade_walks refused none found u = λ position executed state w s f.
+        let p = present_at s chosen is_setup problem on_file in
+        let present = present_with problem chosen.options p.opening p.steps in
+        let q = unmade_here card cards machine s (insert_move card state) chosen problem p w refused in
+        ap (walks.walk_move w) (inserting_move card state) ∙ q.1 ∙
+        ap (λ (o : Option (List Card × List (List Card))). walks.unless_found (walks.opened w (insert_by card state present q.0 o)) (walks.Finds (walks.Unchecked w.rest))) (deck_at s) ∙
+        ap (λ (o : Option walks.Found). walks.unless_found o (walks.Finds (walks.Unchecked w.rest))) (opened_so card state present q.0 w cards deck (ap (is_line_of cards deck) f.rest ∙ none)) ∙ u w f
+
+    pub insert_refused : (stands : Bool) → stands ≡ is_line_of cards deck old.cursor → (refusal : Unselected) → IsNotMade problem (choice_of machine.cells chosen.options) refusal → (result : Result Went NoMemory) →
+        IfOk result (RefusesInstall machine old new card stands refusal) → IfOk result (Walks Insert card cards machine machine old new)
+    insert_refused stands is (unselected.Fault fault) h result passes = unselected_walks Insert card (insert_move card) (inserting_move card) cards machine old new chosen is_setup problem on_file fault h result passes
+    insert_refused stands is unselected.Unchecked h (Ok (went.Finds found)) u = unmade_walks h (sym is ∙ u.0) found u.1
+    insert_refused stands is unselected.Unchecked h (Ok went.Next) u = absurd u.1
+    insert_refused stands is unselected.Unchecked h (Ok (went.Jump to)) u = absurd u.1
+    insert_refused stands is unselected.Unchecked h (Err stop) u = tt
+    insert_refused stands is unselected.NoMemory h (Ok w') u = absurd u
+    insert_refused stands is unselected.NoMemory h (Err stop) u = tt
+
+    -- ---- with a linear program
+
+    module _ (lp : LinearProgram) (made : IsMade problem (choice_of machine.cells chosen.options) lp) where
+      pub insert_no_deck : deck ≡ None → (result : Result Went NoMemory) → IfOk result (Passes machine old new (acts.Ends (ends.Verb DeckNotFound card)) []) → IfOk result (Walks Insert card cards machine machine old new)
+      insert_no_deck none (Ok w') passes =
+          made_walks Insert card (insert_move card) (inserting_move card) cards machine old new chosen is_setup problem on_file lp made machine w' (λ position executed state w opening steps s f is_shown.
+          let present = present_with problem chosen.options opening steps in
+          faulted cards machine old new DeckNotFound card w' passes w (insert_move card state present lp) position executed f
+          (ap (insert_by card state present lp) (deck_at s ∙ ap (taken_of cards) none)))
+      insert_no_deck none (Err stop) passes = tt
+
+      module _ (one : Deck) (is_one : deck ≡ Some one) where
+        abbrev deck_cards : List Card
+        deck_cards = cards_between one.first one.last cards
+
+        abbrev taken : List Card × List (List Card)
+        taken = (deck_cards, decks_of (drop one.last (numbered_cards cards)))
+
+        -- what the deck gives decides the move
+        read_move : (read : Result Basis DeckFault) → basis_reading problem lp deck_cards ≡ read → {position executed : ℕ} {state : State} → machines.Stands IsShown cards machine position executed state → (opening : Basis) (steps : List Basis) →
+            insert_move card state (present_with problem chosen.options opening steps) lp ≡ or_deck_fault read (asks_install card state (present_with problem chosen.options opening steps) lp taken)
+        read_move read is {state = state} s opening steps =
+            let present = present_with problem chosen.options opening steps in
+            ap (insert_by card state present lp) (deck_at s ∙ ap (taken_of cards) is_one) ∙ ap (λ (r : Result Basis DeckFault). or_deck_fault r (asks_install card state present lp taken)) is
+
+        pub insert_bad_deck : (fault : DeckFault) → basis_reading problem lp deck_cards ≡ Err fault → (result : Result Went NoMemory) → IfOk result (Passes machine old new (acts.Ends (ends.Deck fault)) []) →
+            IfOk result (Walks Insert card cards machine machine old new)
+        insert_bad_deck fault is (Ok w') passes =
+            made_walks Insert card (insert_move card) (inserting_move card) cards machine old new chosen is_setup problem on_file lp made machine w' (λ position executed state w opening steps s f is_shown.
+            deck_faulted cards machine old new fault card w' passes w (insert_move card state (present_with problem chosen.options opening steps) lp) position executed f (read_move (Err fault) is s opening steps))
+        insert_bad_deck fault is (Err stop) passes = tt
+
+        pub insert_due : (stands : Bool) → stands ≡ is_line_of cards deck old.cursor → (basis : Basis) → basis_reading problem lp deck_cards ≡ Ok basis → (found : Found) → IsInstallDue old stands found →
+            Walks Insert card cards machine machine old new (went.Finds found)
+        insert_due stands stands_is basis is found due =
+            made_walks Insert card (insert_move card) (inserting_move card) cards machine old new chosen is_setup problem on_file lp made machine (went.Finds found) (λ position executed state w opening steps s f is_shown.
+            ap (walks.walk_move w) (read_move (Ok basis) is s opening steps) ∙
+            ap (λ (b : Bool). walks.unless_found (open_install b w) (walks.Finds (walks.Wrong w.rest))) (ap (is_inserted (deck_name (live deck_cards))) f.rest ∙ ap (λ (o : Option Deck). is_line_of cards o old.cursor) (sym is_one) ∙ sym stands_is) ∙
+            due w f)

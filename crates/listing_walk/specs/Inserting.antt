@@ -1,0 +1,49 @@
+-- What INSERT comes to in the walk.
+--     taken_of cards deck          the cards of the deck that is taken, and the decks that are left
+--     is_line_of cards deck rest   the line of INSERT stands here, for the deck that is taken
+--     IsInstallDue place stands found   the line of INSERT is due here
+--     RefusesInstall .. went       a selection is refused, where it is due
+use Rattle.std.specs.Prelude.{◌≡◌, ℕ, ◌≤◌, Bool, false, List, [], Option, Some, None, length, drop, option_map}
+use Rattle.std.specs.Option.{option_or}
+use Rattle.card_definitions.specs.Cards.{Card, live, numbered_cards, cards_between}
+use Rattle.deck_definitions.specs.Conversion.{deck_name}
+use Rattle.deck_definitions.specs.Decks.{decks_of}
+use Rattle.job_decks.specs.declared.deck.Deck.{Deck}
+use Rattle.run_machine.specs.declared.act.Act.TheVariants as acts
+use Rattle.run_machine.specs.declared.end.End.TheVariants as ends
+use Rattle.run_machine.specs.declared.machine.Machine.{Machine}
+use Rattle.walk_definitions.specs.Forms.{is_inserted}
+use Rattle.walk_definitions.specs.Walker as walks
+use Rattle.listing_walk.specs.declared.chosen.Chosen.{Chosen}
+use Rattle.listing_walk.specs.declared.found.Found.{Found}
+use Rattle.listing_walk.specs.declared.place.Place.{Place}
+use Rattle.listing_walk.specs.declared.selecting.Unselected.{Unselected}
+use Rattle.listing_walk.specs.declared.selecting.Unselected.TheVariants.{Fault, Unchecked, NoMemory}
+use Rattle.listing_walk.specs.declared.went.Went.{Went}
+use Rattle.listing_walk.specs.Ended.{found_shown}
+use Rattle.listing_walk.specs.Standing.{Faces}
+use Rattle.listing_walk.specs.Walking.{Passes, FindsUnchecked}
+
+-- the numbers of a deck are those of cards, in order
+abbrev pub LiesWithin : List (List ℕ) → Deck → Type 0
+LiesWithin cards deck = (1 ≤ deck.first) × (deck.first ≤ deck.last) × (deck.last ≤ length cards)
+
+abbrev pub taken_of : List (List ℕ) → Option Deck → Option (List Card × List (List Card))
+taken_of cards deck = option_map (λ d. (cards_between d.first d.last cards, decks_of (drop d.last (numbered_cards cards)))) deck
+
+abbrev pub is_line_of : List (List ℕ) → Option Deck → List ℕ → Bool
+is_line_of cards None rest = false
+is_line_of cards (Some deck) rest = is_inserted (deck_name (live (cards_between deck.first deck.last cards))) rest
+
+-- a stop comes first, then the line, if it stands, and then what is pending
+abbrev pub open_install : Bool → walks.Walker → Option walks.Found
+open_install stands w = option_or (walks.open_stop w) (option_or (walks.open_if stands w) (walks.open_pending w))
+
+abbrev pub IsInstallDue : Place → Bool → Found → Type 0
+IsInstallDue place stands found = (w : walks.Walker) → Faces place w → walks.unless_found (open_install stands w) (walks.Finds (walks.Wrong w.rest)) ≡ walks.Finds (found_shown found)
+
+-- where the line stands, nothing is said of a refused operation
+abbrev pub RefusesInstall : Machine Chosen → Place → Place → ℕ → Bool → Unselected → Went → Type 0
+RefusesInstall machine old new card stands (Fault fault) went = Passes machine old new (acts.Ends (ends.Verb fault card)) [] went
+RefusesInstall machine old new card stands Unchecked went = (stands ≡ false) × FindsUnchecked old went
+RefusesInstall machine old new card stands NoMemory went = ⊥

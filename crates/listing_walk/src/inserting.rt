@@ -1,0 +1,119 @@
+// INSERT, whose report can't be attested.
+ghost use Rattle.std.specs.Prelude.{◌≡◌, ◌+◌, ◌≤◌, ◌<◌, IfOk, IfSome};
+ghost use Rattle.control_definitions.specs.Program as program;
+ghost use Rattle.listing_walk.specs.Standing.{IsSound};
+ghost use Rattle.listing_walk.specs.Walking.{Walks};
+ghost use Rattle.listing_walk.specs.Inserting.{is_line_of, LiesWithin, IsInstallDue, RefusesInstall};
+
+use crate::chosen::Chosen;
+use crate::follow::{fault, follow};
+use crate::found::Found;
+use crate::place::Place;
+use crate::selecting::{Unselected, select_present};
+use crate::went::Went;
+use basis_deck::read_basis;
+use card_reader::Cards;
+use deck_fields::DeckStop;
+use job_decks::{Deck, take_deck};
+use job_devices::NoMemory;
+use listing_definitions::VerbFault;
+use listing_readers::is_inserted;
+use mps_convert::problem_name;
+use run_cells::NameCell;
+use run_machine::{Act, End, Machine};
+use std::alloc::Global;
+
+// Whether the line of INSERT stands here, for the deck that is taken.
+fn is_line_of(cards: &Cards, taken: Option<Deck>, rest: &[u8]) -> bool
+    requires { IfSome taken (LiesWithin cards.now) }
+    ensures { result ≡ is_line_of cards.now taken rest.now }
+{
+    match taken {
+        Some(deck) => {
+            let name = problem_name(cards, deck.first, deck.last, None);
+            is_inserted(rest, name)
+        }
+        None => false,
+    }
+}
+
+// The line of INSERT is due here, and stands or doesn't: a stop comes first; where the line doesn't stand, the verdict that is pending
+// comes, and else it is wrong.
+fn install_due<'a>(place: &Place<'a>, stands: bool) -> Found<'a>
+    ensures { IsInstallDue place.now stands result }
+{
+    let rest = place.cursor.left();
+    if stands {
+        return Found::Open(rest);
+    }
+    match place.open_here(true, true) {
+        Some(found) => found,
+        None => Found::Wrong(rest),
+    }
+}
+
+// What is refused, where the line of INSERT stands or doesn't. A deck can't be judged without the linear program.
+fn refuse_install<'a>(
+    alloc: Global,
+    machine: &Machine<Chosen>,
+    place: &mut Place<'a>,
+    refusal: Unselected,
+    stands: bool,
+    card: u32,
+) -> Result<Went<'a>, NoMemory>
+    requires { place.old.reports < 4294967295 }
+    ensures refuses { IfOk result (RefusesInstall machine.now place.old place.new card stands refusal) }
+    ensures few { place.new.reports ≤ place.old.reports + 1 }
+{
+    match refusal {
+        Unselected::Fault(why) => fault(alloc, machine, place, why, card),
+        Unselected::Unchecked => {
+            if stands {
+                return Err(NoMemory);
+            }
+            Ok(Went::Finds(place.unchecked()))
+        }
+        Unselected::NoMemory => Err(NoMemory),
+    }
+}
+
+/// INSERT. It needs a setup, selects again by the cells as they stand, takes a deck, and reads the basis that the deck stands for. The
+/// walk doesn't go past its report. Where an operation of the selection is refused and a line of INSERT stands, it answers that there is
+/// no memory, since the deck can't be judged then.
+pub fn insert<'a>(
+    alloc: Global,
+    machine: &Machine<Chosen>,
+    cards: &Cards,
+    place: &mut Place<'a>,
+    card: u32,
+) -> Result<Went<'a>, NoMemory>
+    requires sound { IsSound cards.now machine.now }
+    requires few { place.old.reports < 4294967295 }
+    ensures walks { IfOk result (Walks program.Insert card cards.now machine.now machine.now place.old place.new) }
+    ensures few { place.new.reports ≤ place.old.reports + 1 }
+{
+    let Some(chosen) = &machine.setup else {
+        return fault(alloc, machine, place, VerbFault::NoSetup, card);
+    };
+    // a problem stays on file while it is chosen
+    let Some(problem) = machine.file.get(&chosen.name) else {
+        unreachable!();
+    };
+    let wanted = machine.cells.name(NameCell::Xdata);
+    let taken = take_deck(cards, machine.decks_from, wanted);
+    let stands = is_line_of(cards, taken, place.cursor.left());
+    let lp = match select_present(alloc, problem, &machine.cells, chosen.options) {
+        Ok(lp) => lp,
+        Err(refusal) => return refuse_install(alloc, machine, place, refusal, stands, card),
+    };
+    let Some(deck) = taken else {
+        return fault(alloc, machine, place, VerbFault::DeckNotFound, card);
+    };
+    match read_basis(alloc, problem, &lp, cards, deck.first, deck.last) {
+        Ok(_basis) => Ok(Went::Finds(install_due(place, stands))),
+        Err(DeckStop::Fault(why)) => {
+            follow(alloc, machine, place, &Act::Ends(End::Deck(why)), &[])
+        }
+        Err(DeckStop::NoMemory) => Err(NoMemory),
+    }
+}
