@@ -4,20 +4,20 @@ use Rattle.std.specs.List.{list_any}
 use Rattle.card_definitions.specs.Words.{named, each_after, ◌⟹◌, first_fault, unless}
 use Rattle.card_definitions.specs.Cards.{Card, live, last_number}
 use Rattle.card_definitions.specs.Fields.{Reading, reading_of, gaps_are_blank, words, first_word, fields_for}
-use Rattle.problem_definitions.specs.Names.{Name, has_name}
+use Rattle.problem_definitions.specs.Names.{Name}
 use Rattle.problem_definitions.specs.Problem.{Problem}
 use Rattle.problem_definitions.specs.Numbering.{numbered}
 use Rattle.deck_definitions.specs.declared.DeckFault.{DeckFault}
 use Rattle.deck_definitions.specs.declared.DeckFaultKind.{DeckFaultKind}
-use Rattle.deck_definitions.specs.declared.DeckFaultKind.TheVariants.{SectionOrder, UnknownSection, BadBoundType, NoEndata, CombinationRow, ExtraField, WordCount, LongName, LongNumber}
+use Rattle.deck_definitions.specs.declared.DeckFaultKind.TheVariants.{SectionOrder, UnknownSection, BadRowType, BadBoundType, NoEndata, ExtraField, WordCount, LongName, LongNumber}
 use Rattle.deck_definitions.specs.declared.Section.{Section}
 use Rattle.deck_definitions.specs.declared.Section.TheVariants.{Header, Rows, Columns, Rhs, Ranges, Bounds, Endata}
 use Rattle.deck_definitions.specs.declared.Style.{Style}
 use Rattle.deck_definitions.specs.declared.Style.TheVariants.{FixedFields, FreeFields}
 use Rattle.deck_definitions.specs.Sections.{may_follow, section_words, section_word, is_section_card, section_after, is_section_after, header_name}
-use Rattle.deck_definitions.specs.DataCards.{style_of, form_on, words_on, bound_kinds}
+use Rattle.deck_definitions.specs.DataCards.{style_of, form_on, words_on, is_row_type, bound_kinds}
 use Rattle.deck_definitions.specs.Described.{described}
-use Rattle.deck_definitions.specs.Tests.{combination_kinds, rows_fault, columns_fault, set_fault, bounds_fault}
+use Rattle.deck_definitions.specs.Tests.{row_fault, columns_fault, set_fault, bounds_fault}
 
 -- The tests of a section card, by a rule that says what may follow: the first card of a deck is a NAME card, and every
 -- other begins a known section that may follow the one before.
@@ -36,7 +36,7 @@ gaps_fault card = not (gaps_are_blank card) ⟹ ExtraField
 
 -- the test of a free card's first word, where it tells a type
 abbrev pub type_fault : Section → List ℕ → Option DeckFaultKind
-type_fault Rows word = has_name combination_kinds word ⟹ CombinationRow
+type_fault Rows word = not (is_row_type word) ⟹ BadRowType
 type_fault Bounds word = is_none (named bound_kinds word) ⟹ BadBoundType
 type_fault _ word = None
 
@@ -61,7 +61,7 @@ form_fault FreeFields section deletes card = first_fault (
 
 -- the tests of a data card in its section
 abbrev pub section_fault : Problem Name → Section → Reading → Option DeckFaultKind
-section_fault seen Rows card = rows_fault seen card
+section_fault seen Rows card = row_fault seen card
 section_fault seen Columns card = columns_fault seen card
 section_fault seen Rhs card = set_fault seen Rhs seen.rhs card
 section_fault seen Ranges card = set_fault seen Ranges seen.ranges card

@@ -76,9 +76,6 @@ pub enum DeckFaultKind {
     TooManyColumns,
     #[error("there are too many entries")]
     TooManyEntries,
-    /// A row type that makes a row of other rows.
-    #[error("a row is to be made of other rows")]
-    CombinationRow,
     /// Something stands where the card is to be blank.
     #[error("a field is to be blank")]
     ExtraField,

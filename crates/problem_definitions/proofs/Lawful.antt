@@ -7,11 +7,13 @@ use Rattle.card_definitions.specs.Words.{is_empty}
 use Rattle.problem_definitions.specs.declared.TheConstants.{MAX_ROWS, MAX_COLUMNS, MAX_ENTRIES}
 use Rattle.problem_definitions.specs.Names.{Name, same, has_name, number_in, name_at, marker}
 use Rattle.problem_definitions.specs.Kinds.{meet, takes_value}
-use Rattle.problem_definitions.specs.Problem.{Row, Entry, Bound, Group, Problem, row_names, group_names, entry_count, has_row, has_free_row, has_group}
+use Rattle.problem_definitions.specs.Problem.{Row, Entry, Bound, Group, Problem, row_names, group_names, entry_count, has_row, has_free_row, has_combination, has_group}
 use Rattle.problem_definitions.specs.Numbering.{entry_by, row_by, bound_by, group_by, numbered}
 use Rattle.problem_definitions.specs.Valid.{IsName, IsDecimal, AreLabels, IsNumberOf, AreEntries, clash, AreBounds, AreSets, is_free_row, IsProblem}
 use Rattle.problem_definitions.proofs.Names.{row_is_named}
 use Rattle.problem_definitions.proofs.Groups.{map-map, has_group-names}
+use Rattle.problem_definitions.proofs.LawfulEntries.{AreLawfulEntries}
+use Rattle.problem_definitions.proofs.Parts.{ArePartsAfter}
 use Rattle.problem_definitions.proofs.Each.{each-change, each-all, each-mapped, distinct-mapped}
 use Rattle.problem_definitions.proofs.PlainRows.{ArePlain, row_names-by, row_count-by, is_free_row-by, plain-by}
 use Rattle.problem_definitions.proofs.Places.{number_in-within, name_at-number_in, numbers_apart, free_row-number}
@@ -27,15 +29,10 @@ pub record AreGroups {X : Type 0} (IsGroupName : Name → Type 0) (AreItems : Li
   pub distinct : IsDistinct same (group_names groups)
   pub items : AllByRecursion (λ group. AreItems group.items) groups
 
--- entries on rows that are there, no two on one row
-pub record AreLawfulEntries (rows : List (Row Name)) (entries : List (Entry Name)) : Type 0 where
-  pub on_rows : AllByRecursion (λ entry. has_row rows entry.row ≡ true) entries
-  pub distinct : IsDistinct same (map (λ entry. entry.row) entries)
-  pub values : AllByRecursion (λ entry. IsDecimal entry.value) entries
-
 pub record AreColumnEntries (rows : List (Row Name)) (entries : List (Entry Name)) : Type 0 where
   pub entries_lawful : AreLawfulEntries rows entries
   pub no_marker : AllByRecursion (λ entry. same marker entry.row ≡ false) entries
+  pub plain : AllByRecursion (λ entry. has_combination rows entry.row ≡ false) entries
 
 pub record AreRightHandSides (rows : List (Row Name)) (entries : List (Entry Name)) : Type 0 where
   pub entries_lawful : AreLawfulEntries rows entries
@@ -62,7 +59,7 @@ pub record AreBoundSets (columns : List (Group (Entry Name))) (bounds : List (Bo
 
 pub record IsLawful (problem : Problem Name) : Type 0 where
   pub row_labels : AllByRecursion IsLabel (row_names problem)
-  pub plain_rows : ArePlain problem.rows
+  pub parts : ArePartsAfter [] problem.rows
   pub rows_distinct : IsDistinct same (row_names problem)
   pub columns : AreGroups IsLabel (AreColumnEntries problem.rows) problem.columns
   pub rhs : AreGroups IsName (AreRightHandSides problem.rows) problem.rhs

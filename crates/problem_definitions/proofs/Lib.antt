@@ -3,6 +3,8 @@ pub mod Names
 pub mod Groups
 pub mod Each
 pub mod Places
+pub mod LawfulEntries
+pub mod Parts
 pub mod PlainRows
 pub mod Lawful
 pub mod Added

@@ -1,26 +1,36 @@
 // The rows, columns and sets of a problem. Rows and columns are numbered from 1.
 
+ghost use Rattle.std.specs.Prelude.{◌≡◌, is_some};
+
 use deck_fields::Decimal;
 use name_table::Name;
 use problem_definitions::{BoundKind, RowKind};
 use std::marker::Model;
 
-/// A row: its type and its name.
-#[derive(Clone, Copy, Debug)]
+/// A row: its type and its name, and of a combination its parts, each a row before it and a multiplier.
+#[derive(Debug, Drop)]
 pub struct RowDecl {
     pub kind: RowKind,
     pub name: Name,
+    pub parts: Option<Vec<DeckEntry>>,
 }
 
 impl Model for RowDecl {
-    ghost use Rattle.std.specs.Prelude.{ℕ};
-    ghost use Rattle.problem_definitions.specs.Problem.{Row, plain_row};
+    ghost use Rattle.std.specs.Prelude.{ℕ, option_map};
+    ghost use Rattle.problem_definitions.specs.Problem.{Row};
 
     ghost Value = { Row ℕ };
 
-    ghost view = { λ row. plain_row row.kind row.name };
+    ghost view = { λ row. record { kind = row.kind; name = row.name; parts = option_map (λ parts. parts.items) row.parts } };
+}
 
-    ghost inverse = { λ row. record { kind = row.kind; name = row.name } };
+impl RowDecl {
+    /// Whether the row is a combination: a sum of multiples of rows before it.
+    pub fn is_combination(&self) -> bool
+        ensures { result ≡ is_some self.now.parts }
+    {
+        self.parts.is_some()
+    }
 }
 
 /// A number on a row: an entry of a column, or an item of a right-hand side or range set.
