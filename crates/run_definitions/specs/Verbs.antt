@@ -9,7 +9,7 @@ use Rattle.problem_definitions.specs.Problem.{Problem, has_free_row, has_group, 
 use Rattle.problem_definitions.specs.Numbering.{by_names}
 use Rattle.deck_definitions.specs.declared.DeckFault.{DeckFault}
 use Rattle.deck_definitions.specs.declared.DeckFaultKind.{DeckFaultKind}
-use Rattle.deck_definitions.specs.declared.DeckFaultKind.TheVariants.{SectionOrder, UnknownSection, BadRowType, DuplicateRow, ColumnSplit, UnknownRow, DuplicateEntry, Number, RangeOnFree, BadBoundType, UnknownColumn, BoundTwice, NoEndata, Marker, EmptyName, TooManyRows, TooManyColumns, TooManyEntries, CombinationRow, ExtraField, UnknownAction, NoAnchor, DeleteMissing, ModifyMissing, WordCount, LongName, LongNumber, EntryOnCombination, BadBasisCode, NamedTwice, NoSuchLimit}
+use Rattle.deck_definitions.specs.declared.DeckFaultKind.TheVariants.{SectionOrder, UnknownSection, BadRowType, DuplicateRow, ColumnSplit, UnknownRow, DuplicateEntry, Number, RangeOnFree, BadBoundType, UnknownColumn, BoundTwice, NoEndata, Marker, EmptyName, TooManyRows, TooManyColumns, TooManyEntries, ExtraField, UnknownAction, NoAnchor, DeleteMissing, ModifyMissing, WordCount, LongName, LongNumber, EntryOnCombination, BadBasisCode, NamedTwice, NoSuchLimit}
 use Rattle.deck_definitions.specs.Conversion.{conversion, deck_name}
 use Rattle.deck_definitions.specs.Written.{written}
 use Rattle.deck_definitions.specs.Decks.{deck_taken}
@@ -59,7 +59,6 @@ deck_fault_number EmptyName = 15
 deck_fault_number TooManyRows = 16
 deck_fault_number TooManyColumns = 17
 deck_fault_number TooManyEntries = 18
-deck_fault_number CombinationRow = 19
 deck_fault_number ExtraField = 20
 deck_fault_number UnknownAction = 21
 deck_fault_number NoAnchor = 22

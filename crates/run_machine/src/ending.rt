@@ -35,7 +35,6 @@ fn deck_fault_number(kind: DeckFaultKind) -> u8
         DeckFaultKind::TooManyRows => 16,
         DeckFaultKind::TooManyColumns => 17,
         DeckFaultKind::TooManyEntries => 18,
-        DeckFaultKind::CombinationRow => 19,
         DeckFaultKind::ExtraField => 20,
         DeckFaultKind::UnknownAction => 21,
         DeckFaultKind::NoAnchor => 22,
