@@ -57,10 +57,52 @@ def entry_cases():
 def row_cases():
     "a card of ROWS more, before card 12"
     three = "CONVERT ONE      ROWS 3 COLUMNS 1 ENTRIES 2"
-    for card, told in ((" Q R X", fault(25, 12)), (" Q R", fault(3, 12)), (" L", fault(25, 12)), (" L A B 1", fault(25, 12)), (" G LOW", fault(4, 12)),
-                       (" DN", fault(19, 12)), (" DN S COST", fault(19, 12)), (" DL S COST 1 LOW", fault(19, 12)), (" L LONGNAME9", fault(26, 12)),
-                       (" Q LONGNAME9", fault(26, 12)), (" L A", three)):
+    for card, told in ((" Q R X", fault(3, 12)), (" Q R", fault(3, 12)), (" L", fault(25, 12)), (" L A B 1", fault(25, 12)), (" G LOW", fault(4, 12)),
+                       (" DN", fault(25, 12)), (" DN S COST", fault(25, 12)), (" DL S COST 1 LOW", fault(25, 12)), (" L LONGNAME9", fault(26, 12)),
+                       (" Q LONGNAME9", fault(3, 12)), (" L A", three), (" DN S", three), (" DL S COST 1", three), (" DL S COST 1 LOW -2", three),
+                       (" DL LONGNAME9 COST 1", fault(26, 12)), (" DL S LONGNAME9 1", fault(26, 12)), (" DL S COST 1234567890123", fault(27, 12)),
+                       (" DL S COST 1 LOW 1.2.3", fault(8, 12, " NUMBER 2 COLUMN 21")), (" DL S S 1", fault(6, 12)), (" DL S NOROW 1", fault(6, 12)),
+                       (" DL COST COST 1", fault(4, 12)), (" DL S COST 1 COST 2", fault(7, 12)), (" DE S 'MARKER' 1", fault(6, 12))):
         yield with_card(12, card, adds=True), told
+    for cards, told in ((("DL S COST 1", "DL S LOW 1"), three), (("DL S", "DL S LOW 1"), three), (("DL S COST 1", "* a note", "DL S LOW 1"), three),
+                        (("DL S COST 1", "DL S COST 1"), fault(7, 13)), (("DL S COST 1", "DG S LOW 1"), fault(4, 13)), (("DL S COST 1", "L S"), fault(4, 13)),
+                        (("DL S COST 1", "L A", "DL S LOW 1"), fault(4, 14)), (("DL S COST 1", "DL S S 1"), fault(6, 13)), (("L A", "L A"), fault(4, 13))):
+        yield with_card(12, *(card if card.startswith("*") else " " + card for card in cards), adds=True), told
+
+
+def combination_cases():
+    """a fixed deck with a combination S of the rows A and B: cards of ROWS in the place of card 13, S's, an entry in that of card 15, a right-hand
+    side or a range behind"""
+    head = [*program_of("CONVERT", "SETUP", "PRIMAL", "SOLUTION"), "NAME          T", "ROWS", " N  COST", " L  A", " L  B"]
+    columns = ["COLUMNS", "    X         A         1"]
+
+    def of(cards, more=()):
+        return [*head, *cards, *columns, *more, "ENDATA"]
+
+    def row(*fields):
+        return " {:<2} {:<10}{:<10}{:<15}{:<10}{}".format(*fields, *[""] * (6 - len(fields))).rstrip()
+
+    def sizes(rows):
+        return f"CONVERT T        ROWS {rows} COLUMNS 1 ENTRIES 1"
+
+    for cards, told in (
+            ([row("DL", "S", "A", "1", "B", "1")], sizes(4)), ([row("DL", "S")], sizes(4)), ([row("DL", "S", "", "", "B", "1")], sizes(4)),
+            ([row("DL", "S", "A", "1"), row("DL", "S", "B", "1")], sizes(4)), ([row("DL", "S"), row("DN", "Z", "S", "-1")], sizes(5)),
+            ([row("DL", "S", "A", "1"), row("DL", "U", "A", "1")], sizes(5)), ([row("DX", "S", "A", "1")], fault(3, 13)), ([row("DL", "", "A", "1")], fault(15, 13)),
+            ([row("DL", "S", "", "1")], fault(15, 13)), ([row("DL", "S", "A", "1", "", "1")], fault(15, 13)), ([row("DL", "S", "A")], fault(8, 13, " NUMBER 1")),
+            ([row("DL", "S", "", "", "B", "1X")], fault(8, 13, " NUMBER 2 COLUMN 51")), ([row("DL", "S", "S", "1")], fault(6, 13)),
+            ([row("DL", "S", "U", "1"), row("DL", "U", "A", "1")], fault(6, 13)), ([row("DL", "S", "A", "1", "A", "1")], fault(7, 13)),
+            ([row("DL", "S", "A", "1"), row("DL", "S", "A", "2")], fault(7, 14)), ([row("DL", "S", "A", "1"), row("DG", "S", "B", "1")], fault(4, 14)),
+            ([row("DL", "S", "A", "1"), row("L", "C"), row("DL", "S", "B", "1")], fault(4, 15)), ([row("DL", "A", "B", "1")], fault(4, 13)),
+            ([row("L", "A")], fault(4, 13)), ([row("L", "S", "A", "1")], fault(20, 13)), ([row("DN", "S", "A", "1")[:13] + "X"], fault(20, 13))):
+        yield of(cards), told
+    whole = [row("DL", "S", "A", "1", "B", "1")]
+    free = [row("DN", "S", "A", "1", "B", "1")]
+    for rows, more, told in ((whole, (row("", "X", "S", "1"),), fault(28, 16)), (whole, (row("", "X", "B", "1", "S", "1"),), fault(28, 16)),
+                             (whole, (row("", "X", "S", "X"),), fault(28, 16)), (whole, ("RHS", row("", "R", "S", "1")), sizes(4)),
+                             (whole, ("RANGES", row("", "R", "S", "1")), sizes(4)), (free, ("RANGES", row("", "R", "S", "1")), fault(9, 17)),
+                             (free, ("RHS", row("", "R", "S", "1")), sizes(4))):
+        yield of(rows, more), told
 
 
 def set_cases():
@@ -93,7 +135,17 @@ def revision_cases():
 
     for cards, told in (
             (("ROWS", " MODIFY", " L LOW"), of()), (("ROWS", " MODIFY", " N LOW"), fault(9, 25)), (("ROWS", " MODIFY", " L NOROW"), fault(24, 25)),
-            (("ROWS", " MODIFY", " Q NOROW"), fault(3, 25)), (("ROWS", " MODIFY", " DL LOW"), fault(19, 25)), (("ROWS", " MODIFY", " LOW"), fault(25, 25)),
+            (("ROWS", " MODIFY", " Q NOROW"), fault(3, 25)), (("ROWS", " MODIFY", " DL LOW COST 1"), fault(3, 25)), (("ROWS", " MODIFY", " LOW"), fault(3, 25)),
+            (("ROWS", " MODIFY", " DL NOROW"), fault(24, 25)), (("ROWS", " AFTER", " DN SUM COST 1 LOW 2"), of(3)),
+            (("ROWS", " AFTER", " DN SUM COST 1", " DN SUM LOW 2"), of(3)), (("ROWS", " AFTER", " DN SUM COST 1", " AFTER", " DN SUM LOW 2"), fault(4, 27)),
+            (("ROWS", " BEFORE LOW", " DN SUM COST 1"), of(3)), (("ROWS", " BEFORE LOW", " DN SUM LOW 1"), fault(6, 25)),
+            (("ROWS", " BEFORE", " DN SUM COST 1"), fault(6, 25)), (("ROWS", " BEFORE LOW", " L CAP", " DN SUM CAP 1"), of(4)),
+            (("ROWS", " BEFORE LOW", " DN SUM COST 1", " L CAP", " DN SUM CAP 1"), fault(4, 27)),
+            (("ROWS", " AFTER", " DL SUM COST 1", " MODIFY", " DG SUM LOW 2"), of(3)), (("ROWS", " AFTER", " DL SUM COST 1", " MODIFY", " G SUM"), fault(3, 27)),
+            (("ROWS", " AFTER", " DL SUM COST 1", "COLUMNS", " MODIFY", " X SUM 1"), fault(28, 28)),
+            (("ROWS", " AFTER", " DL SUM COST 1", "COLUMNS", " DELETE", " X SUM"), fault(23, 28)),
+            (("ROWS", " AFTER", " DL SUM COST 1", " MODIFY", " DL SUM COST -1 SUM 1"), fault(6, 27)),
+            (("ROWS", " AFTER", " DL SUM COST 1", " MODIFY", " DL SUM COST 1 COST 2"), of(3)),
             (("ROWS", " MODIFY LONGNAME9", " L LOW"), of()), (("ROWS", " DELETE", " LOW"), of(1, 1, 1)), (("ROWS", " DELETE", " NOROW"), fault(23, 25)),
             (("ROWS", " DELETE", " G LOW"), fault(25, 25)), (("ROWS", " DELETE", " DN"), fault(23, 25)), (("ROWS", " DELETE", " LONGNAME9"), fault(26, 25)),
             (("ROWS", " BEFORE LOW", " L CAP"), of(3)), (("ROWS", "   AFTER", " L CAP"), of(3)), (("ROWS", " AFTER LOW", " G LOW"), fault(4, 25)),
@@ -119,7 +171,7 @@ def listing_of(text):
 
 
 def try_cases(program):
-    for cases in (entry_cases, row_cases, set_cases, name_cases, revision_cases):
+    for cases in (entry_cases, row_cases, combination_cases, set_cases, name_cases, revision_cases):
         for cards, told in cases():
             text = "\n".join(cards) + "\n"
             lines = listing_of(text)[0].decode().splitlines()
@@ -165,7 +217,12 @@ TURNED = (
     ("NAME          T\nROWS\nCOLUMNS\nBOUNDS\n FR B         X         5\nENDATA\n", (), 0, "card 5: field 4, which isn't read, is left out: 5"),
     ("NAME          T\nROWS\n L   LOW\nCOLUMNS\nENDATA\n", (), 65, "card 3: field 2 is ' LOW'"),
     ("NAME          T\nROWS\nCOLUMNS\n    X         LOW\nENDATA\n", (), 65, "card 4: its fields are none that such a card can have"),
-    ("NAME          T\nROWS\n LX LOW\nCOLUMNS\nENDATA\n", (), 0, ""),
+    ("NAME          T\nROWS\n DL LOW\nCOLUMNS\nENDATA\n", (), 0, ""),
+    ("NAME          T\nROWS\n LX LOW\nCOLUMNS\nENDATA\n", (), 65, "card 3: its fields are none that such a card can have: as 'LX LOW' it would have deck fault 3"),
+    ("NAME          T\nROWS\n L  A\n DL S         A\nCOLUMNS\nENDATA\n", (), 65, "card 4: its fields are none that such a card can have"),
+    ("NAME          T\nROWS\n L  A\n DL S                                  A         1\nCOLUMNS\nENDATA\n", (), 65, "card 4: as 'DL S A 1' it would have"),
+    ("NAME          T         FREE\nROWS\n LX LOW\nENDATA\n", ("--fixed",), 65, "card 3: deck fault 3: an unknown row type"),
+    ("NAME          T         FREE\nROWS\n L A\n DL S A 1 B -2\nENDATA\n", ("--fixed",), 0, ""),
     ("NAME          T\nROWS\n LXXLOW\nCOLUMNS\nENDATA\n", (), 65, "card 3: LXXLOW is no action"),
     ("NAME          T\nRHS\n DELETE\n              LOW\nENDATA\n", (), 65, "card 4: what is to be deleted has the empty name"),
     ("NAME          T\nRHS\n MODIFY\n              AFTER     1\nENDATA\n", (), 65, "card 4: AFTER would begin an action card"),

@@ -10,6 +10,7 @@ GAPS = [column for column in range(1, 62) if not any(first <= column <= last for
 NAMES, NUMBERS = (2, 3, 5), (4, 6)
 NAME_LENGTH, NUMBER_LENGTH = 8, 12
 KINDS, COMBINATIONS = ("N", "G", "L", "E"), ("DN", "DG", "DL", "DE")
+TYPE_NAMED, PARTS = [(1, 2)], [(1, 2, 3, 4), (1, 2, 3, 4, 5, 6)]
 # the ends of a column that a bound touches, and the types that take a number
 BOUNDS = {"UP": "U", "PL": "U", "LO": "L", "MI": "L", "FX": "LU", "FR": "LU"}
 VALUED = ("UP", "LO", "FX")
@@ -107,11 +108,11 @@ def fixed_fields(card):
 
 
 def word_fields(section, deletes, first):
-    "which fields the words of a free card may be; for the bounds its first word tells"
+    "which fields the words of a free card may be; its first word tells its type"
     if deletes:
         return [(2,)] if section == "ROWS" else [(2,), (2, 3)]
     if section == "ROWS":
-        return [(1, 2)]
+        return TYPE_NAMED + (PARTS if first in COMBINATIONS else [])
     if section == "BOUNDS":
         return [(1, 2, 3, 4), (1, 3, 4)] if first in VALUED else [(1, 2, 3), (1, 3)]
     return NAMED_PAIRS if section == "COLUMNS" else NAMED_PAIRS + BARE_PAIRS
@@ -120,8 +121,8 @@ def word_fields(section, deletes, first):
 def free_fields(card, section, deletes):
     words = words_of(card)
     first = words[0][1]
-    if section == "ROWS" and not deletes and first in COMBINATIONS:
-        raise DeckFault(19)
+    if section == "ROWS" and not deletes and first not in KINDS + COMBINATIONS:
+        raise DeckFault(3)
     if section == "BOUNDS" and not deletes and first not in BOUNDS:
         raise DeckFault(10)
     given = next((given for given in word_fields(section, deletes, first) if len(given) == len(words)), None)
@@ -143,14 +144,25 @@ def needs_blank(field, *numbers):
 # ---- a problem, by names
 
 class Problem:
-    "what a deck says; DeckFault where it has a fault"
+    """what a deck says; DeckFault where it has a fault. A row has its kind; a combination also has its parts, which are multipliers by the names
+    of other rows"""
     def __init__(self, cards):
-        self.name, self.rows, self.columns = "", {}, {}
+        self.name, self.rows, self.parts, self.columns = "", {}, {}, {}
         self.sets = {"RHS": {}, "RANGES": {}, "BOUNDS": {}}
         DataDeck(self, cards).read()
 
     def entries(self):
         return sum(len(entries) for entries in self.columns.values())
+
+    def summed(self, column):
+        """the numbers of a column by the names of rows: its entries, and on each combination that has a part where the column has a number the sum
+        of such parts, each its multiplier times that number"""
+        numbers = dict(self.columns[column])
+        for name in self.rows:
+            products = [times * numbers[row] for row, times in self.parts.get(name, {}).items() if row in numbers]
+            if products:
+                numbers[name] = sum(products, Fraction(0))
+        return numbers
 
     def deck(self):
         "the cards that BCDOUT punches"
@@ -160,11 +172,18 @@ class Problem:
 
         yield f"NAME          {self.name}".rstrip()
         yield "ROWS"
-        yield from (card(kind, name) for name, kind in self.rows.items())
+        for name, kind in self.rows.items():
+            if name not in self.parts:
+                yield card(kind, name)
+            elif self.parts[name]:
+                yield from (card("D" + kind, name, row, value=value) for row, value in self.parts[name].items())
+            else:
+                yield card("D" + kind, name)
         yield "COLUMNS"
+        plain = [name for name in self.rows if name not in self.parts]
         for name, entries in self.columns.items():
-            if not entries and self.rows:
-                entries = {next(iter(self.rows)): Written("0")}
+            if not entries and plain:
+                entries = {plain[0]: Written("0")}
             yield from (card("", name, row, value=value) for row, value in entries.items())
         for section in ("RHS", "RANGES"):
             if self.sets[section]:
@@ -182,10 +201,18 @@ class Problem:
         return revised
 
 
+def rows_before(problem, name):
+    "the names of the rows before the one of this name"
+    names = list(problem.rows)
+    return names[:names.index(name)]
+
+
 class Deck:
     "reads the cards of a deck into a problem, one after the other"
     def __init__(self, problem, cards):
         self.problem, self.cards, self.section, self.is_free = problem, cards, None, False
+        # the type and the name on the card of ROWS before, where that is a combination's
+        self.combining = None
         self.entries = problem.entries()
 
     def read(self):
@@ -221,16 +248,19 @@ class Deck:
     def fields_on(self, card, deletes=False):
         return free_fields(card, self.section, deletes) if self.is_free else fixed_fields(card)
 
-    def take_pairs(self, field, items, replaces=False):
-        "the pairs of rows and numbers on a card, into a column's entries or a set's items"
+    def take_pairs(self, field, items, replaces=False, known=None):
+        """the pairs of rows and numbers on a card, into a column's entries, a set's items or the parts of a combination, which stand on known rows
+        alone and may be none"""
         for name, value in ((3, 4), (5, 6)):
             row = field.text[name]
-            if name == 5 and not row and not field.text[value].strip():
+            if (name == 5 or known is not None) and not row and not field.text[value].strip():
                 continue
             if not row:
                 raise DeckFault(15)
-            if row not in self.problem.rows:
+            if row not in (self.problem.rows if known is None else known):
                 raise DeckFault(6)
+            if self.section == "COLUMNS" and row in self.problem.parts:
+                raise DeckFault(28)
             if self.section == "RANGES" and self.problem.rows[row] == "N":
                 raise DeckFault(9)
             if row in items and not replaces:
@@ -242,21 +272,34 @@ class Deck:
                 self.entries += 1
             items[row] = written
 
-    def row_kind(self, field):
-        kind = field.text[1]
-        if kind in COMBINATIONS:
-            raise DeckFault(19)
-        if kind not in KINDS:
-            raise DeckFault(3)
-        if not field.text[2]:
-            raise DeckFault(15)
-        return kind
+    def begin_row(self, kind, name):
+        "a new row at the end; a revision has a place for it"
+        self.problem.rows[name] = kind
 
-    def test_new_row(self, name):
-        if name in self.problem.rows:
+    def rows_before_new(self):
+        "the names of the rows before a new one"
+        return list(self.problem.rows)
+
+    def take_row(self, field):
+        """a card that begins a row, or goes on with the combination of the card before it; the parts of a combination stand on rows before it"""
+        kind, name, problem = field.text[1], field.text[2], self.problem
+        if kind not in KINDS + COMBINATIONS:
+            raise DeckFault(3)
+        if not name:
+            raise DeckFault(15)
+        goes_on = self.combining == (kind, name)
+        if not goes_on and name in problem.rows:
             raise DeckFault(4)
-        if len(self.problem.rows) == MOST_ROWS:
+        if not goes_on and len(problem.rows) == MOST_ROWS:
             raise DeckFault(16)
+        known = rows_before(problem, name) if goes_on else self.rows_before_new()
+        self.combining = (kind, name) if kind in COMBINATIONS else None
+        if kind in COMBINATIONS:
+            self.take_pairs(field, problem.parts.setdefault(name, {}), known=known)
+        else:
+            needs_blank(field, 3, 4, 5, 6)
+        if not goes_on:
+            self.begin_row(kind[-1], name)
 
     def test_column_card(self, field):
         needs_blank(field, 1)
@@ -297,10 +340,7 @@ class DataDeck(Deck):
     def take_data(self, card):
         field, problem = self.fields_on(card), self.problem
         if self.section == "ROWS":
-            kind, name = self.row_kind(field), field.text[2]
-            self.test_new_row(name)
-            needs_blank(field, 3, 4, 5, 6)
-            problem.rows[name] = kind
+            self.take_row(field)
         elif self.section == "COLUMNS":
             self.test_column_card(field)
             name = field.text[2]
@@ -340,7 +380,7 @@ class Revision(Deck):
             self.drop_empty_sets()
             self.entries = self.problem.entries()
         elif self.section == "ROWS":
-            self.edit_row(field)
+            (self.modify_row if self.action == "MODIFY" else self.take_row)(field)
         elif self.section == "COLUMNS":
             self.edit_column(field)
         elif self.section == "BOUNDS":
@@ -353,7 +393,7 @@ class Revision(Deck):
         "BEFORE and AFTER have a place in the list of rows or columns"
         if word not in ACTIONS or word in ("BEFORE", "AFTER") and self.section not in ("ROWS", "COLUMNS"):
             raise DeckFault(21)
-        self.action, self.inserted = word, None
+        self.action, self.inserted, self.combining = word, None, None
         if word in ("BEFORE", "AFTER"):
             names = list(self.listed())
             if name and name not in names:
@@ -367,20 +407,28 @@ class Revision(Deck):
         self.listed().update(listed)
         self.place, self.inserted = self.place + 1, name
 
-    def edit_row(self, field):
-        kind, name = self.row_kind(field), field.text[2]
-        if self.action == "MODIFY":
-            if name not in self.problem.rows:
-                raise DeckFault(24)
-            if kind == "N" and any(name in items for items in self.problem.sets["RANGES"].values()):
-                raise DeckFault(9)
+    def rows_before_new(self):
+        return list(self.problem.rows)[:self.place]
+
+    def begin_row(self, kind, name):
+        self.insert(name, kind)
+
+    def modify_row(self, field):
+        "a plain row stays plain, and a combination one, whose parts on the card come in the place of those on the same rows, or at the end"
+        kind, name, problem = field.text[1], field.text[2], self.problem
+        if not name:
+            raise DeckFault(15)
+        if name not in problem.rows:
+            raise DeckFault(24)
+        if kind not in (COMBINATIONS if name in problem.parts else KINDS):
+            raise DeckFault(3)
+        if kind[-1] == "N" and any(name in items for items in problem.sets["RANGES"].values()):
+            raise DeckFault(9)
+        if name in problem.parts:
+            self.take_pairs(field, problem.parts[name], replaces=True, known=rows_before(problem, name))
         else:
-            self.test_new_row(name)
-        needs_blank(field, 3, 4, 5, 6)
-        if self.action == "MODIFY":
-            self.problem.rows[name] = kind
-        else:
-            self.insert(name, kind)
+            needs_blank(field, 3, 4, 5, 6)
+        problem.rows[name] = kind[-1]
 
     def edit_column(self, field):
         self.test_column_card(field)
@@ -400,7 +448,9 @@ class Revision(Deck):
             raise DeckFault(23)
         needs_blank(field, 3, 4, 5, 6)
         del self.problem.rows[name]
-        for items in (*self.problem.columns.values(), *self.problem.sets["RHS"].values(), *self.problem.sets["RANGES"].values()):
+        self.problem.parts.pop(name, None)
+        sets = self.problem.sets
+        for items in (*self.problem.parts.values(), *self.problem.columns.values(), *sets["RHS"].values(), *sets["RANGES"].values()):
             items.pop(name, None)
 
     def delete_column(self, field):

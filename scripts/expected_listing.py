@@ -6,8 +6,8 @@ usage: expected_listing.py [--punch FILE] [--make N | FILE.job]      without a f
 run's status. With --make N the job is the generated one: N sources with 10 each, and N destinations that want 10 each.
 
 It knows every verb (RANGE, PARAOBJ and PARARHS are worked out in expected_postoptimal.py, DUAL, PUNCH and INSERT in expected_bases.py), the
-faults of statements, and those of decks (expected_decks.py). It looks for few other faults, and ends with 70 where it meets one. With --punch
-the punched cards go to FILE, where there are any."""
+faults of statements, and those of decks (expected_decks.py). It looks for few other faults, and ends with 70 where it meets one. Of the stops
+with 20 it knows those of selections (formulas 13 and 19). With --punch the punched cards go to FILE, where there are any."""
 import copy
 from fractions import Fraction
 import re
@@ -15,6 +15,7 @@ import sys
 
 import expected_bases, expected_postoptimal
 from expected_decks import NUMBER, DeckFault, Problem, deck_name, fields, is_skipped, number
+from job_rules import Refused, add, multiply, subtract
 
 
 class Fault(Exception):
@@ -26,6 +27,20 @@ class VerbFault(Exception):
     def __init__(self, number, more="", lines=()):
         super().__init__(number)
         self.more, self.lines = more, lines
+
+
+class Overflow(Exception):
+    "an operation of a selection which doesn't fit 127 bits: its formula, the operation and its operands, and the numbers I, J and TERM"
+    def __init__(self, formula, operation, left, right, i, j, term):
+        super().__init__(f"F{formula} {operation} {left} {right} P 0 Q 0 I {i} J {j} TERM {term} THETA 0")
+
+
+def is_refused(operation, left, right):
+    try:
+        operation(left, right)
+    except Refused:
+        return True
+    return False
 
 
 # ---- a linear program: variables are numbered from 0, rows before columns
@@ -47,8 +62,10 @@ class LinearProgram:
         values = sets[rhs] if rhs is not None else next(iter(sets.values()), {})
         self.rhs = [values.get(name, Fraction(0)) for name in problem.rows]
         ranges = problem.sets["RANGES"][options["range"]] if options["range"] is not None else {}
-        self.columns = [{place[row]: value for row, value in entries.items()} for entries in problem.columns.values()]
+        self.columns = [{place[row]: value for row, value in problem.summed(column).items()} for column in problem.columns]
         self.lower, self.upper = [None] * self.m + [Fraction(0)] * self.n, [None] * (self.m + self.n)
+        self.test_ranges(problem, ranges)
+        self.test_combinations(problem)
         for name, kind in problem.rows.items():
             k, b = place[name], self.rhs[place[name]]
             if kind in "GE":
@@ -69,6 +86,30 @@ class LinearProgram:
                 self.lower[k] = value if kind in ("LO", "FX") else None
             if kind in ("UP", "FX", "FR", "PL"):
                 self.upper[k] = value if kind in ("UP", "FX") else None
+
+    def test_ranges(self, problem, ranges):
+        "Overflow where a limit, made of a right-hand side and a range, doesn't fit"
+        for k, (name, kind) in enumerate(problem.rows.items()):
+            if name in ranges:
+                falls = kind == "L" or kind == "E" and ranges[name] < 0
+                operands = self.rhs[k], abs(ranges[name])
+                if is_refused(subtract if falls else add, *operands):
+                    raise Overflow(13, "SUB" if falls else "ADD", *operands, k + 1, 0, 0)
+
+    def test_combinations(self, problem):
+        "Overflow where the sum of a combination in a column has a product that doesn't fit, or doesn't fit after a part that counts"
+        for j, column in enumerate(problem.columns, self.m + 1):
+            numbers = problem.summed(column)
+            for i, name in enumerate(problem.rows, 1):
+                met = [(times, numbers[row]) for row, times in problem.parts.get(name, {}).items() if row in numbers]
+                before = Fraction(0)
+                for term, factors in enumerate(met):
+                    if is_refused(multiply, *factors):
+                        raise Overflow(19, "MUL", *factors, i, j, term)
+                    product = factors[0] * factors[1]
+                    if is_refused(add, before, product):
+                        raise Overflow(19, "ADD", before, product, i, j, term)
+                    before += product
 
     def crossed(self):
         "the least-numbered variable whose lower limit is above its upper one"
@@ -503,6 +544,9 @@ class Run:
             except VerbFault as fault:
                 self.lines += [f"STOP 10 VERB FAULT {fault} CARD {card}{fault.more}", *fault.lines]
                 return 10
+            except Overflow as cause:
+                self.lines += [f"STOP 20 OVERFLOW {cause} CARD {card}", "BASIS NONE", "WAY NONE"]
+                return 20
             except DeckFault as fault:
                 self.lines.append(f"STOP 12 DECK FAULT {fault} CARD {fault.place}{fault.more}")
                 return 12

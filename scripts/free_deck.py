@@ -13,7 +13,7 @@ import pathlib, re, sys
 import expected_decks, strangers_text
 from expected_decks import ACTIONS, BOUNDS, FIELDS, NAMES, VALUED, DeckFault, is_skipped
 
-MEANS = {8: "a number is faulty", 10: "an unknown bound type", 19: "a row of other rows", 20: "something stands where a fixed card is to be blank",
+MEANS = {3: "an unknown row type", 8: "a number is faulty", 10: "an unknown bound type", 20: "something stands where a fixed card is to be blank",
          25: "no card of this section has so many words", 26: "a name of more than 8 bytes", 27: "a number of more than 12 bytes"}
 LAST_COLUMN = FIELDS[6][1]
 
