@@ -7,7 +7,7 @@ use Rattle.card_definitions.specs.Fields.{reading_of}
 use Rattle.card_definitions.specs.Numbers.{number_fault}
 use Rattle.deck_definitions.specs.declared.DeckFault.{DeckFault}
 use Rattle.deck_definitions.specs.declared.DeckFaultKind.{DeckFaultKind}
-use Rattle.deck_definitions.specs.declared.DeckFaultKind.TheVariants.{SectionOrder, UnknownSection, BadRowType, DuplicateRow, ColumnSplit, UnknownRow, DuplicateEntry, Number, RangeOnFree, BadBoundType, UnknownColumn, NoEndata, Marker, EmptyName, TooManyEntries, CombinationRow, ExtraField, UnknownAction, NoAnchor, DeleteMissing, ModifyMissing}
+use Rattle.deck_definitions.specs.declared.DeckFaultKind.TheVariants.{SectionOrder, UnknownSection, BadRowType, DuplicateRow, ColumnSplit, UnknownRow, DuplicateEntry, Number, RangeOnFree, BadBoundType, UnknownColumn, NoEndata, Marker, EmptyName, TooManyEntries, ExtraField, UnknownAction, NoAnchor, DeleteMissing, ModifyMissing}
 use Rattle.deck_definitions.specs.declared.Section.TheVariants.{Columns}
 use Rattle.deck_definitions.specs.DataCards.{Pair, entry_of}
 use Rattle.revise_definitions.specs.Revision.{revise_fault, revise_card_fault, revised}
@@ -121,13 +121,22 @@ modify_missing_row : faults ("ROWS" ∷ " MODIFY" ∷ " N  X" ∷ "ENDATA" ∷ [
 unfolding revise_fault revise_card_fault revised reading_of number_fault
 modify_missing_row = refl
 
-modify_bad_type : faults ("ROWS" ∷ " MODIFY" ∷ " Q" ∷ "ENDATA" ∷ []) ≡ found 4 BadRowType
+modify_bad_type : faults ("ROWS" ∷ " MODIFY" ∷ " Q  LIM" ∷ "ENDATA" ∷ []) ≡ found 4 BadRowType
 unfolding revise_fault revise_card_fault revised reading_of number_fault
 modify_bad_type = refl
 
-modify_combination : faults ("ROWS" ∷ " MODIFY" ∷ " DN" ∷ "ENDATA" ∷ []) ≡ found 4 CombinationRow
+modify_combination : faults ("ROWS" ∷ " MODIFY" ∷ " DN LIM" ∷ "ENDATA" ∷ []) ≡ found 4 BadRowType
 unfolding revise_fault revise_card_fault revised reading_of number_fault
 modify_combination = refl
+
+-- the name and the row come before the type
+modify_nameless_combination : faults ("ROWS" ∷ " MODIFY" ∷ " DN" ∷ "ENDATA" ∷ []) ≡ found 4 EmptyName
+unfolding revise_fault revise_card_fault revised reading_of number_fault
+modify_nameless_combination = refl
+
+modify_missing_row_of_bad_type : faults ("ROWS" ∷ " MODIFY" ∷ " Q  X" ∷ "ENDATA" ∷ []) ≡ found 4 ModifyMissing
+unfolding revise_fault revise_card_fault revised reading_of number_fault
+modify_missing_row_of_bad_type = refl
 
 modify_empty_row : faults ("ROWS" ∷ " MODIFY" ∷ " N" ∷ "ENDATA" ∷ []) ≡ found 4 EmptyName
 unfolding revise_fault revise_card_fault revised reading_of number_fault

@@ -8,7 +8,7 @@ use Rattle.problem_definitions.specs.Names.{Name}
 use Rattle.problem_definitions.specs.Problem.{Problem}
 use Rattle.deck_definitions.specs.declared.DeckFault.{DeckFault}
 use Rattle.deck_definitions.specs.declared.DeckFaultKind.{DeckFaultKind}
-use Rattle.deck_definitions.specs.declared.DeckFaultKind.TheVariants.{SectionOrder, BadRowType, RangeOnFree, BadBoundType, CombinationRow, WordCount, LongName, UnknownAction, NoAnchor, DeleteMissing, ModifyMissing}
+use Rattle.deck_definitions.specs.declared.DeckFaultKind.TheVariants.{SectionOrder, BadRowType, RangeOnFree, BadBoundType, WordCount, LongName, UnknownAction, NoAnchor, DeleteMissing, ModifyMissing}
 use Rattle.revise_definitions.specs.Revision.{revised, revise_fault, revise_card_fault}
 use Rattle.revise_definitions.proofs.Old.{old}
 
@@ -117,9 +117,13 @@ unfolding revise_fault revise_card_fault revised reading_of words number_fault
 modify_bad_type = refl
 
 -- the first word is tested before the number of words
-modify_combination : faults ("ROWS" ∷ " MODIFY" ∷ " DL" ∷ "ENDATA" ∷ []) ≡ found 4 CombinationRow
+modify_bad_word : faults ("ROWS" ∷ " MODIFY" ∷ " Q" ∷ "ENDATA" ∷ []) ≡ found 4 BadRowType
 unfolding revise_fault revise_card_fault revised reading_of words number_fault
-modify_combination = refl
+modify_bad_word = refl
+
+modify_combination_words : faults ("ROWS" ∷ " MODIFY" ∷ " DL" ∷ "ENDATA" ∷ []) ≡ found 4 WordCount
+unfolding revise_fault revise_card_fault revised reading_of words number_fault
+modify_combination_words = refl
 
 modify_bad_bound : faults ("BOUNDS" ∷ " MODIFY" ∷ " BV" ∷ "ENDATA" ∷ []) ≡ found 4 BadBoundType
 unfolding revise_fault revise_card_fault revised reading_of words number_fault

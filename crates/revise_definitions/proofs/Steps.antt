@@ -9,16 +9,17 @@ use Rattle.std.proofs.lemmas.List.Sums.{fold-append}
 use Rattle.std.proofs.Math.ListN.{drop_of_length-le}
 use Rattle.card_definitions.specs.Cards.{Card}
 use Rattle.card_definitions.specs.Fields.{Form, Reading, reading_of}
+use Rattle.card_definitions.specs.Words.{named, gathered}
 use Rattle.problem_definitions.specs.Names.{Name}
 use Rattle.problem_definitions.specs.Problem.{Problem}
 use Rattle.deck_definitions.specs.declared.Section.TheVariants.{Header}
 use Rattle.deck_definitions.specs.declared.Style.{Style}
 use Rattle.deck_definitions.specs.Sections.{is_section_card, section_after}
-use Rattle.deck_definitions.specs.DataCards.{style_of, form_on}
+use Rattle.deck_definitions.specs.DataCards.{style_of, form_on, combination_kinds, is_card_of}
 use Rattle.card_definitions.proofs.FirstFaults.{gathered-push}
 use Rattle.deck_definitions.proofs.Steps.{last_or-push, section_after-push, style_of-data}
 use Rattle.revise_definitions.specs.Actions.{Edit, is_action_card, action_on, is_heading, deletes, action_card_after, edit_form_of, under_after, edit_of}
-use Rattle.revise_definitions.specs.Edits.{edited}
+use Rattle.revise_definitions.specs.Edits.{goes_on_row, rows_begun, edited}
 use Rattle.revise_definitions.specs.Revision.{edits, revised}
 
 module _ {X : Type 0} (p : X → Bool) (xs : List X) (x : X) where
@@ -129,3 +130,18 @@ revised-push old cards card = ap (fold edited old) (gathered-push edit_of cards 
     by : (o : Option Edit) → fold edited (fold edited old (edits cards)) (option_to_list o) ≡ with_edit o (fold edited old (edits cards))
     by None = refl
     by (Some edit) = refl
+
+-- One more card under an action begins a row, unless it goes on with the combination of the card before it.
+pub rows_begun-push : (under : List Reading) (card : Reading) → rows_begun (under ++ card ∷ []) ≡ rows_begun under + cond (goes_on_row under card) 0 1
+rows_begun-push under card = ap length (gathered-push begins under card) ∙ length-append (gathered begins under) (option_to_list (begins under card)) ∙ by (goes_on_row under card)
+  where
+    begins : List Reading → Reading → Option Reading
+    begins before next = cond (goes_on_row before next) None (Some next)
+
+    by : (b : Bool) → rows_begun under + length (option_to_list (cond b None (Some card))) ≡ rows_begun under + cond b 0 1
+    by true = refl
+    by false = refl
+
+-- whether a card goes on with the one before it is decided by the last of those before it
+pub goes_on_row-push : (under : List Reading) (before card : Reading) → goes_on_row (under ++ before ∷ []) card ≡ goes_on_row (before ∷ []) card
+goes_on_row-push under before card = ap (λ last. unwrap_or (option_and_then (λ c. option_map (λ kind. is_card_of kind c.name1 card) (named combination_kinds c.kind)) last) false) (last_or-push None under (Some before))
