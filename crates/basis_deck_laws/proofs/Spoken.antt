@@ -19,7 +19,7 @@ use Rattle.problem_definitions.specs.Numbering.{entry_by, by_names}
 use Rattle.problem_definitions.specs.Valid.{IsNumberOf, IsProblem}
 use Rattle.problem_definitions.proofs.Names.{row_is_named}
 use Rattle.problem_definitions.proofs.Groups.{has_group-names}
-use Rattle.problem_definitions.proofs.PlainRows.{row_names-by}
+use Rattle.problem_definitions.proofs.RowsBy.{row_names-by}
 use Rattle.problem_definitions.proofs.Lawful.{IsLabel, names-by}
 use Rattle.deck_definitions.specs.declared.DeckFaultKind.{DeckFaultKind}
 use Rattle.deck_definitions.specs.declared.DeckFaultKind.TheVariants.{SectionOrder, UnknownRow, UnknownColumn, NamedTwice, NoSuchLimit, ExtraField}

@@ -1,5 +1,5 @@
 -- Facts of each element of a list, and lists without two alike.
-use Rattle.std.proofs.Common.{◌≡◌, zero, suc, ◌<◌, Bool, true, false, ◌||◌, List, [], ◌∷◌, ◌++◌, length, map, refl, ◌∙◌, arith}
+use Rattle.std.proofs.Common.{◌≡◌, zero, suc, ◌<◌, Bool, true, false, ◌||◌, List, [], ◌∷◌, ◌++◌, length, map, refl, ap₂, ◌∙◌, arith}
 use Rattle.std.specs.List.{All, AllByRecursion, IsDistinct}
 use Rattle.problem_definitions.specs.Names.{Name, same, has_name}
 use Rattle.problem_definitions.proofs.Names.{same_sym}
@@ -62,3 +62,8 @@ all-each P [] all = tt
 all-each P (x ∷ xs) all =
     let first : 0 < length (x ∷ xs) = omega arith in
     (all 0 x first, all-each P xs (λ k d below. all (suc k) d (omega (arith, below))))
+
+-- a list of elements that a function leaves as they are
+pub map-kept : {X : Type 0} (f : X → X) (xs : List X) → AllByRecursion (λ x. f x ≡ x) xs → map f xs ≡ xs
+map-kept f [] each = refl
+map-kept f (x ∷ xs) each = ap₂ (λ y ys. y ∷ ys) each.0 (map-kept f xs each.1)

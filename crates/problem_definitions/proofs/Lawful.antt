@@ -1,22 +1,22 @@
 -- What holds of every problem, said by names: then it holds of the problem by numbers.
-use Rattle.std.proofs.Common.{◌≡◌, ℕ, ◌+◌, ◌≤◌, Bool, true, false, ◌&&◌, List, [], ◌∷◌, length, map, refl, ap, sym, ◌∙◌, subst, nat_eq, fold, is_some, is_none}
-use Rattle.std.specs.List.{All, AllByRecursion, IsDistinct}
+use Rattle.std.proofs.Common.{◌≡◌, ℕ, ◌+◌, ◌≤◌, Bool, true, false, ◌&&◌, List, [], ◌∷◌, ◌++◌, Option, Some, None, option_map, length, map, refl, ap, ap₂, sym, ◌∙◌, subst, append_assoc, length-append, nat_eq, fold, is_some}
+use Rattle.std.specs.List.{All, AllByRecursion, IsDistinct, enumerate_from}
 use Rattle.std.specs.Option.{IfSome}
-use Rattle.std.proofs.lemmas.List.{length-map}
+use Rattle.std.proofs.lemmas.List.{length-map, map-append}
 use Rattle.card_definitions.specs.Words.{is_empty}
 use Rattle.problem_definitions.specs.declared.TheConstants.{MAX_ROWS, MAX_COLUMNS, MAX_ENTRIES}
 use Rattle.problem_definitions.specs.Names.{Name, same, has_name, number_in, name_at, marker}
 use Rattle.problem_definitions.specs.Kinds.{meet, takes_value}
 use Rattle.problem_definitions.specs.Problem.{Row, Entry, Bound, Group, Problem, row_names, group_names, entry_count, has_row, has_free_row, has_combination, has_group}
 use Rattle.problem_definitions.specs.Numbering.{entry_by, row_by, bound_by, group_by, numbered}
-use Rattle.problem_definitions.specs.Valid.{IsName, IsDecimal, AreLabels, IsNumberOf, AreEntries, clash, AreBounds, AreSets, is_free_row, IsProblem}
+use Rattle.problem_definitions.specs.Valid.{IsName, IsDecimal, AreLabels, IsNumberOf, AreEntries, clash, AreBounds, AreSets, is_free_row, is_combination, IsProblem}
 use Rattle.problem_definitions.proofs.Names.{row_is_named}
 use Rattle.problem_definitions.proofs.Groups.{map-map, has_group-names}
-use Rattle.problem_definitions.proofs.LawfulEntries.{AreLawfulEntries}
+pub use Rattle.problem_definitions.proofs.LawfulEntries.{AreLawfulEntries}
 use Rattle.problem_definitions.proofs.Parts.{ArePartsAfter}
 use Rattle.problem_definitions.proofs.Each.{each-change, each-all, each-mapped, distinct-mapped}
-use Rattle.problem_definitions.proofs.PlainRows.{ArePlain, row_names-by, row_count-by, is_free_row-by, plain-by}
-use Rattle.problem_definitions.proofs.Places.{number_in-within, name_at-number_in, numbers_apart, free_row-number}
+use Rattle.problem_definitions.proofs.RowsBy.{row_names-by, row_count-by, is_free_row-by, is_combination-by}
+use Rattle.problem_definitions.proofs.Places.{number_in-within, number_in-front, name_at-number_in, numbers_apart, free_row-number, combination-number}
 
 -- a name that isn't empty
 pub record IsLabel (name : Name) : Type 0 where
@@ -141,6 +141,39 @@ module _ (rows : List (Row Name)) where
       both [] has apart = tt
       both (entry ∷ entries) has apart = (free_row-number rows entry.row has.0 apart.0, both entries has.1 apart.1)
 
+  plain-numbered : (entries : List (Entry Name)) → AreColumnEntries rows entries → All (λ entry. is_combination rows entry.row ≡ false) (map (entry_by number) entries)
+  plain-numbered entries lawful = each-all (λ entry. is_combination rows entry.row ≡ false) (map (entry_by number) entries)
+      (each-mapped (λ entry. is_combination rows entry.row ≡ false) (entry_by number) entries (both entries lawful.entries_lawful.on_rows lawful.plain))
+    where
+      both : (entries : List (Entry Name)) → AllByRecursion (λ entry. has_row rows entry.row ≡ true) entries → AllByRecursion (λ entry. has_combination rows entry.row ≡ false) entries
+          → AllByRecursion (λ entry. is_combination rows (number entry.row) ≡ false) entries
+      both [] has plain = tt
+      both (entry ∷ entries) has plain = (combination-number rows entry.row has.0 plain.0, both entries has.1 plain.1)
+
+  -- numbers among these rows are numbers among more
+  front-numbered : (more : List (Row Name)) (entries : List (Entry Name)) → AllByRecursion (λ (entry : Entry Name). has_row rows entry.row ≡ true) entries
+      → map (entry_by (number_in (map (λ (row : Row Name). row.name) (rows ++ more)))) entries ≡ map (entry_by number) entries
+  front-numbered more [] has = refl
+  front-numbered more (entry ∷ entries) has =
+      ap₂ (λ row rest. record { row = row; value = entry.value } ∷ rest)
+      (ap (λ names. number_in names entry.row) (map-append (λ (row : Row Name). row.name) rows more) ∙ number_in-front row_name_list (map (λ (row : Row Name). row.name) more) entry.row (there entry.row has.0))
+      (front-numbered more entries has.1)
+
+-- the parts of each row, by the number of the rows before it
+parts-numbered : (all before rows : List (Row Name)) → before ++ rows ≡ all → (count : ℕ) → length before ≡ count → ArePartsAfter before rows
+    → AllByRecursion (λ (row : ℕ × Row ℕ). IfSome row.1.parts (AreEntries row.0)) (enumerate_from count (map (row_by (number_in (map (λ (row : Row Name). row.name) all))) rows))
+parts-numbered all before [] whole count counted are = tt
+parts-numbered all before (row ∷ rows) whole count counted are = (
+  numbered_parts row.parts are.0,
+  parts-numbered all (before ++ row ∷ []) rows (append_assoc before (row ∷ []) rows ∙ whole) (count + 1) (length-append before (row ∷ []) ∙ ap (λ n. n + 1) counted) are.1,
+)
+  where
+    numbered_parts : (parts : Option (List (Entry Name))) → IfSome parts (AreLawfulEntries before) → IfSome (option_map (map (entry_by (number_in (map (λ (row : Row Name). row.name) all)))) parts) (AreEntries count)
+    numbered_parts None are = tt
+    numbered_parts (Some parts) are =
+        subst (AreEntries count) (sym (front-numbered before (row ∷ rows) parts are.on_rows) ∙ ap (λ (rows : List (Row Name)). map (entry_by (number_in (map (λ row. row.name) rows))) parts) whole)
+        (subst (λ n. AreEntries n (map (entry_by (number before)) parts)) counted (entries-numbered before parts are))
+
 bounds-numbered : (columns : List (Group (Entry Name))) (bounds : List (Bound Name)) → AreLawfulBounds columns bounds → AreBounds (length columns) (map (bound_by (number_in (group_names columns))) bounds)
 bounds-numbered columns bounds lawful = record {
   on_columns = each-all (λ bound. IsNumberOf (length columns) bound.column) (map (bound_by number) bounds)
@@ -182,11 +215,14 @@ unfolding numbered
 lawful-numbered problem name lawful = record {
   name = name;
   rows = subst AreLabels (sym names_kept) (labels (row_names problem) lawful.row_labels lawful.rows_distinct);
-  plain_rows = each-all (λ row. is_none row.parts ≡ true) rows (plain-by number problem.rows lawful.plain_rows);
+  parts = each-all (λ row. IfSome row.1.parts (AreEntries row.0)) (enumerate_from 0 rows) (parts-numbered problem.rows [] problem.rows refl 0 refl lawful.parts);
   columns = subst AreLabels (sym (names-by by_row problem.columns)) (labels (group_names problem.columns) lawful.columns.names lawful.columns.distinct);
   entries = subst (λ count. All (λ column. AreEntries count column.items) (map (group_by by_row) problem.columns)) (sym rows_kept)
       (each-all (λ column. AreEntries (length problem.rows) column.items) (map (group_by by_row) problem.columns)
       (items-by by_row (AreColumnEntries problem.rows) (AreEntries (length problem.rows)) (λ items p. entries-numbered problem.rows items p.entries_lawful) problem.columns lawful.columns.items));
+  plain_entries = subst (λ (combines : ℕ → Bool). All (λ column. All (λ entry. combines entry.row ≡ false) column.items) (map (group_by by_row) problem.columns)) (sym (λ i n. is_combination-by number problem.rows n i))
+      (each-all (λ column. All (λ entry. is_combination problem.rows entry.row ≡ false) column.items) (map (group_by by_row) problem.columns)
+      (items-by by_row (AreColumnEntries problem.rows) (λ items. All (λ entry. is_combination problem.rows entry.row ≡ false) items) (plain-numbered problem.rows) problem.columns lawful.columns.items));
   no_marker = subst (λ names. All (λ column. All (λ entry. same marker (name_at names entry.row) ≡ false) column.items) (map (group_by by_row) problem.columns)) (sym names_kept)
       (each-all (λ column. All (λ entry. same marker (name_at (row_names problem) entry.row) ≡ false) column.items) (map (group_by by_row) problem.columns)
       (items-by by_row (AreColumnEntries problem.rows) (λ items. All (λ entry. same marker (name_at (row_names problem) entry.row) ≡ false) items) (markers-numbered problem.rows) problem.columns lawful.columns.items));

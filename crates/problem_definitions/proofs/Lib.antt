@@ -6,6 +6,8 @@ pub mod Places
 pub mod LawfulEntries
 pub mod Parts
 pub mod PlainRows
+pub mod RowsBy
 pub mod Lawful
 pub mod Added
+pub mod OtherRows
 pub mod Again

@@ -1,12 +1,13 @@
 -- The numbers of names in a list.
-use Rattle.std.proofs.Common.{◌≡◌, suc, ◌+◌, ◌-◌, ◌<◌, Bool, true, false, cond, not, ◌&&◌, ◌||◌, List, [], ◌∷◌, Some, length, map, refl, ap, sym, ◌∙◌, subst, arith, unwrap_or, nat_eq}
+use Rattle.std.proofs.Common.{◌≡◌, suc, ◌+◌, ◌-◌, ◌<◌, Bool, true, false, cond, not, ◌&&◌, ◌||◌, List, [], ◌∷◌, ◌++◌, Some, length, map, refl, ap, sym, ◌∙◌, subst, arith, unwrap_or, nat_eq, is_some}
 use Rattle.std.specs.List.{position_or_len, list_any, slice_get}
 use Rattle.std.specs.Option.{option_map}
 use Rattle.std.proofs.lemmas.Bool.{lt-ltb, eqb-true}
+use Rattle.std.proofs.lemmas.List.Folds.{list_any-append}
 use Rattle.problem_definitions.specs.Names.{Name, same, has_name, number_in, name_at}
 use Rattle.problem_definitions.specs.Kinds.{is_free_kind}
-use Rattle.problem_definitions.specs.Problem.{Row, has_row, has_free_row}
-use Rattle.problem_definitions.specs.Valid.{IsNumberOf, is_free_row}
+use Rattle.problem_definitions.specs.Problem.{Row, has_row, has_free_row, has_combination}
+use Rattle.problem_definitions.specs.Valid.{IsNumberOf, is_free_row, is_combination}
 use Rattle.problem_definitions.proofs.Names.{same_eq, same_refl, row_is_named}
 
 -- an element that passes is found before the end
@@ -59,29 +60,54 @@ numbers_apart names a b has_a has_b apart = by (nat_eq (number_in names a) (numb
         let equal : a ≡ b = sym (name_at-number_in names a has_a) ∙ ap (name_at names) one ∙ name_at-number_in names b has_b in
         absurd (cc (subst (λ n. same n b ≡ false) equal apart, same_refl b))
 
--- a row that isn't free by its name isn't by its number
-pub free_row-number : {R : Type 0} (rows : List (Row R)) (name : Name) → has_row rows name ≡ true → has_free_row rows name ≡ false → is_free_row rows (number_in (map (λ row. row.name) rows) name) ≡ false
-free_row-number {R = R} rows name there limited =
-    ap (is_free_row rows) (number_in-is (map (λ row. row.name) rows) name (sym (row_is_named name rows) ∙ there))
-    ∙ ap (λ n. unwrap_or (option_map (λ row. is_free_kind row.kind) (slice_get rows n)) false) less
-    ∙ kind rows there limited
+-- the number of a name of the front is its number in the whole list
+pub number_in-front : (front back : List Name) (name : Name) → has_name front name ≡ true → number_in (front ++ back) name ≡ number_in front name
+number_in-front front back name there = number_in-is (front ++ back) name whole ∙ ap (λ n. n + 1) (first front there) ∙ sym (number_in-is front name there)
+  where
+    whole : has_name (front ++ back) name ≡ true
+    whole = list_any-append (same name) front back ∙ rw there refl
+
+    first : (front : List Name) → has_name front name ≡ true → position_or_len (same name) (front ++ back) ≡ position_or_len (same name) front
+    first [] some = absurd (cc some)
+    first (other ∷ front) some = by (same name other) some (first front)
+      where
+        by : (b : Bool) → (b || has_name front name) ≡ true → (has_name front name ≡ true → position_or_len (same name) (front ++ back) ≡ position_or_len (same name) front)
+            → cond (not b) (1 + position_or_len (same name) (front ++ back)) 0 ≡ cond (not b) (1 + position_or_len (same name) front) 0
+        by true h rest = refl
+        by false h rest = ap (λ n. 1 + n) (rest h)
+
+-- a row that fails a test by its name fails it by its number
+test-number : {R : Type 0} (test : Row R → Bool) (rows : List (Row R)) (name : Name) → has_row rows name ≡ true → list_any (λ row. same name row.name && test row) rows ≡ false
+    → unwrap_or (option_map test (slice_get rows (number_in (map (λ row. row.name) rows) name - 1))) false ≡ false
+test-number {R = R} test rows name there fails =
+    ap (λ n. unwrap_or (option_map test (slice_get rows (n - 1))) false) (number_in-is (map (λ row. row.name) rows) name (sym (row_is_named name rows) ∙ there))
+    ∙ ap (λ n. unwrap_or (option_map test (slice_get rows n)) false) less
+    ∙ tested rows there fails
   where
     less : position_or_len (same name) (map (λ row. row.name) rows) + 1 - 1 ≡ position_or_len (same name) (map (λ row. row.name) rows)
     less = omega arith
 
-    kind : (rows : List (Row R)) → has_row rows name ≡ true → has_free_row rows name ≡ false
-        → unwrap_or (option_map (λ row. is_free_kind row.kind) (slice_get rows (position_or_len (same name) (map (λ row. row.name) rows)))) false ≡ false
-    kind [] some free = refl
-    kind (row ∷ rest) some free = by (same name row.name) some free (kind rest)
+    tested : (rows : List (Row R)) → has_row rows name ≡ true → list_any (λ row. same name row.name && test row) rows ≡ false
+        → unwrap_or (option_map test (slice_get rows (position_or_len (same name) (map (λ row. row.name) rows)))) false ≡ false
+    tested [] some fails = refl
+    tested (row ∷ rest) some fails = by (same name row.name) some fails (tested rest)
       where
-        by : (b : Bool) → (b || has_row rest name) ≡ true → (b && is_free_kind row.kind || has_free_row rest name) ≡ false
-            → (has_row rest name ≡ true → has_free_row rest name ≡ false → unwrap_or (option_map (λ row. is_free_kind row.kind) (slice_get rest (position_or_len (same name) (map (λ row. row.name) rest)))) false ≡ false)
-            → unwrap_or (option_map (λ row. is_free_kind row.kind) (slice_get (row ∷ rest) (cond (not b) (1 + position_or_len (same name) (map (λ row. row.name) rest)) 0))) false ≡ false
-        by true h free more = left (is_free_kind row.kind) free
+        by : (b : Bool) → (b || has_row rest name) ≡ true → (b && test row || list_any (λ row. same name row.name && test row) rest) ≡ false
+            → (has_row rest name ≡ true → list_any (λ row. same name row.name && test row) rest ≡ false → unwrap_or (option_map test (slice_get rest (position_or_len (same name) (map (λ row. row.name) rest)))) false ≡ false)
+            → unwrap_or (option_map test (slice_get (row ∷ rest) (cond (not b) (1 + position_or_len (same name) (map (λ row. row.name) rest)) 0))) false ≡ false
+        by true h fails more = left (test row) fails
           where
-            left : (k : Bool) → (k || has_free_row rest name) ≡ false → k ≡ false
+            left : (k : Bool) → (k || list_any (λ row. same name row.name && test row) rest) ≡ false → k ≡ false
             left true e = e
             left false e = refl
-        by false h free more =
+        by false h fails more =
             let next : 1 + position_or_len (same name) (map (λ row. row.name) rest) ≡ suc (position_or_len (same name) (map (λ row. row.name) rest)) = omega arith in
-            rw next (more h free)
+            rw next (more h fails)
+
+-- a row that isn't free by its name isn't by its number
+pub free_row-number : {R : Type 0} (rows : List (Row R)) (name : Name) → has_row rows name ≡ true → has_free_row rows name ≡ false → is_free_row rows (number_in (map (λ row. row.name) rows) name) ≡ false
+free_row-number = test-number (λ row. is_free_kind row.kind)
+
+-- a row that is no combination by its name is none by its number
+pub combination-number : {R : Type 0} (rows : List (Row R)) (name : Name) → has_row rows name ≡ true → has_combination rows name ≡ false → is_combination rows (number_in (map (λ row. row.name) rows) name) ≡ false
+combination-number = test-number (λ row. is_some row.parts)
