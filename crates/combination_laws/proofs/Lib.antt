@@ -1,0 +1,4 @@
+pub mod Values
+pub mod Columns
+pub mod Fields
+pub mod Activities
