@@ -1,6 +1,7 @@
 -- The text of a written deck, section by section.
-use Rattle.std.proofs.Common.{◌≡◌, ◌+◌, ℕ, List, [], ◌∷◌, ◌++◌, codes, length, map, take, refl, ap, ap₂, sym, ◌∙◌, append_assoc, arith}
+use Rattle.std.proofs.Common.{◌≡◌, ◌+◌, ℕ, List, [], ◌∷◌, ◌++◌, Option, Some, None, is_none, codes, length, map, take, filter, refl, ap, ap₂, sym, ◌∙◌, append_assoc, arith}
 use Rattle.std.specs.List.{flat_map, sum_by}
+use Rattle.std.specs.Option.{option_to_list}
 use Rattle.std.proofs.lemmas.List.{append-nil, length-append, length-map}
 use Rattle.std.proofs.lemmas.List.Concat.{flat_map-append}
 use Rattle.std.proofs.lemmas.List.Folds.{flat_map-map}
@@ -10,8 +11,9 @@ use Rattle.card_definitions.specs.Cards.{is_blank}
 use Rattle.problem_definitions.specs.Names.{Name, name_at}
 use Rattle.problem_definitions.specs.Problem.{Row, Entry, Bound, Group, Problem, group_names}
 use Rattle.problem_definitions.specs.Numbering.{entry_by, row_by, bound_by, group_by, by_names}
-use Rattle.deck_definitions.specs.Written.{data_card, row_card, bound_kind_text, bound_text, entry_cards, bound_cards, column_cards, set_section, written, card_text}
-use Rattle.bcd_out.specs.Lines.{line, row_line, zero_line, entry_lines, column_lines, bound_lines, section_lines, column_count, section_count}
+use Rattle.deck_definitions.specs.DataCards.{combination_text}
+use Rattle.deck_definitions.specs.Written.{data_card, row_cards, bound_kind_text, bound_text, entry_cards, bound_cards, column_cards, set_section, written, card_text}
+use Rattle.bcd_out.specs.Lines.{line, row_lines, first_plain, zero_line, entry_lines, column_lines, bound_lines, section_lines, row_count, column_count, section_count}
 
 -- the names of rows
 abbrev labels : List (Row ℕ) → List Name
@@ -26,13 +28,33 @@ text_of_section : {X Y : Type 0} (word : List ℕ) (cards : Group Y → List (Li
 text_of_section word cards lines h same [] = refl
 text_of_section word cards lines h same (x ∷ xs) = ap (λ w. line word ++ w) (text_of_groups cards lines h same (x ∷ xs))
 
+-- the card and the line of a column without entries
+plain_lines : (name : Name) (f : ℕ → Name) → (rows : List (Row ℕ)) → card_text (map (λ (row : Row Name). data_card [] name row.name (codes "0")) (take 1 (filter (λ row. is_none row.parts) (map (row_by f) rows)))) ≡ flat_map (zero_line name) (option_to_list (first_plain rows))
+plain_lines name f [] = refl
+plain_lines name f (row ∷ rows) = by row.parts (plain_lines name f rows) refl
+  where
+    by : (parts : Option (List (Entry ℕ))) → card_text (map (λ (row : Row Name). data_card [] name row.name (codes "0")) (take 1 (filter (λ row. is_none row.parts) (map (row_by f) rows)))) ≡ flat_map (zero_line name) (option_to_list (first_plain rows))
+        → row.parts ≡ parts → card_text (map (λ (row : Row Name). data_card [] name row.name (codes "0")) (take 1 (filter (λ row. is_none row.parts) (map (row_by f) (row ∷ rows))))) ≡ flat_map (zero_line name) (option_to_list (first_plain (row ∷ rows)))
+    by None others e = rw e refl
+    by (Some parts) others e = rw e others
+
 module _ (rows : List (Row ℕ)) where
   -- the rows by names
   abbrev named_rows : List (Row Name)
   named_rows = map (row_by (name_at (labels rows))) rows
 
-  text_of_rows : card_text (map row_card named_rows) ≡ flat_map row_line rows
-  text_of_rows = flat_map-map (λ card. card ++ 10 ∷ []) row_card named_rows ∙ flat_map-map (λ (row : Row Name). line (row_card row)) (row_by (name_at (labels rows))) rows
+  text_of_row : (row : Row ℕ) → card_text (row_cards (row_by (name_at (labels rows)) row)) ≡ row_lines (labels rows) row
+  text_of_row row = by row.parts refl
+    where
+      by : (parts : Option (List (Entry ℕ))) → row.parts ≡ parts → card_text (row_cards (row_by (name_at (labels rows)) row)) ≡ row_lines (labels rows) row
+      by None e = rw e (append-nil _)
+      by (Some []) e = rw e (append-nil _)
+      by (Some (part ∷ parts)) e = rw e (
+          flat_map-map (λ card. card ++ 10 ∷ []) (λ (part : Entry Name). data_card (combination_text row.kind) row.name part.row part.value.text) (map (entry_by (name_at (labels rows))) (part ∷ parts))
+          ∙ flat_map-map (λ (part : Entry Name). data_card (combination_text row.kind) row.name part.row part.value.text ++ 10 ∷ []) (entry_by (name_at (labels rows))) (part ∷ parts))
+
+  text_of_rows : card_text (flat_map row_cards named_rows) ≡ flat_map (row_lines (labels rows)) rows
+  text_of_rows = text_of_groups row_cards (row_lines (labels rows)) (row_by (name_at (labels rows))) text_of_row rows
 
   -- the column or set by names
   abbrev named_group : Group (Entry ℕ) → Group (Entry Name)
@@ -49,9 +71,8 @@ module _ (rows : List (Row ℕ)) where
       by : (items : List (Entry ℕ)) → column.items ≡ items → card_text (column_cards named_rows (named_group column)) ≡ column_lines rows column
       by [] e = rw e (zero rows)
         where
-          zero : (some : List (Row ℕ)) → card_text (map (λ (row : Row Name). data_card [] column.name row.name (codes "0")) (take 1 (map (row_by (name_at (labels rows))) some))) ≡ flat_map (zero_line column.name) (take 1 some)
-          zero [] = refl
-          zero (row ∷ some) = refl
+          zero : (some : List (Row ℕ)) → card_text (map (λ (row : Row Name). data_card [] column.name row.name (codes "0")) (take 1 (filter (λ row. is_none row.parts) (map (row_by (name_at (labels rows))) some)))) ≡ flat_map (zero_line column.name) (option_to_list (first_plain some))
+          zero some = plain_lines column.name (name_at (labels rows)) some
       by (item ∷ items) e = let whole = text_of_entries column in rw e (rw e at whole)
 
 text_of_bounds : (columns : List Name) (set : Group (Bound ℕ)) → card_text (bound_cards (group_by (bound_by (name_at columns)) set)) ≡ bound_lines columns set
@@ -97,7 +118,7 @@ abbrev pub from_columns : List (Row ℕ) → List (Group (Entry ℕ)) → List (
 from_columns rows columns rhs ranges bounds = (line (codes "COLUMNS") ++ flat_map (column_lines rows) columns) ++ from_rhs rows columns rhs ranges bounds
 
 abbrev pub from_rows : List (Row ℕ) → List (Group (Entry ℕ)) → List (Group (Entry ℕ)) → List (Group (Entry ℕ)) → List (Group (Bound ℕ)) → List ℕ
-from_rows rows columns rhs ranges bounds = (line (codes "ROWS") ++ flat_map row_line rows) ++ from_columns rows columns rhs ranges bounds
+from_rows rows columns rhs ranges bounds = (line (codes "ROWS") ++ flat_map (row_lines (labels rows)) rows) ++ from_columns rows columns rhs ranges bounds
 
 -- The text of a deck.
 deck_text : (problem : Problem ℕ)
@@ -111,7 +132,7 @@ deck_text problem =
     let rhs = map (named_group rows) problem.rhs in
     let ranges = map (named_group rows) problem.ranges in
     let bounds = map (group_by (bound_by (name_at names))) problem.bounds in
-    let parts = text_of_parts n (codes "ROWS") (codes "COLUMNS") (codes "ENDATA") (map row_card (named_rows rows)) (flat_map (column_cards (named_rows rows)) columns) (set_section (codes "RHS") entry_cards rhs) (set_section (codes "RANGES") entry_cards ranges) (set_section (codes "BOUNDS") bound_cards bounds) in
+    let parts = text_of_parts n (codes "ROWS") (codes "COLUMNS") (codes "ENDATA") (flat_map row_cards (named_rows rows)) (flat_map (column_cards (named_rows rows)) columns) (set_section (codes "RHS") entry_cards rhs) (set_section (codes "RANGES") entry_cards ranges) (set_section (codes "BOUNDS") bound_cards bounds) in
     sym (parts ∙ pieces n (codes "ROWS") (codes "COLUMNS") (codes "ENDATA") (text_of_rows rows)
     (text_of_groups (column_cards (named_rows rows)) (column_lines rows) (named_group rows) (text_of_column rows) problem.columns)
     (text_of_section (codes "RHS") entry_cards (entry_lines (labels rows)) (named_group rows) (text_of_entries rows) problem.rhs)
@@ -126,7 +147,7 @@ deck_text_of problem en er ec eh eg eb = (λ i. line (without_trailing is_blank 
 
 -- ---- the number of cards
 
-length_of_groups : {X Y A : Type 0} (cards : Group Y → List A) (count : Group X → ℕ) (h : Group X → Group Y) → ((x : Group X) → length (cards (h x)) ≡ count x) → (xs : List (Group X)) → length (flat_map cards (map h xs)) ≡ sum_by count xs
+length_of_groups : {X Y A : Type 0} (cards : Y → List A) (count : X → ℕ) (h : X → Y) → ((x : X) → length (cards (h x)) ≡ count x) → (xs : List X) → length (flat_map cards (map h xs)) ≡ sum_by count xs
 length_of_groups cards count h same [] = refl
 length_of_groups cards count h same (x ∷ xs) =
     let first = same x in
@@ -142,15 +163,31 @@ length_of_section word cards h same (x ∷ xs) = let others = length_of_groups c
 length_of_items : {X Y A : Type 0} (f : Y → A) (h : X → Y) (items : List X) → length (map f (map h items)) ≡ length items
 length_of_items f h items = length-map (map h items) f ∙ length-map items h
 
+length_of_row : (f : ℕ → Name) (row : Row ℕ) → length (row_cards (row_by f row)) ≡ row_count row
+length_of_row f row = by row.parts refl
+  where
+    by : (parts : Option (List (Entry ℕ))) → row.parts ≡ parts → length (row_cards (row_by f row)) ≡ row_count row
+    by None e = rw e refl
+    by (Some []) e = rw e refl
+    by (Some (part ∷ parts)) e = rw e (length_of_items (λ (part : Entry Name). data_card (combination_text row.kind) row.name part.row part.value.text) (entry_by f) (part ∷ parts))
+
+plain_length : (name : Name) (f : ℕ → Name) → (rows : List (Row ℕ)) → length (map (λ (row : Row Name). data_card [] name row.name (codes "0")) (take 1 (filter (λ row. is_none row.parts) (map (row_by f) rows)))) ≡ length (option_to_list (first_plain rows))
+plain_length name f [] = refl
+plain_length name f (row ∷ rows) = by row.parts (plain_length name f rows) refl
+  where
+    by : (parts : Option (List (Entry ℕ))) → length (map (λ (row : Row Name). data_card [] name row.name (codes "0")) (take 1 (filter (λ row. is_none row.parts) (map (row_by f) rows)))) ≡ length (option_to_list (first_plain rows))
+        → row.parts ≡ parts → length (map (λ (row : Row Name). data_card [] name row.name (codes "0")) (take 1 (filter (λ row. is_none row.parts) (map (row_by f) (row ∷ rows))))) ≡ length (option_to_list (first_plain (row ∷ rows)))
+    by None others e = rw e refl
+    by (Some parts) others e = rw e others
+
 length_of_column : (rows : List (Row ℕ)) (column : Group (Entry ℕ)) → length (column_cards (named_rows rows) (named_group rows column)) ≡ column_count rows column
 length_of_column rows column = by column.items refl
   where
     by : (items : List (Entry ℕ)) → column.items ≡ items → length (column_cards (named_rows rows) (named_group rows column)) ≡ column_count rows column
     by [] e = rw e (zero rows)
       where
-        zero : (some : List (Row ℕ)) → length (map (λ (row : Row Name). data_card [] column.name row.name (codes "0")) (take 1 (map (row_by (name_at (labels rows))) some))) ≡ length (take 1 some)
-        zero [] = refl
-        zero (row ∷ some) = refl
+        zero : (some : List (Row ℕ)) → length (map (λ (row : Row Name). data_card [] column.name row.name (codes "0")) (take 1 (filter (λ row. is_none row.parts) (map (row_by (name_at (labels rows))) some)))) ≡ length (option_to_list (first_plain some))
+        zero some = plain_length column.name (name_at (labels rows)) some
     by (item ∷ items) e = let whole = length_of_items (λ (entry : Entry Name). data_card [] column.name entry.row entry.value.text) (entry_by (name_at (labels rows))) column.items in rw e (rw e at whole)
 
 length_of_parts : (n r c e : List ℕ) (rows columns rhs ranges bounds : List (List ℕ))
@@ -160,7 +197,7 @@ length_of_parts n r c e rows columns rhs ranges bounds =
 
 -- The number of cards of a deck.
 pub deck_length : (problem : Problem ℕ) → length (written (by_names problem))
-    ≡ 4 + length problem.rows + sum_by (column_count problem.rows) problem.columns + section_count problem.rhs + section_count problem.ranges + section_count problem.bounds
+    ≡ 4 + sum_by row_count problem.rows + sum_by (column_count problem.rows) problem.columns + section_count problem.rhs + section_count problem.ranges + section_count problem.bounds
 unfolding written by_names
 deck_length problem =
     let rows = problem.rows in
@@ -170,8 +207,8 @@ deck_length problem =
     let rhs = map (named_group rows) problem.rhs in
     let ranges = map (named_group rows) problem.ranges in
     let bounds = map (group_by (bound_by (name_at names))) problem.bounds in
-    let parts = length_of_parts n (codes "ROWS") (codes "COLUMNS") (codes "ENDATA") (map row_card (named_rows rows)) (flat_map (column_cards (named_rows rows)) columns) (set_section (codes "RHS") entry_cards rhs) (set_section (codes "RANGES") entry_cards ranges) (set_section (codes "BOUNDS") bound_cards bounds) in
-    let row_part = length-map (named_rows rows) row_card ∙ length-map rows (row_by (name_at (labels rows))) in
+    let parts = length_of_parts n (codes "ROWS") (codes "COLUMNS") (codes "ENDATA") (flat_map row_cards (named_rows rows)) (flat_map (column_cards (named_rows rows)) columns) (set_section (codes "RHS") entry_cards rhs) (set_section (codes "RANGES") entry_cards ranges) (set_section (codes "BOUNDS") bound_cards bounds) in
+    let row_part = length_of_groups row_cards row_count (row_by (name_at (labels rows))) (length_of_row (name_at (labels rows))) rows in
     let column_part = length_of_groups (column_cards (named_rows rows)) (column_count rows) (named_group rows) (length_of_column rows) problem.columns in
     let rhs_part = length_of_section (codes "RHS") entry_cards (named_group rows) (λ set. length_of_items (λ (entry : Entry Name). data_card [] set.name entry.row entry.value.text) (entry_by (name_at (labels rows))) set.items) problem.rhs in
     let range_part = length_of_section (codes "RANGES") entry_cards (named_group rows) (λ set. length_of_items (λ (entry : Entry Name). data_card [] set.name entry.row entry.value.text) (entry_by (name_at (labels rows))) set.items) problem.ranges in

@@ -1,9 +1,12 @@
 -- The lines of a written deck, by the numbers of rows and columns.
-use Rattle.std.specs.Prelude.{ℕ, ◌+◌, length, sum_by, List, [], ◌∷◌, ◌++◌, codes, if◌then◌else◌, map, take, unwrap_or, option_map}
-use Rattle.std.specs.List.{flat_map}
+use Rattle.std.specs.Prelude.{ℕ, ◌+◌, length, sum_by, List, [], ◌∷◌, ◌++◌, codes, if◌then◌else◌, map, Option, Some, None, is_none, unwrap_or, option_map}
+use Rattle.std.specs.List.{flat_map, find}
+use Rattle.std.specs.Option.{option_to_list}
 use Rattle.card_definitions.specs.Words.{is_empty, padded}
+use Rattle.problem_definitions.specs.declared.RowKind.{RowKind}
 use Rattle.problem_definitions.specs.Names.{Name, name_at}
 use Rattle.problem_definitions.specs.Problem.{Row, Entry, Bound, Group}
+use Rattle.deck_definitions.specs.DataCards.{combination_text}
 use Rattle.deck_definitions.specs.Written.{data_card, row_kind_text, bound_kind_text}
 
 -- a card with its line feed
@@ -15,9 +18,26 @@ abbrev pub columns_of : List ℕ → Name → Name → List ℕ → List ℕ
 columns_of kind name1 name2 value =
     codes " " ++ padded 2 kind ++ codes " " ++ padded 8 name1 ++ codes "  " ++ padded 8 name2 ++ codes "  " ++ value
 
--- a row by its type and its name
-abbrev pub row_line : Row ℕ → List ℕ
-row_line row = line (data_card (row_kind_text row.kind) row.name [] [])
+-- a plain row by its type and its name
+abbrev pub plain_line : RowKind → Name → List ℕ
+plain_line kind name = line (data_card (row_kind_text kind) name [] [])
+
+-- a part of a combination, where these are the problem's rows
+abbrev pub part_line : List Name → RowKind → Name → Entry ℕ → List ℕ
+part_line rows kind name part = line (data_card (combination_text kind) name (name_at rows part.row) part.value.text)
+
+-- a combination: a line for each part, or one without a part
+abbrev pub combination_lines : List Name → RowKind → Name → List (Entry ℕ) → List ℕ
+combination_lines rows kind name parts =
+    if is_empty parts then line (data_card (combination_text kind) name [] [])
+    else flat_map (part_line rows kind name) parts
+
+abbrev pub row_lines : List Name → Row ℕ → List ℕ
+row_lines rows row = elim row.parts [ None ↦ plain_line row.kind row.name | Some parts ↦ combination_lines rows row.kind row.name parts ]
+
+-- the first plain row, if there is one
+abbrev pub first_plain : {R : Type 0} → List (Row R) → Option (Row R)
+first_plain rows = find (λ row. is_none row.parts) rows
 
 -- an entry or item of this column or set, where these are the problem's rows
 abbrev pub entry_line : List Name → Name → Entry ℕ → List ℕ
@@ -32,7 +52,7 @@ zero_line name row = line (data_card [] name row.name (codes "0"))
 
 abbrev pub column_lines : List (Row ℕ) → Group (Entry ℕ) → List ℕ
 column_lines rows column =
-    if is_empty column.items then flat_map (zero_line column.name) (take 1 rows)
+    if is_empty column.items then flat_map (zero_line column.name) (option_to_list (first_plain rows))
     else entry_lines (map (λ row. row.name) rows) column
 
 -- the kept text of a bound's number, and none where it has no number
@@ -49,9 +69,13 @@ bound_lines columns set = flat_map (bound_line columns set.name) set.items
 abbrev pub section_lines : {X : Type 0} → List ℕ → (X → List ℕ) → List X → List ℕ
 section_lines word lines sets = if is_empty sets then [] else line word ++ flat_map lines sets
 
+-- how many cards a row has: one, and a combination one for each part where it has parts
+abbrev pub row_count : Row ℕ → ℕ
+row_count row = elim row.parts [ None ↦ 1 | Some parts ↦ if is_empty parts then 1 else length parts ]
+
 -- how many cards the columns and the sets of a section have
 abbrev pub column_count : List (Row ℕ) → Group (Entry ℕ) → ℕ
-column_count rows column = if is_empty column.items then length (take 1 rows) else length column.items
+column_count rows column = if is_empty column.items then length (option_to_list (first_plain rows)) else length column.items
 
 abbrev pub section_count : {X : Type 0} → List (Group X) → ℕ
 section_count sets = if is_empty sets then 0 else 1 + sum_by (λ set. length set.items) sets

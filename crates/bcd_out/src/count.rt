@@ -1,8 +1,9 @@
 // The number of a deck's cards, which goes no further than 4,294,967,295.
 ghost use Rattle.std.specs.Prelude.{◌≡◌, ◌+◌, ℕ, min, length, sum_by, take};
+ghost use Rattle.std.specs.Option.{option_to_list};
 ghost use Rattle.problem_definitions.specs.Numbering.{by_names};
 ghost use Rattle.deck_definitions.specs.Written.{written};
-ghost use Rattle.bcd_out.specs.Lines.{column_count, section_count, max_counted};
+ghost use Rattle.bcd_out.specs.Lines.{row_count, first_plain, column_count, section_count, max_counted};
 
 use problem_file::{BoundSet, ColumnDecl, Problem, RowDecl, ValueSet};
 
@@ -16,11 +17,42 @@ fn added(count: u32, more: usize) -> u32
     count.saturating_add(u32::try_from(more).unwrap_or(u32::MAX))
 }
 
+fn row_cards(row: &RowDecl) -> usize
+    ensures { result ≡ row_count row.now }
+{
+    match &row.parts {
+        None => 1,
+        Some(parts) if parts.is_empty() => 1,
+        Some(parts) => parts.len(),
+    }
+}
+
+fn with_rows(count: u32, rows: &[RowDecl]) -> u32
+    ensures { result ≡ min (count + sum_by row_count rows.now) max_counted }
+{
+    let mut total = count;
+    for row in rows {
+        total = added(total, row_cards(row));
+    }
+    total
+}
+
+// How many cards a column without entries has.
+fn zero_cards(rows: &[RowDecl]) -> usize
+    ensures { result ≡ length (option_to_list (first_plain rows.now)) }
+{
+    if rows.iter().any(|row| !row.is_combination()) {
+        1
+    } else {
+        0
+    }
+}
+
 fn column_cards(rows: &[RowDecl], column: &ColumnDecl) -> usize
     ensures { result ≡ column_count rows.now column.now }
 {
     if column.entries.is_empty() {
-        rows.len().min(1)
+        zero_cards(rows)
     } else {
         column.entries.len()
     }
@@ -81,7 +113,7 @@ pub fn card_count(problem: &Problem) -> u32
     ensures { result ≡ min (length (written (by_names problem.now))) max_counted }
 {
     let rows = problem.rows();
-    let count = added(ALWAYS, rows.len());
+    let count = with_rows(ALWAYS, rows);
     let count = with_columns(count, rows, problem.columns());
     let count = with_values(count, problem.rhs());
     let count = with_values(count, problem.ranges());

@@ -1,11 +1,13 @@
 // The sections of a deck.
-ghost use Rattle.std.specs.Prelude.{◌≡◌, ◌≤◌, ◌++◌, codes, map, length, take};
+ghost use Rattle.std.specs.Prelude.{◌≡◌, ◌≤◌, ◌++◌, [], codes, map, length};
 ghost use Rattle.std.specs.List.{flat_map};
+ghost use Rattle.std.specs.Option.{option_copied, option_to_list};
 ghost use Rattle.problem_definitions.specs.Names.{name_at};
 ghost use Rattle.problem_definitions.specs.Problem.{group_names};
-ghost use Rattle.deck_definitions.specs.Written.{row_kind_text, bound_kind_text};
+ghost use Rattle.deck_definitions.specs.DataCards.{combination_text};
+ghost use Rattle.deck_definitions.specs.Written.{data_card, row_kind_text, bound_kind_text};
 ghost use Rattle.job_devices.specs.Text.{Writes};
-ghost use Rattle.bcd_out.specs.Lines.{line, row_line, entry_line, zero_line, entry_lines, column_lines, bound_line, number_text, bound_lines, section_lines};
+ghost use Rattle.bcd_out.specs.Lines.{line, plain_line, part_line, combination_lines, row_lines, first_plain, entry_line, zero_line, entry_lines, column_lines, bound_line, number_text, bound_lines, section_lines};
 
 use crate::card::{DataCard, put_card};
 use job_devices::{Sink, WriteStop, put_all, put_each};
@@ -24,6 +26,19 @@ fn row_kind_word(kind: RowKind) -> &'static [u8]
         RowKind::G => b"G",
         RowKind::L => b"L",
         RowKind::E => b"E",
+    }
+}
+
+// The word of a combination's type.
+fn combination_word(kind: RowKind) -> &'static [u8]
+    ensures word { result.now ≡ combination_text kind }
+    ensures short { length result.now ≤ 2 }
+{
+    match kind {
+        RowKind::N => b"DN",
+        RowKind::G => b"DG",
+        RowKind::L => b"DL",
+        RowKind::E => b"DE",
     }
 }
 
@@ -64,24 +79,104 @@ pub fn column_name(columns: &[ColumnDecl], number: u32) -> &[u8]
     }
 }
 
-fn put_row<P: Sink>(punch: &mut P, row: RowDecl) -> Result<(), WriteStop>
-    ensures { Writes P.written P.stopped_at P.faults P.refusals punch.old punch.new result (row_line row) }
+fn put_plain_row<P: Sink>(punch: &mut P, kind: RowKind, name: Name) -> Result<(), WriteStop>
+    ensures { Writes P.written P.stopped_at P.faults P.refusals punch.old punch.new result (plain_line kind name) }
 {
     let card = DataCard {
-        kind: row_kind_word(row.kind),
-        name1: row.name.bytes(),
+        kind: row_kind_word(kind),
+        name1: name.bytes(),
         name2: b"",
         value: b"",
     };
     put_card(punch, card)
 }
 
+// A combination without parts.
+fn put_bare_combination<P: Sink>(
+    punch: &mut P,
+    kind: RowKind,
+    name: Name,
+) -> Result<(), WriteStop>
+    ensures { Writes P.written P.stopped_at P.faults P.refusals punch.old punch.new result
+        (line (data_card (combination_text kind) name [] [])) }
+{
+    let card = DataCard {
+        kind: combination_word(kind),
+        name1: name.bytes(),
+        name2: b"",
+        value: b"",
+    };
+    put_card(punch, card)
+}
+
+fn put_part<P: Sink>(
+    punch: &mut P,
+    rows: &[RowDecl],
+    kind: RowKind,
+    name: Name,
+    part: DeckEntry,
+) -> Result<(), WriteStop>
+    ensures { Writes P.written P.stopped_at P.faults P.refusals punch.old punch.new result
+        (part_line (map (λ row. row.name) rows.now) kind name part) }
+{
+    let card = DataCard {
+        kind: combination_word(kind),
+        name1: name.bytes(),
+        name2: row_name(rows, part.row),
+        value: part.value.text(),
+    };
+    put_card(punch, card)
+}
+
+fn put_parts<P: Sink>(
+    punch: &mut P,
+    rows: &[RowDecl],
+    kind: RowKind,
+    name: Name,
+    parts: &[DeckEntry],
+) -> Result<(), WriteStop>
+    ensures { Writes P.written P.stopped_at P.faults P.refusals punch.old punch.new result
+        (flat_map (part_line (map (λ row. row.name) rows.now) kind name) parts.now) }
+{
+    for part in parts {
+        put_part(punch, rows, kind, name, *part)?;
+    }
+    Ok(())
+}
+
+fn put_combination<P: Sink>(
+    punch: &mut P,
+    rows: &[RowDecl],
+    kind: RowKind,
+    name: Name,
+    parts: &[DeckEntry],
+) -> Result<(), WriteStop>
+    ensures { Writes P.written P.stopped_at P.faults P.refusals punch.old punch.new result
+        (combination_lines (map (λ row. row.name) rows.now) kind name parts.now) }
+{
+    if parts.is_empty() {
+        put_bare_combination(punch, kind, name)
+    } else {
+        put_parts(punch, rows, kind, name, parts)
+    }
+}
+
+fn put_row<P: Sink>(punch: &mut P, rows: &[RowDecl], row: &RowDecl) -> Result<(), WriteStop>
+    ensures { Writes P.written P.stopped_at P.faults P.refusals punch.old punch.new result
+        (row_lines (map (λ row. row.name) rows.now) row.now) }
+{
+    match &row.parts {
+        None => put_plain_row(punch, row.kind, row.name),
+        Some(parts) => put_combination(punch, rows, row.kind, row.name, parts),
+    }
+}
+
 fn put_row_cards<P: Sink>(punch: &mut P, rows: &[RowDecl]) -> Result<(), WriteStop>
     ensures { Writes P.written P.stopped_at P.faults P.refusals punch.old punch.new result
-        (flat_map row_line rows.now) }
+        (flat_map (row_lines (map (λ row. row.name) rows.now)) rows.now) }
 {
     for row in rows {
-        put_row(punch, *row)?;
+        put_row(punch, rows, row)?;
     }
     Ok(())
 }
@@ -120,12 +215,19 @@ fn put_entries<P: Sink>(
     Ok(())
 }
 
-// The number 0 of a column on the first row, if there is a row.
+// The first plain row, if there is one.
+fn plain_row(rows: &[RowDecl]) -> Option<&RowDecl>
+    ensures { option_copied result ≡ first_plain rows.now }
+{
+    rows.iter().find(|row| !row.is_combination())
+}
+
+// The number 0 of a column on the first plain row, if there is one.
 fn put_zero<P: Sink>(punch: &mut P, rows: &[RowDecl], name: Name) -> Result<(), WriteStop>
     ensures { Writes P.written P.stopped_at P.faults P.refusals punch.old punch.new result
-        (flat_map (zero_line name) (take 1 rows.now)) }
+        (flat_map (zero_line name) (option_to_list (first_plain rows.now))) }
 {
-    let Some(row) = rows.first() else {
+    let Some(row) = plain_row(rows) else {
         return put_all(punch, b"");
     };
     let card = DataCard {
@@ -279,7 +381,7 @@ fn put_bounds_under<P: Sink>(
 /// Writes the section of the rows.
 pub fn put_rows<P: Sink>(punch: &mut P, rows: &[RowDecl]) -> Result<(), WriteStop>
     ensures { Writes P.written P.stopped_at P.faults P.refusals punch.old punch.new result
-        (line (codes "ROWS") ++ flat_map row_line rows.now) }
+        (line (codes "ROWS") ++ flat_map (row_lines (map (λ row. row.name) rows.now)) rows.now) }
 {
     put_all(punch, b"ROWS\n")?;
     put_row_cards(punch, rows)

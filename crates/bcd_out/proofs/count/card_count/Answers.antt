@@ -5,7 +5,7 @@ use Rattle.bcd_out.proofs.count.card_count.Goals as goal
 pub returns : goal.returns
 returns c =
     let whole = deck_length c.args.problem.now in
-    let a = c.added-count.ensures in
+    let a = c.with_rows-count.ensures in
     let b = c.with_columns-count.ensures in
     let d = c.with_values-count.ensures in
     let e = c.with_values-count-2.ensures in
