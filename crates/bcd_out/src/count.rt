@@ -5,6 +5,7 @@ ghost use Rattle.problem_definitions.specs.Numbering.{by_names};
 ghost use Rattle.deck_definitions.specs.Written.{written};
 ghost use Rattle.bcd_out.specs.Lines.{row_count, first_plain, column_count, section_count, max_counted};
 
+use crate::sections::plain_row;
 use problem_file::{BoundSet, ColumnDecl, Problem, RowDecl, ValueSet};
 
 // The cards that begin a deck and its sections of rows and columns, and the one that ends it.
@@ -41,10 +42,9 @@ fn with_rows(count: u32, rows: &[RowDecl]) -> u32
 fn zero_cards(rows: &[RowDecl]) -> usize
     ensures { result ≡ length (option_to_list (first_plain rows.now)) }
 {
-    if rows.iter().any(|row| !row.is_combination()) {
-        1
-    } else {
-        0
+    match plain_row(rows) {
+        Some(_) => 1,
+        None => 0,
     }
 }
 

@@ -92,11 +92,7 @@ fn put_plain_row<P: Sink>(punch: &mut P, kind: RowKind, name: Name) -> Result<()
 }
 
 // A combination without parts.
-fn put_bare_combination<P: Sink>(
-    punch: &mut P,
-    kind: RowKind,
-    name: Name,
-) -> Result<(), WriteStop>
+fn put_bare_combination<P: Sink>(punch: &mut P, kind: RowKind, name: Name) -> Result<(), WriteStop>
     ensures { Writes P.written P.stopped_at P.faults P.refusals punch.old punch.new result
         (line (data_card (combination_text kind) name [] [])) }
 {
@@ -215,8 +211,8 @@ fn put_entries<P: Sink>(
     Ok(())
 }
 
-// The first plain row, if there is one.
-fn plain_row(rows: &[RowDecl]) -> Option<&RowDecl>
+/// The first plain row, if there is one.
+pub fn plain_row(rows: &[RowDecl]) -> Option<&RowDecl>
     ensures { option_copied result ≡ first_plain rows.now }
 {
     rows.iter().find(|row| !row.is_combination())
