@@ -5,7 +5,7 @@ ghost use Rattle.card_reader.specs.Card.{card_bytes};
 ghost use Rattle.problem_definitions.specs.Valid.{IsName};
 ghost use Rattle.deck_definitions.specs.declared.Style.TheVariants.{FreeFields};
 ghost use Rattle.deck_definitions.specs.Conversion.{gaps_fault, form_fault};
-ghost use Rattle.deck_definitions.specs.DataCards.{form_on, pairs_of};
+ghost use Rattle.deck_definitions.specs.DataCards.{form_on, pair_if, pairs_of};
 ghost use Rattle.deck_definitions.proofs.CardTexts.{IsReading};
 ghost use Rattle.deck_fields.specs.Readings.{fields_shown};
 ghost use Rattle.deck_fields.specs.WordsShown.{IsColumn};
@@ -110,6 +110,18 @@ pub fn first_pair<'a>(card: &DataCard<'a>) -> PairText<'a>
         value: card.value1,
         column: card.value1_column,
     }
+}
+
+// The part in fields 3 and 4 of a card of a combination, where one of these isn't blank.
+pub fn first_part<'a>(card: &DataCard<'a>) -> Option<PairText<'a>>
+    ensures some { IfSome result (λ first. pair_if (shown card.now).name2 (shown card.now).value1 (shown card.now).value1_column
+        ≡ pair_shown first ∷ []) }
+    ensures none { IfNone result (pair_if (shown card.now).name2 (shown card.now).value1 (shown card.now).value1_column ≡ []) }
+{
+    if is_blank(card.name2.bytes()) && is_blank(card.value1) {
+        return None;
+    }
+    Some(first_pair(card))
 }
 
 // The pair in fields 5 and 6, where one of these isn't blank.

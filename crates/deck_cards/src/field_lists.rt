@@ -1,12 +1,16 @@
 // The fields that the words of a free data card are.
-ghost use Rattle.std.specs.Prelude.{◌≡◌, ◌≤◌, ◌==◌, ◌++◌, ◌∷◌, [], length, IfSome, option_map};
+ghost use Rattle.std.specs.Prelude.{◌≡◌, ◌≤◌, ◌==◌, ◌++◌, ◌∷◌, [], true, false, length, IfSome, option_map};
 ghost use Rattle.card_definitions.specs.Fields.{fields_for};
-ghost use Rattle.deck_definitions.specs.DataCards.{named_pairs, bare_pairs, bound_words, words_given, words_deleted, words_on};
+ghost use Rattle.deck_definitions.specs.DataCards.{named_pairs, bare_pairs, row_words, bound_words, words_given, words_deleted, words_on};
 
-use crate::words::takes_number;
+use crate::words::{combines, takes_number};
 use deck_definitions::Section;
 
 const TYPE_NAME: &[u8] = &[1, 2];
+
+const TYPE_NAME_PART: &[u8] = &[1, 2, 3, 4];
+
+const TYPE_NAME_PARTS: &[u8] = &[1, 2, 3, 4, 5, 6];
 
 const NAME_PAIR: &[u8] = &[2, 3, 4];
 
@@ -35,15 +39,43 @@ fn has_count(fields: &[u8], count: u8) -> bool
     fields.len() == usize::from(count)
 }
 
-// What a card of ROWS has.
-fn row_fields(count: u8) -> Option<&'static [u8]>
-    ensures fields { option_map (λ f. f.now) result ≡ fields_for ((1 ∷ 2 ∷ []) ∷ []) count }
+// What a card of a plain row has.
+fn plain_row_fields(count: u8) -> Option<&'static [u8]>
+    ensures fields { option_map (λ f. f.now) result ≡ fields_for (row_words false) count }
     ensures few { IfSome result (λ f. length f.now ≤ 6) }
 {
     if has_count(TYPE_NAME, count) {
         Some(TYPE_NAME)
     } else {
         None
+    }
+}
+
+// What a card of a combination has.
+fn combination_fields(count: u8) -> Option<&'static [u8]>
+    ensures fields { option_map (λ f. f.now) result ≡ fields_for (row_words true) count }
+    ensures few { IfSome result (λ f. length f.now ≤ 6) }
+{
+    if has_count(TYPE_NAME, count) {
+        Some(TYPE_NAME)
+    } else if has_count(TYPE_NAME_PART, count) {
+        Some(TYPE_NAME_PART)
+    } else if has_count(TYPE_NAME_PARTS, count) {
+        Some(TYPE_NAME_PARTS)
+    } else {
+        None
+    }
+}
+
+// What a card of ROWS has, whose type is that of a combination or isn't.
+fn row_fields(combines: bool, count: u8) -> Option<&'static [u8]>
+    ensures fields { option_map (λ f. f.now) result ≡ fields_for (row_words combines) count }
+    ensures few { IfSome result (λ f. length f.now ≤ 6) }
+{
+    if combines {
+        combination_fields(count)
+    } else {
+        plain_row_fields(count)
     }
 }
 
@@ -109,7 +141,7 @@ fn fields_given(section: Section, word: &[u8], count: u8) -> Option<&'static [u8
     ensures few { IfSome result (λ f. length f.now ≤ 6) }
 {
     match section {
-        Section::Rows => row_fields(count),
+        Section::Rows => row_fields(combines(word), count),
         Section::Columns => column_fields(count),
         Section::Rhs => set_fields(count),
         Section::Ranges => set_fields(count),

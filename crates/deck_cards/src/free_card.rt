@@ -12,7 +12,7 @@ ghost use Rattle.deck_fields.specs.Readings.{ShowsFields};
 ghost use Rattle.deck_fields.specs.WordsShown.{IsColumn};
 
 use crate::field_lists::fields_on;
-use crate::words::{bound_kind, is_combination};
+use crate::words::{bound_kind, is_row_type};
 use card_reader::Card;
 use deck_definitions::{DeckFaultKind, Section};
 use deck_fields::{Fields, free_words, read_words, word_text};
@@ -27,7 +27,7 @@ fn type_fault(section: Section, word: &[u8]) -> Option<DeckFaultKind>
     ensures { result ≡ type_fault section word.now }
 {
     match section {
-        Section::Rows if is_combination(word) => Some(DeckFaultKind::CombinationRow),
+        Section::Rows if !is_row_type(word) => Some(DeckFaultKind::BadRowType),
         Section::Bounds if bound_kind(word).is_none() => Some(DeckFaultKind::BadBoundType),
         _ => None,
     }

@@ -1,13 +1,11 @@
 // Words on cards.
-ghost use Rattle.std.specs.Prelude.{◌≡◌, ◌≤◌, false, length, bytes_eq, unwrap_or, option_map};
+ghost use Rattle.std.specs.Prelude.{◌≡◌, ◌≤◌, false, length, bytes_eq, unwrap_or, option_map, is_some};
 ghost use Rattle.problem_definitions.specs.Kinds.{takes_value};
 ghost use Rattle.std.specs.List.{position_or_len};
 ghost use Rattle.card_definitions.specs.Cards.{is_blank as is_blank_byte};
 ghost use Rattle.card_definitions.specs.Words.{is_empty, named};
-ghost use Rattle.problem_definitions.specs.Names.{has_name};
-ghost use Rattle.deck_definitions.specs.DataCards.{row_kinds, bound_kinds};
+ghost use Rattle.deck_definitions.specs.DataCards.{row_kinds, combination_kinds, is_row_type, bound_kinds};
 ghost use Rattle.deck_definitions.specs.Sections.{section_word, section_words, is_section};
-ghost use Rattle.deck_definitions.specs.Tests.{combination_kinds};
 ghost use Rattle.deck_definitions.specs.declared.Section.TheVariants.{Columns, Ranges};
 
 use deck_definitions::Section;
@@ -44,7 +42,7 @@ pub fn first_word(card: &[u8]) -> &[u8]
     &card[..first_blank(card)]
 }
 
-// The type of a row that a word names.
+// The type of a plain row that a word names.
 pub fn row_kind(word: &[u8]) -> Option<RowKind>
     ensures { result ≡ named row_kinds word.now }
 {
@@ -61,11 +59,35 @@ pub fn row_kind(word: &[u8]) -> Option<RowKind>
     }
 }
 
-// Whether a word names a type of rows that are made of other rows.
-pub fn is_combination(word: &[u8]) -> bool
-    ensures { result ≡ has_name combination_kinds word.now }
+// The type of a combination that a word names.
+pub fn combination_kind(word: &[u8]) -> Option<RowKind>
+    ensures { result ≡ named combination_kinds word.now }
 {
-    is_word(word, b"DN") || is_word(word, b"DE") || is_word(word, b"DL") || is_word(word, b"DG")
+    if is_word(b"DN", word) {
+        Some(RowKind::N)
+    } else if is_word(b"DG", word) {
+        Some(RowKind::G)
+    } else if is_word(b"DL", word) {
+        Some(RowKind::L)
+    } else if is_word(b"DE", word) {
+        Some(RowKind::E)
+    } else {
+        None
+    }
+}
+
+// Whether a word names a type of combinations.
+pub fn combines(word: &[u8]) -> bool
+    ensures { result ≡ is_some (named combination_kinds word.now) }
+{
+    combination_kind(word).is_some()
+}
+
+// Whether a word names a type of rows, of either sort.
+pub fn is_row_type(word: &[u8]) -> bool
+    ensures { result ≡ is_row_type word.now }
+{
+    row_kind(word).is_some() || combines(word)
 }
 
 // The type of a bound that a word names.
