@@ -10,11 +10,11 @@ use Rattle.card_definitions.specs.Numbers.{number_fault}
 use Rattle.card_definitions.proofs.FirstFaults.{no_first, no_second, passes, test_fails}
 use Rattle.problem_definitions.specs.declared.TheConstants.{MAX_ENTRIES}
 use Rattle.problem_definitions.specs.Names.{Name, same, has_name, marker}
-use Rattle.problem_definitions.specs.Problem.{Entry, Problem, has_row, has_free_row, has_entry}
+use Rattle.problem_definitions.specs.Problem.{Entry, Problem, has_row, has_free_row, has_combination, has_entry}
 use Rattle.problem_definitions.specs.Valid.{IsDecimal}
 use Rattle.problem_definitions.proofs.Each.{each-push, distinct-push, absent-apart}
 use Rattle.problem_definitions.proofs.Lawful.{AreLawfulEntries}
-use Rattle.deck_definitions.specs.declared.DeckFaultKind.TheVariants.{UnknownRow, DuplicateEntry, RangeOnFree, EmptyName, TooManyEntries}
+use Rattle.deck_definitions.specs.declared.DeckFaultKind.TheVariants.{UnknownRow, DuplicateEntry, RangeOnFree, EmptyName, TooManyEntries, EntryOnCombination}
 use Rattle.deck_definitions.specs.declared.Section.{Section}
 use Rattle.deck_definitions.specs.declared.Section.TheVariants.{Columns, Ranges}
 use Rattle.deck_definitions.specs.Sections.{is_section}
@@ -53,6 +53,7 @@ module _ (seen : Problem Name) (section : Section) where
   -- what the tests of a pair say where they find no fault
   record PairPasses (taken : List (Entry Name)) (count : ℕ) (pair : Pair) : Type 0 where
     there : has_row seen.rows pair.row ≡ true
+    uncombined : (is_section Columns section && has_combination seen.rows pair.row) ≡ false
     unfree : (is_section Ranges section && has_free_row seen.rows pair.row) ≡ false
     new : has_entry taken pair.row ≡ false
     value : number_fault pair.value ≡ None
@@ -68,10 +69,12 @@ module _ (seen : Problem Name) (section : Section) where
       let r = passes (
       (is_empty pair.row ⟹ EmptyName) ∷
       (not (has_row seen.rows pair.row) ⟹ UnknownRow) ∷
+      (is_section Columns section && has_combination seen.rows pair.row ⟹ EntryOnCombination) ∷
       (is_section Ranges section && has_free_row seen.rows pair.row ⟹ RangeOnFree) ∷ []) t.0 in
       record {
         there = not-false (has_row seen.rows pair.row) (test_fails (not (has_row seen.rows pair.row)) UnknownRow r.1.0);
-        unfree = test_fails (is_section Ranges section && has_free_row seen.rows pair.row) RangeOnFree r.1.1.0;
+        uncombined = test_fails (is_section Columns section && has_combination seen.rows pair.row) EntryOnCombination r.1.1.0;
+        unfree = test_fails (is_section Ranges section && has_free_row seen.rows pair.row) RangeOnFree r.1.1.1.0;
         new = test_fails (has_entry taken pair.row) DuplicateEntry t.1.0;
         value = no_value_fault pair.column pair.value t.1.1.0;
         few = test_fails (is_section Columns section && nat_le MAX_ENTRIES count) TooManyEntries t.1.1.1.0;
@@ -107,6 +110,14 @@ module _ (seen : Problem Name) (section : Section) where
   pairs-limited taken count (pair ∷ pairs) ranges fine =
       let pass = pairs-pass taken count pair pairs fine in
       (subst (λ b. (b && has_free_row seen.rows pair.row) ≡ false) ranges pass.first.unfree, pairs-limited (taken ++ entry_of pair ∷ []) (count + 1) pairs ranges pass.others)
+
+  -- no entry of a column stands on a combination
+  pub pairs-plain : (taken : List (Entry Name)) (count : ℕ) (pairs : List Pair) → is_section Columns section ≡ true → pairs_fault seen section taken count pairs ≡ None
+      → AllByRecursion (λ (entry : Entry Name). has_combination seen.rows entry.row ≡ false) (map entry_of pairs)
+  pairs-plain taken count [] columns fine = tt
+  pairs-plain taken count (pair ∷ pairs) columns fine =
+      let pass = pairs-pass taken count pair pairs fine in
+      (subst (λ b. (b && has_combination seen.rows pair.row) ≡ false) columns pass.first.uncombined, pairs-plain (taken ++ entry_of pair ∷ []) (count + 1) pairs columns pass.others)
 
   -- the entries of all columns are no more than the limit allows
   pub pairs-few : (taken : List (Entry Name)) (count : ℕ) (pairs : List Pair) → is_section Columns section ≡ true → count ≤ MAX_ENTRIES → pairs_fault seen section taken count pairs ≡ None

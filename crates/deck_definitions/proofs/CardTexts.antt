@@ -11,12 +11,13 @@ use Rattle.card_definitions.proofs.FirstFaults.{passes}
 use Rattle.card_definitions.proofs.FreeWords.{IsWordText, words-texts, field-passes, word-printable, word-trimmed}
 use Rattle.card_definitions.proofs.Trimmed.{length-field, number_of-trimmed}
 use Rattle.problem_definitions.specs.Valid.{IsName, IsDecimal}
+use Rattle.problem_definitions.proofs.Each.{each-append}
 use Rattle.deck_definitions.specs.declared.DeckFaultKind.{DeckFaultKind}
 use Rattle.deck_definitions.specs.declared.DeckFaultKind.TheVariants.{WordCount, LongName, LongNumber}
 use Rattle.deck_definitions.specs.declared.Section.{Section}
 use Rattle.deck_definitions.specs.declared.Style.{Style}
 use Rattle.deck_definitions.specs.declared.Style.TheVariants.{FixedFields, FreeFields}
-use Rattle.deck_definitions.specs.DataCards.{Pair, pairs_of, form_on, words_on}
+use Rattle.deck_definitions.specs.DataCards.{Pair, pair_if, pairs_of, part_pairs_of, form_on, words_on}
 use Rattle.deck_definitions.specs.Conversion.{is_longer, type_fault, words_fault, form_fault}
 
 -- columns of a card are no more than so many
@@ -132,10 +133,19 @@ module _ (section : Section) (deletes : Bool) (card : List ℕ) where
 pub text_is_decimal : (field : List ℕ) → length field ≤ 12 → number_fault field ≡ None → IsDecimal (decimal_of field)
 text_is_decimal field short fine = record { short = omega (arith, length-field field, short); value = number_of-trimmed field fine }
 
+-- a pair has a short field of a number, if it is there
+pair-short : (row value : List ℕ) (column : ℕ) → length value ≤ 12 → AllByRecursion (λ (pair : Pair). length pair.value ≤ 12) (pair_if row value column)
+pair-short row value column short = by (is_empty row && is_empty value)
+  where
+    by : (b : Bool) → AllByRecursion (λ (pair : Pair). length pair.value ≤ 12) (cond b [] (record { row = row; value = value; column = column } ∷ []))
+    by true = tt
+    by false = (short, tt)
+
 -- the pairs of a card have short fields of numbers
 pub pairs-short : (card : Reading) → IsReading card → AllByRecursion (λ (pair : Pair). length pair.value ≤ 12) (pairs_of card)
-pairs-short card reads = (reads.value1, by (is_empty card.name3 && is_empty card.value2))
-  where
-    by : (b : Bool) → AllByRecursion (λ (pair : Pair). length pair.value ≤ 12) (cond b [] (record { row = card.name3; value = card.value2; column = card.value2_column } ∷ []))
-    by true = tt
-    by false = (reads.value2, tt)
+pairs-short card reads = (reads.value1, pair-short card.name3 card.value2 card.value2_column reads.value2)
+
+-- and so have those of a combination
+pub part_pairs-short : (card : Reading) → IsReading card → AllByRecursion (λ (pair : Pair). length pair.value ≤ 12) (part_pairs_of card)
+part_pairs-short card reads = each-append (λ (pair : Pair). length pair.value ≤ 12) (pair_if card.name2 card.value1 card.value1_column) (pair_if card.name3 card.value2 card.value2_column)
+    (pair-short card.name2 card.value1 card.value1_column reads.value1) (pair-short card.name3 card.value2 card.value2_column reads.value2)

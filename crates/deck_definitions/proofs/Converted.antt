@@ -89,7 +89,7 @@ unfolding described IsDistinct
 nothing = record {
   row_labels = tt;
   rows_distinct = tt;
-  plain_rows = tt;
+  parts = tt;
   columns = record { names = tt; distinct = tt; items = tt };
   rhs = record { names = tt; distinct = tt; items = tt };
   ranges = record { names = tt; distinct = tt; items = tt };
@@ -105,7 +105,7 @@ unfolding described
 renamed name cards lawful = record {
   row_labels = lawful.row_labels;
   rows_distinct = lawful.rows_distinct;
-  plain_rows = lawful.plain_rows;
+  parts = lawful.parts;
   columns = lawful.columns;
   rhs = lawful.rhs;
   ranges = lawful.ranges;

@@ -1,5 +1,5 @@
 -- Each fault of a data deck, on worked decks, computed. The decks begin at card 8 of a job.
-use Rattle.std.specs.Prelude.{◌≡◌, refl, ℕ, List, [], ◌∷◌, codes, Option, Some, None, map, replicate}
+use Rattle.std.specs.Prelude.{◌≡◌, refl, ℕ, List, [], ◌∷◌, ◌++◌, codes, Option, Some, None, map, replicate}
 use Prim.Native.String.{String}
 use Rattle.card_definitions.specs.declared.NumberFault.TheVariants.{Empty, BadCharacter, NoDigit, ExponentRange}
 use Rattle.card_definitions.specs.Cards.{Card, numbered_from}
@@ -7,13 +7,13 @@ use Rattle.card_definitions.specs.Fields.{Reading, Fixed, reading_of}
 use Rattle.card_definitions.specs.Numbers.{number_fault}
 use Rattle.problem_definitions.specs.declared.RowKind.TheVariants.{L}
 use Rattle.problem_definitions.specs.Names.{Name}
-use Rattle.problem_definitions.specs.Problem.{plain_row, Problem}
+use Rattle.problem_definitions.specs.Problem.{plain_row, combination, Problem}
 use Rattle.deck_definitions.specs.declared.DeckFault.{DeckFault}
 use Rattle.deck_definitions.specs.declared.DeckFaultKind.{DeckFaultKind}
-use Rattle.deck_definitions.specs.declared.DeckFaultKind.TheVariants.{SectionOrder, UnknownSection, BadRowType, DuplicateRow, ColumnSplit, UnknownRow, DuplicateEntry, Number, RangeOnFree, BadBoundType, UnknownColumn, BoundTwice, NoEndata, Marker, EmptyName, TooManyRows, TooManyColumns, TooManyEntries, CombinationRow, ExtraField}
+use Rattle.deck_definitions.specs.declared.DeckFaultKind.TheVariants.{SectionOrder, UnknownSection, BadRowType, DuplicateRow, ColumnSplit, UnknownRow, DuplicateEntry, Number, RangeOnFree, BadBoundType, UnknownColumn, BoundTwice, NoEndata, Marker, EmptyName, TooManyRows, TooManyColumns, TooManyEntries, ExtraField}
 use Rattle.deck_definitions.specs.declared.Section.TheVariants.{Columns, Rhs}
 use Rattle.deck_definitions.specs.Described.{described}
-use Rattle.deck_definitions.specs.Tests.{rows_fault, columns_fault, pair_fault}
+use Rattle.deck_definitions.specs.Tests.{row_fault, columns_fault, pair_fault}
 use Rattle.deck_definitions.specs.Conversion.{deck_fault, card_fault}
 
 abbrev of_deck : List String → List Card
@@ -63,9 +63,9 @@ bad_row_type : after_cost (" Q  R1" ∷ "ENDATA" ∷ []) ≡ found 11 BadRowType
 unfolding deck_fault card_fault described reading_of number_fault
 bad_row_type = refl
 
-combination : after_cost (" DN R1" ∷ "ENDATA" ∷ []) ≡ found 11 CombinationRow
+bad_combination_type : after_cost (" DX R1" ∷ "ENDATA" ∷ []) ≡ found 11 BadRowType
 unfolding deck_fault card_fault described reading_of number_fault
-combination = refl
+bad_combination_type = refl
 
 -- a row type may stand in column 3
 type_in_column_3 : after_cost ("  L R1" ∷ "COLUMNS" ∷ "ENDATA" ∷ []) ≡ None
@@ -304,13 +304,18 @@ many rows columns = record {
 abbrev read : String → Reading
 read card = reading_of Fixed (codes card)
 
-row_1000 : rows_fault (many 999 0) (read " L  NEW") ≡ None
+row_1000 : row_fault (many 999 0) (read " L  NEW") ≡ None
 unfolding reading_of
 row_1000 = refl
 
-row_1001 : rows_fault (many 1000 0) (read " L  NEW") ≡ Some TooManyRows
+row_1001 : row_fault (many 1000 0) (read " L  NEW") ≡ Some TooManyRows
 unfolding reading_of
 row_1001 = refl
+
+-- a card that goes on with a combination begins no row
+more_parts : row_fault (record (many 0 0) { rows = replicate 999 (plain_row L (codes "R")) ++ combination L (codes "S") [] ∷ [] }) (read " DL S         R         1") ≡ None
+unfolding reading_of number_fault
+more_parts = refl
 
 column_5000 : columns_fault (many 1 4999) (read "    NEW       R         1") ≡ None
 unfolding reading_of number_fault

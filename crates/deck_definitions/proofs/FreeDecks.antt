@@ -8,7 +8,7 @@ use Rattle.card_definitions.specs.Numbers.{number_fault}
 use Rattle.problem_definitions.specs.Numbering.{numbered}
 use Rattle.deck_definitions.specs.declared.DeckFault.{DeckFault}
 use Rattle.deck_definitions.specs.declared.DeckFaultKind.{DeckFaultKind}
-use Rattle.deck_definitions.specs.declared.DeckFaultKind.TheVariants.{BadRowType, DuplicateRow, UnknownRow, DuplicateEntry, Number, BadBoundType, UnknownColumn, CombinationRow, ExtraField, WordCount, LongName, LongNumber}
+use Rattle.deck_definitions.specs.declared.DeckFaultKind.TheVariants.{BadRowType, DuplicateRow, UnknownRow, DuplicateEntry, Number, BadBoundType, UnknownColumn, ExtraField, WordCount, LongName, LongNumber}
 use Rattle.deck_definitions.specs.Described.{described}
 use Rattle.deck_definitions.specs.Conversion.{deck_fault, card_fault, conversion}
 
@@ -37,8 +37,12 @@ no_such_type : with_row " Q R" ≡ found 5 BadRowType
 unfolding deck_fault card_fault described reading_of words number_fault
 no_such_type = refl
 
--- the number of words is tested before a type of one letter
-three_words_in_rows : with_row " Q R X" ≡ found 5 WordCount
+-- the type is tested before the number of words
+bad_type_of_three : with_row " Q R X" ≡ found 5 BadRowType
+unfolding deck_fault card_fault described reading_of words number_fault
+bad_type_of_three = refl
+
+three_words_in_rows : with_row " L R X" ≡ found 5 WordCount
 unfolding deck_fault card_fault described reading_of words number_fault
 three_words_in_rows = refl
 
@@ -46,10 +50,10 @@ row_without_name : with_row " L" ≡ found 5 WordCount
 unfolding deck_fault card_fault described reading_of words number_fault
 row_without_name = refl
 
--- and a type of a combination before the number of words
-combination : with_row " DN" ≡ found 5 CombinationRow
+-- a plain row has no parts
+parts_of_plain : with_row " L A COST 1" ≡ found 5 WordCount
 unfolding deck_fault card_fault described reading_of words number_fault
-combination = refl
+parts_of_plain = refl
 
 long_row : with_row " L LONGNAME9" ≡ found 5 LongName
 unfolding deck_fault card_fault described reading_of words number_fault
@@ -58,6 +62,62 @@ long_row = refl
 row_again : with_row " G LOW" ≡ found 5 DuplicateRow
 unfolding deck_fault card_fault described reading_of words number_fault
 row_again = refl
+
+-- ---- a combination
+
+-- two parts on a card, and the same combination on two cards of a fixed deck
+free_combination : conversion (of_deck ("NAME          ONE       FREE" ∷ "ROWS" ∷ " N COST" ∷ " G LOW" ∷ " DL S COST 1 LOW -2" ∷ "COLUMNS" ∷ " X COST 1 LOW 1" ∷ "RHS" ∷ " S 4" ∷ "ENDATA" ∷ [])) None
+    ≡ conversion (of_deck ("NAME          ONE" ∷ "ROWS" ∷ " N  COST" ∷ " G  LOW" ∷ " DL S         COST      1" ∷ " DL S         LOW       -2" ∷ "COLUMNS" ∷ "    X         COST      1              LOW       1" ∷ "RHS" ∷ "              S         4" ∷ "ENDATA" ∷ [])) None
+unfolding conversion numbered deck_fault card_fault described reading_of words number_fault
+free_combination = refl
+
+without_parts : with_row " DN S" ≡ None
+unfolding deck_fault card_fault described reading_of words number_fault
+without_parts = refl
+
+one_part : with_row " DL S COST 1" ≡ None
+unfolding deck_fault card_fault described reading_of words number_fault
+one_part = refl
+
+two_parts : with_row " DL S COST 1 LOW -2" ≡ None
+unfolding deck_fault card_fault described reading_of words number_fault
+two_parts = refl
+
+combination_without_name : with_row " DN" ≡ found 5 WordCount
+unfolding deck_fault card_fault described reading_of words number_fault
+combination_without_name = refl
+
+part_without_number : with_row " DN S COST" ≡ found 5 WordCount
+unfolding deck_fault card_fault described reading_of words number_fault
+part_without_number = refl
+
+second_without_number : with_row " DL S COST 1 LOW" ≡ found 5 WordCount
+unfolding deck_fault card_fault described reading_of words number_fault
+second_without_number = refl
+
+long_combination : with_row " DL LONGNAME9 COST 1" ≡ found 5 LongName
+unfolding deck_fault card_fault described reading_of words number_fault
+long_combination = refl
+
+long_part : with_row " DL S LONGNAME9 1" ≡ found 5 LongName
+unfolding deck_fault card_fault described reading_of words number_fault
+long_part = refl
+
+long_multiplier : with_row " DL S COST 1234567890123" ≡ found 5 LongNumber
+unfolding deck_fault card_fault described reading_of words number_fault
+long_multiplier = refl
+
+bad_multiplier : with_row " DL S COST 1 LOW 1.2.3" ≡ found 5 (Number (BadCharacter 4) 21)
+unfolding deck_fault card_fault described reading_of words number_fault
+bad_multiplier = refl
+
+part_of_itself : with_row " DL S S 1" ≡ found 5 UnknownRow
+unfolding deck_fault card_fault described reading_of words number_fault
+part_of_itself = refl
+
+combination_again : with_row " DL COST COST 1" ≡ found 5 DuplicateRow
+unfolding deck_fault card_fault described reading_of words number_fault
+combination_again = refl
 
 -- ---- a card of COLUMNS
 

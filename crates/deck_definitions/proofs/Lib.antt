@@ -1,6 +1,7 @@
 pub mod Examples
 mod Faults
 mod FreeDecks
+mod Combinations
 pub mod Steps
 pub mod Pairs
 pub mod WrittenCards

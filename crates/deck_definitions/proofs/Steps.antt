@@ -1,15 +1,16 @@
 -- What one more card does to the section, to the problem described and to the faults of the cards before it: the steps
 -- of a reader that goes card by card.
-use Rattle.std.proofs.Common.{◌≡◌, ℕ, true, false, cond, List, [], ◌∷◌, ◌++◌, Option, Some, None, unwrap_or, refl, ap, ◌∙◌}
+use Rattle.std.proofs.Common.{◌≡◌, ℕ, true, false, cond, List, [], ◌∷◌, ◌++◌, Option, Some, None, unwrap_or, fold, refl, ap, ◌∙◌}
 use Rattle.std.specs.List.{filter_map, last_or}
 use Rattle.std.specs.Option.{option_or, option_map, option_to_list}
 use Rattle.std.proofs.lemmas.List.Elements.{filter_map-append}
 use Rattle.std.proofs.lemmas.List.{append-nil}
+use Rattle.std.proofs.lemmas.List.Sums.{fold-append}
 use Rattle.card_definitions.specs.Cards.{Card}
 use Rattle.card_definitions.specs.Fields.{Reading}
 use Rattle.card_definitions.proofs.FirstFaults.{first_fault_after, gathered-push, cons_option-nil}
 use Rattle.problem_definitions.specs.Names.{Name}
-use Rattle.problem_definitions.specs.Problem.{Row, Problem, Group, Entry, Bound}
+use Rattle.problem_definitions.specs.Problem.{Problem, Group, Entry, Bound}
 use Rattle.problem_definitions.specs.Groups.{grouped, in_set}
 use Rattle.problem_definitions.proofs.Groups.{grouped-push}
 use Rattle.deck_definitions.specs.declared.DeckFaultKind.{DeckFaultKind}
@@ -18,7 +19,7 @@ use Rattle.deck_definitions.specs.declared.Section.TheVariants.{Header, Rows, Co
 use Rattle.deck_definitions.specs.Sections.{is_section, section_begun, is_section_card, section_after}
 use Rattle.deck_definitions.specs.declared.Style.{Style}
 use Rattle.deck_definitions.specs.declared.Style.TheVariants.{FixedFields}
-use Rattle.deck_definitions.specs.DataCards.{style_begun, style_of, read_after, given_by, given, row_of, entry_group, entries_of, bound_group}
+use Rattle.deck_definitions.specs.DataCards.{style_begun, style_of, read_after, given_by, given, with_row, entry_group, entries_of, bound_group}
 use Rattle.deck_definitions.specs.Described.{described}
 use Rattle.deck_definitions.specs.Conversion.{first_faulty}
 
@@ -63,7 +64,7 @@ with_group (Some group) groups = in_set group.name (λ items. items ++ group.ite
 
 -- the problem with one more data card in a section
 abbrev pub with_card : Section → Reading → Problem Name → Problem Name
-with_card Rows card problem = record problem { rows = problem.rows ++ option_to_list (row_of card) }
+with_card Rows card problem = record problem { rows = with_row problem.rows card }
 with_card Columns card problem = record problem { columns = with_group (entry_group card) problem.columns }
 with_card Rhs card problem = record problem { rhs = with_group (entry_group card) problem.rhs }
 with_card Ranges card problem = record problem { ranges = with_group (entry_group card) problem.ranges }
@@ -85,19 +86,19 @@ module _ {X : Type 0} (section : Section) (give : Reading → Option X) (cards :
   pub given-section : is_section_card card.bytes ≡ true → given section give (cards ++ card ∷ []) ≡ given section give cards
   given-section e = given-push section give cards card ∙ rw e (append-nil (given section give cards))
 
-module _ (name : Name) (card : Reading) (rows : List (Row Name)) (columns rhs ranges : List (Group (Entry Name))) (bounds : List (Group (Bound Name))) where
+module _ (name : Name) (card : Reading) (rows : List Reading) (columns rhs ranges : List (Group (Entry Name))) (bounds : List (Group (Bound Name))) where
   -- the problem of what the sections gave
-  abbrev built : List (Row Name) → List (Group (Entry Name)) → List (Group (Entry Name)) → List (Group (Entry Name)) → List (Group (Bound Name)) → Problem Name
-  built rows columns rhs ranges bounds = record { name = name; rows = rows; columns = grouped columns; rhs = grouped rhs; ranges = grouped ranges; bounds = grouped bounds }
+  abbrev built : List Reading → List (Group (Entry Name)) → List (Group (Entry Name)) → List (Group (Entry Name)) → List (Group (Bound Name)) → Problem Name
+  built rows columns rhs ranges bounds = record { name = name; rows = fold with_row [] rows; columns = grouped columns; rhs = grouped rhs; ranges = grouped ranges; bounds = grouped bounds }
 
   bounds-step : (o : Option (Group (Bound Name))) → grouped (bounds ++ option_to_list o) ≡ with_group o (grouped bounds)
   bounds-step None = ap grouped (append-nil bounds)
   bounds-step (Some set) = grouped-push bounds set
 
-  built-step : (place : Section) → built (rows ++ option_to_list (given_in Rows row_of place card)) (columns ++ option_to_list (given_in Columns entry_group place card)) (rhs ++ option_to_list (given_in Rhs entry_group place card))
+  built-step : (place : Section) → built (rows ++ option_to_list (given_in Rows (λ card. Some card) place card)) (columns ++ option_to_list (given_in Columns entry_group place card)) (rhs ++ option_to_list (given_in Rhs entry_group place card))
       (ranges ++ option_to_list (given_in Ranges entry_group place card)) (bounds ++ option_to_list (given_in Bounds bound_group place card)) ≡ with_card place card (built rows columns rhs ranges bounds)
   built-step Header = rw (append-nil rows, append-nil columns, append-nil rhs, append-nil ranges, append-nil bounds) refl
-  built-step Rows = rw (append-nil columns, append-nil rhs, append-nil ranges, append-nil bounds) refl
+  built-step Rows = rw (append-nil columns, append-nil rhs, append-nil ranges, append-nil bounds) (ap (λ all. record (built rows columns rhs ranges bounds) { rows = all }) (fold-append with_row [] rows (card ∷ [])))
   built-step Columns = rw (append-nil rows, append-nil rhs, append-nil ranges, append-nil bounds, grouped-push columns (record { name = card.name1; items = entries_of card })) refl
   built-step Rhs = rw (append-nil rows, append-nil columns, append-nil ranges, append-nil bounds, grouped-push rhs (record { name = card.name1; items = entries_of card })) refl
   built-step Ranges = rw (append-nil rows, append-nil columns, append-nil rhs, append-nil bounds, grouped-push ranges (record { name = card.name1; items = entries_of card })) refl
@@ -109,13 +110,13 @@ pub described-data : (name : Name) (cards : List Card) (card : Card) (place : Se
     → described name (cards ++ card ∷ []) ≡ with_card place (read_after cards card) (described name cards)
 unfolding described
 described-data name cards card place e s =
-    rw (given-data Rows row_of cards card place e s, given-data Columns entry_group cards card place e s, given-data Rhs entry_group cards card place e s, given-data Ranges entry_group cards card place e s, given-data Bounds bound_group cards card place e s)
-    (built-step name (read_after cards card) (given Rows row_of cards) (given Columns entry_group cards) (given Rhs entry_group cards) (given Ranges entry_group cards) (given Bounds bound_group cards) place)
+    rw (given-data Rows (λ card. Some card) cards card place e s, given-data Columns entry_group cards card place e s, given-data Rhs entry_group cards card place e s, given-data Ranges entry_group cards card place e s, given-data Bounds bound_group cards card place e s)
+    (built-step name (read_after cards card) (given Rows (λ card. Some card) cards) (given Columns entry_group cards) (given Rhs entry_group cards) (given Ranges entry_group cards) (given Bounds bound_group cards) place)
 
 pub described-section : (name : Name) (cards : List Card) (card : Card) → is_section_card card.bytes ≡ true → described name (cards ++ card ∷ []) ≡ described name cards
 unfolding described
 described-section name cards card e =
-    rw (given-section Rows row_of cards card e, given-section Columns entry_group cards card e, given-section Rhs entry_group cards card e, given-section Ranges entry_group cards card e, given-section Bounds bound_group cards card e) refl
+    rw (given-section Rows (λ card. Some card) cards card e, given-section Columns entry_group cards card e, given-section Rhs entry_group cards card e, given-section Ranges entry_group cards card e, given-section Bounds bound_group cards card e) refl
 
 -- the first faulty card of two parts is that of the first, or else that of the second after it
 pub first_faulty-append : (test : List Card → List ℕ → Option DeckFaultKind) (before cards after : List Card)

@@ -1,9 +1,8 @@
 -- The problem of a deck in which no fault was found is a problem.
-use Rattle.std.proofs.Common.{◌≡◌, ℕ, ◌+◌, ◌≤◌, Bool, true, false, cond, not, ◌&&◌, ◌||◌, List, [], ◌∷◌, ◌++◌, Option, Some, None, length, map, refl, ap₂, sym, ◌∙◌, subst, arith, is_none, is_some, nat_le}
-use Rattle.std.specs.List.{AllByRecursion, IsDistinct}
-use Rattle.std.specs.Option.{option_map, option_to_list, IfSome}
+use Rattle.std.proofs.Common.{◌≡◌, ℕ, ◌+◌, ◌≤◌, Bool, true, false, cond, not, ◌&&◌, ◌||◌, List, [], ◌∷◌, ◌++◌, Option, Some, None, length, map, refl, ap₂, sym, ◌∙◌, subst, arith, is_none, is_some, nat_le, unwrap_or, bytes_eq, if◌then◌else◌}
+use Rattle.std.specs.List.{AllByRecursion, IsDistinct, last_or}
+use Rattle.std.specs.Option.{option_map, option_or, option_to_list, IfSome}
 use Rattle.std.proofs.lemmas.List.{map-append, length-append}
-use Rattle.std.proofs.lemmas.List.Folds.{list_any-append}
 use Rattle.std.proofs.lemmas.Bool.{not-false}
 use Rattle.card_definitions.specs.Words.{is_empty, named, ◌⟹◌}
 use Rattle.card_definitions.specs.Fields.{Reading}
@@ -11,100 +10,114 @@ use Rattle.card_definitions.specs.Numbers.{decimal_of}
 use Rattle.card_definitions.proofs.FirstFaults.{passes, test_fails}
 use Rattle.problem_definitions.specs.declared.TheConstants.{MAX_ROWS, MAX_COLUMNS, MAX_ENTRIES}
 use Rattle.problem_definitions.specs.declared.RowKind.{RowKind}
+use Rattle.problem_definitions.specs.declared.RowKind.TheVariants.{N, G, L, E}
 use Rattle.problem_definitions.specs.declared.BoundKind.{BoundKind}
-use Rattle.problem_definitions.specs.Names.{Name, same, has_name, marker}
-use Rattle.problem_definitions.specs.Kinds.{is_free_kind, takes_value, touches_upper, touches_lower, meet}
-use Rattle.problem_definitions.specs.Problem.{Row, plain_row, Entry, Bound, Group, Problem, row_names, entry_count, has_row, has_free_row, has_group}
+use Rattle.problem_definitions.specs.Names.{Name, same, marker}
+use Rattle.problem_definitions.specs.Kinds.{takes_value, touches_upper, touches_lower, meet}
+use Rattle.problem_definitions.specs.Problem.{Row, plain_row, combination, Entry, Bound, Group, Problem, row_names, entry_count, has_row, has_free_row, has_combination, has_group}
+use Rattle.problem_definitions.specs.Parts.{parts_of, in_row, rows_before}
 use Rattle.problem_definitions.specs.Groups.{items_of, in_set}
 use Rattle.problem_definitions.specs.Valid.{IsName, IsDecimal}
 use Rattle.problem_definitions.proofs.Names.{same_eq, same_sym, row_is_named}
 use Rattle.problem_definitions.proofs.Each.{each-push, each-append, each-change, distinct-push, absent-apart}
-use Rattle.problem_definitions.proofs.Lawful.{IsLabel, AreGroups, AreLawfulEntries, AreColumnEntries, AreRightHandSides, AreRanges, clash_by_name, AreLawfulBounds, AreBoundSets, IsLawful}
+use Rattle.problem_definitions.proofs.LawfulEntries.{AreLawfulEntries}
+use Rattle.problem_definitions.proofs.Parts.{parts-push, parts-changed, parts_of-new, parts_of-lawful, rows_before-new, in_row-names, in_row-length}
+use Rattle.problem_definitions.proofs.Lawful.{IsLabel, AreGroups, AreColumnEntries, AreRightHandSides, AreRanges, clash_by_name, AreLawfulBounds, AreBoundSets, IsLawful}
+use Rattle.problem_definitions.proofs.OtherRows.{groups-same, rows-changed, in_row-still, pushed-still}
 use Rattle.problem_definitions.proofs.Added.{groups-added, count-added, items-added, items_of-each, has_group-added}
-use Rattle.deck_definitions.specs.declared.DeckFaultKind.TheVariants.{BadRowType, DuplicateRow, ColumnSplit, UnknownColumn, BoundTwice, EmptyName, TooManyRows, TooManyColumns, CombinationRow, Marker, BadBoundType}
+use Rattle.deck_definitions.specs.declared.DeckFaultKind.TheVariants.{BadRowType, DuplicateRow, ColumnSplit, UnknownColumn, BoundTwice, EmptyName, TooManyRows, TooManyColumns, Marker, BadBoundType}
 use Rattle.deck_definitions.specs.declared.Section.{Section}
 use Rattle.deck_definitions.specs.declared.Section.TheVariants.{Header, Rows, Columns, Rhs, Ranges, Bounds, Endata}
-use Rattle.deck_definitions.specs.DataCards.{pairs_of, entries_of, row_kinds, bound_kinds, row_of, bound_of, bound_group}
-use Rattle.deck_definitions.specs.Tests.{kind_filled, filled_from_3, filled_from_5, marks, all_but_last, combination_kinds, pairs_fault, rows_fault, columns_fault, set_fault, bounds_fault, bound_fault, value_fault, bound_value_fault, is_bound_already}
+use Rattle.deck_definitions.specs.DataCards.{pairs_of, part_pairs_of, entries_of, parts_on, row_kinds, combination_kinds, combination_text, kind_on, is_card_of, goes_on_last, with_row, bound_kinds, row_of, bound_of, bound_group}
+use Rattle.deck_definitions.specs.Tests.{kind_filled, filled_from_3, filled_from_5, marks, all_but_last, pairs_fault, row_fields_fault, row_fault, columns_fault, set_fault, bounds_fault, bound_fault, value_fault, bound_value_fault, is_bound_already}
 use Rattle.deck_definitions.specs.Conversion.{section_fault}
 use Rattle.deck_definitions.proofs.Steps.{with_card, with_group}
-use Rattle.deck_definitions.proofs.CardTexts.{IsReading, pairs-short, text_is_decimal}
-use Rattle.deck_definitions.proofs.Accepted.{pairs-lawful, pairs-limited, pairs-few, pairs-unmarked, added_some, not_full, no_value_fault}
+use Rattle.deck_definitions.proofs.CardTexts.{IsReading, pairs-short, part_pairs-short, text_is_decimal}
+use Rattle.deck_definitions.proofs.Accepted.{pairs-lawful, pairs-limited, pairs-plain, pairs-few, pairs-unmarked, added_some, not_full, no_value_fault}
 
 -- ---- ROWS
 
-module _ (rows : List (Row Name)) (row : Row Name) (new : has_row rows row.name ≡ false) where
-  more_rows : (name : Name) → has_row rows name ≡ true → has_row (rows ++ row ∷ []) name ≡ true
-  more_rows name there = list_any-append (λ other. same name other.name) rows (row ∷ []) ∙ rw there refl
+-- a card that goes on with a combination has the type of one
+goes-on-combines : (rows : List (Row Name)) (card : Reading) → goes_on_last rows card ≡ true → is_some (named combination_kinds card.kind) ≡ true
+goes-on-combines rows card goes = last (last_or None rows) goes
+  where
+    typed : (kind : RowKind) → bytes_eq (combination_text kind) card.kind ≡ true → is_some (named combination_kinds (combination_text kind)) ≡ true → is_some (named combination_kinds card.kind) ≡ true
+    typed kind e there = subst (λ word. is_some (named combination_kinds word) ≡ true) (same_eq (combination_text kind) card.kind e) there
 
-  no_freer : (name : Name) → has_row rows name ≡ true → has_free_row rows name ≡ false → has_free_row (rows ++ row ∷ []) name ≡ false
-  no_freer name there limited = list_any-append (λ other. same name other.name && is_free_kind other.kind) rows (row ∷ []) ∙ rw (limited, unlike (same name row.name) refl) refl
-    where
-      unlike : (b : Bool) → same name row.name ≡ b → same name row.name ≡ false
-      unlike true e = absurd (cc (subst (λ n. has_row rows n ≡ true) (same_eq name row.name e) there, new))
-      unlike false e = e
+    known : (kind : RowKind) → is_some (named combination_kinds (combination_text kind)) ≡ true
+    known N = refl
+    known G = refl
+    known L = refl
+    known E = refl
 
-  entries-kept : (entries : List (Entry Name)) → AreLawfulEntries rows entries → AreLawfulEntries (rows ++ row ∷ []) entries
-  entries-kept entries lawful = record {
-    on_rows = each-change (λ (e : Entry Name). has_row rows e.row ≡ true) (λ e. has_row (rows ++ row ∷ []) e.row ≡ true) (λ e there. more_rows e.row there) entries lawful.on_rows;
-    distinct = lawful.distinct;
-    values = lawful.values;
-  }
+    first : (a b c : Bool) → (a && (b && c)) ≡ true → b ≡ true
+    first true true c h = refl
+    first true false c h = h
+    first false b c h = absurd (cc h)
 
-  ranges-kept : (entries : List (Entry Name)) → AreRanges rows entries → AreRanges (rows ++ row ∷ []) entries
-  ranges-kept entries lawful = record {
-    entries_lawful = entries-kept entries lawful.entries_lawful;
-    filled = lawful.filled;
-    limited = both entries lawful.entries_lawful.on_rows lawful.limited;
-  }
-    where
-      both : (entries : List (Entry Name)) → AllByRecursion (λ (e : Entry Name). has_row rows e.row ≡ true) entries → AllByRecursion (λ (e : Entry Name). has_free_row rows e.row ≡ false) entries
-          → AllByRecursion (λ (e : Entry Name). has_free_row (rows ++ row ∷ []) e.row ≡ false) entries
-      both [] there free = tt
-      both (e ∷ entries) there free = (no_freer e.row there.0 free.0, both entries there.1 free.1)
-
-groups-kept : {X : Type 0} {N : Name → Type 0} {P Q : List X → Type 0} → ((items : List X) → P items → Q items) → (groups : List (Group X)) → AreGroups N P groups → AreGroups N Q groups
-groups-kept {X} {N} {P} {Q} change groups lawful = record {
-  names = lawful.names;
-  distinct = lawful.distinct;
-  items = each-change (λ (group : Group X). P group.items) (λ group. Q group.items) (λ group p. change group.items p) groups lawful.items;
-}
+    last : (o : Option (Row Name)) → unwrap_or (option_map (λ (row : Row Name). is_some row.parts && is_card_of row.kind row.name card) o) false ≡ true → is_some (named combination_kinds card.kind) ≡ true
+    last None h = absurd (cc h)
+    last (Some row) h = typed row.kind (first (is_some row.parts) (bytes_eq (combination_text row.kind) card.kind) (same row.name card.name1) h) (known row.kind)
 
 module _ (p : Problem Name) (lawful : IsLawful p) where
-  row-added : (row : Row Name) → is_none row.parts ≡ true → IsLabel row.name → has_row p.rows row.name ≡ false → length p.rows + 1 ≤ MAX_ROWS → IsLawful (record p { rows = p.rows ++ row ∷ [] })
-  row-added row plain label new few = record {
-    row_labels = subst (AllByRecursion IsLabel) named_rows (each-push IsLabel (row_names p) row.name lawful.row_labels label);
-    rows_distinct = subst (IsDistinct same) named_rows (distinct-push same (row_names p) row.name lawful.rows_distinct (absent-apart (row_names p) row.name (sym (row_is_named row.name p.rows) ∙ new)));
-    plain_rows = each-push (λ (row : Row Name). is_none row.parts ≡ true) p.rows row lawful.plain_rows plain;
-    columns = groups-kept {P = AreColumnEntries p.rows} (λ items c. record { entries_lawful = entries-kept p.rows row new items c.entries_lawful; no_marker = c.no_marker }) p.columns lawful.columns;
-    rhs = groups-kept {P = AreRightHandSides p.rows} (λ items c. record { entries_lawful = entries-kept p.rows row new items c.entries_lawful; filled = c.filled }) p.rhs lawful.rhs;
-    ranges = groups-kept {P = AreRanges p.rows} (ranges-kept p.rows row new) p.ranges lawful.ranges;
-    bounds = lawful.bounds;
-    few_rows = let long : length (p.rows ++ row ∷ []) ≡ length p.rows + 1 = length-append p.rows (row ∷ []) in omega (arith, long, few);
-    few_columns = lawful.few_columns;
-    few_entries = lawful.few_entries;
-  }
+  row-added : (row : Row Name) → IfSome row.parts (AreLawfulEntries p.rows) → IsLabel row.name → has_row p.rows row.name ≡ false → length p.rows + 1 ≤ MAX_ROWS → IsLawful (record p { rows = p.rows ++ row ∷ [] })
+  row-added row parts label new few = rows-changed p (p.rows ++ row ∷ []) lawful (pushed-still p.rows row new)
+      (subst (AllByRecursion IsLabel) named_rows (each-push IsLabel (row_names p) row.name lawful.row_labels label))
+      (subst (IsDistinct same) named_rows (distinct-push same (row_names p) row.name lawful.rows_distinct (absent-apart (row_names p) row.name (sym (row_is_named row.name p.rows) ∙ new))))
+      (parts-push [] p.rows row lawful.parts parts)
+      (let long : length (p.rows ++ row ∷ []) ≡ length p.rows + 1 = length-append p.rows (row ∷ []) in omega (arith, long, few))
     where
       named_rows : row_names p ++ row.name ∷ [] ≡ map (λ row. row.name) (p.rows ++ row ∷ [])
       named_rows = sym (map-append (λ row. row.name) p.rows (row ∷ []))
 
+  -- a combination with more parts, lawful after those that it has
+  parts-added : (name : Name) (more : List (Entry Name)) → AreLawfulEntries (rows_before name p.rows) (parts_of name p.rows ++ more) → IsLawful (record p { rows = in_row name (λ parts. parts ++ more) p.rows })
+  parts-added name more new = rows-changed p (in_row name (λ parts. parts ++ more) p.rows) lawful (in_row-still name (λ parts. parts ++ more) p.rows)
+      (subst (AllByRecursion IsLabel) (sym (in_row-names name (λ parts. parts ++ more) p.rows)) lawful.row_labels)
+      (subst (IsDistinct same) (sym (in_row-names name (λ parts. parts ++ more) p.rows)) lawful.rows_distinct)
+      (parts-changed name (λ parts. parts ++ more) p.rows lawful.rows_distinct lawful.parts (λ there. new))
+      (subst (λ n. n ≤ MAX_ROWS) (sym (in_row-length name (λ parts. parts ++ more) p.rows)) lawful.few_rows)
+
   module _ (card : Reading) (reads : IsReading card) where
-    rows-step : rows_fault p card ≡ None → IsLawful (record p { rows = p.rows ++ option_to_list (row_of card) })
+    -- the parts of the card's row, with those on the card
+    more_parts : pairs_fault (record p { rows = rows_before card.name1 p.rows }) Rows (parts_of card.name1 p.rows) 0 (part_pairs_of card) ≡ None
+        → AreLawfulEntries (rows_before card.name1 p.rows) (parts_of card.name1 p.rows ++ parts_on card)
+    more_parts fine = pairs-lawful (record p { rows = rows_before card.name1 p.rows }) Rows (parts_of card.name1 p.rows) 0 (part_pairs_of card) (part_pairs-short card reads)
+        (parts_of-lawful card.name1 [] p.rows lawful.rows_distinct lawful.parts) fine
+
+    rows-step : row_fault p card ≡ None → IsLawful (record p { rows = with_row p.rows card })
     rows-step fine =
         let t = passes (
-        (has_name combination_kinds card.kind ⟹ CombinationRow) ∷
-        (is_none (named row_kinds card.kind) ⟹ BadRowType) ∷
+        (is_none (kind_on card) ⟹ BadRowType) ∷
         (is_empty card.name1 ⟹ EmptyName) ∷
-        (has_row p.rows card.name1 ⟹ DuplicateRow) ∷
-        (nat_le MAX_ROWS (length p.rows) ⟹ TooManyRows) ∷
-        filled_from_3 card ∷ []) fine in
-        by (named row_kinds card.kind) (test_fails (is_none (named row_kinds card.kind)) BadRowType t.1.0) (test_fails (is_empty card.name1) EmptyName t.1.1.0)
-        (test_fails (has_row p.rows card.name1) DuplicateRow t.1.1.1.0) (not_full MAX_ROWS (length p.rows) (test_fails (nat_le MAX_ROWS (length p.rows)) TooManyRows t.1.1.1.1.0))
+        (not (goes_on_last p.rows card) && has_row p.rows card.name1 ⟹ DuplicateRow) ∷
+        (not (goes_on_last p.rows card) && nat_le MAX_ROWS (length p.rows) ⟹ TooManyRows) ∷
+        row_fields_fault p (rows_before card.name1 p.rows) card ∷ []) fine in
+        on (goes_on_last p.rows card) refl (test_fails (is_none (kind_on card)) BadRowType t.0) (test_fails (is_empty card.name1) EmptyName t.1.0)
+        (test_fails (not (goes_on_last p.rows card) && has_row p.rows card.name1) DuplicateRow t.1.1.0)
+        (test_fails (not (goes_on_last p.rows card) && nat_le MAX_ROWS (length p.rows)) TooManyRows t.1.1.1.0) t.1.1.1.1.0
       where
-        by : (o : Option RowKind) → is_none o ≡ false → is_empty card.name1 ≡ false → has_row p.rows card.name1 ≡ false → length p.rows + 1 ≤ MAX_ROWS
-            → IsLawful (record p { rows = p.rows ++ option_to_list (option_map (λ kind. plain_row kind card.name1) o) })
-        by None h empty new few = absurd (cc h)
-        by (Some kind) h empty new few = row-added (plain_row kind card.name1) refl (record { name_of = reads.name1; present = empty }) new few
+        label : is_empty card.name1 ≡ false → IsLabel card.name1
+        label empty = record { name_of = reads.name1; present = empty }
+
+        -- the row that a card begins, by its type
+        begun : (plain combines : Option RowKind) → is_none (option_or plain combines) ≡ false → is_empty card.name1 ≡ false → has_row p.rows card.name1 ≡ false → length p.rows + 1 ≤ MAX_ROWS
+            → (if is_some combines then pairs_fault (record p { rows = rows_before card.name1 p.rows }) Rows (parts_of card.name1 p.rows) 0 (part_pairs_of card) else filled_from_3 card) ≡ None
+            → IsLawful (record p { rows = p.rows ++ option_to_list (option_or (option_map (λ kind. plain_row kind card.name1) plain) (option_map (λ kind. combination kind card.name1 (parts_on card)) combines)) })
+        begun None None none empty new few fields = absurd (cc none)
+        begun (Some kind) combines none empty new few fields = row-added (plain_row kind card.name1) tt (label empty) new few
+        begun None (Some kind) none empty new few fields = row-added (combination kind card.name1 (parts_on card))
+            (subst (λ old. AreLawfulEntries p.rows (old ++ parts_on card)) (parts_of-new card.name1 p.rows new)
+            (subst (λ earlier. AreLawfulEntries earlier (parts_of card.name1 p.rows ++ parts_on card)) (rows_before-new card.name1 p.rows new) (more_parts fields)))
+            (label empty) new few
+
+        on : (b : Bool) → goes_on_last p.rows card ≡ b → is_none (kind_on card) ≡ false → is_empty card.name1 ≡ false → (not b && has_row p.rows card.name1) ≡ false
+            → (not b && nat_le MAX_ROWS (length p.rows)) ≡ false → row_fields_fault p (rows_before card.name1 p.rows) card ≡ None
+            → IsLawful (record p { rows = if b then in_row card.name1 (λ parts. parts ++ parts_on card) p.rows else p.rows ++ option_to_list (row_of card) })
+        on true goes none empty new few fields = parts-added card.name1 (parts_on card) (more_parts (subst
+            (λ b. (if b then pairs_fault (record p { rows = rows_before card.name1 p.rows }) Rows (parts_of card.name1 p.rows) 0 (part_pairs_of card) else filled_from_3 card) ≡ None)
+            (goes-on-combines p.rows card goes) fields))
+        on false goes none empty new few fields = begun (named row_kinds card.kind) (named combination_kinds card.kind) none empty new (not_full MAX_ROWS (length p.rows) few) fields
 
     -- no entries are lawful entries
     no_entries : AreLawfulEntries p.rows []
@@ -135,17 +148,20 @@ module _ (p : Problem Name) (lawful : IsLawful p) where
           no_marker = each-append (λ (entry : Entry Name). same marker entry.row ≡ false) (items_of card.name1 p.columns) (entries_of card)
               (items_of-each card.name1 (AllByRecursion (λ (entry : Entry Name). same marker entry.row ≡ false)) tt p.columns lawful.columns.distinct (each-change (λ (group : Group (Entry Name)). AreColumnEntries p.rows group.items) (λ group. AllByRecursion (λ (entry : Entry Name). same marker entry.row ≡ false) group.items) (λ group c. c.no_marker) p.columns lawful.columns.items))
               (pairs-unmarked card unmarked);
+          plain = each-append (λ (entry : Entry Name). has_combination p.rows entry.row ≡ false) (items_of card.name1 p.columns) (entries_of card)
+              (items_of-each card.name1 (AllByRecursion (λ (entry : Entry Name). has_combination p.rows entry.row ≡ false)) tt p.columns lawful.columns.distinct (each-change (λ (group : Group (Entry Name)). AreColumnEntries p.rows group.items) (λ group. AllByRecursion (λ (entry : Entry Name). has_combination p.rows entry.row ≡ false) group.items) (λ group c. c.plain) p.columns lawful.columns.items))
+              (pairs-plain p Columns (items_of card.name1 p.columns) (entry_count p) (pairs_of card) refl t.1.1.1.1.1.0);
         } in
         let total = items-added card.name1 (entries_of card) p.columns lawful.columns.distinct in
         let few : entry_count p + length (entries_of card) ≤ MAX_ENTRIES = pairs-few p Columns (items_of card.name1 p.columns) (entry_count p) (pairs_of card) refl lawful.few_entries t.1.1.1.1.1.0 in
         record {
           row_labels = lawful.row_labels;
           rows_distinct = lawful.rows_distinct;
-          plain_rows = lawful.plain_rows;
+          parts = lawful.parts;
           columns = groups-added card.name1 IsLabel (AreColumnEntries p.rows) (entries_of card) p.columns lawful.columns label new;
           rhs = lawful.rhs;
           ranges = lawful.ranges;
-          bounds = groups-kept {P = AreBoundSets p.columns} bounds-kept p.bounds lawful.bounds;
+          bounds = groups-same (AreBoundSets p.columns) (AreBoundSets (in_set card.name1 (λ items. items ++ entries_of card) p.columns)) bounds-kept p.bounds lawful.bounds;
           few_rows = lawful.few_rows;
           few_columns = subst (λ n. n ≤ MAX_COLUMNS) (sym (count-added card.name1 (λ items. items ++ entries_of card) p.columns))
               (few_names (has_group p.columns card.name1) (test_fails (not (has_group p.columns card.name1) && nat_le MAX_COLUMNS (length p.columns)) TooManyColumns t.1.1.1.1.0));
@@ -176,7 +192,7 @@ module _ (p : Problem Name) (lawful : IsLawful p) where
         record {
           row_labels = lawful.row_labels;
           rows_distinct = lawful.rows_distinct;
-          plain_rows = lawful.plain_rows;
+          parts = lawful.parts;
           columns = lawful.columns;
           rhs = groups-added card.name1 IsName (AreRightHandSides p.rows) (entries_of card) p.rhs lawful.rhs reads.name1 (record {
             entries_lawful = more_entries {P = AreRightHandSides p.rows} Rhs 0 p.rhs lawful.rhs (λ items c. c.entries_lawful) t.1.0;
@@ -195,7 +211,7 @@ module _ (p : Problem Name) (lawful : IsLawful p) where
         record {
           row_labels = lawful.row_labels;
           rows_distinct = lawful.rows_distinct;
-          plain_rows = lawful.plain_rows;
+          parts = lawful.parts;
           columns = lawful.columns;
           rhs = lawful.rhs;
           ranges = groups-added card.name1 IsName (AreRanges p.rows) (entries_of card) p.ranges lawful.ranges reads.name1 (record {
@@ -283,7 +299,7 @@ module _ (p : Problem Name) (lawful : IsLawful p) where
             record {
               row_labels = lawful.row_labels;
               rows_distinct = lawful.rows_distinct;
-              plain_rows = lawful.plain_rows;
+              parts = lawful.parts;
               columns = lawful.columns;
               rhs = lawful.rhs;
               ranges = lawful.ranges;

@@ -1,5 +1,5 @@
 -- The deck that is written for a problem.
-use Rattle.std.specs.Prelude.{ℕ, List, [], ◌∷◌, ◌++◌, codes, if◌then◌else◌, unwrap_or, option_map, is_none, Option, Some, None, map, filter, flat_map, take}
+use Rattle.std.specs.Prelude.{ℕ, List, [], ◌∷◌, ◌++◌, codes, if◌then◌else◌, unwrap_or, option_map, is_none, Some, None, map, filter, flat_map, take}
 use Rattle.card_definitions.specs.Words.{without_trailing, is_empty, padded}
 use Rattle.card_definitions.specs.Cards.{is_blank}
 use Rattle.problem_definitions.specs.declared.RowKind.{RowKind}

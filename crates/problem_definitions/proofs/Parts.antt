@@ -186,6 +186,25 @@ module _ (name : Name) where
           ap (λ more. unwrap_or first.parts [] ++ more) (parts_of-new rows (none-apart first rows name is distinct.0)) ∙ append-nil (unwrap_or first.parts []) ∙ ap (λ (row : Row Name). unwrap_or row.parts []) (same_Some first row found)
       by false is found rest = rest found
 
+  -- the parts of a name stand on the rows before it
+  pub parts_of-lawful : (before rows : List (Row Name)) → IsDistinct same (map (λ (r : Row Name). r.name) rows) → ArePartsAfter before rows → AreLawfulEntries (before ++ rows_before name rows) (parts_of name rows)
+  unfolding IsDistinct
+  parts_of-lawful before [] distinct are = record { on_rows = tt; distinct = tt; values = tt }
+  parts_of-lawful before (row ∷ rows) distinct are = by (same name row.name) refl (parts_of-lawful (before ++ row ∷ []) rows distinct.1 are.1)
+    where
+      own : (parts : Option (List (Entry Name))) → IfSome parts (AreLawfulEntries before) → AreLawfulEntries before (unwrap_or parts [])
+      own None are = record { on_rows = tt; distinct = tt; values = tt }
+      own (Some parts) are = are
+
+      by : (b : Bool) → same name row.name ≡ b → AreLawfulEntries ((before ++ row ∷ []) ++ rows_before name rows) (parts_of name rows)
+          → AreLawfulEntries (before ++ take (cond (not b) (1 + position_or_len (λ (row : Row Name). same name row.name) rows) 0) (row ∷ rows)) (cond b (unwrap_or row.parts []) [] ++ parts_of name rows)
+      by true is rest =
+          subst (AreLawfulEntries (before ++ [])) (sym (ap (λ more. unwrap_or row.parts [] ++ more) (parts_of-new rows (none-apart row rows name is distinct.0)) ∙ append-nil (unwrap_or row.parts [])))
+          (subst (λ rows. AreLawfulEntries rows (unwrap_or row.parts [])) (sym (append-nil before)) (own row.parts are.0))
+      by false is rest =
+          let next : 1 + position_or_len (λ (row : Row Name). same name row.name) rows ≡ suc (position_or_len (λ (row : Row Name). same name row.name) rows) = omega arith in
+          rw next (subst (λ earlier. AreLawfulEntries earlier (parts_of name rows)) (append_assoc before (row ∷ []) (rows_before name rows)) rest)
+
   pub rows_before-new : (rows : List (Row Name)) → has_row rows name ≡ false → rows_before name rows ≡ rows
   rows_before-new [] none = refl
   rows_before-new (row ∷ rows) none = by (same name row.name) none (rows_before-new rows)
