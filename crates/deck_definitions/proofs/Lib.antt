@@ -7,6 +7,7 @@ pub mod Pairs
 pub mod WrittenCards
 pub mod CardTexts
 pub mod Accepted
+pub mod GoesOn
 pub mod Validity
 pub mod Converted
 mod MadeJobs
