@@ -1,11 +1,12 @@
 // Data cards read from cards.
-ghost use Rattle.std.specs.Prelude.{◌≡◌, ◌≤◌, ◌∷◌, [], None, Some, length, IfOk, OnOk, IfErr, IfSome, IfNone};
+ghost use Rattle.std.specs.Prelude.{◌≡◌, ◌≤◌, None, Some, length, IfOk, OnOk, IfErr, option_map};
+ghost use Rattle.std.specs.Option.{option_to_list};
 ghost use Rattle.card_definitions.specs.Fields.{Fixed, reading_of};
 ghost use Rattle.card_reader.specs.Card.{card_bytes};
 ghost use Rattle.problem_definitions.specs.Valid.{IsName};
 ghost use Rattle.deck_definitions.specs.declared.Style.TheVariants.{FreeFields};
 ghost use Rattle.deck_definitions.specs.Conversion.{gaps_fault, form_fault};
-ghost use Rattle.deck_definitions.specs.DataCards.{form_on, pair_if, pairs_of};
+ghost use Rattle.deck_definitions.specs.DataCards.{form_on, pair_if};
 ghost use Rattle.deck_definitions.proofs.CardTexts.{IsReading};
 ghost use Rattle.deck_fields.specs.Readings.{fields_shown};
 ghost use Rattle.deck_fields.specs.WordsShown.{IsColumn};
@@ -112,11 +113,10 @@ pub fn first_pair<'a>(card: &DataCard<'a>) -> PairText<'a>
     }
 }
 
-// The part in fields 3 and 4 of a card of a combination, where one of these isn't blank.
+// The pair in fields 3 and 4, where one of these isn't blank: a part of a combination.
 pub fn first_part<'a>(card: &DataCard<'a>) -> Option<PairText<'a>>
-    ensures some { IfSome result (λ first. pair_if (shown card.now).name2 (shown card.now).value1 (shown card.now).value1_column
-        ≡ pair_shown first ∷ []) }
-    ensures none { IfNone result (pair_if (shown card.now).name2 (shown card.now).value1 (shown card.now).value1_column ≡ []) }
+    ensures { option_to_list (option_map pair_shown result) ≡ pair_if (shown card.now).name2
+        (shown card.now).value1 (shown card.now).value1_column }
 {
     if is_blank(card.name2.bytes()) && is_blank(card.value1) {
         return None;
@@ -126,11 +126,8 @@ pub fn first_part<'a>(card: &DataCard<'a>) -> Option<PairText<'a>>
 
 // The pair in fields 5 and 6, where one of these isn't blank.
 pub fn second_pair<'a>(card: &DataCard<'a>) -> Option<PairText<'a>>
-    ensures some { IfSome result (λ second. pairs_of (shown card.now) ≡ record
-        { row = (shown card.now).name2; value = (shown card.now).value1; column = (shown card.now).value1_column } ∷ pair_shown
-        second ∷ []) }
-    ensures none { IfNone result (pairs_of (shown card.now) ≡ record
-        { row = (shown card.now).name2; value = (shown card.now).value1; column = (shown card.now).value1_column } ∷ []) }
+    ensures { option_to_list (option_map pair_shown result) ≡ pair_if (shown card.now).name3
+        (shown card.now).value2 (shown card.now).value2_column }
 {
     if is_blank(card.name3.bytes()) && is_blank(card.value2) {
         return None;
