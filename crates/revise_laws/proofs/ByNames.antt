@@ -1,22 +1,24 @@
 -- A problem by numbers is lawful by names.
-use Rattle.std.proofs.Common.{◌≡◌, ℕ, ◌≤◌, Bool, true, false, ◌&&◌, List, [], ◌∷◌, length, map, refl, ap, sym, ◌∙◌, subst, arith, nat_eq, is_some, is_none}
-use Rattle.std.specs.List.{All, AllByRecursion, IsDistinct, sum_by}
+use Rattle.std.proofs.Common.{◌≡◌, ℕ, ◌+◌, ◌≤◌, Bool, true, false, ◌&&◌, List, [], ◌∷◌, ◌++◌, Option, Some, None, option_map, length, map, refl, ap, sym, ◌∙◌, subst, append_assoc, arith, nat_eq, is_some}
+use Rattle.std.specs.List.{All, AllByRecursion, IsDistinct, sum_by, enumerate_from}
 use Rattle.std.specs.Option.{IfSome}
-use Rattle.std.proofs.lemmas.List.{length-map}
+use Rattle.std.proofs.lemmas.List.{length-map, length-append, map-append}
 use Rattle.std.proofs.lemmas.List.Sums.{sum_by-cons}
 use Rattle.card_definitions.specs.Words.{is_empty}
 use Rattle.problem_definitions.specs.declared.TheConstants.{MAX_ROWS, MAX_COLUMNS, MAX_ENTRIES}
 use Rattle.problem_definitions.specs.Names.{Name, same, has_name, name_at, marker}
 use Rattle.problem_definitions.specs.Kinds.{meet, takes_value}
-use Rattle.problem_definitions.specs.Problem.{Row, Entry, Bound, Group, Problem, row_names, group_names, has_row, has_free_row, has_group}
+use Rattle.problem_definitions.specs.Problem.{Row, Entry, Bound, Group, Problem, row_names, group_names, has_row, has_free_row, has_combination, has_group}
 use Rattle.problem_definitions.specs.Numbering.{entry_by, row_by, bound_by, group_by, by_names}
-use Rattle.problem_definitions.specs.Valid.{IsName, IsDecimal, AreLabels, IsNumberOf, AreEntries, clash, AreBounds, AreSets, is_free_row, IsProblem}
+use Rattle.problem_definitions.specs.Valid.{IsName, IsDecimal, AreLabels, IsNumberOf, AreEntries, clash, AreBounds, AreSets, is_free_row, is_combination, IsProblem}
 use Rattle.problem_definitions.proofs.Names.{row_is_named}
 use Rattle.problem_definitions.proofs.Groups.{map-map, has_group-names}
 use Rattle.problem_definitions.proofs.Each.{each-change, each-mapped, distinct-mapped, all-each}
-use Rattle.problem_definitions.proofs.PlainRows.{row_names-by, row_count-by, has_free_row-by, plain-by}
-use Rattle.problem_definitions.proofs.Lawful.{IsLabel, AreGroups, AreLawfulEntries, AreColumnEntries, AreRightHandSides, AreRanges, clash_by_name, AreLawfulBounds, AreBoundSets, IsLawful, names-by, empty-map}
-use Rattle.revise_laws.proofs.Places.{name_at-there, names_apart, free_row-name}
+use Rattle.problem_definitions.proofs.RowsBy.{row_names-by, row_count-by, has_free_row-by, has_combination-by}
+use Rattle.problem_definitions.proofs.LawfulEntries.{AreLawfulEntries}
+use Rattle.problem_definitions.proofs.Parts.{ArePartsAfter}
+use Rattle.problem_definitions.proofs.Lawful.{IsLabel, AreGroups, AreColumnEntries, AreRightHandSides, AreRanges, clash_by_name, AreLawfulBounds, AreBoundSets, IsLawful, names-by, empty-map}
+use Rattle.revise_laws.proofs.Places.{name_at-there, name_at-front, names_apart, free_row-name, combination-name}
 
 labels : (names : List Name) → AreLabels names → AllByRecursion IsLabel names
 labels names are = both names (all-each IsName names are.each) (all-each (λ name. is_empty name ≡ false) names are.present)
@@ -39,17 +41,16 @@ sets h P Q change groups are each = record {
   items = items-by h P (λ items. is_empty items ≡ false) Q (λ items p e. change items p (empty-map h items e)) groups each (all-each (λ (set : Group _). is_empty set.items ≡ false) groups are.filled);
 }
 
--- so many rows of these names, of which these numbers are those of free rows
-module _ (rows : List (Row Name)) (names : List Name) (named : map (λ row. row.name) rows ≡ names) (distinct : IsDistinct same names) (count : ℕ) (counted : count ≡ length names)
-    (is_free : ℕ → Bool) (limit : (number : ℕ) → IsNumberOf count number → is_free number ≡ false → has_free_row rows (name_at names number) ≡ false) where
+-- Rows that include those of so many of these names, by their numbers.
+module _ (rows : List (Row Name)) (names : List Name) (distinct : IsDistinct same names) (count : ℕ) (within : count ≤ length names)
+    (there : (number : ℕ) → IsNumberOf count number → has_row rows (name_at names number) ≡ true) where
   numbers : (number : ℕ) → IsNumberOf count number → IsNumberOf (length names) number
-  numbers number is = subst (λ n. IsNumberOf n number) counted is
+  numbers number is = record { positive = is.positive; at_most = omega (arith, is.at_most, within) }
 
   entries-named : (entries : List (Entry ℕ)) → AreEntries count entries → AreLawfulEntries rows (map (entry_by (name_at names)) entries)
   entries-named entries are = record {
     on_rows = each-mapped (λ entry. has_row rows entry.row ≡ true) (entry_by (name_at names)) entries
-        (each-change (λ (entry : Entry ℕ). IsNumberOf count entry.row) (λ entry. has_row rows (name_at names entry.row) ≡ true)
-        (λ entry is. row_is_named (name_at names entry.row) rows ∙ ap (λ list. has_name list (name_at names entry.row)) named ∙ name_at-there names entry.row (numbers entry.row is)) entries on_rows);
+        (each-change (λ (entry : Entry ℕ). IsNumberOf count entry.row) (λ entry. has_row rows (name_at names entry.row) ≡ true) (λ entry is. there entry.row is) entries on_rows);
     distinct = subst (IsDistinct same) (map-map (name_at names) (λ entry. entry.row) entries ∙ sym (map-map (λ entry. entry.row) (entry_by (name_at names)) entries))
         (distinct-mapped nat_eq same (name_at names) (IsNumberOf count) (λ a b is_a is_b apart. names_apart names distinct a b (numbers a is_a) (numbers b is_b) apart)
         (map (λ entry. entry.row) entries) (each-mapped (IsNumberOf count) (λ (entry : Entry ℕ). entry.row) entries on_rows) are.distinct);
@@ -59,34 +60,51 @@ module _ (rows : List (Row Name)) (names : List Name) (named : map (λ row. row.
       on_rows : AllByRecursion (λ (entry : Entry ℕ). IsNumberOf count entry.row) entries
       on_rows = all-each (λ (entry : Entry ℕ). IsNumberOf count entry.row) entries are.on_rows
 
-  columns-named : (entries : List (Entry ℕ)) → AreEntries count entries → All (λ (entry : Entry ℕ). same marker (name_at names entry.row) ≡ false) entries
-      → AreColumnEntries rows (map (entry_by (name_at names)) entries)
-  columns-named entries are unmarked = record {
-    entries_lawful = entries-named entries are;
-    no_marker = each-mapped (λ entry. same marker entry.row ≡ false) (entry_by (name_at names)) entries (all-each (λ (entry : Entry ℕ). same marker (name_at names entry.row) ≡ false) entries unmarked);
-  }
+  -- a test that no entry's row passes by its number passes none by its name
+  tested-named : (test : ℕ → Bool) (passes : Name → Bool) → ((number : ℕ) → IsNumberOf count number → test number ≡ false → passes (name_at names number) ≡ false)
+      → (entries : List (Entry ℕ)) → AreEntries count entries → All (λ (entry : Entry ℕ). test entry.row ≡ false) entries → AllByRecursion (λ entry. passes entry.row ≡ false) (map (entry_by (name_at names)) entries)
+  tested-named test passes limit entries are fails = both entries (all-each (λ (entry : Entry ℕ). IsNumberOf count entry.row) entries are.on_rows) (all-each (λ (entry : Entry ℕ). test entry.row ≡ false) entries fails)
+    where
+      both : (entries : List (Entry ℕ)) → AllByRecursion (λ (entry : Entry ℕ). IsNumberOf count entry.row) entries → AllByRecursion (λ (entry : Entry ℕ). test entry.row ≡ false) entries
+          → AllByRecursion (λ entry. passes entry.row ≡ false) (map (entry_by (name_at names)) entries)
+      both [] each fails' = tt
+      both (entry ∷ entries) each fails' = (limit entry.row each.0 fails'.0, both entries each.1 fails'.1)
 
-  limited-named : (entries : List (Entry ℕ)) → AllByRecursion (λ (entry : Entry ℕ). IsNumberOf count entry.row) entries → AllByRecursion (λ (entry : Entry ℕ). is_free entry.row ≡ false) entries
-      → AllByRecursion (λ entry. has_free_row rows entry.row ≡ false) (map (entry_by (name_at names)) entries)
-  limited-named [] each limited = tt
-  limited-named (entry ∷ entries) each limited = (limit entry.row each.0 limited.0, limited-named entries each.1 limited.1)
+-- ---- parts
 
-  -- the items of a range set, by number
-  record AreNumberedRanges (entries : List (Entry ℕ)) : Type 0 where
-    are : AreEntries count entries
-    limited : All (λ (entry : Entry ℕ). is_free entry.row ≡ false) entries
+-- rows with names in place of numbers, after others of the same names
+parts-named : (all : List Name) → IsDistinct same all → (done rest : List (Row ℕ)) → map (λ (row : Row ℕ). row.name) (done ++ rest) ≡ all → AllByRecursion (λ (row : ℕ × Row ℕ). IfSome row.1.parts (AreEntries row.0)) (enumerate_from (length done) rest)
+    → ArePartsAfter (map (row_by (name_at all)) done) (map (row_by (name_at all)) rest)
+parts-named all distinct done [] named are = tt
+parts-named all distinct done (row ∷ rest) named are = (
+    first row.parts are.0,
+    subst (λ before. ArePartsAfter before (map (row_by (name_at all)) rest)) (map-append (row_by (name_at all)) done (row ∷ []))
+    (parts-named all distinct (done ++ row ∷ []) rest (ap (map (λ (row : Row ℕ). row.name)) (append_assoc done (row ∷ []) rest) ∙ named)
+    (subst (λ n. AllByRecursion (λ (row : ℕ × Row ℕ). IfSome row.1.parts (AreEntries row.0)) (enumerate_from n rest)) more are.1)),
+  )
+  where
+    more : length done + 1 ≡ length (done ++ row ∷ [])
+    more = omega (arith, length-append done (row ∷ []))
 
-  range_items : (groups : List (Group (Entry ℕ))) → AllByRecursion (λ (group : Group (Entry ℕ)). AreEntries count group.items) groups
-      → AllByRecursion (λ (group : Group (Entry ℕ)). All (λ entry. is_free entry.row ≡ false) group.items) groups → AllByRecursion (λ (group : Group (Entry ℕ)). AreNumberedRanges group.items) groups
-  range_items [] each limited = tt
-  range_items (group ∷ groups) each limited = (record { are = each.0; limited = limited.0 }, range_items groups each.1 limited.1)
+    done_names : List Name
+    done_names = map (λ (row : Row ℕ). row.name) done
 
-  ranges-named : (entries : List (Entry ℕ)) → AreNumberedRanges entries → is_empty (map (entry_by (name_at names)) entries) ≡ false → AreRanges rows (map (entry_by (name_at names)) entries)
-  ranges-named entries items e = record {
-    entries_lawful = entries-named entries items.are;
-    filled = e;
-    limited = limited-named entries (all-each (λ (entry : Entry ℕ). IsNumberOf count entry.row) entries items.are.on_rows) (all-each (λ (entry : Entry ℕ). is_free entry.row ≡ false) entries items.limited);
-  }
+    whole : map (λ (row : Row ℕ). row.name) done ++ map (λ (row : Row ℕ). row.name) (row ∷ rest) ≡ all
+    whole = sym (map-append (λ (row : Row ℕ). row.name) done (row ∷ rest)) ∙ named
+
+    within : length done ≤ length all
+    within = omega (arith, ap length whole, length-append (map (λ (row : Row ℕ). row.name) done) (map (λ (row : Row ℕ). row.name) (row ∷ rest)), length-map done (λ (row : Row ℕ). row.name))
+
+    there : (number : ℕ) → IsNumberOf (length done) number → has_row (map (row_by (name_at all)) done) (name_at all number) ≡ true
+    there number is =
+        row_is_named (name_at all number) (map (row_by (name_at all)) done)
+        ∙ ap (λ names. has_name names (name_at all number)) (row_names-by (name_at all) done)
+        ∙ subst (λ names. has_name (map (λ (row : Row ℕ). row.name) done) (name_at names number) ≡ true) whole
+        (name_at-front (map (λ (row : Row ℕ). row.name) done) (map (λ (row : Row ℕ). row.name) (row ∷ rest)) number (subst (λ n. IsNumberOf n number) (sym (length-map done (λ (row : Row ℕ). row.name))) is))
+
+    first : (parts : Option (List (Entry ℕ))) → IfSome parts (AreEntries (length done)) → IfSome (option_map (map (entry_by (name_at all))) parts) (AreLawfulEntries (map (row_by (name_at all)) done))
+    first None are' = tt
+    first (Some parts) are' = entries-named (map (row_by (name_at all)) done) all distinct (length done) within there parts are'
 
 bounds-named : (columns : List (Group (Entry Name))) (names : List Name) → group_names columns ≡ names → IsDistinct same names → (count : ℕ) → count ≡ length names → (bounds : List (Bound ℕ)) → AreBounds count bounds
     → AreLawfulBounds columns (map (bound_by (name_at names)) bounds)
@@ -120,25 +138,55 @@ sum-by h [] = refl
 sum-by h (group ∷ groups) =
     omega (arith, sum-by h groups, length-map group.items h, sum_by-cons (λ group. length group.items) group groups, sum_by-cons (λ group. length group.items) (group_by h group) (map (group_by h) groups))
 
+-- ---- groups of entries by two facts or three of their items
+
+record AreNumberedColumn (problem : Problem ℕ) (entries : List (Entry ℕ)) : Type 0 where
+  are : AreEntries (length problem.rows) entries
+  unmarked : All (λ (entry : Entry ℕ). same marker (name_at (row_names problem) entry.row) ≡ false) entries
+  plain : All (λ (entry : Entry ℕ). is_combination problem.rows entry.row ≡ false) entries
+
+record AreNumberedRanges (problem : Problem ℕ) (entries : List (Entry ℕ)) : Type 0 where
+  are : AreEntries (length problem.rows) entries
+  limited : All (λ (entry : Entry ℕ). is_free_row problem.rows entry.row ≡ false) entries
+
+module _ (problem : Problem ℕ) (is : IsProblem problem) where
+  column_items : AllByRecursion (λ (column : Group (Entry ℕ)). AreNumberedColumn problem column.items) problem.columns
+  column_items = each problem.columns (all-each (λ (column : Group (Entry ℕ)). AreEntries (length problem.rows) column.items) problem.columns is.entries)
+      (all-each (λ (column : Group (Entry ℕ)). All (λ (entry : Entry ℕ). same marker (name_at (row_names problem) entry.row) ≡ false) column.items) problem.columns is.no_marker)
+      (all-each (λ (column : Group (Entry ℕ)). All (λ (entry : Entry ℕ). is_combination problem.rows entry.row ≡ false) column.items) problem.columns is.plain_entries)
+    where
+      each : (groups : List (Group (Entry ℕ))) → AllByRecursion (λ (group : Group (Entry ℕ)). AreEntries (length problem.rows) group.items) groups
+          → AllByRecursion (λ (group : Group (Entry ℕ)). All (λ (entry : Entry ℕ). same marker (name_at (row_names problem) entry.row) ≡ false) group.items) groups
+          → AllByRecursion (λ (group : Group (Entry ℕ)). All (λ (entry : Entry ℕ). is_combination problem.rows entry.row ≡ false) group.items) groups
+          → AllByRecursion (λ (group : Group (Entry ℕ)). AreNumberedColumn problem group.items) groups
+      each [] are unmarked plain = tt
+      each (group ∷ groups) are unmarked plain = (record { are = are.0; unmarked = unmarked.0; plain = plain.0 }, each groups are.1 unmarked.1 plain.1)
+
+  range_items : AllByRecursion (λ (set : Group (Entry ℕ)). AreNumberedRanges problem set.items) problem.ranges
+  range_items = each problem.ranges (all-each (λ (set : Group (Entry ℕ)). AreEntries (length problem.rows) set.items) problem.ranges is.range_items)
+      (all-each (λ (set : Group (Entry ℕ)). All (λ (entry : Entry ℕ). is_free_row problem.rows entry.row ≡ false) set.items) problem.ranges is.ranges_limited)
+    where
+      each : (groups : List (Group (Entry ℕ))) → AllByRecursion (λ (group : Group (Entry ℕ)). AreEntries (length problem.rows) group.items) groups
+          → AllByRecursion (λ (group : Group (Entry ℕ)). All (λ (entry : Entry ℕ). is_free_row problem.rows entry.row ≡ false) group.items) groups → AllByRecursion (λ (group : Group (Entry ℕ)). AreNumberedRanges problem group.items) groups
+      each [] are limited = tt
+      each (group ∷ groups) are limited = (record { are = are.0; limited = limited.0 }, each groups are.1 limited.1)
+
 -- What is a problem by numbers is lawful by names.
 pub named-lawful : (problem : Problem ℕ) → IsProblem problem → IsLawful (by_names problem)
 unfolding by_names
 named-lawful problem is = record {
   row_labels = subst (AllByRecursion IsLabel) (sym rows_named) (labels (row_names problem) is.rows);
   rows_distinct = subst (IsDistinct same) (sym rows_named) is.rows.distinct;
-  plain_rows = plain-by (name_at (row_names problem)) problem.rows (all-each (λ (row : Row ℕ). is_none row.parts ≡ true) problem.rows is.plain_rows);
+  parts = parts-named (row_names problem) is.rows.distinct [] problem.rows refl (all-each (λ (row : ℕ × Row ℕ). IfSome row.1.parts (AreEntries row.0)) (enumerate_from 0 problem.rows) is.parts);
   columns = record {
     names = subst (AllByRecursion IsLabel) (sym (names-by by_row problem.columns)) (labels (group_names problem.columns) is.columns);
     distinct = subst (IsDistinct same) (sym (names-by by_row problem.columns)) is.columns.distinct;
-    items = items-by by_row (AreEntries (length problem.rows)) (All (λ (entry : Entry ℕ). same marker (name_at (row_names problem) entry.row) ≡ false)) (AreColumnEntries rows) (columns-named rows (row_names problem) rows_named is.rows.distinct (length problem.rows) counted (is_free_row problem.rows) limit) problem.columns
-        (all-each (λ (column : Group (Entry ℕ)). AreEntries (length problem.rows) column.items) problem.columns is.entries)
-        (all-each (λ (column : Group (Entry ℕ)). All (λ (entry : Entry ℕ). same marker (name_at (row_names problem) entry.row) ≡ false) column.items) problem.columns is.no_marker);
+    items = each-mapped (λ (column : Group (Entry Name)). AreColumnEntries rows column.items) (group_by by_row) problem.columns
+        (each-change (λ (column : Group (Entry ℕ)). AreNumberedColumn problem column.items) (λ (column : Group (Entry ℕ)). AreColumnEntries rows (map by_row column.items)) (λ column c. column_named column.items c) problem.columns (column_items problem is));
   };
-  rhs = sets by_row (AreEntries (length problem.rows)) (AreRightHandSides rows) (λ items p e. record { entries_lawful = entries-named rows (row_names problem) rows_named is.rows.distinct (length problem.rows) counted (is_free_row problem.rows) limit items p; filled = e }) problem.rhs is.rhs
+  rhs = sets by_row (AreEntries (length problem.rows)) (AreRightHandSides rows) (λ items p e. record { entries_lawful = named items p; filled = e }) problem.rhs is.rhs
       (all-each (λ (set : Group (Entry ℕ)). AreEntries (length problem.rows) set.items) problem.rhs is.rhs_items);
-  ranges = sets by_row (AreNumberedRanges rows (row_names problem) rows_named is.rows.distinct (length problem.rows) counted (is_free_row problem.rows) limit) (AreRanges rows) (ranges-named rows (row_names problem) rows_named is.rows.distinct (length problem.rows) counted (is_free_row problem.rows) limit) problem.ranges is.ranges
-      (range_items rows (row_names problem) rows_named is.rows.distinct (length problem.rows) counted (is_free_row problem.rows) limit problem.ranges (all-each (λ (set : Group (Entry ℕ)). AreEntries (length problem.rows) set.items) problem.ranges is.range_items)
-      (all-each (λ (set : Group (Entry ℕ)). All (λ (entry : Entry ℕ). is_free_row problem.rows entry.row ≡ false) set.items) problem.ranges is.ranges_limited));
+  ranges = sets by_row (AreNumberedRanges problem) (AreRanges rows) (λ items p e. record { entries_lawful = named items p.are; filled = e; limited = tested (is_free_row problem.rows) (has_free_row rows) free items p.are p.limited }) problem.ranges is.ranges (range_items problem is);
   bounds = sets by_column (AreBounds (length problem.columns)) (AreBoundSets (map (group_by by_row) problem.columns))
       (λ items p e. record { bounds_lawful = bounds-named (map (group_by by_row) problem.columns) (group_names problem.columns) (names-by by_row problem.columns) is.columns.distinct (length problem.columns) (sym (length-map problem.columns (λ column. column.name))) items p; filled = e })
       problem.bounds is.bounds (all-each (λ (set : Group (Bound ℕ)). AreBounds (length problem.columns) set.items) problem.bounds is.bound_items);
@@ -156,10 +204,35 @@ named-lawful problem is = record {
     counted : length problem.rows ≡ length (row_names problem)
     counted = sym (length-map problem.rows (λ row. row.name))
 
-    limit : (number : ℕ) → IsNumberOf (length problem.rows) number → is_free_row problem.rows number ≡ false
+    numbered_so : (number : ℕ) → IsNumberOf (length problem.rows) number → IsNumberOf (length (map (λ (row : Row ℕ). row.name) problem.rows)) number
+    numbered_so number within = subst (λ n. IsNumberOf n number) (sym (length-map problem.rows (λ row. row.name))) within
+
+    there : (number : ℕ) → IsNumberOf (length problem.rows) number → has_row (map (row_by (name_at (row_names problem))) problem.rows) (name_at (row_names problem) number) ≡ true
+    there number within = row_is_named (name_at (row_names problem) number) (map (row_by (name_at (row_names problem))) problem.rows)
+        ∙ ap (λ names. has_name names (name_at (row_names problem) number)) (row_names-by (name_at (row_names problem)) problem.rows)
+        ∙ name_at-there (row_names problem) number (numbered_so number within)
+
+    named : (entries : List (Entry ℕ)) → AreEntries (length problem.rows) entries → AreLawfulEntries rows (map (entry_by (name_at (row_names problem))) entries)
+    named = entries-named rows (row_names problem) is.rows.distinct (length problem.rows) (omega (arith, counted)) there
+
+    tested : (test : ℕ → Bool) (passes : Name → Bool) → ((number : ℕ) → IsNumberOf (length problem.rows) number → test number ≡ false → passes (name_at (row_names problem) number) ≡ false)
+        → (entries : List (Entry ℕ)) → AreEntries (length problem.rows) entries → All (λ (entry : Entry ℕ). test entry.row ≡ false) entries → AllByRecursion (λ entry. passes entry.row ≡ false) (map (entry_by (name_at (row_names problem))) entries)
+    tested = tested-named rows (row_names problem) is.rows.distinct (length problem.rows) (omega (arith, counted)) there
+
+    free : (number : ℕ) → IsNumberOf (length problem.rows) number → is_free_row problem.rows number ≡ false
         → has_free_row (map (row_by (name_at (row_names problem))) problem.rows) (name_at (row_names problem) number) ≡ false
-    limit number within limited = has_free_row-by (name_at (row_names problem)) problem.rows (name_at (row_names problem) number)
-        ∙ free_row-name problem.rows is.rows.distinct number (subst (λ n. IsNumberOf n number) (sym (length-map problem.rows (λ row. row.name))) within) limited
+    free number within limited = has_free_row-by (name_at (row_names problem)) problem.rows (name_at (row_names problem) number) ∙ free_row-name problem.rows is.rows.distinct number (numbered_so number within) limited
+
+    plain : (number : ℕ) → IsNumberOf (length problem.rows) number → is_combination problem.rows number ≡ false
+        → has_combination (map (row_by (name_at (row_names problem))) problem.rows) (name_at (row_names problem) number) ≡ false
+    plain number within limited = has_combination-by (name_at (row_names problem)) problem.rows (name_at (row_names problem) number) ∙ combination-name problem.rows is.rows.distinct number (numbered_so number within) limited
+
+    column_named : (entries : List (Entry ℕ)) → AreNumberedColumn problem entries → AreColumnEntries rows (map (entry_by (name_at (row_names problem))) entries)
+    column_named entries c = record {
+      entries_lawful = named entries c.are;
+      no_marker = each-mapped (λ entry. same marker entry.row ≡ false) (entry_by (name_at (row_names problem))) entries (all-each (λ (entry : Entry ℕ). same marker (name_at (row_names problem) entry.row) ≡ false) entries c.unmarked);
+      plain = tested (is_combination problem.rows) (has_combination rows) plain entries c.are c.plain;
+    }
 
     by_row : Entry ℕ → Entry Name
     by_row = entry_by (name_at (row_names problem))

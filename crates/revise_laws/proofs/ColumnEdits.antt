@@ -9,26 +9,27 @@ use Rattle.card_definitions.proofs.FirstFaults.{passes, test_fails}
 use Rattle.problem_definitions.specs.declared.TheConstants.{MAX_COLUMNS, MAX_ENTRIES}
 use Rattle.problem_definitions.specs.Names.{Name, same, marker, different}
 use Rattle.problem_definitions.specs.Kinds.{takes_value}
-use Rattle.problem_definitions.specs.Problem.{Entry, Bound, Group, Problem, group_names, entry_count, has_row, has_group}
+use Rattle.problem_definitions.specs.Problem.{Entry, Bound, Group, Problem, group_names, entry_count, has_row, has_combination, has_group}
 use Rattle.problem_definitions.specs.Groups.{items_of, in_group, in_all, without_group}
 use Rattle.problem_definitions.specs.Valid.{IsDecimal}
 use Rattle.problem_definitions.proofs.Names.{same_eq, same_sym}
 use Rattle.problem_definitions.proofs.Groups.{has_group-names}
 use Rattle.problem_definitions.proofs.Each.{each-append, absent-apart}
-use Rattle.problem_definitions.proofs.Lawful.{IsLabel, AreLawfulEntries, AreColumnEntries, clash_by_name, AreLawfulBounds, AreBoundSets, IsLawful}
+use Rattle.problem_definitions.proofs.LawfulEntries.{AreLawfulEntries}
+use Rattle.problem_definitions.proofs.Lawful.{IsLabel, AreColumnEntries, clash_by_name, AreLawfulBounds, AreBoundSets, IsLawful}
 use Rattle.problem_definitions.proofs.Added.{items_of-each}
 use Rattle.deck_definitions.specs.declared.DeckFaultKind.TheVariants.{ColumnSplit, EmptyName, TooManyColumns, Marker, ModifyMissing}
 use Rattle.deck_definitions.specs.declared.Section.TheVariants.{Columns}
 use Rattle.deck_definitions.specs.DataCards.{pairs_of, entries_of}
 use Rattle.deck_definitions.specs.Tests.{kind_filled, marks, pairs_fault}
 use Rattle.deck_definitions.proofs.CardTexts.{IsReading, pairs-short}
-use Rattle.deck_definitions.proofs.Accepted.{pairs-lawful, pairs-few, pairs-unmarked, not_full}
+use Rattle.deck_definitions.proofs.Accepted.{pairs-lawful, pairs-few, pairs-plain, pairs-unmarked, not_full}
 use Rattle.revise_definitions.specs.Actions.{Edit}
 use Rattle.revise_definitions.specs.Edits.{place_of, goes_on, insert_column, delete_column, without_row, without_column, put_entries}
 use Rattle.revise_definitions.specs.Tests.{puts_fault, modify_columns_fault, insert_columns_fault}
 use Rattle.revise_definitions.proofs.Pairs.{put_entries-length}
 use Rattle.revise_laws.proofs.Lists.{each-filter, each-passes, distinct-filter, distinct-mapped_filter, any-filter, length-filter, sum-filter, each-insert, distinct-insert, map-insert, any-inserted, length-inserted, sum-inserted, no_items, groups-changed, groups-without, groups-all, groups-filled, has_group-changed, length-changed, sum-changed}
-use Rattle.revise_laws.proofs.Puts.{puts-each, puts-lawful, puts-fit, puts-few}
+use Rattle.revise_laws.proofs.Puts.{Fits, puts-each, puts-lawful, puts-fit, puts-few}
 use Rattle.revise_laws.proofs.RowEdits.{groups-same, bound_sets-still}
 
 -- fewer entries are lawful entries
@@ -47,7 +48,7 @@ no-entries p = record { on_rows = tt; distinct = tt; values = tt }
 module _ (p : Problem Name) (lawful : IsLawful p) where
   -- the entries of a column
   column_entries : (name : Name) → AreColumnEntries p.rows (items_of name p.columns)
-  column_entries name = items_of-each name (AreColumnEntries p.rows) (record { entries_lawful = no-entries p; no_marker = tt }) p.columns lawful.columns.distinct lawful.columns.items
+  column_entries name = items_of-each name (AreColumnEntries p.rows) (record { entries_lawful = no-entries p; no_marker = tt; plain = tt }) p.columns lawful.columns.distinct lawful.columns.items
 
   -- a column with other entries
   column-changed : (name : Name) (f : List (Entry Name) → List (Entry Name)) → AreColumnEntries p.rows (f (items_of name p.columns))
@@ -55,7 +56,7 @@ module _ (p : Problem Name) (lawful : IsLawful p) where
   column-changed name f new few = record {
     row_labels = lawful.row_labels;
     rows_distinct = lawful.rows_distinct;
-    plain_rows = lawful.plain_rows;
+    parts = lawful.parts;
     columns = groups-changed name (AreColumnEntries p.rows) (AreColumnEntries p.rows) f p.columns lawful.columns (λ items c. c) new;
     rhs = lawful.rhs;
     ranges = lawful.ranges;
@@ -66,6 +67,10 @@ module _ (p : Problem Name) (lawful : IsLawful p) where
   }
 
   -- ---- MODIFY
+
+  fit-plain : (entries : List (Entry Name)) → AllByRecursion (Fits p Columns) entries → AllByRecursion (λ (entry : Entry Name). has_combination p.rows entry.row ≡ false) entries
+  fit-plain [] fit = tt
+  fit-plain (entry ∷ entries) fit = (fit.0.plain, fit-plain entries fit.1)
 
   pub column-modified : (card : Reading) → IsReading card → modify_columns_fault p card ≡ None → IsLawful (record p { columns = in_group card.name1 (put_entries (entries_of card)) p.columns })
   column-modified card reads fine =
@@ -78,10 +83,12 @@ module _ (p : Problem Name) (lawful : IsLawful p) where
       let unmarked : (same marker card.name2 || same marker card.name3) ≡ false = test_fails (same marker card.name2 || same marker card.name3) Marker t.1.0 in
       let known = column_entries card.name1 in
       let total = sum-changed card.name1 (put_entries (entries_of card)) p.columns lawful.columns.distinct in
+      let fit = puts-fit p Columns (items_of card.name1 p.columns) (entry_count p) (pairs_of card) (pairs-short card reads) t.1.1.1.1.0 in
       let few = puts-few p Columns (items_of card.name1 p.columns) (entry_count p) (pairs_of card) refl lawful.few_entries t.1.1.1.1.0 in
       column-changed card.name1 (put_entries (entries_of card)) (record {
-        entries_lawful = puts-lawful p Columns (entries_of card) (items_of card.name1 p.columns) (puts-fit p Columns (items_of card.name1 p.columns) (entry_count p) (pairs_of card) (pairs-short card reads) t.1.1.1.1.0) known.entries_lawful;
+        entries_lawful = puts-lawful p Columns (entries_of card) (items_of card.name1 p.columns) fit known.entries_lawful;
         no_marker = puts-each (λ (entry : Entry Name). same marker entry.row ≡ false) (entries_of card) (items_of card.name1 p.columns) (pairs-unmarked card unmarked) known.no_marker;
+        plain = puts-each (λ (entry : Entry Name). has_combination p.rows entry.row ≡ false) (entries_of card) (items_of card.name1 p.columns) (fit-plain (entries_of card) fit) known.plain;
       }) (omega (arith, total, few, put_entries-length (entries_of card) (items_of card.name1 p.columns)))
 
   -- ---- DELETE
@@ -94,6 +101,7 @@ module _ (p : Problem Name) (lawful : IsLawful p) where
       column-changed name (without_row row) (record {
         entries_lawful = entries-fewer p row (items_of name p.columns) known.entries_lawful;
         no_marker = each-filter (λ (entry : Entry Name). same marker entry.row ≡ false) (λ entry. not (same row entry.row)) (items_of name p.columns) known.no_marker;
+        plain = each-filter (λ (entry : Entry Name). has_combination p.rows entry.row ≡ false) (λ entry. not (same row entry.row)) (items_of name p.columns) known.plain;
       }) (omega (arith, total, fewer, lawful.few_entries))
 
   bounds-left : (name : Name) (bounds : List (Bound Name)) → AreLawfulBounds p.columns bounds → AreLawfulBounds (without_group name p.columns) (without_column name bounds)
@@ -109,7 +117,7 @@ module _ (p : Problem Name) (lawful : IsLawful p) where
   column-deleted name = record {
     row_labels = lawful.row_labels;
     rows_distinct = lawful.rows_distinct;
-    plain_rows = lawful.plain_rows;
+    parts = lawful.parts;
     columns = groups-without name (AreColumnEntries p.rows) (AreColumnEntries p.rows) (λ items c. c) p.columns lawful.columns;
     rhs = lawful.rhs;
     ranges = lawful.ranges;
@@ -127,7 +135,7 @@ module _ (p : Problem Name) (lawful : IsLawful p) where
   column-placed place name entries label new are few few_entries = record {
     row_labels = lawful.row_labels;
     rows_distinct = lawful.rows_distinct;
-    plain_rows = lawful.plain_rows;
+    parts = lawful.parts;
     columns = record {
       names = subst (AllByRecursion IsLabel) (sym (map-insert (λ group. group.name) p.columns place column)) (each-insert IsLabel (group_names p.columns) place name lawful.columns.names label);
       distinct = subst (IsDistinct same) (sym (map-insert (λ group. group.name) p.columns place column))
@@ -175,13 +183,15 @@ module _ (p : Problem Name) (lawful : IsLawful p) where
         entries_lawful = pairs-lawful p Columns (items_of edit.card.name1 p.columns) (entry_count p) (pairs_of edit.card) (pairs-short edit.card reads) (column_entries edit.card.name1).entries_lawful t.1.1.1.1.1.0;
         no_marker = each-append (λ (entry : Entry Name). same marker entry.row ≡ false) (items_of edit.card.name1 p.columns) (entries_of edit.card) (column_entries edit.card.name1).no_marker
             (pairs-unmarked edit.card (test_fails (same marker edit.card.name2 || same marker edit.card.name3) Marker t.1.0));
+        plain = each-append (λ (entry : Entry Name). has_combination p.rows entry.row ≡ false) (items_of edit.card.name1 p.columns) (entries_of edit.card) (column_entries edit.card.name1).plain
+            (pairs-plain p Columns (items_of edit.card.name1 p.columns) (entry_count p) (pairs_of edit.card) refl t.1.1.1.1.1.0);
       }
 
       few : entry_count p + length (entries_of edit.card) ≤ MAX_ENTRIES
       few = pairs-few p Columns (items_of edit.card.name1 p.columns) (entry_count p) (pairs_of edit.card) refl lawful.few_entries t.1.1.1.1.1.0
 
       place : ℕ
-      place = place_of edit (length (different (map (λ card. card.name1) edit.under))) (group_names p.columns)
+      place = place_of edit.action edit.anchor (length (different (map (λ card. card.name1) edit.under))) (group_names p.columns)
 
       by : (b : Bool) → (has_group p.columns edit.card.name1 && not b) ≡ false
           → IsLawful (record p { columns = cond b (in_group edit.card.name1 (λ entries. entries ++ entries_of edit.card) p.columns) (insert p.columns place (record { name = edit.card.name1; items = entries_of edit.card })) })

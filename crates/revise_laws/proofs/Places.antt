@@ -1,12 +1,12 @@
 -- The names at the places of a list without two alike.
-use Rattle.std.proofs.Common.{◌≡◌, ℕ, zero, suc, ◌-◌, ◌<◌, Bool, true, false, ◌&&◌, ◌||◌, List, [], ◌∷◌, length, map, refl, ap, sym, ◌∙◌, arith, unwrap_or, nat_eq}
-use Rattle.std.specs.List.{AllByRecursion, IsDistinct, position_or_len, slice_get}
+use Rattle.std.proofs.Common.{◌≡◌, ℕ, zero, suc, ◌-◌, ◌<◌, Bool, true, false, ◌&&◌, ◌||◌, List, [], ◌∷◌, ◌++◌, length, map, refl, ap, sym, ◌∙◌, subst, arith, unwrap_or, nat_eq, is_some}
+use Rattle.std.specs.List.{AllByRecursion, IsDistinct, position_or_len, slice_get, list_any}
 use Rattle.std.specs.Option.{option_map}
 use Rattle.std.proofs.lemmas.Bool.{eq-eqb}
 use Rattle.problem_definitions.specs.Names.{Name, same, has_name, number_in, name_at}
 use Rattle.problem_definitions.specs.Kinds.{is_free_kind}
-use Rattle.problem_definitions.specs.Problem.{Row, has_free_row}
-use Rattle.problem_definitions.specs.Valid.{IsNumberOf, is_free_row}
+use Rattle.problem_definitions.specs.Problem.{Row, has_free_row, has_combination}
+use Rattle.problem_definitions.specs.Valid.{IsNumberOf, is_free_row, is_combination}
 use Rattle.problem_definitions.proofs.Names.{same_eq, same_refl, same_sym}
 use Rattle.problem_definitions.proofs.Places.{number_in-is}
 
@@ -63,25 +63,44 @@ names_apart names distinct a b is_a is_b apart = by (same (name_at names a) (nam
         let one : a ≡ b = sym (number_in-name_at names distinct a is_a) ∙ ap (number_in names) (same_eq (name_at names a) (name_at names b) e) ∙ number_in-name_at names distinct b is_b in
         absurd (cc (apart, eq-eqb a b one))
 
-unlike_free : {R : Type 0} (rows : List (Row R)) (name : Name) → AllByRecursion (λ other. same name other ≡ false) (map (λ row. row.name) rows) → has_free_row rows name ≡ false
-unlike_free [] name apart = refl
-unlike_free (row ∷ rows) name apart = rw apart.0 (unlike_free rows name apart.1)
+-- of a longer list too
+pub name_at-front : (front back : List Name) (number : ℕ) → IsNumberOf (length front) number → has_name front (name_at (front ++ back) number) ≡ true
+name_at-front front back number is = subst (λ name. has_name front name ≡ true) (first front (number - 1) (below front number is)) (name_at-there front number is)
+  where
+    first : (front : List Name) (place : ℕ) → place < length front → at front place ≡ at (front ++ back) place
+    first [] place below' = absurd (omega (arith, below'))
+    first (name ∷ front) zero below' = refl
+    first (name ∷ front) (suc place) below' = let inner : place < length front = omega (arith, below') in first front place inner
 
--- a row that isn't free by its number isn't by its name
+module _ {R : Type 0} (test : Row R → Bool) where
+  unlike-fails : (rows : List (Row R)) (name : Name) → AllByRecursion (λ other. same name other ≡ false) (map (λ row. row.name) rows) → list_any (λ row. same name row.name && test row) rows ≡ false
+  unlike-fails [] name apart = refl
+  unlike-fails (row ∷ rows) name apart = rw apart.0 (unlike-fails rows name apart.1)
+
+  -- a row that fails a test by its number fails it by its name
+  test-name : (rows : List (Row R)) → IsDistinct same (map (λ row. row.name) rows) → (number : ℕ) → IsNumberOf (length (map (λ row. row.name) rows)) number → unwrap_or (option_map test (slice_get rows (number - 1))) false ≡ false
+      → list_any (λ row. same (name_at (map (λ row. row.name) rows) number) row.name && test row) rows ≡ false
+  unfolding IsDistinct
+  test-name rows distinct number is fails = tested rows distinct (number - 1) (below (map (λ row. row.name) rows) number is) fails
+    where
+      tested : (rows : List (Row R)) → IsDistinct same (map (λ row. row.name) rows) → (place : ℕ) → place < length (map (λ row. row.name) rows) → unwrap_or (option_map test (slice_get rows place)) false ≡ false
+          → list_any (λ row. same (at (map (λ row. row.name) rows) place) row.name && test row) rows ≡ false
+      tested [] distinct place below fails = refl
+      tested (row ∷ rest) distinct zero below fails = rw (fails, unlike-fails rest row.name distinct.0) (closed (same row.name row.name))
+        where
+          closed : (b : Bool) → (b && false || false) ≡ false
+          closed true = refl
+          closed false = refl
+      tested (row ∷ rest) distinct (suc place) below fails =
+          let inner : place < length (map (λ row. row.name) rest) = omega (arith, below) in
+          let other : same (at (map (λ row. row.name) rest) place) row.name ≡ false = same_sym (at (map (λ row. row.name) rest) place) row.name ∙ each-at (λ y. same row.name y ≡ false) (map (λ row. row.name) rest) place inner distinct.0 in
+          rw other (tested rest distinct.1 place inner fails)
+
+-- a row that isn't free by its number isn't by its name, and one that is no combination
 pub free_row-name : {R : Type 0} (rows : List (Row R)) → IsDistinct same (map (λ row. row.name) rows) → (number : ℕ) → IsNumberOf (length (map (λ row. row.name) rows)) number → is_free_row rows number ≡ false
     → has_free_row rows (name_at (map (λ row. row.name) rows) number) ≡ false
-unfolding IsDistinct
-free_row-name rows distinct number is limited = kind rows distinct (number - 1) (below (map (λ row. row.name) rows) number is) limited
-  where
-    kind : {R : Type 0} (rows : List (Row R)) → IsDistinct same (map (λ row. row.name) rows) → (place : ℕ) → place < length (map (λ row. row.name) rows) → unwrap_or (option_map (λ row. is_free_kind row.kind) (slice_get rows place)) false ≡ false
-        → has_free_row rows (at (map (λ row. row.name) rows) place) ≡ false
-    kind [] distinct place below limited = refl
-    kind (row ∷ rest) distinct zero below limited = rw (limited, unlike_free rest row.name distinct.0) (closed (same row.name row.name))
-      where
-        closed : (b : Bool) → (b && false || false) ≡ false
-        closed true = refl
-        closed false = refl
-    kind (row ∷ rest) distinct (suc place) below limited =
-        let inner : place < length (map (λ row. row.name) rest) = omega (arith, below) in
-        let other : same (at (map (λ row. row.name) rest) place) row.name ≡ false = same_sym (at (map (λ row. row.name) rest) place) row.name ∙ each-at (λ y. same row.name y ≡ false) (map (λ row. row.name) rest) place inner distinct.0 in
-        rw other (kind rest distinct.1 place inner limited)
+free_row-name = test-name (λ row. is_free_kind row.kind)
+
+pub combination-name : {R : Type 0} (rows : List (Row R)) → IsDistinct same (map (λ row. row.name) rows) → (number : ℕ) → IsNumberOf (length (map (λ row. row.name) rows)) number → is_combination rows number ≡ false
+    → has_combination rows (name_at (map (λ row. row.name) rows) number) ≡ false
+combination-name = test-name (λ row. is_some row.parts)

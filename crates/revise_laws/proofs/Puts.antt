@@ -8,12 +8,12 @@ use Rattle.card_definitions.specs.Words.{is_empty, ◌⟹◌}
 use Rattle.card_definitions.proofs.FirstFaults.{no_first, no_second, passes, test_fails}
 use Rattle.problem_definitions.specs.declared.TheConstants.{MAX_ENTRIES}
 use Rattle.problem_definitions.specs.Names.{Name, same, has_name}
-use Rattle.problem_definitions.specs.Problem.{Entry, Problem, has_row, has_free_row, has_entry}
+use Rattle.problem_definitions.specs.Problem.{Entry, Problem, has_row, has_free_row, has_combination, has_entry}
 use Rattle.problem_definitions.specs.Valid.{IsDecimal}
 use Rattle.problem_definitions.proofs.Names.{same_eq}
 use Rattle.problem_definitions.proofs.Each.{each-push, distinct-push, absent-apart}
-use Rattle.problem_definitions.proofs.Lawful.{AreLawfulEntries}
-use Rattle.deck_definitions.specs.declared.DeckFaultKind.TheVariants.{UnknownRow, RangeOnFree, EmptyName, TooManyEntries}
+use Rattle.problem_definitions.proofs.LawfulEntries.{AreLawfulEntries}
+use Rattle.deck_definitions.specs.declared.DeckFaultKind.TheVariants.{UnknownRow, RangeOnFree, EmptyName, TooManyEntries, EntryOnCombination}
 use Rattle.deck_definitions.specs.declared.Section.{Section}
 use Rattle.deck_definitions.specs.declared.Section.TheVariants.{Columns, Ranges}
 use Rattle.deck_definitions.specs.Sections.{is_section}
@@ -94,10 +94,11 @@ still-filled (entry ∷ new) entries e = still-filled new (put_entry entries ent
 pub puts-filled : (entry : Entry Name) (new entries : List (Entry Name)) → is_empty (put_entries (entry ∷ new) entries) ≡ false
 puts-filled entry new entries = still-filled new (put_entry entries entry) (put-filled entries entry)
 
--- an entry that may be put: on a row that is there, and for a range on no free one
+-- an entry that may be put: on a row that is there, for a range on no free one, and for a column on no combination
 pub record Fits (seen : Problem Name) (section : Section) (entry : Entry Name) : Type 0 where
   pub there : has_row seen.rows entry.row ≡ true
   pub unfree : (is_section Ranges section && has_free_row seen.rows entry.row) ≡ false
+  pub plain : (is_section Columns section && has_combination seen.rows entry.row) ≡ false
   pub value : IsDecimal entry.value
 
 pub puts-lawful : (seen : Problem Name) (section : Section) (new entries : List (Entry Name)) → AllByRecursion (Fits seen section) new → AreLawfulEntries seen.rows entries → AreLawfulEntries seen.rows (put_entries new entries)
@@ -120,6 +121,7 @@ module _ (seen : Problem Name) (section : Section) where
   record PutPasses (present : List (Entry Name)) (count : ℕ) (pair : Pair) : Type 0 where
     there : has_row seen.rows pair.row ≡ true
     unfree : (is_section Ranges section && has_free_row seen.rows pair.row) ≡ false
+    plain : (is_section Columns section && has_combination seen.rows pair.row) ≡ false
     few : (is_section Columns section && not (has_entry present pair.row) && nat_le MAX_ENTRIES count) ≡ false
     fine : value_fault pair.column pair.value ≡ None
 
@@ -132,10 +134,12 @@ module _ (seen : Problem Name) (section : Section) where
       let r = passes (
       (is_empty pair.row ⟹ EmptyName) ∷
       (not (has_row seen.rows pair.row) ⟹ UnknownRow) ∷
+      (is_section Columns section && has_combination seen.rows pair.row ⟹ EntryOnCombination) ∷
       (is_section Ranges section && has_free_row seen.rows pair.row ⟹ RangeOnFree) ∷ []) t.0 in
       record {
         there = not-false (has_row seen.rows pair.row) (test_fails (not (has_row seen.rows pair.row)) UnknownRow r.1.0);
-        unfree = test_fails (is_section Ranges section && has_free_row seen.rows pair.row) RangeOnFree r.1.1.0;
+        unfree = test_fails (is_section Ranges section && has_free_row seen.rows pair.row) RangeOnFree r.1.1.1.0;
+        plain = test_fails (is_section Columns section && has_combination seen.rows pair.row) EntryOnCombination r.1.1.0;
         few = test_fails (is_section Columns section && not (has_entry present pair.row) && nat_le MAX_ENTRIES count) TooManyEntries t.1.1.0;
         fine = t.1.0;
       }
@@ -159,7 +163,7 @@ module _ (seen : Problem Name) (section : Section) where
   puts-fit items count [] short fine = tt
   puts-fit items count (pair ∷ pairs) short fine =
       let pass = puts-pass items count pair pairs fine in (
-        record { there = pass.first.there; unfree = pass.first.unfree; value = text_is_decimal pair.value short.0 (no_value_fault pair.column pair.value pass.first.fine) },
+        record { there = pass.first.there; unfree = pass.first.unfree; plain = pass.first.plain; value = text_is_decimal pair.value short.0 (no_value_fault pair.column pair.value pass.first.fine) },
         puts-fit (put_entry items (entry_of pair)) (count + (length (put_entry items (entry_of pair)) - length items)) pairs short.1 pass.others,
       )
 

@@ -44,10 +44,10 @@ module _ (p : Problem Name) (lawful : IsLawful p) where
       by false = entry-deleted p lawful card.name1 card.name2
 
   -- An edit whose tests find no fault keeps a problem lawful.
-  pub edit-step : (section : Section) (action : Action) (anchor : Name) (under : List Reading) (card : Reading) → IsReading card → edit_fault p section action under card ≡ None
+  pub edit-step : (section : Section) (action : Action) (anchor : Name) (under : List Reading) (card : Reading) → IsReading card → edit_fault p section action anchor under card ≡ None
       → IsLawful (edited p (record { section = section; action = action; anchor = anchor; under = under; card = card }))
   edit-step Header action anchor under card reads fine = lawful
-  edit-step Rows Modify anchor under card reads fine = row-modified card p lawful fine
+  edit-step Rows Modify anchor under card reads fine = row-modified card p lawful reads fine
   edit-step Rows Delete anchor under card reads fine = row-deleted card.name1 p lawful
   edit-step Rows Before anchor under card reads fine = row-inserted p lawful (record { section = Rows; action = Before; anchor = anchor; under = under; card = card }) reads fine
   edit-step Rows After anchor under card reads fine = row-inserted p lawful (record { section = Rows; action = After; anchor = anchor; under = under; card = card }) reads fine
@@ -74,7 +74,7 @@ record InnerPasses (seen : Problem Name) (before : List Card) (section : Option 
   place : Section
   stands : section ≡ Some place
   fine : cond (is_action_card (style_of before) card) (action_fault seen place (action_on (style_of before) card) (anchor_on (style_of before) card))
-      (action_data_fault seen (style_of before) place (action_after before) (under_after before) card) ≡ None
+      (action_data_fault seen (style_of before) place (action_after before) (anchor_after before) (under_after before) card) ≡ None
 
 inner-passes : (seen : Problem Name) (before : List Card) (section : Option Section) (card : List ℕ) → inner_card_fault seen before section card ≡ None → InnerPasses seen before section card
 inner-passes seen before None card h = absurd (cc h)
@@ -87,17 +87,17 @@ inner-passes seen before (Some Bounds) card h = record { place = Bounds; stands 
 inner-passes seen before (Some Endata) card h = record { place = Endata; stands = refl; fine = h }
 
 -- what the tests of a data card say: an action holds for it, it has its form, and it passes that action's tests
-record DataPasses (seen : Problem Name) (style : Style) (place : Section) (action : Option Action) (under : List Reading) (card : List ℕ) : Type 0 where
+record DataPasses (seen : Problem Name) (style : Style) (place : Section) (action : Option Action) (anchor : Name) (under : List Reading) (card : List ℕ) : Type 0 where
   by_action : Action
   holds : action ≡ Some by_action
   formed : form_fault style place (deletes by_action) card ≡ None
-  fine : edit_fault seen place by_action under (reading_of (form_on style place (deletes by_action) card) card) ≡ None
+  fine : edit_fault seen place by_action anchor under (reading_of (form_on style place (deletes by_action) card) card) ≡ None
 
-data-passes : (seen : Problem Name) (style : Style) (place : Section) (action : Option Action) (under : List Reading) (card : List ℕ) → action_data_fault seen style place action under card ≡ None
-    → DataPasses seen style place action under card
-data-passes seen style place None under card h = absurd (cc h)
-data-passes seen style place (Some action) under card h =
-    let both = passes (form_fault style place (deletes action) card ∷ edit_fault seen place action under (reading_of (form_on style place (deletes action) card) card) ∷ []) h in
+data-passes : (seen : Problem Name) (style : Style) (place : Section) (action : Option Action) (anchor : Name) (under : List Reading) (card : List ℕ) → action_data_fault seen style place action anchor under card ≡ None
+    → DataPasses seen style place action anchor under card
+data-passes seen style place None anchor under card h = absurd (cc h)
+data-passes seen style place (Some action) anchor under card h =
+    let both = passes (form_fault style place (deletes action) card ∷ edit_fault seen place action anchor under (reading_of (form_on style place (deletes action) card) card) ∷ []) h in
     record { by_action = action; holds = refl; formed = both.0; fine = both.1.0 }
 
 -- a section card or an action card edits nothing
@@ -127,11 +127,11 @@ module _ (old : Problem Name) where
       unedited heading = subst (λ edit. IsLawful (with_edit edit (revised old before))) (sym (no-edit before card heading)) lawful
 
       inner : is_section_card card.bytes ≡ false → (place : Section) → section_after before ≡ Some place → (b : Bool) → is_action_card (style_of before) card.bytes ≡ b
-          → cond b (action_fault (revised old before) place (action_on (style_of before) card.bytes) (anchor_on (style_of before) card.bytes)) (action_data_fault (revised old before) (style_of before) place (action_after before) (under_after before) card.bytes) ≡ None
+          → cond b (action_fault (revised old before) place (action_on (style_of before) card.bytes) (anchor_on (style_of before) card.bytes)) (action_data_fault (revised old before) (style_of before) place (action_after before) (anchor_after before) (under_after before) card.bytes) ≡ None
           → IsLawful (with_edit (edit_of before card) (revised old before))
       inner e place stands true a h = unedited (rw (e, a) refl)
       inner e place stands false a h =
-          let pass = data-passes (revised old before) (style_of before) place (action_after before) (under_after before) card.bytes h in
+          let pass = data-passes (revised old before) (style_of before) place (action_after before) (anchor_after before) (under_after before) card.bytes h in
           let form = form_on (style_of before) place (deletes pass.by_action) card.bytes in
           subst (λ edit. IsLawful (with_edit edit (revised old before))) (sym (one-edit before card place pass.by_action (rw (e, a) refl) stands pass.holds))
           (edit-step (revised old before) lawful place pass.by_action (anchor_after before) (under_after before) (reading_of form card.bytes) (reading-lawful place (deletes pass.by_action) card.bytes (style_of before) printable pass.formed) pass.fine)
@@ -165,7 +165,7 @@ pub renamed : (name : Name) (p : Problem Name) → IsLawful p → IsLawful (reco
 renamed name p lawful = record {
   row_labels = lawful.row_labels;
   rows_distinct = lawful.rows_distinct;
-  plain_rows = lawful.plain_rows;
+  parts = lawful.parts;
   columns = lawful.columns;
   rhs = lawful.rhs;
   ranges = lawful.ranges;

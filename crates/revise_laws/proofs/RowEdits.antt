@@ -1,31 +1,38 @@
 -- The edits of rows keep a problem lawful.
-use Rattle.std.proofs.Common.{◌≡◌, ◌+◌, ◌≤◌, Bool, true, false, cond, not, ◌&&◌, ◌||◌, List, [], ◌∷◌, Option, Some, None, length, map, refl, ap, ap₂, sym, ◌∙◌, subst, arith, is_none, nat_le, unwrap_or}
-use Rattle.std.specs.List.{AllByRecursion, IsDistinct, filter, insert}
-use Rattle.std.specs.Option.{option_map}
+use Rattle.std.proofs.Common.{◌≡◌, ℕ, suc, ◌+◌, ◌≤◌, Bool, true, false, cond, not, ◌&&◌, ◌||◌, List, [], ◌∷◌, ◌++◌, Option, Some, None, length, map, take, refl, ap, ap₂, sym, ◌∙◌, subst, arith, append_assoc, append-nil, is_none, is_some, nat_le, unwrap_or}
+use Rattle.std.specs.List.{AllByRecursion, IsDistinct, filter, insert, list_any, last_or, position_or_len}
+use Rattle.std.specs.Option.{option_map, option_or, option_and_then, IfSome}
 use Rattle.std.proofs.lemmas.List.{length-map}
 use Rattle.card_definitions.specs.Words.{is_empty, named, ◌⟹◌}
 use Rattle.card_definitions.specs.Fields.{Reading}
 use Rattle.card_definitions.proofs.FirstFaults.{passes, test_fails}
 use Rattle.problem_definitions.specs.declared.TheConstants.{MAX_ROWS, MAX_COLUMNS}
 use Rattle.problem_definitions.specs.declared.RowKind.{RowKind}
+use Rattle.problem_definitions.specs.declared.RowKind.TheVariants.{N, G, L, E}
 use Rattle.problem_definitions.specs.Names.{Name, same, has_name, marker}
 use Rattle.problem_definitions.specs.Kinds.{is_free_kind}
-use Rattle.problem_definitions.specs.Problem.{Row, plain_row, Entry, Bound, Group, Problem, row_names, has_row, has_free_row, has_group, has_entry}
+use Rattle.problem_definitions.specs.Problem.{Row, plain_row, combination, Entry, Bound, Group, Problem, row_names, has_row, has_free_row, has_combination, has_group, has_entry}
+use Rattle.problem_definitions.specs.Parts.{parts_of, with_parts, in_row, rows_before}
 use Rattle.problem_definitions.specs.Groups.{in_all}
 use Rattle.problem_definitions.specs.Valid.{IsDecimal}
 use Rattle.problem_definitions.proofs.Names.{same_eq, same_sym, row_is_named}
+use Rattle.problem_definitions.proofs.Groups.{map-map}
 use Rattle.problem_definitions.proofs.Each.{each-change, absent-apart}
-use Rattle.problem_definitions.proofs.PlainRows.{ArePlain}
-use Rattle.problem_definitions.proofs.Lawful.{IsLabel, AreGroups, AreLawfulEntries, AreColumnEntries, AreRightHandSides, AreRanges, AreLawfulBounds, AreBoundSets, IsLawful}
-use Rattle.deck_definitions.specs.declared.DeckFaultKind.TheVariants.{BadRowType, DuplicateRow, EmptyName, TooManyRows, CombinationRow, ModifyMissing, RangeOnFree}
-use Rattle.deck_definitions.specs.DataCards.{row_kinds}
-use Rattle.deck_definitions.specs.Tests.{filled_from_3, combination_kinds, rows_fault}
-use Rattle.deck_definitions.proofs.CardTexts.{IsReading}
-use Rattle.deck_definitions.proofs.Accepted.{not_full}
+use Rattle.problem_definitions.proofs.LawfulEntries.{AreLawfulEntries}
+use Rattle.problem_definitions.proofs.Parts.{ArePartsAfter, AreNamed, AreLeft, entries-wider, none-apart, parts-mapped, parts-changed, parts-insert, parts-left, parts_of-new, in_row-names, in_row-free, in_row-combination}
+use Rattle.problem_definitions.proofs.Lawful.{IsLabel, AreGroups, AreColumnEntries, AreRightHandSides, AreRanges, AreLawfulBounds, AreBoundSets, IsLawful}
+use Rattle.deck_definitions.specs.declared.DeckFaultKind.{DeckFaultKind}
+use Rattle.deck_definitions.specs.declared.DeckFaultKind.TheVariants.{BadRowType, DuplicateRow, EmptyName, TooManyRows, ModifyMissing, RangeOnFree}
+use Rattle.deck_definitions.specs.declared.Section.TheVariants.{Rows}
+use Rattle.deck_definitions.specs.DataCards.{row_kinds, combination_kinds, combination_text, is_card_of, part_pairs_of, parts_on, kind_on, row_of}
+use Rattle.deck_definitions.specs.Tests.{filled_from_3, pairs_fault, row_fields_fault, rows_fault}
+use Rattle.deck_definitions.proofs.CardTexts.{IsReading, part_pairs-short}
+use Rattle.deck_definitions.proofs.Accepted.{pairs-lawful, not_full}
 use Rattle.revise_definitions.specs.Actions.{Edit}
-use Rattle.revise_definitions.specs.Edits.{place_of, rows_begun, insert_row, retyped, modify_row, delete_row, without_row}
-use Rattle.revise_definitions.specs.Tests.{has_range, frees, modify_rows_fault}
+use Rattle.revise_definitions.specs.Edits.{row_place, goes_on_row, earlier_rows, insert_row, retyped, modify_row, delete_row, put_entries, without_row}
+use Rattle.revise_definitions.specs.Tests.{has_range, frees, has_type_for, puts_fault, modified_fields_fault, modify_rows_fault}
 use Rattle.revise_laws.proofs.Lists.{each-filter, each-passes, distinct-mapped_filter, each-mapped_filter, any-filter, none-filter, length-filter, each-insert, distinct-insert, map-insert, any-inserted, none-inserted, length-inserted, groups-all, groups-filled, sum-all, has_group-all}
+use Rattle.revise_laws.proofs.Puts.{puts-lawful, puts-fit}
 
 -- groups by other facts of their items
 pub groups-same : {X : Type 0} {N : Name → Type 0} (P Q : List X → Type 0) → ((items : List X) → P items → Q items) → (groups : List (Group X)) → AreGroups N P groups → AreGroups N Q groups
@@ -47,14 +54,6 @@ bounds-still columns others still bounds lawful = record {
 pub bound_sets-still : (columns others : List (Group (Entry Name))) → ((name : Name) → has_group columns name ≡ true → has_group others name ≡ true) → (bounds : List (Bound Name)) → AreBoundSets columns bounds → AreBoundSets others bounds
 bound_sets-still columns others still bounds c = record { bounds_lawful = bounds-still columns others still bounds c.bounds_lawful; filled = c.filled }
 
--- entries on rows that are still there
-entries-still : (rows others : List (Row Name)) → ((name : Name) → has_row rows name ≡ true → has_row others name ≡ true) → (entries : List (Entry Name)) → AreLawfulEntries rows entries → AreLawfulEntries others entries
-entries-still rows others still entries lawful = record {
-  on_rows = each-change (λ (entry : Entry Name). has_row rows entry.row ≡ true) (λ entry. has_row others entry.row ≡ true) (λ entry there. still entry.row there) entries lawful.on_rows;
-  distinct = lawful.distinct;
-  values = lawful.values;
-}
-
 or_first : (a b : Bool) → (a || b) ≡ false → a ≡ false
 or_first true b e = e
 or_first false b e = refl
@@ -62,6 +61,59 @@ or_first false b e = refl
 or_second : (a b : Bool) → (a || b) ≡ false → b ≡ false
 or_second true b e = absurd (cc e)
 or_second false b e = e
+
+-- ---- the parts that a row has
+
+no_parts : (rows : List (Row Name)) → AreLawfulEntries rows []
+unfolding IsDistinct
+no_parts rows = record { on_rows = tt; distinct = tt; values = tt }
+
+-- the parts of the row of a name are lawful after the rows before it
+parts-known : (name : Name) (before rows : List (Row Name)) → IsDistinct same (map (λ (row : Row Name). row.name) rows) → ArePartsAfter before rows → AreLawfulEntries (before ++ rows_before name rows) (parts_of name rows)
+unfolding IsDistinct
+parts-known name before [] distinct are = no_parts (before ++ [])
+parts-known name before (row ∷ rows) distinct are = by (same name row.name) refl (parts-known name (before ++ row ∷ []) rows distinct.1 are.1)
+  where
+    given : (parts : Option (List (Entry Name))) → IfSome parts (AreLawfulEntries before) → AreLawfulEntries before (unwrap_or parts [])
+    given None are' = no_parts before
+    given (Some parts) are' = are'
+
+    by : (b : Bool) → same name row.name ≡ b → AreLawfulEntries ((before ++ row ∷ []) ++ rows_before name rows) (parts_of name rows)
+        → AreLawfulEntries (before ++ take (cond (not b) (1 + position_or_len (λ (other : Row Name). same name other.name) rows) 0) (row ∷ rows)) (cond b (unwrap_or row.parts []) [] ++ parts_of name rows)
+    by true is rest =
+        rw (parts_of-new name rows (none-apart row rows name is distinct.0), append-nil (unwrap_or row.parts []), append-nil before) (given row.parts are.0)
+    by false is rest =
+        let next : 1 + position_or_len (λ (other : Row Name). same name other.name) rows ≡ suc (position_or_len (λ (other : Row Name). same name other.name) rows) = omega arith in
+        rw next (subst (λ all. AreLawfulEntries all (parts_of name rows)) (append_assoc before (row ∷ []) (rows_before name rows)) rest)
+
+-- ---- rows of the same names
+
+module _ (p : Problem Name) (lawful : IsLawful p) (others : List (Row Name)) (names : map (λ (row : Row Name). row.name) others ≡ map (λ row. row.name) p.rows) where
+  row-there : AreNamed p.rows others
+  row-there name there = row_is_named name others ∙ ap (λ list. has_name list name) names ∙ sym (row_is_named name p.rows) ∙ there
+
+  -- Where the same are combinations, and ranges stand on none that is free.
+  rows-alike : ArePartsAfter [] others → ((name : Name) → has_combination others name ≡ has_combination p.rows name) → AllByRecursion (λ (set : Group (Entry Name)). AreRanges others set.items) p.ranges → IsLawful (record p { rows = others })
+  rows-alike parts combine ranges = record {
+    row_labels = subst (AllByRecursion IsLabel) (sym names) lawful.row_labels;
+    rows_distinct = subst (IsDistinct same) (sym names) lawful.rows_distinct;
+    parts = parts;
+    columns = groups-same (AreColumnEntries p.rows) (AreColumnEntries others)
+        (λ items c. record {
+          entries_lawful = entries-wider p.rows others row-there items c.entries_lawful;
+          no_marker = c.no_marker;
+          plain = each-change (λ (entry : Entry Name). has_combination p.rows entry.row ≡ false) (λ entry. has_combination others entry.row ≡ false) (λ entry plain. combine entry.row ∙ plain) items c.plain;
+        }) p.columns lawful.columns;
+    rhs = groups-same (AreRightHandSides p.rows) (AreRightHandSides others) (λ items c. record { entries_lawful = entries-wider p.rows others row-there items c.entries_lawful; filled = c.filled }) p.rhs lawful.rhs;
+    ranges = record { names = lawful.ranges.names; distinct = lawful.ranges.distinct; items = ranges };
+    bounds = lawful.bounds;
+    few_rows = subst (λ n. n ≤ MAX_ROWS) (sym counted) lawful.few_rows;
+    few_columns = lawful.few_columns;
+    few_entries = lawful.few_entries;
+  }
+    where
+      counted : length others ≡ length p.rows
+      counted = sym (length-map others (λ row. row.name)) ∙ ap length names ∙ length-map p.rows (λ row. row.name)
 
 -- ---- MODIFY
 
@@ -73,20 +125,33 @@ module _ (card : Reading) where
       by true = refl
       by false = refl
 
-  retyped-plain : (rows : List (Row Name)) → ArePlain rows → ArePlain (modify_row card rows)
-  retyped-plain [] plain = tt
-  retyped-plain (row ∷ rows) plain = (by (same card.name1 row.name), retyped-plain rows plain.1)
-    where
-      by : (b : Bool) → is_none (cond b (retyped card row) row).parts ≡ true
-      by true = plain.0
-      by false = plain.0
-
   retyped-names : (rows : List (Row Name)) → map (λ row. row.name) (modify_row card rows) ≡ map (λ row. row.name) rows
   retyped-names [] = refl
   retyped-names (row ∷ rows) = ap₂ (λ name names. name ∷ names) (retyped-name row) (retyped-names rows)
 
-  retyped-there : (rows : List (Row Name)) (name : Name) → has_row rows name ≡ true → has_row (modify_row card rows) name ≡ true
-  retyped-there rows name there = row_is_named name (modify_row card rows) ∙ ap (λ names. has_name names name) (retyped-names rows) ∙ sym (row_is_named name rows) ∙ there
+  retyped-combination : (rows : List (Row Name)) (name : Name) → has_combination (modify_row card rows) name ≡ has_combination rows name
+  retyped-combination [] name = refl
+  retyped-combination (row ∷ rows) name = by (same card.name1 row.name) (retyped-combination rows name)
+    where
+      kept : (parts : Option (List (Entry Name))) → is_some (option_map (put_entries (parts_on card)) parts) ≡ is_some parts
+      kept None = refl
+      kept (Some parts) = refl
+
+      by : (b : Bool) → has_combination (modify_row card rows) name ≡ has_combination rows name → has_combination (cond b (retyped card row) row ∷ modify_row card rows) name ≡ has_combination (row ∷ rows) name
+      by true rest = ap₂ (λ b c. same name row.name && b || c) (kept row.parts) rest
+      by false rest = ap (λ b. same name row.name && is_some row.parts || b) rest
+
+  -- a row with another type alone
+  abbrev rekinded : Row Name → Row Name
+  rekinded row = record { kind = cond (same card.name1 row.name) (unwrap_or (kind_on card) row.kind) row.kind; name = row.name; parts = row.parts }
+
+  retyped-parts : (rows : List (Row Name)) → map rekinded (in_row card.name1 (put_entries (parts_on card)) rows) ≡ modify_row card rows
+  retyped-parts [] = refl
+  retyped-parts (row ∷ rows) = ap₂ (λ first rest. first ∷ rest) (by (same card.name1 row.name) refl) (retyped-parts rows)
+    where
+      by : (b : Bool) → same card.name1 row.name ≡ b → rekinded (cond b (with_parts (put_entries (parts_on card)) row) row) ≡ cond b (retyped card row) row
+      by true e = rw e refl
+      by false e = rw e refl
 
   -- a row that isn't free stays so, unless it is the one that becomes free
   retyped-limited : (name : Name) → (frees card && same card.name1 name) ≡ false → (rows : List (Row Name)) → has_free_row rows name ≡ false → has_free_row (modify_row card rows) name ≡ false
@@ -111,7 +176,7 @@ module _ (card : Reading) where
 
       at : (b : Bool) → same card.name1 row.name ≡ b → (same name row.name && is_free_kind row.kind) ≡ false
           → (same name (cond b (retyped card row) row).name && is_free_kind (cond b (retyped card row) row).kind) ≡ false
-      at true e first = becomes (named row_kinds card.kind) e other first
+      at true e first = becomes (kind_on card) e other first
       at false e first = first
 
   module _ (p : Problem Name) (lawful : IsLawful p) where
@@ -120,7 +185,7 @@ module _ (card : Reading) where
     limited_items h [] none each = tt
     limited_items h (set ∷ sets) none each = (
       record {
-        entries_lawful = entries-still p.rows (modify_row card p.rows) (retyped-there p.rows) set.items each.0.entries_lawful;
+        entries_lawful = entries-wider p.rows (modify_row card p.rows) (row-there p lawful (modify_row card p.rows) (retyped-names p.rows)) set.items each.0.entries_lawful;
         filled = each.0.filled;
         limited = items set.items (λ b e t. (none b e t).0) each.0.limited;
       },
@@ -146,86 +211,146 @@ module _ (card : Reading) where
         each (set ∷ sets) h' =
             (or_first (has_entry set.items card.name1) (has_range (record p { ranges = sets }) card.name1) h', each sets (or_second (has_entry set.items card.name1) (has_range (record p { ranges = sets }) card.name1) h'))
 
-    pub row-modified : modify_rows_fault p card ≡ None → IsLawful (record p { rows = modify_row card p.rows })
-    row-modified fine =
+    -- each part is put in the place of that on its row, or at the end
+    parts-modified : IsReading card → modified_fields_fault p card ≡ None → ArePartsAfter [] (modify_row card p.rows)
+    parts-modified reads fine = subst (ArePartsAfter []) (retyped-parts p.rows)
+        (parts-mapped rekinded (λ row. refl) (λ row. refl) [] [] (in_row card.name1 (put_entries (parts_on card)) p.rows) (λ name there. there)
+        (parts-changed card.name1 (put_entries (parts_on card)) p.rows lawful.rows_distinct lawful.parts put))
+      where
+        earlier : Problem Name
+        earlier = record p { rows = rows_before card.name1 p.rows }
+
+        put : has_combination p.rows card.name1 ≡ true → AreLawfulEntries (rows_before card.name1 p.rows) (put_entries (parts_on card) (parts_of card.name1 p.rows))
+        put combines =
+            let parts_fine : puts_fault earlier Rows [] 0 (part_pairs_of card) ≡ None = subst (λ b. cond b (puts_fault earlier Rows [] 0 (part_pairs_of card)) (filled_from_3 card) ≡ None) combines fine in
+            puts-lawful earlier Rows (parts_on card) (parts_of card.name1 p.rows) (puts-fit earlier Rows [] 0 (part_pairs_of card) (part_pairs-short card reads) parts_fine)
+            (parts-known card.name1 [] p.rows lawful.rows_distinct lawful.parts)
+
+    pub row-modified : IsReading card → modify_rows_fault p card ≡ None → IsLawful (record p { rows = modify_row card p.rows })
+    row-modified reads fine =
         let t = passes (
-        (has_name combination_kinds card.kind ⟹ CombinationRow) ∷
-        (is_none (named row_kinds card.kind) ⟹ BadRowType) ∷
         (is_empty card.name1 ⟹ EmptyName) ∷
         (not (has_row p.rows card.name1) ⟹ ModifyMissing) ∷
+        (not (has_type_for (has_combination p.rows card.name1) card) ⟹ BadRowType) ∷
         (frees card && has_range p card.name1 ⟹ RangeOnFree) ∷
-        filled_from_3 card ∷ []) fine in
-        let unranged : (frees card && has_range p card.name1) ≡ false = test_fails (frees card && has_range p card.name1) RangeOnFree t.1.1.1.1.0 in
-        record {
-          row_labels = subst (AllByRecursion IsLabel) (sym (retyped-names p.rows)) lawful.row_labels;
-          rows_distinct = subst (IsDistinct same) (sym (retyped-names p.rows)) lawful.rows_distinct;
-          plain_rows = retyped-plain p.rows lawful.plain_rows;
-          columns = groups-same (AreColumnEntries p.rows) (AreColumnEntries (modify_row card p.rows))
-              (λ items c. record { entries_lawful = entries-still p.rows (modify_row card p.rows) (retyped-there p.rows) items c.entries_lawful; no_marker = c.no_marker }) p.columns lawful.columns;
-          rhs = groups-same (AreRightHandSides p.rows) (AreRightHandSides (modify_row card p.rows))
-              (λ items c. record { entries_lawful = entries-still p.rows (modify_row card p.rows) (retyped-there p.rows) items c.entries_lawful; filled = c.filled }) p.rhs lawful.rhs;
-          ranges = record { names = lawful.ranges.names; distinct = lawful.ranges.distinct; items = limited_items unranged p.ranges (no_ranges unranged) lawful.ranges.items };
-          bounds = lawful.bounds;
-          few_rows = subst (λ n. n ≤ MAX_ROWS) (sym (length-map p.rows (λ row. cond (same card.name1 row.name) (retyped card row) row))) lawful.few_rows;
-          few_columns = lawful.few_columns;
-          few_entries = lawful.few_entries;
-        }
+        modified_fields_fault p card ∷ []) fine in
+        let unranged : (frees card && has_range p card.name1) ≡ false = test_fails (frees card && has_range p card.name1) RangeOnFree t.1.1.1.0 in
+        rows-alike p lawful (modify_row card p.rows) (retyped-names p.rows) (parts-modified reads t.1.1.1.1.0) (retyped-combination p.rows) (limited_items unranged p.ranges (no_ranges unranged) lawful.ranges.items)
 
 -- ---- DELETE
 
+-- entries without those on a row, where the other rows are left
+entries-left : (name : Name) (rows others : List (Row Name)) → AreLeft name rows others → (entries : List (Entry Name)) → AreLawfulEntries rows entries → AreLawfulEntries others (without_row name entries)
+entries-left name rows others left entries c = record {
+  on_rows = each-passes (λ (entry : Entry Name). has_row rows entry.row ≡ true) (λ entry. has_row others entry.row ≡ true) (λ entry. not (same name entry.row)) (λ entry there unlike. left entry.row unlike there) entries c.on_rows;
+  distinct = distinct-mapped_filter same (λ entry. entry.row) (λ entry. not (same name entry.row)) entries c.distinct;
+  values = each-filter (λ entry. IsDecimal entry.value) (λ entry. not (same name entry.row)) entries c.values;
+}
+
+-- rows with other parts have the same names and types, and the same are combinations
+module _ (change : List (Entry Name) → List (Entry Name)) where
+  row-changed : (rows : List (Row Name)) (name : Name) → has_row (map (with_parts change) rows) name ≡ has_row rows name
+  row-changed [] name = refl
+  row-changed (row ∷ rows) name = ap (λ b. same name row.name || b) (row-changed rows name)
+
+  free-changed : (rows : List (Row Name)) (name : Name) → has_free_row (map (with_parts change) rows) name ≡ has_free_row rows name
+  free-changed [] name = refl
+  free-changed (row ∷ rows) name = ap (λ b. same name row.name && is_free_kind row.kind || b) (free-changed rows name)
+
+  combination-changed : (rows : List (Row Name)) (name : Name) → has_combination (map (with_parts change) rows) name ≡ has_combination rows name
+  combination-changed [] name = refl
+  combination-changed (row ∷ rows) name = ap₂ (λ b c. same name row.name && b || c) (kept row.parts) (combination-changed rows name)
+    where
+      kept : (parts : Option (List (Entry Name))) → is_some (option_map change parts) ≡ is_some parts
+      kept None = refl
+      kept (Some parts) = refl
+
 module _ (name : Name) (p : Problem Name) (lawful : IsLawful p) where
+  abbrev others_of : List (Row Name)
+  others_of = filter (λ row. not (same name row.name)) p.rows
+
   abbrev rows_left : List (Row Name)
-  rows_left = filter (λ row. not (same name row.name)) p.rows
+  rows_left = map (with_parts (without_row name)) others_of
 
-  row-left : (other : Name) → not (same name other) ≡ true → has_row p.rows other ≡ true → has_row rows_left other ≡ true
-  row-left other unlike there = any-filter (λ row. same other row.name) (λ row. not (same name row.name)) (λ row e. subst (λ n. not (same name n) ≡ true) (same_eq other row.name e) unlike) p.rows there
+  row-left : AreLeft name p.rows rows_left
+  row-left other unlike there =
+      row-changed (without_row name) others_of other
+      ∙ any-filter (λ row. same other row.name) (λ row. not (same name row.name)) (λ row e. subst (λ n. not (same name n) ≡ true) (same_eq other row.name e) unlike) p.rows there
 
-  entries-left : (entries : List (Entry Name)) → AreLawfulEntries p.rows entries → AreLawfulEntries rows_left (without_row name entries)
-  entries-left entries c = record {
-    on_rows = each-passes (λ (entry : Entry Name). has_row p.rows entry.row ≡ true) (λ entry. has_row rows_left entry.row ≡ true) (λ entry. not (same name entry.row)) (λ entry there unlike. row-left entry.row unlike there) entries c.on_rows;
-    distinct = distinct-mapped_filter same (λ entry. entry.row) (λ entry. not (same name entry.row)) entries c.distinct;
-    values = each-filter (λ entry. IsDecimal entry.value) (λ entry. not (same name entry.row)) entries c.values;
-  }
+  names_left : map (λ row. row.name) rows_left ≡ map (λ row. row.name) others_of
+  names_left = map-map (λ row. row.name) (with_parts (without_row name)) others_of
+
+  -- what is left of the entries of a column, which stood on no combination, and of the items of a range set, which stood on no free row
+  plain-left : (entries : List (Entry Name)) → AllByRecursion (λ (entry : Entry Name). has_combination p.rows entry.row ≡ false) entries → AllByRecursion (λ (entry : Entry Name). has_combination rows_left entry.row ≡ false) (without_row name entries)
+  plain-left entries each = each-passes (λ (entry : Entry Name). has_combination p.rows entry.row ≡ false) (λ entry. has_combination rows_left entry.row ≡ false) (λ entry. not (same name entry.row))
+      (λ entry plain unlike. combination-changed (without_row name) others_of entry.row ∙ none-filter (λ row. same entry.row row.name && is_some row.parts) (λ row. not (same name row.name)) p.rows plain) entries each
+
+  limited-left : (entries : List (Entry Name)) → AllByRecursion (λ (entry : Entry Name). has_free_row p.rows entry.row ≡ false) entries → AllByRecursion (λ (entry : Entry Name). has_free_row rows_left entry.row ≡ false) (without_row name entries)
+  limited-left entries each = each-passes (λ (entry : Entry Name). has_free_row p.rows entry.row ≡ false) (λ entry. has_free_row rows_left entry.row ≡ false) (λ entry. not (same name entry.row))
+      (λ entry limited unlike. free-changed (without_row name) others_of entry.row ∙ none-filter (λ row. same entry.row row.name && is_free_kind row.kind) (λ row. not (same name row.name)) p.rows limited) entries each
 
   -- the items of a range set that are left
   record AreRangesLeft (entries : List (Entry Name)) : Type 0 where
     entries_lawful : AreLawfulEntries rows_left entries
     limited : AllByRecursion (λ (entry : Entry Name). has_free_row rows_left entry.row ≡ false) entries
 
-  limited-left : (entries : List (Entry Name)) → AllByRecursion (λ (entry : Entry Name). has_free_row p.rows entry.row ≡ false) entries → AllByRecursion (λ (entry : Entry Name). has_free_row rows_left entry.row ≡ false) (without_row name entries)
-  limited-left entries each = each-passes (λ (entry : Entry Name). has_free_row p.rows entry.row ≡ false) (λ entry. has_free_row rows_left entry.row ≡ false) (λ entry. not (same name entry.row))
-      (λ entry limited unlike. none-filter (λ row. same entry.row row.name && is_free_kind row.kind) (λ row. not (same name row.name)) p.rows limited) entries each
-
   pub row-deleted : IsLawful (delete_row name p)
   row-deleted = record {
-    row_labels = each-mapped_filter IsLabel (λ row. row.name) (λ row. not (same name row.name)) p.rows lawful.row_labels;
-    rows_distinct = distinct-mapped_filter same (λ row. row.name) (λ row. not (same name row.name)) p.rows lawful.rows_distinct;
-    plain_rows = each-filter (λ (row : Row Name). is_none row.parts ≡ true) (λ row. not (same name row.name)) p.rows lawful.plain_rows;
+    row_labels = subst (AllByRecursion IsLabel) (sym names_left) (each-mapped_filter IsLabel (λ row. row.name) (λ row. not (same name row.name)) p.rows lawful.row_labels);
+    rows_distinct = subst (IsDistinct same) (sym names_left) (distinct-mapped_filter same (λ row. row.name) (λ row. not (same name row.name)) p.rows lawful.rows_distinct);
+    parts = parts-left name [] [] p.rows (λ other unlike there. there) (entries-left name) lawful.parts;
     columns = groups-all (AreColumnEntries p.rows) (AreColumnEntries rows_left) (without_row name)
-        (λ items c. record { entries_lawful = entries-left items c.entries_lawful; no_marker = each-filter (λ (entry : Entry Name). same marker entry.row ≡ false) (λ entry. not (same name entry.row)) items c.no_marker }) p.columns lawful.columns;
+        (λ items c. record {
+          entries_lawful = entries-left name p.rows rows_left row-left items c.entries_lawful;
+          no_marker = each-filter (λ (entry : Entry Name). same marker entry.row ≡ false) (λ entry. not (same name entry.row)) items c.no_marker;
+          plain = plain-left items c.plain;
+        }) p.columns lawful.columns;
     rhs = groups-filled (AreLawfulEntries rows_left) (AreRightHandSides rows_left) (λ items c e. record { entries_lawful = c; filled = e }) (in_all (without_row name) p.rhs)
-        (groups-all (AreRightHandSides p.rows) (AreLawfulEntries rows_left) (without_row name) (λ items c. entries-left items c.entries_lawful) p.rhs lawful.rhs);
+        (groups-all (AreRightHandSides p.rows) (AreLawfulEntries rows_left) (without_row name) (λ items c. entries-left name p.rows rows_left row-left items c.entries_lawful) p.rhs lawful.rhs);
     ranges = groups-filled AreRangesLeft (AreRanges rows_left) (λ items c e. record { entries_lawful = c.entries_lawful; filled = e; limited = c.limited }) (in_all (without_row name) p.ranges)
-        (groups-all (AreRanges p.rows) AreRangesLeft (without_row name) (λ items c. record { entries_lawful = entries-left items c.entries_lawful; limited = limited-left items c.limited }) p.ranges lawful.ranges);
+        (groups-all (AreRanges p.rows) AreRangesLeft (without_row name) (λ items c. record { entries_lawful = entries-left name p.rows rows_left row-left items c.entries_lawful; limited = limited-left items c.limited }) p.ranges lawful.ranges);
     bounds = groups-same (AreBoundSets p.columns) (AreBoundSets (in_all (without_row name) p.columns)) (bound_sets-still p.columns (in_all (without_row name) p.columns) (has_group-all (without_row name) p.columns)) p.bounds lawful.bounds;
-    few_rows = let fewer = length-filter (λ (row : Row Name). not (same name row.name)) p.rows in omega (arith, fewer, lawful.few_rows);
+    few_rows = let fewer = length-filter (λ (row : Row Name). not (same name row.name)) p.rows in omega (arith, fewer, length-map others_of (with_parts (without_row name)), lawful.few_rows);
     few_columns = subst (λ n. n ≤ MAX_COLUMNS) (sym (length-map p.columns (λ column. record { name = column.name; items = without_row name column.items }))) lawful.few_columns;
     few_entries = let fewer = sum-all (without_row name) (λ items. length-filter (λ (entry : Entry Name). not (same name entry.row)) items) p.columns in omega (arith, fewer, lawful.few_entries);
   }
 
 -- ---- BEFORE and AFTER
 
+-- a card that goes on has the type of a combination
+goes_on_row-combines : (under : List Reading) (card : Reading) → goes_on_row under card ≡ true → is_some (named combination_kinds card.kind) ≡ true
+goes_on_row-combines under card goes = last (last_or None under) goes
+  where
+    told : (kind : RowKind) → is_some (named combination_kinds (combination_text kind)) ≡ true
+    told N = refl
+    told G = refl
+    told L = refl
+    told E = refl
+
+    typed : (kind : RowKind) (name : Name) (b : Bool) → same (combination_text kind) card.kind ≡ b → (b && same name card.name1) ≡ true → is_some (named combination_kinds card.kind) ≡ true
+    typed kind name true e h = subst (λ word. is_some (named combination_kinds word) ≡ true) (same_eq (combination_text kind) card.kind e) (told kind)
+    typed kind name false e h = absurd (cc h)
+
+    by : (before : Reading) (o : Option RowKind) → unwrap_or (option_map (λ kind. is_card_of kind before.name1 card) o) false ≡ true → is_some (named combination_kinds card.kind) ≡ true
+    by before None h = absurd (cc h)
+    by before (Some kind) h = typed kind before.name1 (same (combination_text kind) card.kind) refl h
+
+    last : (o : Option Reading) → unwrap_or (option_and_then (λ before. option_map (λ kind. is_card_of kind before.name1 card) (named combination_kinds before.kind)) o) false ≡ true → is_some (named combination_kinds card.kind) ≡ true
+    last None h = absurd (cc h)
+    last (Some before) h = by before (named combination_kinds before.kind) h
+
 module _ (p : Problem Name) (lawful : IsLawful p) where
-  row-placed : (place : _) (row : Row Name) → is_none row.parts ≡ true → IsLabel row.name → has_row p.rows row.name ≡ false → length p.rows + 1 ≤ MAX_ROWS → IsLawful (record p { rows = insert p.rows place row })
-  row-placed place row plain label new few = record {
+  row-placed : (place : ℕ) (row : Row Name) → IfSome row.parts (AreLawfulEntries (take place p.rows)) → IsLabel row.name → has_row p.rows row.name ≡ false → length p.rows + 1 ≤ MAX_ROWS → IsLawful (record p { rows = insert p.rows place row })
+  row-placed place row parts label new few = record {
     row_labels = subst (AllByRecursion IsLabel) (sym (map-insert (λ row. row.name) p.rows place row)) (each-insert IsLabel (row_names p) place row.name lawful.row_labels label);
     rows_distinct = subst (IsDistinct same) (sym (map-insert (λ row. row.name) p.rows place row))
         (distinct-insert same same_sym (row_names p) place row.name lawful.rows_distinct (absent-apart (row_names p) row.name (sym (row_is_named row.name p.rows) ∙ new)));
-    plain_rows = each-insert (λ (row : Row Name). is_none row.parts ≡ true) p.rows place row lawful.plain_rows plain;
-    columns = groups-same (AreColumnEntries p.rows) (AreColumnEntries (insert p.rows place row)) (λ items c. record { entries_lawful = entries-still p.rows (insert p.rows place row) still items c.entries_lawful; no_marker = c.no_marker }) p.columns lawful.columns;
-    rhs = groups-same (AreRightHandSides p.rows) (AreRightHandSides (insert p.rows place row)) (λ items c. record { entries_lawful = entries-still p.rows (insert p.rows place row) still items c.entries_lawful; filled = c.filled }) p.rhs lawful.rhs;
+    parts = parts-insert p.rows row place lawful.parts parts;
+    columns = groups-same (AreColumnEntries p.rows) (AreColumnEntries (insert p.rows place row))
+        (λ items c. record { entries_lawful = entries-wider p.rows (insert p.rows place row) still items c.entries_lawful; no_marker = c.no_marker; plain = none_more (λ row. is_some row.parts) items c.entries_lawful.on_rows c.plain }) p.columns lawful.columns;
+    rhs = groups-same (AreRightHandSides p.rows) (AreRightHandSides (insert p.rows place row)) (λ items c. record { entries_lawful = entries-wider p.rows (insert p.rows place row) still items c.entries_lawful; filled = c.filled }) p.rhs lawful.rhs;
     ranges = groups-same (AreRanges p.rows) (AreRanges (insert p.rows place row))
-        (λ items c. record { entries_lawful = entries-still p.rows (insert p.rows place row) still items c.entries_lawful; filled = c.filled; limited = both items c.entries_lawful.on_rows c.limited }) p.ranges lawful.ranges;
+        (λ items c. record { entries_lawful = entries-wider p.rows (insert p.rows place row) still items c.entries_lawful; filled = c.filled; limited = none_more (λ row. is_free_kind row.kind) items c.entries_lawful.on_rows c.limited }) p.ranges lawful.ranges;
     bounds = lawful.bounds;
     few_rows = omega (arith, length-inserted p.rows place row, few);
     few_columns = lawful.few_columns;
@@ -235,29 +360,76 @@ module _ (p : Problem Name) (lawful : IsLawful p) where
       still : (name : Name) → has_row p.rows name ≡ true → has_row (insert p.rows place row) name ≡ true
       still name there = any-inserted (λ other. same name other.name) p.rows place row there
 
-      unlike : (name : Name) → has_row p.rows name ≡ true → (b : Bool) → same name row.name ≡ b → (b && is_free_kind row.kind) ≡ false
-      unlike name there true e = absurd (cc (subst (λ n. has_row p.rows n ≡ true) (same_eq name row.name e) there, new))
-      unlike name there false e = refl
+      unlike : (name : Name) → has_row p.rows name ≡ true → (b passes : Bool) → same name row.name ≡ b → (b && passes) ≡ false
+      unlike name there true passes e = absurd (cc (subst (λ n. has_row p.rows n ≡ true) (same_eq name row.name e) there, new))
+      unlike name there false passes e = refl
 
-      both : (entries : List (Entry Name)) → AllByRecursion (λ (e : Entry Name). has_row p.rows e.row ≡ true) entries → AllByRecursion (λ (e : Entry Name). has_free_row p.rows e.row ≡ false) entries
-          → AllByRecursion (λ (e : Entry Name). has_free_row (insert p.rows place row) e.row ≡ false) entries
-      both [] there limited = tt
-      both (e ∷ entries) there limited =
-          (none-inserted (λ other. same e.row other.name && is_free_kind other.kind) p.rows place row limited.0 (unlike e.row there.0 (same e.row row.name) refl), both entries there.1 limited.1)
+      -- entries on rows that fail a test don't stand on the new row, whose name is new
+      none_more : (test : Row Name → Bool) (entries : List (Entry Name)) → AllByRecursion (λ (e : Entry Name). has_row p.rows e.row ≡ true) entries
+          → AllByRecursion (λ (e : Entry Name). list_any (λ other. same e.row other.name && test other) p.rows ≡ false) entries
+          → AllByRecursion (λ (e : Entry Name). list_any (λ other. same e.row other.name && test other) (insert p.rows place row) ≡ false) entries
+      none_more test [] there fails = tt
+      none_more test (e ∷ entries) there fails =
+          (none-inserted (λ other. same e.row other.name && test other) p.rows place row fails.0 (unlike e.row there.0 (same e.row row.name) (test row) refl), none_more test entries there.1 fails.1)
 
-  pub row-inserted : (edit : Edit) → IsReading edit.card → rows_fault p edit.card ≡ None → IsLawful (record p { rows = insert_row edit p.rows })
-  row-inserted edit reads fine =
-      let t = passes (
-      (has_name combination_kinds edit.card.kind ⟹ CombinationRow) ∷
-      (is_none (named row_kinds edit.card.kind) ⟹ BadRowType) ∷
-      (is_empty edit.card.name1 ⟹ EmptyName) ∷
-      (has_row p.rows edit.card.name1 ⟹ DuplicateRow) ∷
-      (nat_le MAX_ROWS (length p.rows) ⟹ TooManyRows) ∷
-      filled_from_3 edit.card ∷ []) fine in
-      by (named row_kinds edit.card.kind) (record { name_of = reads.name1; present = test_fails (is_empty edit.card.name1) EmptyName t.1.1.0 })
-      (test_fails (has_row p.rows edit.card.name1) DuplicateRow t.1.1.1.0) (not_full MAX_ROWS (length p.rows) (test_fails (nat_le MAX_ROWS (length p.rows)) TooManyRows t.1.1.1.1.0))
+  -- the combination of a name with the parts of a card at its end
+  parts-added : (card : Reading) → IsReading card → is_some (named combination_kinds card.kind) ≡ true → row_fields_fault p (rows_before card.name1 p.rows) card ≡ None → IsLawful (record p { rows = in_row card.name1 (λ parts. parts ++ parts_on card) p.rows })
+  parts-added card reads combines fine = rows-alike p lawful (in_row card.name1 more p.rows) (in_row-names card.name1 more p.rows)
+      (parts-changed card.name1 more p.rows lawful.rows_distinct lawful.parts (λ is. pairs-lawful earlier Rows (parts_of card.name1 p.rows) 0 (part_pairs_of card) (part_pairs-short card reads) (parts-known card.name1 [] p.rows lawful.rows_distinct lawful.parts) parts_fine))
+      (in_row-combination card.name1 more p.rows) (ranges p.ranges lawful.ranges.items)
     where
-      by : (o : Option RowKind) → IsLabel edit.card.name1 → has_row p.rows edit.card.name1 ≡ false → length p.rows + 1 ≤ MAX_ROWS
-          → IsLawful (record p { rows = unwrap_or (option_map (insert p.rows (place_of edit (rows_begun edit.under) (map (λ row. row.name) p.rows))) (option_map (λ kind. plain_row kind edit.card.name1) o)) p.rows })
-      by None label new few = lawful
-      by (Some kind) label new few = row-placed (place_of edit (rows_begun edit.under) (map (λ row. row.name) p.rows)) (plain_row kind edit.card.name1) refl label new few
+      more : List (Entry Name) → List (Entry Name)
+      more parts = parts ++ parts_on card
+
+      earlier : Problem Name
+      earlier = record p { rows = rows_before card.name1 p.rows }
+
+      parts_fine : pairs_fault earlier Rows (parts_of card.name1 p.rows) 0 (part_pairs_of card) ≡ None
+      parts_fine = subst (λ b. cond b (pairs_fault earlier Rows (parts_of card.name1 p.rows) 0 (part_pairs_of card)) (filled_from_3 card) ≡ None) combines fine
+
+      ranges : (sets : List (Group (Entry Name))) → AllByRecursion (λ (set : Group (Entry Name)). AreRanges p.rows set.items) sets → AllByRecursion (λ (set : Group (Entry Name)). AreRanges (in_row card.name1 (λ parts. parts ++ parts_on card) p.rows) set.items) sets
+      ranges sets each = each-change (λ (set : Group (Entry Name)). AreRanges p.rows set.items) (λ set. AreRanges (in_row card.name1 (λ parts. parts ++ parts_on card) p.rows) set.items)
+          (λ set c. record {
+            entries_lawful = entries-wider p.rows (in_row card.name1 more p.rows) (row-there p lawful (in_row card.name1 more p.rows) (in_row-names card.name1 more p.rows)) set.items c.entries_lawful;
+            filled = c.filled;
+            limited = each-change (λ (entry : Entry Name). has_free_row p.rows entry.row ≡ false) (λ entry. has_free_row (in_row card.name1 (λ parts. parts ++ parts_on card) p.rows) entry.row ≡ false) (λ entry free. in_row-free card.name1 more p.rows entry.row ∙ free) set.items c.limited;
+          }) sets each
+
+  -- the row that a card begins, at a place
+  row-begun : (place : ℕ) (card : Reading) → IsReading card → row_fields_fault p (take place p.rows) card ≡ None → IsLabel card.name1 → has_row p.rows card.name1 ≡ false → length p.rows + 1 ≤ MAX_ROWS
+      → IsLawful (record p { rows = unwrap_or (option_map (insert p.rows place) (row_of card)) p.rows })
+  row-begun place card reads fine label new few = by (named row_kinds card.kind) (named combination_kinds card.kind) fine
+    where
+      earlier : Problem Name
+      earlier = record p { rows = take place p.rows }
+
+      by : (o c : Option RowKind) → cond (is_some c) (pairs_fault earlier Rows (parts_of card.name1 p.rows) 0 (part_pairs_of card)) (filled_from_3 card) ≡ None
+          → IsLawful (record p { rows = unwrap_or (option_map (insert p.rows place) (option_or (option_map (λ kind. plain_row kind card.name1) o) (option_map (λ kind. combination kind card.name1 (parts_on card)) c))) p.rows })
+      by (Some kind) c h = row-placed place (plain_row kind card.name1) tt label new few
+      by None (Some kind) h = row-placed place (combination kind card.name1 (parts_on card))
+          (pairs-lawful earlier Rows [] 0 (part_pairs_of card) (part_pairs-short card reads) (no_parts (take place p.rows)) (subst (λ parts. pairs_fault earlier Rows parts 0 (part_pairs_of card) ≡ None) (parts_of-new card.name1 p.rows new) h)) label new few
+      by None None h = lawful
+
+  pub row-inserted : (edit : Edit) → IsReading edit.card → rows_fault p (goes_on_row edit.under edit.card) (earlier_rows edit.action edit.anchor edit.under edit.card p.rows) edit.card ≡ None → IsLawful (record p { rows = insert_row edit p.rows })
+  row-inserted edit reads fine = by (goes_on_row edit.under edit.card) refl fine
+    where
+      place : ℕ
+      place = row_place edit.action edit.anchor edit.under p.rows
+
+      tests : (b : Bool) (earlier : List (Row Name)) → List (Option DeckFaultKind)
+      tests b earlier =
+          (is_none (kind_on edit.card) ⟹ BadRowType) ∷
+          (is_empty edit.card.name1 ⟹ EmptyName) ∷
+          (not b && has_row p.rows edit.card.name1 ⟹ DuplicateRow) ∷
+          (not b && nat_le MAX_ROWS (length p.rows) ⟹ TooManyRows) ∷
+          row_fields_fault p earlier edit.card ∷ []
+
+      by : (b : Bool) → goes_on_row edit.under edit.card ≡ b → rows_fault p b (cond b (rows_before edit.card.name1 p.rows) (take place p.rows)) edit.card ≡ None
+          → IsLawful (record p { rows = cond b (in_row edit.card.name1 (λ parts. parts ++ parts_on edit.card) p.rows) (unwrap_or (option_map (insert p.rows place) (row_of edit.card)) p.rows) })
+      by true goes h =
+          let t = passes (tests true (rows_before edit.card.name1 p.rows)) h in
+          parts-added edit.card reads (goes_on_row-combines edit.under edit.card goes) t.1.1.1.1.0
+      by false goes h =
+          let t = passes (tests false (take place p.rows)) h in
+          row-begun place edit.card reads t.1.1.1.1.0 (record { name_of = reads.name1; present = test_fails (is_empty edit.card.name1) EmptyName t.1.0 })
+          (test_fails (has_row p.rows edit.card.name1) DuplicateRow t.1.1.0) (not_full MAX_ROWS (length p.rows) (test_fails (nat_le MAX_ROWS (length p.rows)) TooManyRows t.1.1.1.0))

@@ -15,7 +15,8 @@ use Rattle.problem_definitions.specs.Groups.{items_of, in_group, in_set, without
 use Rattle.problem_definitions.specs.Valid.{IsName, IsDecimal}
 use Rattle.problem_definitions.proofs.Names.{same_sym}
 use Rattle.problem_definitions.proofs.Each.{each-push, each-change, distinct-push}
-use Rattle.problem_definitions.proofs.Lawful.{AreGroups, AreLawfulEntries, AreRightHandSides, AreRanges, clash_by_name, AreLawfulBounds, AreBoundSets, IsLawful}
+use Rattle.problem_definitions.proofs.LawfulEntries.{AreLawfulEntries}
+use Rattle.problem_definitions.proofs.Lawful.{AreGroups, AreRightHandSides, AreRanges, clash_by_name, AreLawfulBounds, AreBoundSets, IsLawful}
 use Rattle.problem_definitions.proofs.Added.{items_of-each}
 use Rattle.deck_definitions.specs.declared.DeckFaultKind.TheVariants.{UnknownColumn, EmptyName}
 use Rattle.deck_definitions.specs.declared.Section.TheVariants.{Rhs, Ranges}
@@ -48,7 +49,7 @@ module _ (p : Problem Name) (lawful : IsLawful p) where
   with_rhs sets are = record {
     row_labels = lawful.row_labels;
     rows_distinct = lawful.rows_distinct;
-    plain_rows = lawful.plain_rows;
+    parts = lawful.parts;
     columns = lawful.columns;
     rhs = are;
     ranges = lawful.ranges;
@@ -62,7 +63,7 @@ module _ (p : Problem Name) (lawful : IsLawful p) where
   with_ranges sets are = record {
     row_labels = lawful.row_labels;
     rows_distinct = lawful.rows_distinct;
-    plain_rows = lawful.plain_rows;
+    parts = lawful.parts;
     columns = lawful.columns;
     rhs = lawful.rhs;
     ranges = are;
@@ -76,7 +77,7 @@ module _ (p : Problem Name) (lawful : IsLawful p) where
   with_bounds sets are = record {
     row_labels = lawful.row_labels;
     rows_distinct = lawful.rows_distinct;
-    plain_rows = lawful.plain_rows;
+    parts = lawful.parts;
     columns = lawful.columns;
     rhs = lawful.rhs;
     ranges = lawful.ranges;
