@@ -280,8 +280,8 @@ module _ (name : Name) where
 
 -- ---- a row more at a place
 
-pub parts-insert : (rows : List (Row Name)) (row : Row Name) (place : ℕ) → place ≤ length rows → ArePartsAfter [] rows → IfSome row.parts (AreLawfulEntries (take place rows)) → ArePartsAfter [] (insert rows place row)
-parts-insert rows row place within are new =
+pub parts-insert : (rows : List (Row Name)) (row : Row Name) (place : ℕ) → ArePartsAfter [] rows → IfSome row.parts (AreLawfulEntries (take place rows)) → ArePartsAfter [] (insert rows place row)
+parts-insert rows row place are new =
     parts-join [] (take place rows) (row ∷ drop place rows) (parts-front [] (take place rows) (drop place rows) split)
     (new, parts-wider (take place rows) (take place rows ++ row ∷ []) (drop place rows) more (parts-back [] (take place rows) (drop place rows) split))
   where
