@@ -77,11 +77,11 @@ parts-named : (all : List Name) → IsDistinct same all → (done rest : List (R
     → ArePartsAfter (map (row_by (name_at all)) done) (map (row_by (name_at all)) rest)
 parts-named all distinct done [] named are = tt
 parts-named all distinct done (row ∷ rest) named are = (
-    first row.parts are.0,
-    subst (λ before. ArePartsAfter before (map (row_by (name_at all)) rest)) (map-append (row_by (name_at all)) done (row ∷ []))
-    (parts-named all distinct (done ++ row ∷ []) rest (ap (map (λ (row : Row ℕ). row.name)) (append_assoc done (row ∷ []) rest) ∙ named)
-    (subst (λ n. AllByRecursion (λ (row : ℕ × Row ℕ). IfSome row.1.parts (AreEntries row.0)) (enumerate_from n rest)) more are.1)),
-  )
+  first row.parts are.0,
+  subst (λ before. ArePartsAfter before (map (row_by (name_at all)) rest)) (map-append (row_by (name_at all)) done (row ∷ []))
+      (parts-named all distinct (done ++ row ∷ []) rest (ap (map (λ (row : Row ℕ). row.name)) (append_assoc done (row ∷ []) rest) ∙ named)
+      (subst (λ n. AllByRecursion (λ (row : ℕ × Row ℕ). IfSome row.1.parts (AreEntries row.0)) (enumerate_from n rest)) more are.1)),
+)
   where
     more : length done + 1 ≡ length (done ++ row ∷ [])
     more = omega (arith, length-append done (row ∷ []))

@@ -17,6 +17,7 @@ use Rattle.problem_definitions.proofs.Groups.{has_group-names}
 use Rattle.problem_definitions.proofs.Each.{each-append, absent-apart}
 use Rattle.problem_definitions.proofs.LawfulEntries.{AreLawfulEntries}
 use Rattle.problem_definitions.proofs.Lawful.{IsLabel, AreColumnEntries, clash_by_name, AreLawfulBounds, AreBoundSets, IsLawful}
+use Rattle.problem_definitions.proofs.OtherRows.{groups-same}
 use Rattle.problem_definitions.proofs.Added.{items_of-each}
 use Rattle.deck_definitions.specs.declared.DeckFaultKind.TheVariants.{ColumnSplit, EmptyName, TooManyColumns, Marker, ModifyMissing}
 use Rattle.deck_definitions.specs.declared.Section.TheVariants.{Columns}
@@ -29,8 +30,8 @@ use Rattle.revise_definitions.specs.Edits.{place_of, goes_on, insert_column, del
 use Rattle.revise_definitions.specs.Tests.{puts_fault, modify_columns_fault, insert_columns_fault}
 use Rattle.revise_definitions.proofs.Pairs.{put_entries-length}
 use Rattle.revise_laws.proofs.Lists.{each-filter, each-passes, distinct-filter, distinct-mapped_filter, any-filter, length-filter, sum-filter, each-insert, distinct-insert, map-insert, any-inserted, length-inserted, sum-inserted, no_items, groups-changed, groups-without, groups-all, groups-filled, has_group-changed, length-changed, sum-changed}
-use Rattle.revise_laws.proofs.Puts.{Fits, puts-each, puts-lawful, puts-fit, puts-few}
-use Rattle.revise_laws.proofs.RowEdits.{groups-same, bound_sets-still}
+use Rattle.revise_laws.proofs.Puts.{Fits, no-entries, puts-each, puts-lawful, puts-fit, puts-few}
+use Rattle.revise_laws.proofs.RowEdits.{bound_sets-still}
 
 -- fewer entries are lawful entries
 pub entries-fewer : (p : Problem Name) (row : Name) (entries : List (Entry Name)) → AreLawfulEntries p.rows entries → AreLawfulEntries p.rows (without_row row entries)
@@ -40,15 +41,10 @@ entries-fewer p row entries c = record {
   values = each-filter (λ (entry : Entry Name). IsDecimal entry.value) (λ entry. not (same row entry.row)) entries c.values;
 }
 
--- no entries are lawful entries
-pub no-entries : (p : Problem Name) → AreLawfulEntries p.rows []
-unfolding IsDistinct
-no-entries p = record { on_rows = tt; distinct = tt; values = tt }
-
 module _ (p : Problem Name) (lawful : IsLawful p) where
   -- the entries of a column
   column_entries : (name : Name) → AreColumnEntries p.rows (items_of name p.columns)
-  column_entries name = items_of-each name (AreColumnEntries p.rows) (record { entries_lawful = no-entries p; no_marker = tt; plain = tt }) p.columns lawful.columns.distinct lawful.columns.items
+  column_entries name = items_of-each name (AreColumnEntries p.rows) (record { entries_lawful = no-entries p.rows; no_marker = tt; plain = tt }) p.columns lawful.columns.distinct lawful.columns.items
 
   -- a column with other entries
   column-changed : (name : Name) (f : List (Entry Name) → List (Entry Name)) → AreColumnEntries p.rows (f (items_of name p.columns))

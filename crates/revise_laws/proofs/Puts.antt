@@ -8,7 +8,7 @@ use Rattle.card_definitions.specs.Words.{is_empty, ◌⟹◌}
 use Rattle.card_definitions.proofs.FirstFaults.{no_first, no_second, passes, test_fails}
 use Rattle.problem_definitions.specs.declared.TheConstants.{MAX_ENTRIES}
 use Rattle.problem_definitions.specs.Names.{Name, same, has_name}
-use Rattle.problem_definitions.specs.Problem.{Entry, Problem, has_row, has_free_row, has_combination, has_entry}
+use Rattle.problem_definitions.specs.Problem.{Row, Entry, Problem, has_row, has_free_row, has_combination, has_entry}
 use Rattle.problem_definitions.specs.Valid.{IsDecimal}
 use Rattle.problem_definitions.proofs.Names.{same_eq}
 use Rattle.problem_definitions.proofs.Each.{each-push, distinct-push, absent-apart}
@@ -24,6 +24,11 @@ use Rattle.deck_definitions.proofs.Accepted.{not_full, no_value_fault}
 use Rattle.revise_definitions.specs.Edits.{put_entry, put_entries}
 use Rattle.revise_definitions.specs.Tests.{put_fault, puts_fault}
 use Rattle.revise_definitions.proofs.Pairs.{puts_fault-cons, put_entries-length, put_entry-length}
+
+-- no entries are lawful entries
+pub no-entries : (rows : List (Row Name)) → AreLawfulEntries rows []
+unfolding IsDistinct
+no-entries rows = record { on_rows = tt; distinct = tt; values = tt }
 
 -- ---- one entry
 

@@ -1,6 +1,6 @@
 -- The edits of rows keep a problem lawful.
-use Rattle.std.proofs.Common.{◌≡◌, ℕ, suc, ◌+◌, ◌≤◌, Bool, true, false, cond, not, ◌&&◌, ◌||◌, List, [], ◌∷◌, ◌++◌, Option, Some, None, length, map, take, refl, ap, ap₂, sym, ◌∙◌, subst, arith, append_assoc, append-nil, is_none, is_some, nat_le, unwrap_or}
-use Rattle.std.specs.List.{AllByRecursion, IsDistinct, filter, insert, list_any, last_or, position_or_len}
+use Rattle.std.proofs.Common.{◌≡◌, ℕ, ◌+◌, ◌≤◌, Bool, true, false, cond, not, ◌&&◌, ◌||◌, List, [], ◌∷◌, ◌++◌, Option, Some, None, length, map, take, refl, ap, ap₂, sym, ◌∙◌, subst, arith, is_none, is_some, nat_le, unwrap_or}
+use Rattle.std.specs.List.{AllByRecursion, IsDistinct, filter, insert, last_or}
 use Rattle.std.specs.Option.{option_map, option_or, option_and_then, IfSome}
 use Rattle.std.proofs.lemmas.List.{length-map}
 use Rattle.card_definitions.specs.Words.{is_empty, named, ◌⟹◌}
@@ -19,8 +19,9 @@ use Rattle.problem_definitions.proofs.Names.{same_eq, same_sym, row_is_named}
 use Rattle.problem_definitions.proofs.Groups.{map-map}
 use Rattle.problem_definitions.proofs.Each.{each-change, absent-apart}
 use Rattle.problem_definitions.proofs.LawfulEntries.{AreLawfulEntries}
-use Rattle.problem_definitions.proofs.Parts.{ArePartsAfter, AreNamed, AreLeft, entries-wider, none-apart, parts-mapped, parts-changed, parts-insert, parts-left, parts_of-new, in_row-names, in_row-free, in_row-combination}
-use Rattle.problem_definitions.proofs.Lawful.{IsLabel, AreGroups, AreColumnEntries, AreRightHandSides, AreRanges, AreLawfulBounds, AreBoundSets, IsLawful}
+use Rattle.problem_definitions.proofs.Parts.{ArePartsAfter, AreNamed, AreLeft, entries-wider, parts-mapped, parts-changed, parts-insert, parts-left, parts_of-new, parts_of-lawful, in_row-names, in_row-length}
+use Rattle.problem_definitions.proofs.Lawful.{IsLabel, AreColumnEntries, AreRightHandSides, AreRanges, AreLawfulBounds, AreBoundSets, IsLawful}
+use Rattle.problem_definitions.proofs.OtherRows.{AreStill, groups-same, rows-changed, in_row-still}
 use Rattle.deck_definitions.specs.declared.DeckFaultKind.{DeckFaultKind}
 use Rattle.deck_definitions.specs.declared.DeckFaultKind.TheVariants.{BadRowType, DuplicateRow, EmptyName, TooManyRows, ModifyMissing, RangeOnFree}
 use Rattle.deck_definitions.specs.declared.Section.TheVariants.{Rows}
@@ -32,15 +33,7 @@ use Rattle.revise_definitions.specs.Actions.{Edit}
 use Rattle.revise_definitions.specs.Edits.{row_place, goes_on_row, earlier_rows, insert_row, retyped, modify_row, delete_row, put_entries, without_row}
 use Rattle.revise_definitions.specs.Tests.{has_range, frees, has_type_for, puts_fault, modified_fields_fault, modify_rows_fault}
 use Rattle.revise_laws.proofs.Lists.{each-filter, each-passes, distinct-mapped_filter, each-mapped_filter, any-filter, none-filter, length-filter, each-insert, distinct-insert, map-insert, any-inserted, none-inserted, length-inserted, groups-all, groups-filled, sum-all, has_group-all}
-use Rattle.revise_laws.proofs.Puts.{puts-lawful, puts-fit}
-
--- groups by other facts of their items
-pub groups-same : {X : Type 0} {N : Name → Type 0} (P Q : List X → Type 0) → ((items : List X) → P items → Q items) → (groups : List (Group X)) → AreGroups N P groups → AreGroups N Q groups
-groups-same {X} {N} P Q change groups lawful = record {
-  names = lawful.names;
-  distinct = lawful.distinct;
-  items = each-change (λ (group : Group X). P group.items) (λ group. Q group.items) (λ group p. change group.items p) groups lawful.items;
-}
+use Rattle.revise_laws.proofs.Puts.{no-entries, puts-lawful, puts-fit}
 
 -- bounds on columns that are still there
 pub bounds-still : (columns others : List (Group (Entry Name))) → ((name : Name) → has_group columns name ≡ true → has_group others name ≡ true) → (bounds : List (Bound Name)) → AreLawfulBounds columns bounds → AreLawfulBounds others bounds
@@ -62,59 +55,6 @@ or_second : (a b : Bool) → (a || b) ≡ false → b ≡ false
 or_second true b e = absurd (cc e)
 or_second false b e = e
 
--- ---- the parts that a row has
-
-no_parts : (rows : List (Row Name)) → AreLawfulEntries rows []
-unfolding IsDistinct
-no_parts rows = record { on_rows = tt; distinct = tt; values = tt }
-
--- the parts of the row of a name are lawful after the rows before it
-parts-known : (name : Name) (before rows : List (Row Name)) → IsDistinct same (map (λ (row : Row Name). row.name) rows) → ArePartsAfter before rows → AreLawfulEntries (before ++ rows_before name rows) (parts_of name rows)
-unfolding IsDistinct
-parts-known name before [] distinct are = no_parts (before ++ [])
-parts-known name before (row ∷ rows) distinct are = by (same name row.name) refl (parts-known name (before ++ row ∷ []) rows distinct.1 are.1)
-  where
-    given : (parts : Option (List (Entry Name))) → IfSome parts (AreLawfulEntries before) → AreLawfulEntries before (unwrap_or parts [])
-    given None are' = no_parts before
-    given (Some parts) are' = are'
-
-    by : (b : Bool) → same name row.name ≡ b → AreLawfulEntries ((before ++ row ∷ []) ++ rows_before name rows) (parts_of name rows)
-        → AreLawfulEntries (before ++ take (cond (not b) (1 + position_or_len (λ (other : Row Name). same name other.name) rows) 0) (row ∷ rows)) (cond b (unwrap_or row.parts []) [] ++ parts_of name rows)
-    by true is rest =
-        rw (parts_of-new name rows (none-apart row rows name is distinct.0), append-nil (unwrap_or row.parts []), append-nil before) (given row.parts are.0)
-    by false is rest =
-        let next : 1 + position_or_len (λ (other : Row Name). same name other.name) rows ≡ suc (position_or_len (λ (other : Row Name). same name other.name) rows) = omega arith in
-        rw next (subst (λ all. AreLawfulEntries all (parts_of name rows)) (append_assoc before (row ∷ []) (rows_before name rows)) rest)
-
--- ---- rows of the same names
-
-module _ (p : Problem Name) (lawful : IsLawful p) (others : List (Row Name)) (names : map (λ (row : Row Name). row.name) others ≡ map (λ row. row.name) p.rows) where
-  row-there : AreNamed p.rows others
-  row-there name there = row_is_named name others ∙ ap (λ list. has_name list name) names ∙ sym (row_is_named name p.rows) ∙ there
-
-  -- Where the same are combinations, and ranges stand on none that is free.
-  rows-alike : ArePartsAfter [] others → ((name : Name) → has_combination others name ≡ has_combination p.rows name) → AllByRecursion (λ (set : Group (Entry Name)). AreRanges others set.items) p.ranges → IsLawful (record p { rows = others })
-  rows-alike parts combine ranges = record {
-    row_labels = subst (AllByRecursion IsLabel) (sym names) lawful.row_labels;
-    rows_distinct = subst (IsDistinct same) (sym names) lawful.rows_distinct;
-    parts = parts;
-    columns = groups-same (AreColumnEntries p.rows) (AreColumnEntries others)
-        (λ items c. record {
-          entries_lawful = entries-wider p.rows others row-there items c.entries_lawful;
-          no_marker = c.no_marker;
-          plain = each-change (λ (entry : Entry Name). has_combination p.rows entry.row ≡ false) (λ entry. has_combination others entry.row ≡ false) (λ entry plain. combine entry.row ∙ plain) items c.plain;
-        }) p.columns lawful.columns;
-    rhs = groups-same (AreRightHandSides p.rows) (AreRightHandSides others) (λ items c. record { entries_lawful = entries-wider p.rows others row-there items c.entries_lawful; filled = c.filled }) p.rhs lawful.rhs;
-    ranges = record { names = lawful.ranges.names; distinct = lawful.ranges.distinct; items = ranges };
-    bounds = lawful.bounds;
-    few_rows = subst (λ n. n ≤ MAX_ROWS) (sym counted) lawful.few_rows;
-    few_columns = lawful.few_columns;
-    few_entries = lawful.few_entries;
-  }
-    where
-      counted : length others ≡ length p.rows
-      counted = sym (length-map others (λ row. row.name)) ∙ ap length names ∙ length-map p.rows (λ row. row.name)
-
 -- ---- MODIFY
 
 module _ (card : Reading) where
@@ -128,6 +68,9 @@ module _ (card : Reading) where
   retyped-names : (rows : List (Row Name)) → map (λ row. row.name) (modify_row card rows) ≡ map (λ row. row.name) rows
   retyped-names [] = refl
   retyped-names (row ∷ rows) = ap₂ (λ name names. name ∷ names) (retyped-name row) (retyped-names rows)
+
+  retyped-there : (rows : List (Row Name)) → AreNamed rows (modify_row card rows)
+  retyped-there rows name there = row_is_named name (modify_row card rows) ∙ ap (λ names. has_name names name) (retyped-names rows) ∙ sym (row_is_named name rows) ∙ there
 
   retyped-combination : (rows : List (Row Name)) (name : Name) → has_combination (modify_row card rows) name ≡ has_combination rows name
   retyped-combination [] name = refl
@@ -185,7 +128,7 @@ module _ (card : Reading) where
     limited_items h [] none each = tt
     limited_items h (set ∷ sets) none each = (
       record {
-        entries_lawful = entries-wider p.rows (modify_row card p.rows) (row-there p lawful (modify_row card p.rows) (retyped-names p.rows)) set.items each.0.entries_lawful;
+        entries_lawful = entries-wider p.rows (modify_row card p.rows) (retyped-there p.rows) set.items each.0.entries_lawful;
         filled = each.0.filled;
         limited = items set.items (λ b e t. (none b e t).0) each.0.limited;
       },
@@ -224,7 +167,7 @@ module _ (card : Reading) where
         put combines =
             let parts_fine : puts_fault earlier Rows [] 0 (part_pairs_of card) ≡ None = subst (λ b. cond b (puts_fault earlier Rows [] 0 (part_pairs_of card)) (filled_from_3 card) ≡ None) combines fine in
             puts-lawful earlier Rows (parts_on card) (parts_of card.name1 p.rows) (puts-fit earlier Rows [] 0 (part_pairs_of card) (part_pairs-short card reads) parts_fine)
-            (parts-known card.name1 [] p.rows lawful.rows_distinct lawful.parts)
+            (parts_of-lawful card.name1 [] p.rows lawful.rows_distinct lawful.parts)
 
     pub row-modified : IsReading card → modify_rows_fault p card ≡ None → IsLawful (record p { rows = modify_row card p.rows })
     row-modified reads fine =
@@ -235,7 +178,24 @@ module _ (card : Reading) where
         (frees card && has_range p card.name1 ⟹ RangeOnFree) ∷
         modified_fields_fault p card ∷ []) fine in
         let unranged : (frees card && has_range p card.name1) ≡ false = test_fails (frees card && has_range p card.name1) RangeOnFree t.1.1.1.0 in
-        rows-alike p lawful (modify_row card p.rows) (retyped-names p.rows) (parts-modified reads t.1.1.1.1.0) (retyped-combination p.rows) (limited_items unranged p.ranges (no_ranges unranged) lawful.ranges.items)
+        record {
+          row_labels = subst (AllByRecursion IsLabel) (sym (retyped-names p.rows)) lawful.row_labels;
+          rows_distinct = subst (IsDistinct same) (sym (retyped-names p.rows)) lawful.rows_distinct;
+          parts = parts-modified reads t.1.1.1.1.0;
+          columns = groups-same (AreColumnEntries p.rows) (AreColumnEntries (modify_row card p.rows))
+              (λ items c. record {
+                entries_lawful = entries-wider p.rows (modify_row card p.rows) (retyped-there p.rows) items c.entries_lawful;
+                no_marker = c.no_marker;
+                plain = each-change (λ (entry : Entry Name). has_combination p.rows entry.row ≡ false) (λ entry. has_combination (modify_row card p.rows) entry.row ≡ false) (λ entry plain. retyped-combination p.rows entry.row ∙ plain) items c.plain;
+              }) p.columns lawful.columns;
+          rhs = groups-same (AreRightHandSides p.rows) (AreRightHandSides (modify_row card p.rows))
+              (λ items c. record { entries_lawful = entries-wider p.rows (modify_row card p.rows) (retyped-there p.rows) items c.entries_lawful; filled = c.filled }) p.rhs lawful.rhs;
+          ranges = record { names = lawful.ranges.names; distinct = lawful.ranges.distinct; items = limited_items unranged p.ranges (no_ranges unranged) lawful.ranges.items };
+          bounds = lawful.bounds;
+          few_rows = subst (λ n. n ≤ MAX_ROWS) (sym (length-map p.rows (λ row. cond (same card.name1 row.name) (retyped card row) row))) lawful.few_rows;
+          few_columns = lawful.few_columns;
+          few_entries = lawful.few_entries;
+        }
 
 -- ---- DELETE
 
@@ -266,28 +226,28 @@ module _ (change : List (Entry Name) → List (Entry Name)) where
       kept (Some parts) = refl
 
 module _ (name : Name) (p : Problem Name) (lawful : IsLawful p) where
-  abbrev others_of : List (Row Name)
-  others_of = filter (λ row. not (same name row.name)) p.rows
+  abbrev other_rows : List (Row Name)
+  other_rows = filter (λ row. not (same name row.name)) p.rows
 
   abbrev rows_left : List (Row Name)
-  rows_left = map (with_parts (without_row name)) others_of
+  rows_left = map (with_parts (without_row name)) other_rows
 
   row-left : AreLeft name p.rows rows_left
   row-left other unlike there =
-      row-changed (without_row name) others_of other
+      row-changed (without_row name) other_rows other
       ∙ any-filter (λ row. same other row.name) (λ row. not (same name row.name)) (λ row e. subst (λ n. not (same name n) ≡ true) (same_eq other row.name e) unlike) p.rows there
 
-  names_left : map (λ row. row.name) rows_left ≡ map (λ row. row.name) others_of
-  names_left = map-map (λ row. row.name) (with_parts (without_row name)) others_of
+  names_left : map (λ row. row.name) rows_left ≡ map (λ row. row.name) other_rows
+  names_left = map-map (λ row. row.name) (with_parts (without_row name)) other_rows
 
   -- what is left of the entries of a column, which stood on no combination, and of the items of a range set, which stood on no free row
   plain-left : (entries : List (Entry Name)) → AllByRecursion (λ (entry : Entry Name). has_combination p.rows entry.row ≡ false) entries → AllByRecursion (λ (entry : Entry Name). has_combination rows_left entry.row ≡ false) (without_row name entries)
   plain-left entries each = each-passes (λ (entry : Entry Name). has_combination p.rows entry.row ≡ false) (λ entry. has_combination rows_left entry.row ≡ false) (λ entry. not (same name entry.row))
-      (λ entry plain unlike. combination-changed (without_row name) others_of entry.row ∙ none-filter (λ row. same entry.row row.name && is_some row.parts) (λ row. not (same name row.name)) p.rows plain) entries each
+      (λ entry plain unlike. combination-changed (without_row name) other_rows entry.row ∙ none-filter (λ row. same entry.row row.name && is_some row.parts) (λ row. not (same name row.name)) p.rows plain) entries each
 
   limited-left : (entries : List (Entry Name)) → AllByRecursion (λ (entry : Entry Name). has_free_row p.rows entry.row ≡ false) entries → AllByRecursion (λ (entry : Entry Name). has_free_row rows_left entry.row ≡ false) (without_row name entries)
   limited-left entries each = each-passes (λ (entry : Entry Name). has_free_row p.rows entry.row ≡ false) (λ entry. has_free_row rows_left entry.row ≡ false) (λ entry. not (same name entry.row))
-      (λ entry limited unlike. free-changed (without_row name) others_of entry.row ∙ none-filter (λ row. same entry.row row.name && is_free_kind row.kind) (λ row. not (same name row.name)) p.rows limited) entries each
+      (λ entry limited unlike. free-changed (without_row name) other_rows entry.row ∙ none-filter (λ row. same entry.row row.name && is_free_kind row.kind) (λ row. not (same name row.name)) p.rows limited) entries each
 
   -- the items of a range set that are left
   record AreRangesLeft (entries : List (Entry Name)) : Type 0 where
@@ -310,7 +270,7 @@ module _ (name : Name) (p : Problem Name) (lawful : IsLawful p) where
     ranges = groups-filled AreRangesLeft (AreRanges rows_left) (λ items c e. record { entries_lawful = c.entries_lawful; filled = e; limited = c.limited }) (in_all (without_row name) p.ranges)
         (groups-all (AreRanges p.rows) AreRangesLeft (without_row name) (λ items c. record { entries_lawful = entries-left name p.rows rows_left row-left items c.entries_lawful; limited = limited-left items c.limited }) p.ranges lawful.ranges);
     bounds = groups-same (AreBoundSets p.columns) (AreBoundSets (in_all (without_row name) p.columns)) (bound_sets-still p.columns (in_all (without_row name) p.columns) (has_group-all (without_row name) p.columns)) p.bounds lawful.bounds;
-    few_rows = let fewer = length-filter (λ (row : Row Name). not (same name row.name)) p.rows in omega (arith, fewer, length-map others_of (with_parts (without_row name)), lawful.few_rows);
+    few_rows = let fewer = length-filter (λ (row : Row Name). not (same name row.name)) p.rows in omega (arith, fewer, length-map other_rows (with_parts (without_row name)), lawful.few_rows);
     few_columns = subst (λ n. n ≤ MAX_COLUMNS) (sym (length-map p.columns (λ column. record { name = column.name; items = without_row name column.items }))) lawful.few_columns;
     few_entries = let fewer = sum-all (without_row name) (λ items. length-filter (λ (entry : Entry Name). not (same name entry.row)) items) p.columns in omega (arith, fewer, lawful.few_entries);
   }
@@ -318,7 +278,7 @@ module _ (name : Name) (p : Problem Name) (lawful : IsLawful p) where
 -- ---- BEFORE and AFTER
 
 -- a card that goes on has the type of a combination
-goes_on_row-combines : (under : List Reading) (card : Reading) → goes_on_row under card ≡ true → is_some (named combination_kinds card.kind) ≡ true
+pub goes_on_row-combines : (under : List Reading) (card : Reading) → goes_on_row under card ≡ true → is_some (named combination_kinds card.kind) ≡ true
 goes_on_row-combines under card goes = last (last_or None under) goes
   where
     told : (kind : RowKind) → is_some (named combination_kinds (combination_text kind)) ≡ true
@@ -339,44 +299,33 @@ goes_on_row-combines under card goes = last (last_or None under) goes
     last None h = absurd (cc h)
     last (Some before) h = by before (named combination_kinds before.kind) h
 
+-- with a row of a new name more at a place, the others are still there
+inserted-still : (rows : List (Row Name)) (place : ℕ) (row : Row Name) → has_row rows row.name ≡ false → AreStill rows (insert rows place row)
+inserted-still rows place row new = record {
+  named = λ name there. any-inserted (λ other. same name other.name) rows place row there;
+  limited = λ name there limited. none-inserted (λ other. same name other.name && is_free_kind other.kind) rows place row limited (unlike name there (same name row.name) (is_free_kind row.kind) refl);
+  plain = λ name there plain. none-inserted (λ other. same name other.name && is_some other.parts) rows place row plain (unlike name there (same name row.name) (is_some row.parts) refl);
+}
+  where
+    unlike : (name : Name) → has_row rows name ≡ true → (b passes : Bool) → same name row.name ≡ b → (b && passes) ≡ false
+    unlike name there true passes e = absurd (cc (subst (λ n. has_row rows n ≡ true) (same_eq name row.name e) there, new))
+    unlike name there false passes e = refl
+
 module _ (p : Problem Name) (lawful : IsLawful p) where
   row-placed : (place : ℕ) (row : Row Name) → IfSome row.parts (AreLawfulEntries (take place p.rows)) → IsLabel row.name → has_row p.rows row.name ≡ false → length p.rows + 1 ≤ MAX_ROWS → IsLawful (record p { rows = insert p.rows place row })
-  row-placed place row parts label new few = record {
-    row_labels = subst (AllByRecursion IsLabel) (sym (map-insert (λ row. row.name) p.rows place row)) (each-insert IsLabel (row_names p) place row.name lawful.row_labels label);
-    rows_distinct = subst (IsDistinct same) (sym (map-insert (λ row. row.name) p.rows place row))
-        (distinct-insert same same_sym (row_names p) place row.name lawful.rows_distinct (absent-apart (row_names p) row.name (sym (row_is_named row.name p.rows) ∙ new)));
-    parts = parts-insert p.rows row place lawful.parts parts;
-    columns = groups-same (AreColumnEntries p.rows) (AreColumnEntries (insert p.rows place row))
-        (λ items c. record { entries_lawful = entries-wider p.rows (insert p.rows place row) still items c.entries_lawful; no_marker = c.no_marker; plain = none_more (λ row. is_some row.parts) items c.entries_lawful.on_rows c.plain }) p.columns lawful.columns;
-    rhs = groups-same (AreRightHandSides p.rows) (AreRightHandSides (insert p.rows place row)) (λ items c. record { entries_lawful = entries-wider p.rows (insert p.rows place row) still items c.entries_lawful; filled = c.filled }) p.rhs lawful.rhs;
-    ranges = groups-same (AreRanges p.rows) (AreRanges (insert p.rows place row))
-        (λ items c. record { entries_lawful = entries-wider p.rows (insert p.rows place row) still items c.entries_lawful; filled = c.filled; limited = none_more (λ row. is_free_kind row.kind) items c.entries_lawful.on_rows c.limited }) p.ranges lawful.ranges;
-    bounds = lawful.bounds;
-    few_rows = omega (arith, length-inserted p.rows place row, few);
-    few_columns = lawful.few_columns;
-    few_entries = lawful.few_entries;
-  }
-    where
-      still : (name : Name) → has_row p.rows name ≡ true → has_row (insert p.rows place row) name ≡ true
-      still name there = any-inserted (λ other. same name other.name) p.rows place row there
+  row-placed place row parts label new few = rows-changed p (insert p.rows place row) lawful (inserted-still p.rows place row new)
+      (subst (AllByRecursion IsLabel) (sym (map-insert (λ row. row.name) p.rows place row)) (each-insert IsLabel (row_names p) place row.name lawful.row_labels label))
+      (subst (IsDistinct same) (sym (map-insert (λ row. row.name) p.rows place row))
+      (distinct-insert same same_sym (row_names p) place row.name lawful.rows_distinct (absent-apart (row_names p) row.name (sym (row_is_named row.name p.rows) ∙ new))))
+      (parts-insert p.rows row place lawful.parts parts) (omega (arith, length-inserted p.rows place row, few))
 
-      unlike : (name : Name) → has_row p.rows name ≡ true → (b passes : Bool) → same name row.name ≡ b → (b && passes) ≡ false
-      unlike name there true passes e = absurd (cc (subst (λ n. has_row p.rows n ≡ true) (same_eq name row.name e) there, new))
-      unlike name there false passes e = refl
-
-      -- entries on rows that fail a test don't stand on the new row, whose name is new
-      none_more : (test : Row Name → Bool) (entries : List (Entry Name)) → AllByRecursion (λ (e : Entry Name). has_row p.rows e.row ≡ true) entries
-          → AllByRecursion (λ (e : Entry Name). list_any (λ other. same e.row other.name && test other) p.rows ≡ false) entries
-          → AllByRecursion (λ (e : Entry Name). list_any (λ other. same e.row other.name && test other) (insert p.rows place row) ≡ false) entries
-      none_more test [] there fails = tt
-      none_more test (e ∷ entries) there fails =
-          (none-inserted (λ other. same e.row other.name && test other) p.rows place row fails.0 (unlike e.row there.0 (same e.row row.name) (test row) refl), none_more test entries there.1 fails.1)
-
-  -- the combination of a name with the parts of a card at its end
+  -- the combination that a card goes on with, with the card's parts at its end
   parts-added : (card : Reading) → IsReading card → is_some (named combination_kinds card.kind) ≡ true → row_fields_fault p (rows_before card.name1 p.rows) card ≡ None → IsLawful (record p { rows = in_row card.name1 (λ parts. parts ++ parts_on card) p.rows })
-  parts-added card reads combines fine = rows-alike p lawful (in_row card.name1 more p.rows) (in_row-names card.name1 more p.rows)
-      (parts-changed card.name1 more p.rows lawful.rows_distinct lawful.parts (λ is. pairs-lawful earlier Rows (parts_of card.name1 p.rows) 0 (part_pairs_of card) (part_pairs-short card reads) (parts-known card.name1 [] p.rows lawful.rows_distinct lawful.parts) parts_fine))
-      (in_row-combination card.name1 more p.rows) (ranges p.ranges lawful.ranges.items)
+  parts-added card reads combines fine = rows-changed p (in_row card.name1 more p.rows) lawful (in_row-still card.name1 more p.rows)
+      (subst (AllByRecursion IsLabel) (sym (in_row-names card.name1 more p.rows)) lawful.row_labels)
+      (subst (IsDistinct same) (sym (in_row-names card.name1 more p.rows)) lawful.rows_distinct)
+      (parts-changed card.name1 more p.rows lawful.rows_distinct lawful.parts (λ is. pairs-lawful earlier Rows (parts_of card.name1 p.rows) 0 (part_pairs_of card) (part_pairs-short card reads) (parts_of-lawful card.name1 [] p.rows lawful.rows_distinct lawful.parts) parts_fine))
+      (subst (λ n. n ≤ MAX_ROWS) (sym (in_row-length card.name1 more p.rows)) lawful.few_rows)
     where
       more : List (Entry Name) → List (Entry Name)
       more parts = parts ++ parts_on card
@@ -386,14 +335,6 @@ module _ (p : Problem Name) (lawful : IsLawful p) where
 
       parts_fine : pairs_fault earlier Rows (parts_of card.name1 p.rows) 0 (part_pairs_of card) ≡ None
       parts_fine = subst (λ b. cond b (pairs_fault earlier Rows (parts_of card.name1 p.rows) 0 (part_pairs_of card)) (filled_from_3 card) ≡ None) combines fine
-
-      ranges : (sets : List (Group (Entry Name))) → AllByRecursion (λ (set : Group (Entry Name)). AreRanges p.rows set.items) sets → AllByRecursion (λ (set : Group (Entry Name)). AreRanges (in_row card.name1 (λ parts. parts ++ parts_on card) p.rows) set.items) sets
-      ranges sets each = each-change (λ (set : Group (Entry Name)). AreRanges p.rows set.items) (λ set. AreRanges (in_row card.name1 (λ parts. parts ++ parts_on card) p.rows) set.items)
-          (λ set c. record {
-            entries_lawful = entries-wider p.rows (in_row card.name1 more p.rows) (row-there p lawful (in_row card.name1 more p.rows) (in_row-names card.name1 more p.rows)) set.items c.entries_lawful;
-            filled = c.filled;
-            limited = each-change (λ (entry : Entry Name). has_free_row p.rows entry.row ≡ false) (λ entry. has_free_row (in_row card.name1 (λ parts. parts ++ parts_on card) p.rows) entry.row ≡ false) (λ entry free. in_row-free card.name1 more p.rows entry.row ∙ free) set.items c.limited;
-          }) sets each
 
   -- the row that a card begins, at a place
   row-begun : (place : ℕ) (card : Reading) → IsReading card → row_fields_fault p (take place p.rows) card ≡ None → IsLabel card.name1 → has_row p.rows card.name1 ≡ false → length p.rows + 1 ≤ MAX_ROWS
@@ -407,7 +348,7 @@ module _ (p : Problem Name) (lawful : IsLawful p) where
           → IsLawful (record p { rows = unwrap_or (option_map (insert p.rows place) (option_or (option_map (λ kind. plain_row kind card.name1) o) (option_map (λ kind. combination kind card.name1 (parts_on card)) c))) p.rows })
       by (Some kind) c h = row-placed place (plain_row kind card.name1) tt label new few
       by None (Some kind) h = row-placed place (combination kind card.name1 (parts_on card))
-          (pairs-lawful earlier Rows [] 0 (part_pairs_of card) (part_pairs-short card reads) (no_parts (take place p.rows)) (subst (λ parts. pairs_fault earlier Rows parts 0 (part_pairs_of card) ≡ None) (parts_of-new card.name1 p.rows new) h)) label new few
+          (pairs-lawful earlier Rows [] 0 (part_pairs_of card) (part_pairs-short card reads) (no-entries (take place p.rows)) (subst (λ parts. pairs_fault earlier Rows parts 0 (part_pairs_of card) ≡ None) (parts_of-new card.name1 p.rows new) h)) label new few
       by None None h = lawful
 
   pub row-inserted : (edit : Edit) → IsReading edit.card → rows_fault p (goes_on_row edit.under edit.card) (earlier_rows edit.action edit.anchor edit.under edit.card p.rows) edit.card ≡ None → IsLawful (record p { rows = insert_row edit p.rows })

@@ -17,6 +17,7 @@ use Rattle.problem_definitions.proofs.Names.{same_sym}
 use Rattle.problem_definitions.proofs.Each.{each-push, each-change, distinct-push}
 use Rattle.problem_definitions.proofs.LawfulEntries.{AreLawfulEntries}
 use Rattle.problem_definitions.proofs.Lawful.{AreGroups, AreRightHandSides, AreRanges, clash_by_name, AreLawfulBounds, AreBoundSets, IsLawful}
+use Rattle.problem_definitions.proofs.OtherRows.{groups-same}
 use Rattle.problem_definitions.proofs.Added.{items_of-each}
 use Rattle.deck_definitions.specs.declared.DeckFaultKind.TheVariants.{UnknownColumn, EmptyName}
 use Rattle.deck_definitions.specs.declared.Section.TheVariants.{Rhs, Ranges}
@@ -27,9 +28,8 @@ use Rattle.deck_definitions.proofs.Accepted.{no_value_fault}
 use Rattle.revise_definitions.specs.Edits.{put_entries, put_bound, without_row, without_column, delete_items}
 use Rattle.revise_definitions.specs.Tests.{puts_fault, modify_sets_fault, modify_bound_fault}
 use Rattle.revise_laws.proofs.Lists.{each-filter, each-passes, distinct-filter, groups-changed, groups-set, groups-without, groups-filled}
-use Rattle.revise_laws.proofs.Puts.{Fits, puts-each, puts-lawful, puts-fit, puts-filled}
-use Rattle.revise_laws.proofs.ColumnEdits.{entries-fewer, no-entries}
-use Rattle.revise_laws.proofs.RowEdits.{groups-same}
+use Rattle.revise_laws.proofs.Puts.{Fits, no-entries, puts-each, puts-lawful, puts-fit, puts-filled}
+use Rattle.revise_laws.proofs.ColumnEdits.{entries-fewer}
 
 -- the sets of a section without one, or without some of its items
 sets-deleted : {X : Type 0} {N : Name → Type 0} (I J : List X → Type 0) (without : Name → List X → List X) → ((items : List X) → I items → J items) → ((name : Name) (items : List X) → J items → J (without name items)) → J []
@@ -107,7 +107,7 @@ module _ (p : Problem Name) (lawful : IsLawful p) where
     pub rhs-modified : IsReading card → modify_sets_fault p Rhs card ≡ None → IsLawful (record p { rhs = in_set card.name1 (put_entries (entries_of card)) p.rhs })
     rhs-modified reads fine =
         let t = passes (kind_filled card ∷ puts_fault p Rhs [] 0 (pairs_of card) ∷ []) fine in
-        let known : AreLawfulEntries p.rows (items_of card.name1 p.rhs) = items_of-each card.name1 (AreLawfulEntries p.rows) (no-entries p) p.rhs lawful.rhs.distinct
+        let known : AreLawfulEntries p.rows (items_of card.name1 p.rhs) = items_of-each card.name1 (AreLawfulEntries p.rows) (no-entries p.rows) p.rhs lawful.rhs.distinct
         (each-change (λ (set : Group (Entry Name)). AreRightHandSides p.rows set.items) (λ set. AreLawfulEntries p.rows set.items) (λ set c. c.entries_lawful) p.rhs lawful.rhs.items) in
         with_rhs _ (groups-set card.name1 (AreRightHandSides p.rows) (put_entries (entries_of card)) p.rhs lawful.rhs reads.name1 (record {
           entries_lawful = puts-lawful p Rhs (entries_of card) (items_of card.name1 p.rhs) (puts-fit p Rhs [] 0 (pairs_of card) (pairs-short card reads) t.1.0) known;
@@ -115,13 +115,13 @@ module _ (p : Problem Name) (lawful : IsLawful p) where
         }))
 
     pub rhs-deleted : IsLawful (record p { rhs = delete_items without_row card p.rhs })
-    rhs-deleted = with_rhs _ (sets-deleted (AreRightHandSides p.rows) (AreLawfulEntries p.rows) without_row (λ items c. c.entries_lawful) (entries-fewer p) (no-entries p) (λ items c e. record { entries_lawful = c; filled = e }) card p.rhs lawful.rhs)
+    rhs-deleted = with_rhs _ (sets-deleted (AreRightHandSides p.rows) (AreLawfulEntries p.rows) without_row (λ items c. c.entries_lawful) (entries-fewer p) (no-entries p.rows) (λ items c e. record { entries_lawful = c; filled = e }) card p.rhs lawful.rhs)
 
     pub ranges-modified : IsReading card → modify_sets_fault p Ranges card ≡ None → IsLawful (record p { ranges = in_set card.name1 (put_entries (entries_of card)) p.ranges })
     ranges-modified reads fine =
         let t = passes (kind_filled card ∷ puts_fault p Ranges [] 0 (pairs_of card) ∷ []) fine in
         let fit = puts-fit p Ranges [] 0 (pairs_of card) (pairs-short card reads) t.1.0 in
-        let known : AreLimited (items_of card.name1 p.ranges) = items_of-each card.name1 AreLimited (record { entries_lawful = no-entries p; limited = tt }) p.ranges lawful.ranges.distinct
+        let known : AreLimited (items_of card.name1 p.ranges) = items_of-each card.name1 AreLimited (record { entries_lawful = no-entries p.rows; limited = tt }) p.ranges lawful.ranges.distinct
         (each-change (λ (set : Group (Entry Name)). AreRanges p.rows set.items) (λ set. AreLimited set.items) (λ set c. record { entries_lawful = c.entries_lawful; limited = c.limited }) p.ranges lawful.ranges.items) in
         with_ranges _ (groups-set card.name1 (AreRanges p.rows) (put_entries (entries_of card)) p.ranges lawful.ranges reads.name1 (record {
           entries_lawful = puts-lawful p Ranges (entries_of card) (items_of card.name1 p.ranges) fit known.entries_lawful;
@@ -132,7 +132,7 @@ module _ (p : Problem Name) (lawful : IsLawful p) where
     pub ranges-deleted : IsLawful (record p { ranges = delete_items without_row card p.ranges })
     ranges-deleted = with_ranges _ (sets-deleted (AreRanges p.rows) AreLimited without_row (λ items c. record { entries_lawful = c.entries_lawful; limited = c.limited })
         (λ name items c. record { entries_lawful = entries-fewer p name items c.entries_lawful; limited = each-filter (λ (entry : Entry Name). has_free_row p.rows entry.row ≡ false) (λ entry. not (same name entry.row)) items c.limited })
-        (record { entries_lawful = no-entries p; limited = tt }) (λ items c e. record { entries_lawful = c.entries_lawful; filled = e; limited = c.limited }) card p.ranges lawful.ranges)
+        (record { entries_lawful = no-entries p.rows; limited = tt }) (λ items c e. record { entries_lawful = c.entries_lawful; filled = e; limited = c.limited }) card p.ranges lawful.ranges)
 
     -- ---- BOUNDS
 
