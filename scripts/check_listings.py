@@ -38,7 +38,7 @@ def written_by_hand():
 def made_at_random(seed):
     "a job made at random, most of them without RANGE, which can't be attested"
     chance = random.Random(seed)
-    text = random_jobs.job(seed, True, True, chance.random() < 0.1, True, False)
+    text = random_jobs.job(seed, True, True, chance.random() < 0.1, True, False, True)
     if chance.random() < 0.9:
         text = text.replace("         RANGE\n", "")
     run = expected_listing.Run(text)

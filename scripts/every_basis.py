@@ -1,7 +1,7 @@
 """What expected_listing.py says of a small linear program, checked by the meaning of the words and by another way than the simplex path:
 a verdict by a look at every basis, an interval of RANGE by solving the changed program anew at its ends and past them, a parametric run by
 the verdicts at its breaks, between them and past its end, a deck that is written out by what it converts to, a basis that DUAL, PUNCH or
-INSERT is about by the rows' equations solved anew. random_jobs.py --itself runs it.
+INSERT is about by the rows' equations solved anew, the activity of a combination by those of its parts. random_jobs.py --itself runs it.
 
 Where a linear program has a feasible point, it has one at which each nonbasic variable stands at a limit, or at 0 where it has none; and
 where it has a best one, one of these is best. It has none where some direction that keeps all limits betters the objective."""
@@ -189,6 +189,15 @@ class Watched(expected_listing.Run):
             self.check_intervals(told, program, start)
         return end
 
+    def solution(self):
+        "the activity of a combination is the sum of its parts' multipliers, each times the activity of the part's row"
+        first, problem = len(self.lines), self.setup[0]
+        super().solution()
+        activity = {name: Fraction(line[15:].split()[1]) for name, line in zip(problem.rows, self.lines[first + 3:])}
+        for name, parts in problem.parts.items():
+            self.looked += 1
+            self.check(f"the activity of {name}", activity[name] == sum(times * activity[row] for row, times in parts.items()))
+
     def punch(self):
         "the deck that is written converts to its problem, but for columns without entries"
         first = len(self.punched)
@@ -196,7 +205,8 @@ class Watched(expected_listing.Run):
         problem, again = self.filed("XPBNAME"), expected_listing.Problem(self.punched[first:])
         columns = {name: entries for name, entries in again.columns.items() if problem.columns.get(name)}
         wanted = {name: entries for name, entries in problem.columns.items() if entries}
-        same = (again.name, again.rows, columns, again.sets) == (problem.name, problem.rows, wanted, problem.sets)
+        same = (again.name, again.rows, again.parts, columns, again.sets) == (problem.name, problem.rows, problem.parts, wanted, problem.sets)
+        same = same and all(list(again.parts[name]) == list(parts) for name, parts in problem.parts.items())
         self.check("the deck that is written out", same and list(columns) == list(wanted))
 
     def wrong_prices(self):

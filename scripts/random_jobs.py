@@ -1,17 +1,18 @@
 #!/usr/bin/env python3
-"""Compares the program with scripts/expected_listing.py on small jobs made at random: rows of each type, ranges, bounds of each type,
+"""Compares the program with scripts/expected_listing.py on small jobs made at random: rows of each type, combinations, ranges, bounds of each type,
 MIN and MAX, RANGE, two right-hand sides in one run, PARAOBJ and PARARHS, REVISE, the deck written out; the basis punched, taken in again and
 solved from by DUAL; basis decks made at random, with their faults. Some of the decks are free, and in some jobs a card of a deck is changed,
 which mostly makes a fault. Outside the gate: a run of 300 takes some minutes unproved, a few seconds else.
 
-usage: random_jobs.py [--unproved | --itself] [--no-parametric] [--no-revise] [--no-bases] [--no-free] [--no-faults] [FIRST [COUNT]]
-       random_jobs.py [--unproved | --itself] --decks [--no-free] [FIRST [COUNT]]
+usage: random_jobs.py [--unproved | --itself] [--no-parametric] [--no-revise] [--no-bases] [--no-free] [--no-faults] [--no-combinations]
+                      [FIRST [COUNT]]
+       random_jobs.py [--unproved | --itself] --decks [--no-free] [--no-combinations] [FIRST [COUNT]]
        random_jobs.py [--unproved | --itself] --attest [--decks] [..] [FIRST [COUNT]]
        jobs FIRST, FIRST + 1, ..; 0 and 300 where nothing is said
 
 It prints how many differ, and the first of them whole; ends with 1 where one does, with 70 where there is no program. --unproved: the
 program as it stands, where no proved one is. --no-parametric: without PARAOBJ and PARARHS; --no-revise: without REVISE; --no-bases: without
-DUAL, PUNCH and INSERT; --no-free: fixed decks alone; --no-faults: no card is changed. --decks: a deck and its revision alone, both written
+DUAL, PUNCH and INSERT; --no-free: fixed decks alone; --no-faults: no card is changed; --no-combinations: plain rows alone. --decks: a deck and its revision alone, both written
 out, and in each job a card of one of them is changed. --itself: no program runs; what expected_listing.py says is checked by the meaning of
 the words, where a job is small enough (scripts/every_basis.py). --attest: the checker of listings, mps360check, is compared with
 scripts/expected_attesting.py on the listing of each job, from most of which what can't be attested is left out; none may be found wrong. With
@@ -48,24 +49,55 @@ def sweeping(chance, verb, change):
                       f"MVADR(XDOUNB,{verb}N)", verb, f"{verb}N:TITLE('NEXT')")
 
 
+def is_whole(text):
+    return re.fullmatch(r"-?\d+", str(text)) is not None
+
+
+def combination_cards(word, name, parts, two_on_a_card):
+    "the cards of a combination, with one or two parts each"
+    pairs, size = list(parts), 2 if two_on_a_card else 1
+    cards = [pairs[at:at + size] for at in range(0, len(pairs), size)] or [[]]
+    return [f" {word:<3}{name:<10}".rstrip() if not card else f" {word:<3}{name:<10}" + f"{'':<3}".join(f"{row:<10}{times:<12}" for row, times in card).rstrip()
+            for card in cards]
+
+
+def combined(chance, rows):
+    "the parts of those rows that are made combinations, by their names: multipliers, most of them small, of earlier rows"
+    parts = {}
+    for place, (_, name) in enumerate(rows):
+        if name == "OBJ" and chance.random() < 0.7 or chance.random() < 0.6:
+            continue
+        earlier = [row for _, row in rows[:place]]
+        taken = chance.sample(earlier, min(len(earlier), chance.choice((0, 1, 1, 2, 2, 3))))
+        parts[name] = {row: number(chance) if chance.random() < 0.3 else str(chance.choice((-2, -1, 1, 1, 2, 3))) for row in taken}
+    return parts
+
+
 class Deck:
     """the sections of a deck made at random. A friendly one has whole entries and a plan that keeps most of its limits, so that more of its jobs
-    have a best plan; in half of these each column has two limits, so that a parametric run goes through more intervals."""
-    def __init__(self, chance):
+    have a best plan; in half of these each column has two limits, so that a parametric run goes through more intervals. Where it combines,
+    some of its rows are sums of multiples of earlier ones."""
+    def __init__(self, chance, combines):
         self.rows = [("N", "OBJ"), ("N", "CHG")]
         self.rows += [(chance.choice("LGELGN" if chance.random() < 0.2 else "LGE"), f"R{k}") for k in range(chance.randint(1, 4))]
         chance.shuffle(self.rows)
+        self.parts = combined(chance, self.rows) if combines else {}
         is_friendly = chance.random() < 0.7
         is_boxed = is_friendly and chance.random() < 0.5
         plan = {f"C{j}": chance.randint(0, 5) for j in range(chance.randint(3 if is_boxed else 0, 6))}
         entries = {(column, row): chance.randint(-9, 9) if is_friendly else number(chance)
-                   for column in plan for _, row in self.rows if chance.random() < 0.7}
+                   for column in plan for _, row in self.rows if row not in self.parts and chance.random() < 0.7}
         self.entries = [(column, row, value) for (column, row), value in entries.items()]
+        activity = {}
+        for _, row in self.rows:
+            of_columns = [value * plan[column] for (column, other), value in entries.items() if other == row] if is_friendly else []
+            activity[row] = sum(of_columns) + sum(int(times) * activity[other] for other, times in self.parts.get(row, {}).items() if is_whole(times))
+        self.is_wide = chance.random() < 0.5
         self.values, self.bounds, self.bound_set = [], [], chance.choice(("BD", "BD", "BD", ""))
         for name in (chance.choice(("B1", "B1", "B1", "")), "B2"):
             for kind, row in self.rows:
                 if chance.random() < 0.8:
-                    kept = sum(value * plan[column] for (column, other), value in entries.items() if other == row) if is_friendly else 0
+                    kept = activity[row]
                     room = {"L": chance.randint(0, 9), "G": -chance.randint(0, 9)}.get(kind, 0)
                     self.values.append((name, row, kept + room if is_friendly else number(chance)))
         self.ranges = [("RG", row, number(chance)) for kind, row in self.rows if kind != "N" and chance.random() < 0.3]
@@ -77,13 +109,32 @@ class Deck:
                     self.bounds.append(f" {kind} {self.bound_set:<10}{column:<10}{value}".rstrip())
 
     def cards(self):
-        cards = ["NAME          RANDOM", "ROWS", *(f" {kind}  {row}" for kind, row in self.rows), "COLUMNS"]
+        cards = ["NAME          RANDOM", "ROWS"]
+        for kind, row in self.rows:
+            cards += combination_cards("D" + kind, row, self.parts[row].items(), self.is_wide) if row in self.parts else [f" {kind}  {row}"]
+        cards += ["COLUMNS"]
         cards += [ITEM(*entry) for entry in self.entries] + ["RHS", *(ITEM(*value) for value in self.values)]
         cards += ["RANGES", *(ITEM(*value) for value in self.ranges)] if self.ranges else []
         return cards + (["BOUNDS", *self.bounds] if self.bounds else []) + ["ENDATA"]
 
 
-def edits(chance, problem):
+def combining(chance, problem):
+    "cards of a revision that insert a combination, go on with it, or modify one"
+    rows, name = list(problem.rows), f"D{chance.randint(0, 9)}"
+    place, word = chance.randint(0, len(rows)), "D" + chance.choice("LGEN")
+    before = rows[place:place + 1]
+    earlier = rows[:place]
+    parts = [(row, number(chance)) for row in chance.sample(earlier, min(len(earlier), chance.randint(0, 3)))]
+    head = f" {'BEFORE':<13}{before[0]}" if before else " AFTER"
+    yield [head, *combination_cards(word, name, parts, chance.random() < 0.5), *([f" DN {name}X", f" DN {name}X      {name:<10}2"] if chance.random() < 0.3 else [])]
+    if problem.parts:
+        name = chance.choice(list(problem.parts))
+        earlier = rows[:rows.index(name)]
+        parts = [(row, number(chance)) for row in chance.sample(earlier, min(len(earlier), chance.randint(0, 2)))]
+        yield [" MODIFY", *combination_cards(f"D{chance.choice([problem.rows[name], *'LGE'])}", name, parts, chance.random() < 0.5)]
+
+
+def edits(chance, problem, combines):
     "an action with its cards, at random, for each section of a revision some"
     rows, columns, sets = list(problem.rows), list(problem.columns), problem.sets
     new = f"N{chance.randint(0, 99)}"
@@ -94,6 +145,7 @@ def edits(chance, problem):
     def entry(name, row):
         return ITEM(name, row, number(chance))
 
+    yield from (("ROWS", cards) for cards in (combining(chance, problem) if combines else ()))
     yield "ROWS", acted("MODIFY", f" {chance.choice('LGE')}  {chance.choice(rows)}")
     yield "ROWS", acted("DELETE", f"    {chance.choice(rows)}")
     yield "ROWS", acted(chance.choice(("BEFORE", "AFTER")), f" {chance.choice('LGEN')}  {new}", f" L  {new}B", name=chance.choice([*rows, ""]))
@@ -116,12 +168,12 @@ def edits(chance, problem):
         yield "BOUNDS", acted("DELETE", ITEM(name, column if chance.random() < 0.7 else "", ""))
 
 
-def revision(chance, problem):
+def revision(chance, problem, combines):
     "a deck that revises the problem, of edits that can be made one after the other, and the revised problem"
     cards, revised, begun = ["NAME          REVISED"], problem, None
     for section in ("ROWS", "COLUMNS", "RHS", "RANGES", "BOUNDS"):
         for _ in range(chance.choice((0, 1, 1, 2))):
-            kind, edit = chance.choice([edit for edit in edits(chance, revised) if edit[0] == section] or [(None, [])])
+            kind, edit = chance.choice([edit for edit in edits(chance, revised, combines) if edit[0] == section] or [(None, [])])
             tried = cards + ([section] if begun != section else []) + edit
             try:
                 candidate = problem.revised([*tried, "ENDATA"])
@@ -138,10 +190,10 @@ def is_lawful(problem):
     return problem.rows.get("OBJ") == "N" and all(kind != "N" or row not in ranged for row, kind in problem.rows.items())
 
 
-def revising(chance, deck):
+def revising(chance, deck, combines):
     "the statements that revise the deck's problem and solve what comes of it, the deck of the revision, and the new SETUP"
     problem = expected_listing.Problem(deck.cards())
-    cards, revised = revision(chance, problem)
+    cards, revised = revision(chance, problem, combines)
     words = [f"'{word}','{name}'" for word, section in (("RANGE", "RANGES"), ("BOUND", "BOUNDS")) for name in revised.sets[section]][:1]
     setup = f"SETUP({','.join([*words, chance.choice(SENSES)])})"
     return statements("REVISE", "INITIALZ", "MOVE(XOBJ,'OBJ')", setup) + solving("R"), cards, setup
@@ -196,7 +248,7 @@ def basing(chance, setup, program, cards):
 
 
 # what is put in the place of a word of a card
-WRONG = ("", "Q", "LONGNAME9", "1234567890123", "1.2.3", "1E19", "E5", ".", "1E", "-", "0", "DN", "DL", "BV", "FR", "UP", "N", "'MARKER'", "NOBODY", "MODIFY",
+WRONG = ("", "Q", "LONGNAME9", "1234567890123", "1.2.3", "1E19", "E5", ".", "1E", "-", "0", "DN", "DL", "DE", "DG", "BV", "FR", "UP", "N", "'MARKER'", "NOBODY", "MODIFY",
          "DELETE", "BEFORE", "AFTER", "CHANGE", "ROWS", "BOUNDS", "ENDATA", "C0", "R0", "OBJ", "B1", "BD")
 
 
@@ -259,9 +311,10 @@ def retold(chance, cards, has_free, has_faults):
 SENSES = ("'MIN'", "'MAX'")
 
 
-def job(seed, is_parametric, revises, has_bases, has_free, has_faults):
+def job(seed, is_parametric, revises, has_bases, has_free, has_faults, has_combinations):
     chance = random.Random(seed)
-    deck = Deck(chance)
+    combines = has_combinations and chance.random() < 0.5
+    deck = Deck(chance, combines)
     words = (["'RANGE','RG'"] if deck.ranges else []) + ([f"'BOUND','{deck.bound_set}'"] if deck.bounds else []) + [chance.choice(SENSES)]
     setup = f"SETUP({','.join(words)})"
     program = statements("CONVERT", "MOVE(XOBJ,'OBJ')", setup) + solving("A")
@@ -271,7 +324,7 @@ def job(seed, is_parametric, revises, has_bases, has_free, has_faults):
     if is_parametric:
         program += sweeping(chance, "PARAOBJ", "MOVE(XCHROW,'CHG')")
         program += sweeping(chance, "PARARHS", f"MOVE(XCHCOL,'{max(names)}')") if names else []
-    cards, revised = deck.cards(), revising(chance, deck) if revises else ([], [], setup)
+    cards, revised = deck.cards(), revising(chance, deck, combines) if revises else ([], [], setup)
     if has_bases:
         more, basis = keeping(setup, cards, names)
         program, cards = program + more, cards + basis
@@ -283,12 +336,13 @@ def job(seed, is_parametric, revises, has_bases, has_free, has_faults):
     return "\n".join([*statements("PROGRAM"), *program, *statements("EXIT", "PEND"), *cards]) + "\n"
 
 
-def job_of_decks(seed, has_free):
+def job_of_decks(seed, has_free, has_combinations):
     "a deck and its revision, which are written out, one of them with a card or two that are changed"
     chance = random.Random(f"deck and revision {seed}")
-    cards = Deck(chance).cards()
+    combines = has_combinations and chance.random() < 0.7
+    cards = Deck(chance, combines).cards()
     decks = [in_words(chance, deck) if has_free and chance.random() < 0.7 else deck
-             for deck in (cards, revision(chance, expected_listing.Problem(cards))[0])]
+             for deck in (cards, revision(chance, expected_listing.Problem(cards), combines)[0])]
     at = chance.choice((0, 1, 1))
     for _ in range(chance.choice((1, 1, 2))):
         decks[at] = spoiled(chance, decks[at])
@@ -318,11 +372,11 @@ def by_program(jobs, expected, unproved):
             if (status, listing.decode("latin-1"), *(deck and deck.decode("latin-1") for deck in punch)) != expected[name][:2 + len(punch)]}
 
 
-def job_to_attest(seed, is_parametric, revises, has_bases, has_free, has_faults):
+def job_to_attest(seed, is_parametric, revises, has_bases, has_free, has_faults, has_combinations):
     "a job, in nine cases of ten without what can't be attested, which is RANGE, PUNCH and INSERT"
     if random.Random(f"open in {seed}").random() < 0.1:
-        return job(seed, is_parametric, revises, has_bases, has_free, has_faults)
-    return job(seed, is_parametric, revises, False, has_free, has_faults).replace(statements("RANGE")[0] + "\n", "")
+        return job(seed, is_parametric, revises, has_bases, has_free, has_faults, has_combinations)
+    return job(seed, is_parametric, revises, False, has_free, has_faults, has_combinations).replace(statements("RANGE")[0] + "\n", "")
 
 
 def attest(jobs, program):
@@ -354,7 +408,7 @@ def attest_all(jobs, modes):
     return 1 if wrong else 0
 
 
-PARTS = ("--no-parametric", "--no-revise", "--no-bases", "--no-free", "--no-faults")
+PARTS = ("--no-parametric", "--no-revise", "--no-bases", "--no-free", "--no-faults", "--no-combinations")
 
 
 def main(words):
@@ -366,7 +420,7 @@ def main(words):
     first, count = [int(word) for word in numbers] + [0, 300][len(numbers):]
     parts = [word not in modes for word in PARTS]
     kind = job_to_attest if "--attest" in modes else job
-    made = (lambda seed: job_of_decks(seed, "--no-free" not in modes)) if "--decks" in modes else (lambda seed: kind(seed, *parts))
+    made = (lambda seed: job_of_decks(seed, "--no-free" not in modes, "--no-combinations" not in modes)) if "--decks" in modes else (lambda seed: kind(seed, *parts))
     jobs = {str(seed): made(seed) for seed in range(first, first + count)}
     if "--attest" in modes:
         return attest_all(jobs, modes)
