@@ -258,6 +258,11 @@ EXPLAINED = (
     ("scripts/known/insert-dependency", "scripts/known/insert-dependency", (
         "      -2 x P\n         1 x Q\n\nThat changes COST by -1, D by 1, and no row that the deck takes out of the basis.", "What to do: leave out the card of one of the columns")),
     ("scripts/known/dual-wrong-prices", "scripts/known/dual-wrong-prices", ("\nVariable 2 is X.\n", "PRIMAL in place of DUAL")),
+    ("scripts/known/combination-overflow", "scripts/known/combination-overflow", (
+        "S is a combination: in the column X it has the sum of its parts", "the product 999999999000000000000000000 x 999999999000000000000000000 doesn't fit (0 parts")),
+    ("scripts/known/combination-overflow-sum", "scripts/known/combination-overflow-sum", (
+        "and of 169999999830000000000000000000000000000, the sum of the first 1 parts that count, and the next, 1699",)),
+    ("examples/faults/deck-28", "scripts/known/combination-overflow", ("variable 3 is a combination",)),
     ("examples/replan", "examples/replan", ("SETUP, card 7: problem 'NEXTWEEK', MAX\n", "The plan of SOLUTION is best: 1200, after 1 steps")),
 )
 # A card of the basis deck of examples/replan.job and another in its place, the fault, and what explain says.
@@ -316,6 +321,23 @@ MISTAKES = (
     ("no PEND", ("         PEND\n", ""), "STOP 8 CONTROL FAULT 3 CARD 10", ("A card NAME begins a deck: PEND is missing",), ()),
     ("a byte order mark", ("* A week", "\xef\xbb\xbf* A week"), "STOP 13 CARD FAULT 4 CARD 1", ("byte order mark (BOM) of UTF-8", "    ???* A week"), ("\xef",)),
 )
+# the same of the two plants
+COMBINATION_MISTAKES = (
+    ("a later row as a part", (" DL HOURS     NORTH     1              SOUTH     1", " DL HOURS     NORTH     1              SHARE     1"),
+     "STOP 12 DECK FAULT 6 CARD 17", ("Known earlier rows: 'PROFIT', 'NORTH', 'SOUTH'\n",), ("Near to 'NORTH'",)),
+    ("a part that is misspelt", (" DG SHARE     NORTH     1 ", " DG SHARE     NORHT     1 "), "STOP 12 DECK FAULT 6 CARD 18",
+     ("Known earlier rows: 'PROFIT', 'NORTH', 'SOUTH', 'HOURS'\nNear to 'NORHT': 'NORTH'\n",), ()),
+    ("parts on a plain row", (" DL HOURS", " L  HOURS"), "STOP 12 DECK FAULT 20 CARD 17",
+     ("Column 15 is to be blank, which belongs to field 3, and a plain row has no field 3",), ()),
+    ("a multiplier two columns off", ("NORTH     1              SOUTH", "NORTH   1                SOUTH"), "STOP 12 DECK FAULT 20 CARD 17",
+     ("Column 23 is to be blank", "move the number 1, which stands in columns 23 to 23, into field 4, columns 25 to 36"), ()),
+    ("an entry on a combination", ("    CHAIRN    PROFIT    20             NORTH     2", "    CHAIRN    PROFIT    20             HOURS     2"),
+     "STOP 12 DECK FAULT 28 CARD 20", ("It means: an entry of a column on a combination",), ()),
+    ("a combination in words", ("NAME          CHAIRS\nROWS\n N  PROFIT\n L  NORTH\n L  SOUTH\n DL HOURS     NORTH     1              SOUTH     1",
+                                "NAME          CHAIRS    FREE\nROWS\n N  PROFIT\n L  NORTH\n L  SOUTH\n DL HOURS     NORTH"), "STOP 12 DECK FAULT 25 CARD 17",
+     ("The card has 3 words, and a card of ROWS with DL has 2 (type, name) or 4 (type, name, row, multiplier) or 6 (type, name, row, multiplier, row, multiplier).",),
+     ()),
+)
 # the same of the store's free deck
 FREE_MISTAKES = (
     ("an unknown row of a free deck", (" FLOUR  MONEY 3", " FLOUR  MONY 3"), "STOP 12 DECK FAULT 6 CARD 21",
@@ -338,6 +360,8 @@ REVISE_MISTAKES = (
     ("an action at nothing", (" AFTER CHAIR\n", " AFTER CHAIRS\n"), "STOP 12 DECK FAULT 22 CARD 36", ("It is read as action 'AFTER', name 'CHAIRS'.",), ()),
     ("too many words under DELETE", (" WEEK SHELF\n", " UP WEEK SHELF\n"), "STOP 12 DECK FAULT 25 CARD 44",
      ("The card has 3 words, and a card of BOUNDS under DELETE has 1 (set) or 2 (set, column).",), ()),
+    ("a part behind the place of its combination", ("  FREE\nCOLUMNS\n MODIFY", "  FREE\nROWS\n BEFORE HOURS\n DL SUM HOURS 1\nCOLUMNS\n MODIFY"),
+     "STOP 12 DECK FAULT 6 CARD 35", ("It is read as type 'DL', name 'SUM', row 'HOURS', multiplier '1'.", "Known earlier rows: 'PROFIT', 'BOARDS'\n"), ()),
 )
 # what a SETUP took, and what was perhaps forgotten: a job, its rows, what explain says; each best plan is worth 0
 FORGOTTEN = """         PROGRAM
@@ -383,7 +407,8 @@ def try_mistakes(folder):
     "what explain says of mistakes that are easily made, in the job or beside it"
     job, listing, examples = folder / "mistake.job", folder / "mistake.listing", runner.TOP / "examples"
     free = call(SCRIPTS / "free_deck.py", examples / "revise.job").stdout.decode()
-    for base, mistakes in (((examples / "first.job").read_text(), MISTAKES), ((examples / "free.job").read_text(), FREE_MISTAKES), (free, REVISE_MISTAKES)):
+    for base, mistakes in (((examples / "first.job").read_text(), MISTAKES), ((examples / "free.job").read_text(), FREE_MISTAKES),
+                           ((examples / "combination.job").read_text(), COMBINATION_MISTAKES), (free, REVISE_MISTAKES)):
         for what, (old, new), stop, wanted, unwanted in mistakes:
             job.write_text(base.replace(old, new, 1), encoding="latin-1")
             listing.write_text(stop + "\n")

@@ -26,10 +26,11 @@ Fields = collections.namedtuple("Fields", "text column")
 
 
 class DeckFault(Exception):
-    "a deck that has a fault: its number, the place of its card in the deck, from 0, and what follows on the line"
-    def __init__(self, number, place=None, more=""):
+    """a deck that has a fault: its number, the place of its card in the deck, from 0, what follows on the line, and for an unknown row the names
+    of those that are known there"""
+    def __init__(self, number, place=None, more="", known=None):
         super().__init__(number)
-        self.number, self.place, self.more = number, place, more
+        self.number, self.place, self.more, self.known = number, place, more, known
 
 
 def number(text):
@@ -222,7 +223,7 @@ class Deck:
             try:
                 self.take(card)
             except DeckFault as fault:
-                raise DeckFault(fault.number, place, fault.more) from None
+                raise DeckFault(fault.number, place, fault.more, fault.known) from None
             if self.section == "ENDATA":
                 return
         raise DeckFault(13, len(self.cards) - 1)
@@ -258,7 +259,7 @@ class Deck:
             if not row:
                 raise DeckFault(15)
             if row not in (self.problem.rows if known is None else known):
-                raise DeckFault(6)
+                raise DeckFault(6, known=known)
             if self.section == "COLUMNS" and row in self.problem.parts:
                 raise DeckFault(28)
             if self.section == "RANGES" and self.problem.rows[row] == "N":
