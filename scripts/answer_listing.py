@@ -85,7 +85,7 @@ class Writer(Walk):
     def select(self):
         lp = super().select()
         if lp.is_refused:
-            raise Refused("a limit made of a right-hand side and a range doesn't fit 128 bits")
+            raise Refused("a limit made of a right-hand side and a range, or a sum of a combination's parts, doesn't fit 128 bits")
         return lp
 
     def solve(self, verb):

@@ -110,6 +110,9 @@ LESS = " X COST -1 R1 1"
 L = " N COST\n L R1"
 FIXED = "    {:<10}{:<10}{:>12}".format
 LONG = "1234567890123456789012345678.5"
+# two rows, and the limit of their sum
+SUM = " N COST\n L R1\n L R2\n DL S R1 1 R2 1"
+TWO = " X COST -1 R1 1\n Y COST -1 R2 1"
 MARKED = " M1 'MARKER' 'INTORG'\n X COST -1 R1 2\n M2 'MARKER' 'INTEND'"   # at most 7 for two of X
 # what is tried, the words of the call, the file; the verdict, the objective, the objective with its constant, worked out by hand
 BY_HAND = [
@@ -158,6 +161,17 @@ BY_HAND = [
                           rows=" N COST $ money\n G R1"), ("optimal", "5", None)),
     ("a number rounded up", ("--round",), small(" X COST 1 R1 1", " B R1 .123456789016"), ("optimal", "6172839451/50000000000", None)),
     ("a number rounded down", ("--round",), small(" X COST 1 R1 1", " B R1 .123456789014"), ("optimal", "12345678901/100000000000", None)),
+    ("a combination", (), small(TWO, " B R1 3 R2 3\n B S 4", rows=SUM), ("optimal", "-4", None)),
+    ("a combination on two lines", (), small(TWO, " B R1 3 R2 3\n B S 4", rows=" N COST\n L R1\n L R2\n DL S R1 1\n* a remark\n dl S R2 1 $ more"),
+     ("optimal", "-4", None)),
+    ("a range on a combination", (), small(TWO.replace("-1", "1"), " B R1 3 R2 3\n B S 4", " R S 3", rows=SUM), ("optimal", "1", None)),
+    ("a combination of a combination", (), small(TWO, " B R1 3 R2 3\n B S 4\n B U -2", rows=SUM + "\n DG U S -.5 R1 -0"), ("optimal", "-4", None)),
+    ("a combination as objective", (), small(" X R1 1 R2 -1\n Y R1 1", " B R1 3 S -7", rows=" G R1\n L R2\n DN S R1 2 R2 1"), ("optimal", "3", "10")),
+    ("a combination without parts", (), small(MORE, " B R1 4", rows=" N COST\n G R1\n DE S"), ("optimal", "4", None)),
+    ("a column alone behind a combination", (), small(" Z\n X R1 1", " B R1 4", rows=" DN COST\n G R1"), ("optimal", "0", None)),
+    ("combinations of names with blanks", ("--fixed",), mps("NAME", "ROWS", " N  A COST", " G  THE ROW", f" DL {'THE SUM':<10}{'':<25}{'THE ROW':<10}2", "COLUMNS",
+                                                            FIXED("A X", "A COST", "-2"), FIXED("", "THE ROW", "1"), "RHS", FIXED("B 1", "THE SUM", "8"), "ENDATA"),
+     ("optimal", "-8", None)),
     ("names with blanks", ("--fixed",), mps("NAME", "ROWS", " N  A COST", " G  THE ROW", "COLUMNS", FIXED("A X", "A COST", "2"),
                                             FIXED("", "THE ROW", "1"), "RHS", FIXED("B 1", "THE ROW", "4"), "ENDATA"), ("optimal", "8", None)),
     ("a blank name repeats the column", (), mps("NAME", "ROWS", " N  COST", " G  R1", "COLUMNS", FIXED("X", "COST", "2"), FIXED("", "R1", "1"),
@@ -193,6 +207,18 @@ REFUSED = [
     ("an unknown row", (), small(" X PROFIT 1"), 6, "PROFIT", "PROFIT"),
     ("an unknown column", (), small(MORE, " B R1 4", bounds=" UP B Z 1"), 11, "no column", "Z"),
     ("a second row", (), small(MORE, rows=" N COST\n G R1\n L R1"), 5, "second row", "R1"),
+    ("an unknown type of row", (), small(MORE, rows=" N COST\n G R1\n D S R1 1"), 5, "DN, DL, DG or DE", "D"),
+    ("an entry on a combination", (), small(" X COST 1 S 1", rows=SUM), 8, "no column has an entry on it", "S"),
+    ("a later row as a part", (), small(MORE, rows=" N COST\n DL S R1 1\n G R1"), 4, "no row before it is named R1", "R1"),
+    ("a combination as its own part", (), small(MORE, rows=" N COST\n G R1\n DL S S 1"), 5, "no row before it", "S"),
+    ("a part twice", (), small(MORE, rows=" N COST\n G R1\n DL S R1 1\n DL S R1 2"), 6, "a second part on row R1", "R1"),
+    ("a combination in two places", (), small(MORE, rows=" N COST\n G R1\n DL S R1 1\n L R2\n DL S R2 1"), 7, "second row", "S"),
+    ("a combination of two types", (), small(MORE, rows=" N COST\n G R1\n DL S R1 1\n DG S COST 1"), 6, "second row", "S"),
+    ("a part without a multiplier", (), small(MORE, rows=" N COST\n G R1\n DL S R1"), 5, "pairs of a row and a multiplier", "R1"),
+    ("an infinite multiplier", (), small(MORE, rows=" N COST\n G R1\n DL S R1 Inf"), 5, "infinite", "Inf"),
+    ("a multiplier of 13 digits", (), small(MORE, rows=" N COST\n G R1\n DL S R1 0.1234567890123"), 5, "12 columns", "0.1234567890123"),
+    ("a combination whose words and columns differ", (), mps(F[:-9], f" DL {'A COST 3':<10}{'COST':<10}5", "COLUMNS", "ENDATA"), 5, "--fixed", None),
+    ("nothing but combinations", (), small(" Z", rows=" DN COST\n DG R1 COST 1"), None, "has no entry", None),
     ("a second entry", (), small(" X COST 1 COST 1"), 6, "second entry", "COST"),
     ("a second value", (), small(MORE, " B R1 4\n B R1 5"), 10, "second value", "R1"),
     ("a column in two places", (), small(" X COST 1\n Y COST 1\n X R1 1"), 8, "together", "X"),
@@ -301,6 +327,10 @@ def try_model(house):
         check("a job of a number that it can't hold", False)
     except mps_file.Refused as cause:
         check(f"a job of a number that it can't hold: {cause}", "12 columns" in str(cause))
+    sums = mps_file.read_text(small(" X COST 1 R1 0.5\n Y R2 1", rows=" N COST\n G R1\n L R2\n DL S R1 3 R2 .2\n DN U S 2 COST -3\n DN V S 0"))
+    numbers = [sums.numbers_of(column) for column in sums.columns]
+    check(f"sums: {numbers}", numbers == [{"COST": 1, "R1": Fraction(1, 2), "S": Fraction(3, 2), "U": 0, "V": 0},
+                                          {"R2": 1, "S": Fraction(1, 5), "U": Fraction(2, 5), "V": 0}])
     path = house.folder / "model.gz"
     path.write_bytes(gzip.compress(text.encode()))
     check("a model read from a gzipped file", mps_file.read_file(path, mps_file.Reading(numbers="exact")) == model)
@@ -444,7 +474,12 @@ class Random:
         rng = self.rng
         kinds = [rng.choice("LGE") for _ in range(rng.randint(1, 4))] + ["N"] * rng.choice((1, 1, 2, 3))
         rng.shuffle(kinds)
-        self.kinds = {self.name("R"): kind for kind in kinds}
+        self.kinds, self.parts, self.part_texts = {self.name("R"): kind for kind in kinds}, {}, {}
+        for place, row in enumerate(self.kinds if rng.random() < 0.3 else ()):
+            if rng.random() < 0.4:
+                parts = rng.sample(list(self.kinds)[:place], min(place, rng.randint(0, 4)))
+                self.parts[row] = {part: Fraction(rng.randint(-3, 3)) for part in parts}
+                self.part_texts[row] = [(part, self.number(times)) for part, times in self.parts[row].items()]
         free = [name for name, kind in self.kinds.items() if kind == "N"]
         self.objective, self.objective_form = free[0], None
         if rng.random() < 0.5:
@@ -462,7 +497,7 @@ class Random:
                 markers += 1
                 self.marked.add(name)
                 self.column_cards.append(Card("", f"MARK{markers}", "'MARKER'", "", "'INTORG'"))
-            rows = [row for row in self.kinds if rng.random() < 0.6]
+            rows = [row for row in self.kinds if row not in self.parts and rng.random() < 0.6]
             rng.shuffle(rows)
             pairs, entries = [], {}
             for row in rows:
@@ -472,6 +507,24 @@ class Random:
             self.column_cards += self.paired(name, pairs, True) or [Card("", name)]
             if inside:
                 self.column_cards.append(Card("", f"MARK{markers}", "'MARKER'", "", "'INTEND'"))
+
+    def sums(self):
+        "the entries of the columns, and what they have on combinations"
+        sums = {column: dict(entries) for column, entries in self.entries.items()}
+        for numbers in sums.values():
+            for row, parts in self.parts.items():
+                numbers[row] = sum((times * numbers.get(part, 0) for part, times in parts.items()), Fraction(0))
+        return sums
+
+    def row_lines(self, row, kind):
+        "the cards of a row, or of a combination with its parts"
+        rng, remark = self.rng, self.rng.choice((None, None, "remark"))
+        word = ("D" if row in self.parts else "") + kind
+        word = rng.choice((word, word if self.is_fixed else word.lower()))
+        if row not in self.parts:
+            return [Card(word, row, remark=remark)]
+        cards = [Card(word, *card.fields[1:], remark=card.remark) for card in self.paired(row, self.part_texts[row], False)]
+        return cards or [Card(word, row, remark=remark)]
 
     def paired(self, name, pairs, repeats):
         "the cards of these pairs, one or two on each; in a fixed form a name may be left blank where it repeats"
@@ -554,14 +607,14 @@ class Random:
 
     def make_values(self):
         "right-hand sides and ranges of the rows, which a point keeps, mostly; and constants"
-        rng, point = self.rng, self.point()
+        rng, point, sums = self.rng, self.point(), self.sums()
         self.rhs, self.ranges, self.row_limits, self.rhs_texts, self.range_texts = {}, {}, {}, {}, {}
         for row, kind in self.kinds.items():
             if kind == "N":
                 if rng.random() < 0.4:
                     self.rhs[row], self.rhs_texts[row] = (value := decimal(rng)), self.number(value)
                 continue
-            at = sum((entries.get(row, Fraction(0)) * point[column] for column, entries in self.entries.items()), Fraction(0))
+            at = sum((numbers.get(row, Fraction(0)) * point[column] for column, numbers in sums.items()), Fraction(0))
             at = Fraction(round(at * 100), 100) if kind != "E" or rng.random() < 0.9 else decimal(rng)
             self.make_row(row, kind, at)
         self.constant_form = rng.choice(("minus", "minus", "plus"))
@@ -619,7 +672,7 @@ class Random:
         def others():
             return [Card("", "", row, self.number(decimal(rng) or Fraction(1))) for row, kind in self.kinds.items() if kind != "N"][:2]
 
-        rows = [Card(rng.choice((kind, kind if self.is_fixed else kind.lower())), name, remark=remark()) for name, kind in self.kinds.items()]
+        rows = [card for name, kind in self.kinds.items() for card in self.row_lines(name, kind)]
         bounds = [Card(kind, "", column, text, remark=remark() if text else None) for kind, column, text in self.bound_lines]
         other_bounds = [] if self.marked else [Card("UP", "", next(iter(self.entries)), "7")]
         return {"ROWS": rows, "COLUMNS": self.column_cards,
@@ -658,9 +711,9 @@ class Random:
             rows += [("G", f"G{len(rows)}", row, low)] if low is not None else []
             rows += [("L", f"L{len(rows)}", row, high)] if high is not None else []
         lines = ["NAME P", "ROWS", *(f" {kind} {short}" for kind, short, _, _ in rows), "COLUMNS"]
-        for place, entries in enumerate(self.entries.values()):
+        for place, numbers in enumerate(self.sums().values()):
             for kind, short, row, _ in rows:
-                value = entries.get(row, Fraction(0)) * (sign if kind == "N" else 1)
+                value = numbers.get(row, Fraction(0)) * (sign if kind == "N" else 1)
                 lines += [f" X{place} {short} {written(value)}"] if value or kind == "N" else []
         lines += ["RHS", *(f" B {short} {written(value)}" for _, short, _, value in rows if value)]
         lines.append("BOUNDS")
@@ -692,14 +745,16 @@ def job_read(job, names):
     cards = [card for card in job.split("\n") if card and not card.startswith("*")]
     end = next(place for place, card in enumerate(cards) if card.strip() == "PEND")
     program = " ".join(card.strip() for card in cards[:end])
-    section, kinds, entries, sets = None, {}, {}, {"RHS": {}, "RANGES": {}, "BOUNDS": {}}
+    section, kinds, parts, entries, sets = None, {}, {}, {}, {"RHS": {}, "RANGES": {}, "BOUNDS": {}}
     rows, columns = ((lambda short, table=names[key]: table.get(short, short)) for key in ("rows", "columns"))
     for card in cards[end + 1:]:
         kind, name, other, number = card[1:3].strip(), card[4:12].rstrip(), card[14:22].rstrip(), card[24:36].strip()
         if card[0] != " ":
             section = card.split()[0]
         elif section == "ROWS":
-            kinds[rows(name)] = kind
+            kinds[rows(name)] = kind[-1]
+            if kind.startswith("D"):
+                parts.setdefault(rows(name), {}).update({rows(other): Fraction(number)} if other else {})
         elif section == "COLUMNS":
             entries.setdefault(columns(name), {})[rows(other)] = Fraction(number)
         elif section == "BOUNDS":
@@ -724,7 +779,7 @@ def job_read(job, names):
             row_limits[row] = {"E": (limit + min(far, 0), limit + max(far, 0)), "L": (None if span is None else limit - abs(far), limit),
                                "G": (limit, None if span is None else limit + abs(far))}[kind]
     objective = rows(moved["XOBJ"]) if moved["XOBJ"] is not None else next(row for row, kind in kinds.items() if kind == "N")
-    return {"kinds": list(kinds.items()), "entries": without_zeros(entries), "row_limits": row_limits,
+    return {"kinds": list(kinds.items()), "parts": parts, "entries": without_zeros(entries), "row_limits": row_limits,
             "limits": {column: tuple(ends) for column, ends in limits.items()}, "objective": objective,
             "sense": "MAX" if "'MAX'" in program else "MIN", "rhs on objective": rhs.get(objective, Fraction(0))}
 
@@ -739,7 +794,7 @@ def try_random(house, count, first):
             shown = gzip.decompress(data) if data[:2] == b"\x1f\x8b" else data
             check(f"random file {seed}: refused: {said}\n{model.words}\n{shown.decode()}", False)
             continue
-        wanted = {"kinds": list(model.kinds.items()), "entries": without_zeros(model.entries), "limits": model.limits, "row_limits": model.row_limits,
+        wanted = {"kinds": list(model.kinds.items()), "parts": model.parts, "entries": without_zeros(model.entries), "limits": model.limits, "row_limits": model.row_limits,
                   "objective": model.objective, "sense": model.sense, "rhs on objective": model.rhs.get(model.objective, Fraction(0))}
         found = job_read(job, names)
         for key, value in wanted.items():

@@ -23,8 +23,9 @@ Two have a usual meaning, and other options for other programs:
   --constant minus|plus        the objective's constant is the negative of its number in RHS (minus, the usual), or that number
   --infinity NUMBER            a bound or range of this size and more is none; without it 1e20
 
-Numbers without an exact form of 12 columns, sections that jobs don't know and problems past the limits are refused. It ends with 0, with 64
-for wrong use, 65 where the file is refused, 66 where it can't be read, 73 where JOB or MAP can't be written."""
+Rows of type DN, DL, DG and DE, which are sums of multiples of rows before them, are taken with their parts. Numbers without an exact form of
+12 columns, sections that jobs don't know and problems past the limits are refused. It ends with 0, with 64 for wrong use, 65 where the file
+is refused, 66 where it can't be read, 73 where JOB or MAP can't be written."""
 import argparse, json, os, sys
 import mps_file
 

@@ -8,9 +8,10 @@ Reading says how a file is read where programs differ, and which numbers are tak
 refuses what a job can't hold, "round" rounds to the nearest number that 12 columns hold. PATH may be gzipped, or - for standard input.
 
 A Model holds all of the file, by the file's names, with Fractions for numbers and None for "no limit":
-    name, rows {name: N, L, G or E}, columns {name: {row: entry}}, rhs and ranges {set: {row: number}}, bounds {set: {column: Limits}}
+    name, rows {name: N, L, G or E}, parts {combination: {row: multiplier}}, columns {name: {row: entry}}, rhs and ranges {set: {row: number}}, bounds {set: {column: Limits}}
     sense (MIN or MAX), objective, rhs_set, range_set, bound_set: what is taken; a set is None where the file has none
     row_limits(row), column_limits(column): the lower and the upper limit under the sets taken; constant: the objective's
+    numbers_of(column): its entries, and the sums that it has on combinations (rows of type DN, DL, DG or DE)
     relaxed: the columns whose values should be whole; rounded: [(line, word, number)]; said: a sentence for each thing that is changed,
     left out or chosen
 A Job has text; rows, columns and sets {name: name in the job}; problem, the problem's name in it; name_map(), a table for JSON by which
@@ -31,6 +32,7 @@ MOST_TEXT = 300_000_000
 INFINITY = Fraction(10) ** 20
 LONGEST_NUMBER = 1000
 SENSES = {"MAX": "MAX", "MAXIMIZE": "MAX", "MAXIMISE": "MAX", "MAXIMUM": "MAX", "MIN": "MIN", "MINIMIZE": "MIN", "MINIMISE": "MIN", "MINIMUM": "MIN"}
+COMBINATIONS = ("DN", "DL", "DG", "DE")
 SECTIONS = ("ROWS", "COLUMNS", "RHS", "RANGES", "BOUNDS")
 # of each bound type: which ends it touches, whether it takes a number, whether it asks for whole numbers
 BOUNDS = {"UP": ("upper", True, False), "LO": ("lower", True, False), "FX": ("both", True, False), "FR": ("both", False, False),
@@ -96,6 +98,7 @@ class Model:
     sense: str | None = None
     objective: str | None = None
     rows: dict = field(default_factory=dict)
+    parts: dict = field(default_factory=dict)
     columns: dict = field(default_factory=dict)
     rhs: dict = field(default_factory=dict)
     ranges: dict = field(default_factory=dict)
@@ -119,6 +122,15 @@ class Model:
         if kind == "L":
             return (None if span is None else limit - abs(span)), limit
         return limit, (None if span is None else limit + abs(span))
+
+    def numbers_of(self, column):
+        "the numbers of a column: its entries, and on each combination the sum of its parts, each its multiplier times the number on the part's row"
+        numbers = dict(self.columns[column])
+        for row in self.rows if self.parts else ():
+            met = [times * numbers[part] for part, times in self.parts.get(row, {}).items() if part in numbers]
+            if met:
+                numbers[row] = sum(met, Fraction(0))
+        return numbers
 
     def column_limits(self, column):
         limits = self.bounds.get(self.bound_set, {}).get(column, Limits())
@@ -295,6 +307,8 @@ class Reader:
         self.sets = {"RHS": self.model.rhs, "RANGES": self.model.ranges, "BOUNDS": self.model.bounds}
         self.entries = self.line = 0
         self.section = self.said_sense = self.said_objective = self.last_column = None
+        # the type and the name on the line of ROWS before, where that is a combination's
+        self.combining = None
         self.last_set, self.whole, self.marked, self.lines = {}, {}, {}, {}
         self.named = self.between_markers = False
         self.exact = reading.numbers == "exact"
@@ -407,7 +421,7 @@ class Reader:
         except Refused as cause:
             cause.word = place
             raise
-        endless = abs(value) >= self.reading.infinity and self.section != "COLUMNS"
+        endless = abs(value) >= self.reading.infinity and self.section not in ("ROWS", "COLUMNS")
         if self.exact or endless or isinstance(value, float) or text_of(value) is not None:
             return value
         if self.section == "RHS" and self.model.rows[line.words[place - 1]] == "N":
@@ -423,16 +437,43 @@ class Reader:
     def take_row(self, line):
         words = [word for word in line.words if word] if not line.fixed else line.words[:2] + [word for word in line.words[2:] if word]
         kind = words[0].upper()
-        if kind not in ("N", "L", "G", "E"):
-            raise Refused("a row's type is N, L, G or E", 0)
+        if kind not in ("N", "L", "G", "E", *COMBINATIONS):
+            raise Refused("a row's type is N, L, G or E, or of a combination DN, DL, DG or DE", 0)
         if len(words) < 2 or not words[1]:
             raise Refused("a row wants a name", 1)
+        goes_on, self.combining = self.combining == (kind, words[1]), (kind, words[1]) if kind in COMBINATIONS else None
+        if kind in COMBINATIONS:
+            self.take_combination(kind[1], line, goes_on)
+            return
         if len(words) > 2:
             raise Refused("one name stands after a row's type (names with blanks: --fixed)", 2)
         if words[1] in self.model.rows:
             raise Refused(f"a second row {words[1][:30]}", 1)
         self.most("rows", len(self.model.rows))
         self.model.rows[words[1]] = kind
+
+    def take_combination(self, kind, line, goes_on):
+        "a line of a row that is a sum of multiples of earlier rows; it begins one, or goes on with that of the line before"
+        if not line.fixed and (len(line.words) % 2 or len(line.words) > 6):
+            raise Refused("a combination wants a name, and none, one or two pairs of a row and a multiplier (names with blanks: --fixed)", len(line.words) - 1)
+        name, rows = line.words[1], self.model.rows
+        if not goes_on:
+            if name in rows:
+                raise Refused(f"a second row {name[:30]}", 1)
+            self.most("rows", len(rows))
+            rows[name] = kind
+        parts = self.model.parts.setdefault(name, {})
+        places = [(a, b) for a, b in ((2, 3), (4, 5)) if b < len(line.words) and (line.words[a] or line.words[b])]
+        self.check_form(line, (name, [(line.words[a], line.words[b]) for a, b in places]))
+        for at, number_at in places:
+            row = line.words[at]
+            if row not in rows or row == name:
+                raise Refused(f"no row before it is named {row[:30]}", at)
+            if row in parts:
+                raise Refused(f"a second part on row {row[:30]}", at)
+            parts[row] = self.value(number_at, line)
+            if isinstance(parts[row], float):
+                raise Refused("a multiplier can't be infinite", number_at)
 
     def pairs(self, line):
         "the place of the name in front, or None where it is blank, and the places of the pairs"
@@ -464,6 +505,8 @@ class Reader:
         if self.section == "BOUNDS":
             takes = BOUNDS.get(kind.upper(), (None, None))[1]
             lawful = takes is not None and len(pairs) == 1 and pairs[0][0] in self.model.columns and (NUMBER.fullmatch(pairs[0][1]) or not takes)
+        elif self.section == "ROWS":
+            lawful = kind.upper() in COMBINATIONS and name and pairs and all(row in self.model.rows and NUMBER.fullmatch(word) for row, word in pairs)
         else:
             lawful = not kind and pairs and all(row in self.model.rows and NUMBER.fullmatch(word) for row, word in pairs)
         if lawful and (name, pairs) != read:
@@ -499,6 +542,8 @@ class Reader:
         if self.between_markers:
             self.whole[name] = self.marked[name] = self.line
         for row, at in places:
+            if line.words[row] in self.model.parts:
+                raise Refused(f"the row {line.words[row][:30]} is a combination, whose numbers are sums of its parts: no column has an entry on it", row)
             if line.words[row] in column:
                 raise Refused(f"a second entry on row {line.words[row][:30]}", row)
             value = self.value(at, line)
@@ -855,17 +900,27 @@ def rhs_cards(job, item):
     return cards
 
 
+def row_cards(job, row):
+    "the card of a row, or a card for each part of a combination"
+    kind, name = job.model.rows[row], job.rows[row]
+    if row not in job.model.parts:
+        return [f" {kind}  {name}"]
+    return [f" D{kind} {name:<10}{job.rows[part]:<10}{card_number(times)}" for part, times in job.model.parts[row].items()] or [f" D{kind} {name}"]
+
+
 def deck_cards(job):
     model, item = job.model, "    {:<10}{:<10}{}".format
-    cards = [f"NAME          {job.problem}".rstrip(), "ROWS", *(f" {kind}  {job.rows[row]}" for row, kind in model.rows.items()), "COLUMNS"]
-    first, empty = next(iter(job.rows.values())), []
+    cards = [f"NAME          {job.problem}".rstrip(), "ROWS", *(card for row in model.rows for card in row_cards(job, row)), "COLUMNS"]
+    first, empty = next((job.rows[row] for row in model.rows if row not in model.parts), None), []
     for column, entries in model.columns.items():
         cards += [item(job.columns[column], job.rows[row], card_number(value)) for row, value in entries.items()]
         if not entries:
             empty.append(column)
+            if first is None:
+                raise Refused(f"column {column[:30]} has no entry, and a job has no card for it where all rows are combinations")
             cards.append(item(job.columns[column], first, "0"))
     if empty:
-        job.said.append(f"{counted(len(empty), 'column', 'has', 'have')} no entry ({some_of(empty)}), and a card with 0 on the first row")
+        job.said.append(f"{counted(len(empty), 'column', 'has', 'have')} no entry ({some_of(empty)}), and a card with 0 on the row {first}")
     rhs = rhs_cards(job, item)
     ranges = [item(job.sets[name], job.rows[row], card_number(value)) for name, items in model.ranges.items() for row, value in items.items()]
     bounds = [f" {kind} {job.sets[name]:<10}{job.columns[column]:<10}{value}".rstrip()

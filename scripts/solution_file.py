@@ -81,7 +81,7 @@ def check_objective(told, columns, model):
     "an objective that isn't that of the activities tells of another model, or of one that was read otherwise; a constant may be in it or not"
     if told is None:
         return
-    worth = sum((value * model.columns[name].get(model.objective, Fraction(0)) for name, value in columns.items()), Fraction(0))
+    worth = sum((value * model.numbers_of(name).get(model.objective, Fraction(0)) for name, value in columns.items()), Fraction(0))
     if told not in (worth, worth + model.constant):
         raise NoSolution(f"the objective is said to be {told}, and by the activities it is {worth}: a solution of another model, or of one that its "
                          "solver reads otherwise")
