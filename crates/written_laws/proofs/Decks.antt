@@ -1,5 +1,5 @@
 -- The cards of a written deck are one deck of a job, under the problem's name.
-use Rattle.std.proofs.Common.{◌≡◌, ℕ, ◌+◌, Bool, true, false, cond, not, List, [], ◌∷◌, ◌++◌, Some, None, map, filter, take, drop, unwrap_or, refl, ap, sym, ◌∙◌, subst}
+use Rattle.std.proofs.Common.{◌≡◌, ℕ, ◌+◌, Bool, true, false, cond, not, List, [], ◌∷◌, ◌++◌, Option, Some, None, is_none, map, filter, take, drop, unwrap_or, refl, ap, sym, ◌∙◌, subst}
 use Rattle.std.specs.List.{AllByRecursion, flat_map, onto_first, prefix_len}
 use Rattle.std.specs.Option.{option_map}
 use Rattle.std.specs.Prelude.{codes}
@@ -15,7 +15,8 @@ use Rattle.deck_definitions.specs.declared.Section.{Section}
 use Rattle.deck_definitions.specs.declared.Section.TheVariants.{Header, Endata}
 use Rattle.deck_definitions.specs.Sections.{is_section, section_words, section_word, section_begun, begins, header_name}
 use Rattle.deck_definitions.specs.Decks.{parts_ended_by, decks_of, name_of_deck}
-use Rattle.deck_definitions.specs.Written.{bound_kind_text, bound_text, data_card, row_card, entry_cards, column_cards, bound_cards, set_section, written}
+use Rattle.deck_definitions.specs.DataCards.{combination_text}
+use Rattle.deck_definitions.specs.Written.{row_kind_text, bound_kind_text, bound_text, data_card, row_cards, entry_cards, column_cards, bound_cards, set_section, written}
 use Rattle.written_laws.proofs.Cards.{no_section, reassoc}
 use Rattle.written_laws.proofs.Whole.{name_card, after_word, name_card-is, begun_by, header-is}
 
@@ -66,11 +67,19 @@ section word cards goes each (set ∷ sets) = (goes, flat cards each (set ∷ se
 entries-go-on : (group : Group (Entry Name)) → AllByRecursion GoesOn (entry_cards group)
 entries-go-on group = mapped (λ (entry : Entry Name). data_card [] group.name entry.row entry.value.text) (λ entry. data-goes-on [] group.name entry.row entry.value.text) group.items
 
+row-goes-on : (row : Row Name) → AllByRecursion GoesOn (row_cards row)
+row-goes-on row = by row.parts
+  where
+    by : (parts : Option (List (Entry Name))) → AllByRecursion GoesOn (row_cards (record { kind = row.kind; name = row.name; parts = parts }))
+    by None = (data-goes-on (row_kind_text row.kind) row.name [] [], tt)
+    by (Some []) = (data-goes-on (combination_text row.kind) row.name [] [], tt)
+    by (Some (part ∷ parts)) = mapped (λ (part : Entry Name). data_card (combination_text row.kind) row.name part.row part.value.text) (λ part. data-goes-on (combination_text row.kind) row.name part.row part.value.text) (part ∷ parts)
+
 column-goes-on : (rows : List (Row Name)) (column : Group (Entry Name)) → AllByRecursion GoesOn (column_cards rows column)
 column-goes-on rows column = by (is_empty column.items)
   where
-    by : (b : Bool) → AllByRecursion GoesOn (cond b (map (λ (row : Row Name). data_card [] column.name row.name (codes "0")) (take 1 rows)) (entry_cards column))
-    by true = mapped (λ (row : Row Name). data_card [] column.name row.name (codes "0")) (λ row. data-goes-on [] column.name row.name (codes "0")) (take 1 rows)
+    by : (b : Bool) → AllByRecursion GoesOn (cond b (map (λ (row : Row Name). data_card [] column.name row.name (codes "0")) (take 1 (filter (λ row. is_none row.parts) rows))) (entry_cards column))
+    by true = mapped (λ (row : Row Name). data_card [] column.name row.name (codes "0")) (λ row. data-goes-on [] column.name row.name (codes "0")) (take 1 (filter (λ row. is_none row.parts) rows))
     by false = entries-go-on column
 
 bounds-go-on : (set : Group (Bound Name)) → AllByRecursion GoesOn (bound_cards set)
@@ -106,11 +115,11 @@ called-by name texts n is =
 
 module _ (q : Problem Name) where
   abbrev between : List (List ℕ)
-  between = codes "ROWS" ∷ (map row_card q.rows ++ codes "COLUMNS" ∷ (flat_map (column_cards q.rows) q.columns ++ set_section (codes "RHS") entry_cards q.rhs ++ set_section (codes "RANGES") entry_cards q.ranges ++ set_section (codes "BOUNDS") bound_cards q.bounds))
+  between = codes "ROWS" ∷ (flat_map row_cards q.rows ++ codes "COLUMNS" ∷ (flat_map (column_cards q.rows) q.columns ++ set_section (codes "RHS") entry_cards q.rhs ++ set_section (codes "RANGES") entry_cards q.ranges ++ set_section (codes "BOUNDS") bound_cards q.bounds))
 
   written-is : written q ≡ name_card q.name ∷ (between ++ codes "ENDATA" ∷ [])
   unfolding written
-  written-is = ap (λ texts. name_card q.name ∷ codes "ROWS" ∷ texts) (sym (append_assoc (map row_card q.rows) (codes "COLUMNS" ∷ (flat_map (column_cards q.rows) q.columns ++ set_section (codes "RHS") entry_cards q.rhs ++ set_section (codes "RANGES") entry_cards q.ranges ++ set_section (codes "BOUNDS") bound_cards q.bounds)) (codes "ENDATA" ∷ [])))
+  written-is = ap (λ texts. name_card q.name ∷ codes "ROWS" ∷ texts) (sym (append_assoc (flat_map row_cards q.rows) (codes "COLUMNS" ∷ (flat_map (column_cards q.rows) q.columns ++ set_section (codes "RHS") entry_cards q.rhs ++ set_section (codes "RANGES") entry_cards q.ranges ++ set_section (codes "BOUNDS") bound_cards q.bounds)) (codes "ENDATA" ∷ [])))
 
   all-go-on : AllByRecursion GoesOn between
   all-go-on =
@@ -119,7 +128,7 @@ module _ (q : Problem Name) where
       let S2 = set_section (codes "RANGES") entry_cards q.ranges in
       let S3 = set_section (codes "BOUNDS") bound_cards q.bounds in (
         refl,
-        each-append GoesOn (map row_card q.rows) (codes "COLUMNS" ∷ (C ++ S1 ++ S2 ++ S3)) (mapped row_card (λ row. data-goes-on _ row.name [] []) q.rows) (
+        each-append GoesOn (flat_map row_cards q.rows) (codes "COLUMNS" ∷ (C ++ S1 ++ S2 ++ S3)) (flat row_cards row-goes-on q.rows) (
           refl,
           each-append GoesOn (C ++ S1 ++ S2) S3
               (each-append GoesOn (C ++ S1) S2

@@ -1,7 +1,6 @@
 -- The cards of the columns, the right-hand sides and the ranges are accepted, and add their entries.
 use Rattle.std.proofs.Common.{◌≡◌, ℕ, zero, suc, ◌+◌, ◌-◌, ◌≤◌, Bool, true, false, not, ◌&&◌, ◌||◌, List, [], ◌∷◌, ◌++◌, Some, None, length, map, take, nat_le, refl, ap, sym, ◌∙◌, subst, arith}
 use Rattle.std.specs.List.{AllByRecursion, IsDistinct, flat_map, sum_by}
-use Rattle.std.specs.Option.{option_or}
 use Rattle.std.proofs.lemmas.List.{append-nil, map-append, length-append}
 use Rattle.std.proofs.lemmas.List.Sums.{sum_by-append, sum_by-cons}
 use Rattle.card_definitions.specs.Words.{is_empty, ◌⟹◌}
@@ -9,23 +8,20 @@ use Rattle.card_definitions.specs.Fields.{Reading}
 use Rattle.card_definitions.specs.Numbers.{decimal_of}
 use Rattle.problem_definitions.specs.declared.TheConstants.{MAX_COLUMNS, MAX_ENTRIES}
 use Rattle.problem_definitions.specs.Names.{Name, same, has_name, marker}
-use Rattle.problem_definitions.specs.Problem.{Row, Entry, Group, Problem, group_names, entry_count, has_row, has_free_row, has_entry, has_group}
+use Rattle.problem_definitions.specs.Problem.{Row, Entry, Group, Problem, group_names, entry_count, has_row, has_free_row, has_combination, has_group}
 use Rattle.problem_definitions.specs.Groups.{items_of, in_set}
 use Rattle.problem_definitions.specs.Valid.{IsName, IsDecimal}
-use Rattle.problem_definitions.proofs.Names.{row_is_named}
 use Rattle.problem_definitions.proofs.Lawful.{IsLabel, AreGroups, AreLawfulEntries, AreColumnEntries, AreRightHandSides, AreRanges}
-use Rattle.deck_definitions.specs.declared.DeckFaultKind.TheVariants.{ColumnSplit, UnknownRow, DuplicateEntry, RangeOnFree, Marker, EmptyName, TooManyColumns, TooManyEntries}
+use Rattle.deck_definitions.specs.declared.DeckFaultKind.TheVariants.{ColumnSplit, Marker, EmptyName, TooManyColumns}
 use Rattle.deck_definitions.specs.declared.Section.{Section}
 use Rattle.deck_definitions.specs.declared.Section.TheVariants.{Columns, Rhs, Ranges}
-use Rattle.deck_definitions.specs.Sections.{is_section}
-use Rattle.deck_definitions.specs.DataCards.{Pair, pairs_of}
-use Rattle.deck_definitions.specs.Tests.{kind_filled, marks, all_but_last, columns_fault, pair_row_fault, pairs_fault, value_fault, number_fault_from}
+use Rattle.deck_definitions.specs.DataCards.{pairs_of}
+use Rattle.deck_definitions.specs.Tests.{kind_filled, marks, all_but_last, columns_fault, pairs_fault}
 use Rattle.deck_definitions.specs.Written.{data_card}
-use Rattle.deck_definitions.proofs.Pairs.{pairs_fault-cons}
-use Rattle.std.specs.Option.{option_map}
 use Rattle.written_laws.proofs.Cards.{IsWritten, fields, written-card}
 use Rattle.written_laws.proofs.Accepts.{Accepts, accepts-data}
-use Rattle.written_laws.proofs.Facts.{none_found, not_found, below, all-at, apart-before, absent-before, from-map, fits-name, label-of, reads-as, fits-number}
+use Rattle.written_laws.proofs.Facts.{none_found, not_found, below, all-at, from-map, fits-name, reads-as, fits-number}
+use Rattle.written_laws.proofs.AddedPairs.{MayAdd, may-add, pair-fine}
 use Rattle.written_laws.proofs.Sets.{groups_at, has-last, items-taken, new-group, EachAdds, groups-accepted}
 
 abbrev pub entry_card : Name → Entry Name → List ℕ
@@ -34,13 +30,6 @@ entry_card name entry = data_card [] name entry.row entry.value.text
 abbrev entry_fields : Name → Entry Name → Reading
 entry_fields name entry = fields [] name entry.row entry.value.text
 
--- an entry that may be added to these
-record MayAdd (rows : List (Row Name)) (taken : List (Entry Name)) (entry : Entry Name) : Type 0 where
-  label : IsLabel entry.row
-  there : has_row rows entry.row ≡ true
-  new : has_entry taken entry.row ≡ false
-  value : IsDecimal entry.value
-
 written-entry : (name : Name) (entry : Entry Name) → IsName name → IsLabel entry.row → IsDecimal entry.value → IsWritten (entry_card name entry) (entry_fields name entry)
 written-entry name entry is label value =
     written-card [] name entry.row entry.value.text (record { short = omega arith; trimmed = refl }) refl (fits-name name is) (fits-name entry.row label.name_of) (fits-number entry.value value) (some (is_empty name) (is_empty entry.row) label.present)
@@ -48,52 +37,6 @@ written-entry name entry is label value =
     some : (a b : Bool) → b ≡ false → (a && b) ≡ false
     some true b h = h
     some false b h = refl
-
-names_of : (entries : List (Entry Name)) (row : Name) → has_entry entries row ≡ has_name (map (λ entry. entry.row) entries) row
-names_of [] row = refl
-names_of (entry ∷ entries) row = ap (λ b. same row entry.row || b) (names_of entries row)
-
-may-add : (rows : List (Row Name)) → AllByRecursion IsLabel (map (λ row. row.name) rows) → (taken : List (Entry Name)) (entry : Entry Name) (items : List (Entry Name)) → AreLawfulEntries rows (taken ++ entry ∷ items) → MayAdd rows taken entry
-may-add rows labels taken entry items lawful =
-    let there : has_row rows entry.row ≡ true = all-at (λ (e : Entry Name). has_row rows e.row ≡ true) taken entry items lawful.on_rows in
-    let apart = apart-before same (map (λ (e : Entry Name). e.row) taken) entry.row (map (λ (e : Entry Name). e.row) items) (subst (IsDistinct same) (map-append (λ (e : Entry Name). e.row) taken (entry ∷ items)) lawful.distinct) in
-    record {
-      label = label-of (map (λ row. row.name) rows) entry.row labels (sym (row_is_named entry.row rows) ∙ there);
-      there = there;
-      new = names_of taken entry.row ∙ absent-before (map (λ (e : Entry Name). e.row) taken) entry.row apart;
-      value = all-at (λ (e : Entry Name). IsDecimal e.value) taken entry items lawful.values;
-    }
-
--- the pair of a card of which the entry may be added
-pair-fine : (seen : Problem Name) (section : Section) (taken : List (Entry Name)) (count : ℕ) (name : Name) (entry : Entry Name) → MayAdd seen.rows taken entry
-    → (is_section Ranges section && has_free_row seen.rows entry.row) ≡ false → (is_section Columns section && nat_le MAX_ENTRIES count) ≡ false → pairs_fault seen section taken count (pairs_of (entry_fields name entry)) ≡ None
-pair-fine seen section taken count name entry may limited few =
-    pairs_fault-cons seen section taken count pair [] ∙ ap (λ o. option_or o None) (none_found (
-    pair_row_fault seen section pair.row ∷
-    (has_entry taken pair.row ⟹ DuplicateEntry) ∷
-    value_fault pair.column pair.value ∷
-    (is_section Columns section && nat_le MAX_ENTRIES count ⟹ TooManyEntries) ∷ []) (
-      none_found (
-          (is_empty pair.row ⟹ EmptyName) ∷
-          (not (has_row seen.rows pair.row) ⟹ UnknownRow) ∷
-          (is_section Ranges section && has_free_row seen.rows pair.row ⟹ RangeOnFree) ∷ []) (
-            not_found (is_empty pair.row) EmptyName may.label.present,
-            (
-              not_found (not (has_row seen.rows pair.row)) UnknownRow (ap not may.there),
-              (not_found (is_section Ranges section && has_free_row seen.rows pair.row) RangeOnFree limited, tt),
-            ),
-          ),
-      (
-        not_found (has_entry taken pair.row) DuplicateEntry may.new,
-        (
-          ap (option_map (number_fault_from 25)) ((reads-as entry.value may.value).fine),
-          (not_found (is_section Columns section && nat_le MAX_ENTRIES count) TooManyEntries few, tt),
-        ),
-      ),
-    ))
-  where
-    pair : Pair
-    pair = record { row = entry.row; value = entry.value.text; column = 25 }
 
 -- what a card of an entry adds to its column or set
 adds-entry : (put : List (Group (Entry Name)) → Problem Name) (groups : List (Group (Entry Name))) (name : Name) (entry : Entry Name) → IsDecimal entry.value
@@ -161,15 +104,16 @@ module _ (rows : List (Row Name)) (labels : AllByRecursion IsLabel (map (λ row.
         let entries : AreColumnEntries rows group.items = group-at (λ (g : Group (Entry Name)). AreColumnEntries rows g.items) done group after whole e lawful.items in
         let may = may-add rows labels taken item items (subst (AreLawfulEntries rows) (sym h) entries.entries_lawful) in
         let unmarked : same marker item.row ≡ false = all-at (λ (entry : Entry Name). same marker entry.row ≡ false) taken item items (subst (AllByRecursion (λ (entry : Entry Name). same marker entry.row ≡ false)) (sym h) entries.no_marker) in
+        let plain : has_combination rows item.row ≡ false = all-at (λ (entry : Entry Name). has_combination rows entry.row ≡ false) taken item items (subst (AllByRecursion (λ (entry : Entry Name). has_combination rows entry.row ≡ false)) (sym h) entries.plain) in
         let room : length done + 1 ≤ MAX_COLUMNS = omega (arith, few, ap length (sym e), length-append done (group ∷ after)) in
         let now = groups_at done group.name taken in
         subst (λ p. Accepts (Some Columns) (with_columns now) (entry_card group.name item ∷ []) (Some Columns) p) (adds-entry with_columns now group.name item may.value)
         (accepts-data Columns (with_columns now) (entry_card group.name item) (entry_fields group.name item) (written-entry group.name item label.name_of may.label may.value)
-        (fine done group.name taken item may unmarked label.present absent room (size-whole done group after e taken item items h few_entries)))
+        (fine done group.name taken item may unmarked plain label.present absent room (size-whole done group after e taken item items h few_entries)))
       where
-        fine : (done : List (Group (Entry Name))) (name : Name) (taken : List (Entry Name)) (item : Entry Name) → MayAdd rows taken item → same marker item.row ≡ false → is_empty name ≡ false → has_group done name ≡ false
+        fine : (done : List (Group (Entry Name))) (name : Name) (taken : List (Entry Name)) (item : Entry Name) → MayAdd rows taken item → same marker item.row ≡ false → has_combination rows item.row ≡ false → is_empty name ≡ false → has_group done name ≡ false
             → length done + 1 ≤ MAX_COLUMNS → size (groups_at done name taken) + 1 ≤ MAX_ENTRIES → columns_fault (with_columns (groups_at done name taken)) (entry_fields name item) ≡ None
-        fine done name taken item may unmarked present absent room entry_room =
+        fine done name taken item may unmarked plain present absent room entry_room =
             let now = groups_at done name taken in
             let seen = with_columns now in
             none_found (
@@ -190,7 +134,7 @@ module _ (rows : List (Row Name)) (labels : AllByRecursion IsLabel (map (λ row.
                       not_found (not (has_group now name) && nat_le MAX_COLUMNS (length now)) TooManyColumns (not-many done name taken absent room),
                       (
                         ap (λ list. pairs_fault seen Columns list (entry_count seen) (pairs_of (entry_fields name item))) (items-taken done name taken absent)
-                            ∙ pair-fine seen Columns taken (entry_count seen) name item may refl (below MAX_ENTRIES (entry_count seen) entry_room),
+                            ∙ pair-fine seen Columns taken (entry_count seen) item may plain refl (below MAX_ENTRIES (entry_count seen) entry_room),
                         tt,
                       ),
                     ),
@@ -223,7 +167,7 @@ module _ (rows : List (Row Name)) (labels : AllByRecursion IsLabel (map (λ row.
           refl,
           (
             ap (λ list. pairs_fault (with_rhs now) Rhs list 0 (pairs_of (entry_fields group.name item))) (items-taken done group.name taken absent)
-                ∙ pair-fine (with_rhs now) Rhs taken 0 group.name item may refl refl,
+                ∙ pair-fine (with_rhs now) Rhs taken 0 item may refl refl refl,
             tt,
           ),
         )))
@@ -255,7 +199,7 @@ module _ (rows : List (Row Name)) (labels : AllByRecursion IsLabel (map (λ row.
           refl,
           (
             ap (λ list. pairs_fault (with_ranges now) Ranges list 0 (pairs_of (entry_fields group.name item))) (items-taken done group.name taken absent)
-                ∙ pair-fine (with_ranges now) Ranges taken 0 group.name item may limited refl,
+                ∙ pair-fine (with_ranges now) Ranges taken 0 item may refl limited refl,
             tt,
           ),
         )))

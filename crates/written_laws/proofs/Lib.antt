@@ -1,6 +1,7 @@
 pub mod Cards
 pub mod Accepts
 pub mod Facts
+pub mod AddedPairs
 pub mod Rows
 pub mod Sets
 pub mod Entries

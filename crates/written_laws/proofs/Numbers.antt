@@ -1,13 +1,14 @@
 -- Names in place of numbers and numbers in place of names: the problem again.
-use Rattle.std.proofs.Common.{◌≡◌, ℕ, List, length, map, ap, sym, ◌∙◌, subst, true, is_none}
-use Rattle.std.specs.List.{AllByRecursion, IsDistinct}
+use Rattle.std.proofs.Common.{◌≡◌, ℕ, ◌+◌, ◌≤◌, List, [], ◌∷◌, Option, Some, None, length, map, refl, ap, sym, ◌∙◌, subst, arith}
+use Rattle.std.specs.List.{AllByRecursion, IsDistinct, enumerate_from}
+use Rattle.std.specs.Option.{IfSome}
 use Rattle.std.proofs.lemmas.List.{length-map}
 use Rattle.problem_definitions.specs.Names.{Name, same, number_in, name_at}
 use Rattle.problem_definitions.specs.Problem.{Row, Entry, Bound, Group, Problem, row_names, group_names}
 use Rattle.problem_definitions.specs.Numbering.{entry_by, bound_by, group_by, problem_by, numbered, by_names}
 use Rattle.problem_definitions.specs.Valid.{IsNumberOf, AreEntries, AreBounds, IsProblem}
 use Rattle.problem_definitions.proofs.Each.{each-change, all-each}
-use Rattle.problem_definitions.proofs.PlainRows.{row_names-by, rows-again}
+use Rattle.problem_definitions.proofs.RowsBy.{AreAgain, row_names-by, rows-again}
 use Rattle.problem_definitions.proofs.Lawful.{names-by}
 use Rattle.problem_definitions.proofs.Again.{groups-again}
 use Rattle.revise_laws.proofs.Places.{number_in-name_at}
@@ -30,6 +31,20 @@ module _ (names : List Name) (distinct : IsDistinct same names) (count : ℕ) (c
       (λ group are. each-change (λ (bound : Bound ℕ). IsNumberOf count bound.column) (λ bound. bound_by (number_in names) (bound_by (name_at names) bound) ≡ bound)
       (λ bound is. ap (λ column. record { kind = bound.kind; column = column; value = bound.value }) (again bound.column is)) group.items (all-each (λ (bound : Bound ℕ). IsNumberOf count bound.column) group.items are.on_columns)) groups each)
 
+  -- the parts of rows after so many stand on rows before them, so they come back
+  rows-parts-again : (first : ℕ) (rows : List (Row ℕ)) → first + length rows ≤ count → AllByRecursion (λ (row : ℕ × Row ℕ). IfSome row.1.parts (AreEntries row.0)) (enumerate_from first rows)
+      → AllByRecursion (λ (row : Row ℕ). IfSome row.parts (AreAgain (name_at names) (number_in names))) rows
+  rows-parts-again first [] few are = tt
+  rows-parts-again first (row ∷ rows) few are = (own row.parts are.0, rows-parts-again (first + 1) rows (omega (arith, few)) are.1)
+    where
+      wider : (number : ℕ) → IsNumberOf first number → IsNumberOf count number
+      wider number is = record { positive = is.positive; at_most = omega (arith, is.at_most, few) }
+
+      own : (parts : Option (List (Entry ℕ))) → IfSome parts (AreEntries first) → IfSome parts (AreAgain (name_at names) (number_in names))
+      own None are = tt
+      own (Some parts) are = each-change (λ (entry : Entry ℕ). IsNumberOf first entry.row) (λ entry. entry_by (number_in names) (entry_by (name_at names) entry) ≡ entry)
+          (λ entry is. ap (λ row. record { row = row; value = entry.value }) (again entry.row (wider entry.row is))) parts (all-each (λ (entry : Entry ℕ). IsNumberOf first entry.row) parts are.on_rows)
+
 -- A problem by numbers comes back from its names.
 pub numbered-by_names : (p : Problem ℕ) → IsProblem p → numbered (by_names p) ≡ p
 unfolding by_names numbered
@@ -37,7 +52,9 @@ numbered-by_names p is =
     ap (λ names. problem_by (number_in names) (number_in (group_names (map (group_by (entry_by (name_at (row_names p)))) p.columns))) (by_names p)) (row_names-by (name_at (row_names p)) p.rows)
     ∙ (λ i. record {
       name = p.name;
-      rows = rows-again (name_at (row_names p)) (number_in (row_names p)) p.rows (all-each (λ (row : Row ℕ). is_none row.parts ≡ true) p.rows is.plain_rows) i;
+      rows = rows-again (name_at (row_names p)) (number_in (row_names p)) p.rows
+          (rows-parts-again (row_names p) is.rows.distinct (length p.rows) (sym (length-map p.rows (λ row. row.name))) 0 p.rows (omega arith)
+          (all-each (λ (row : ℕ × Row ℕ). IfSome row.1.parts (AreEntries row.0)) (enumerate_from 0 p.rows) is.parts)) i;
       columns = by_row p.columns (all-each (λ (column : Group (Entry ℕ)). AreEntries (length p.rows) column.items) p.columns is.entries) i;
       rhs = by_row p.rhs (all-each (λ (set : Group (Entry ℕ)). AreEntries (length p.rows) set.items) p.rhs is.rhs_items) i;
       ranges = by_row p.ranges (all-each (λ (set : Group (Entry ℕ)). AreEntries (length p.rows) set.items) p.ranges is.range_items) i;

@@ -1,30 +1,34 @@
 -- The cards of the rows are accepted, and add those rows.
-use Rattle.std.proofs.Common.{◌≡◌, ℕ, ◌+◌, ◌≤◌, Bool, true, false, ◌&&◌, List, [], ◌∷◌, ◌++◌, Some, None, length, map, nat_le, refl, ap, sym, ◌∙◌, subst, arith, lit≤}
-use Rattle.std.specs.List.{AllByRecursion, IsDistinct}
+use Rattle.std.proofs.Common.{◌≡◌, ℕ, ◌+◌, ◌≤◌, Bool, true, false, cond, not, ◌&&◌, ◌||◌, List, [], ◌∷◌, ◌++◌, Option, Some, None, length, map, flat_map, nat_le, bytes_eq, if◌then◌else◌, refl, ap, ap₂, sym, ◌∙◌, subst, arith, lit≤, unwrap_or, is_none, is_some}
+use Rattle.std.specs.List.{AllByRecursion, IsDistinct, last_or}
+use Rattle.std.specs.Option.{IfSome, option_map, option_to_list}
 use Rattle.std.proofs.lemmas.List.{append_assoc, append-nil, map-append, length-append}
-use Rattle.card_definitions.specs.Words.{named, is_empty, without_leading, ◌⟹◌}
+use Rattle.card_definitions.specs.Words.{is_empty, without_leading, ◌⟹◌}
 use Rattle.card_definitions.specs.Cards.{is_blank}
 use Rattle.card_definitions.specs.Fields.{Reading}
-use Rattle.std.specs.Prelude.{is_none}
 use Rattle.problem_definitions.specs.declared.TheConstants.{MAX_ROWS}
 use Rattle.problem_definitions.specs.declared.RowKind.{RowKind}
 use Rattle.problem_definitions.specs.declared.RowKind.TheVariants.{N, G, L, E}
-use Rattle.problem_definitions.specs.Names.{Name, same, has_name}
-use Rattle.problem_definitions.specs.Problem.{Row, plain_row, Entry, Bound, Group, Problem, has_row}
-use Rattle.problem_definitions.proofs.Names.{row_is_named}
-use Rattle.problem_definitions.proofs.PlainRows.{ArePlain, plain-is}
-use Rattle.problem_definitions.proofs.Lawful.{IsLabel}
-use Rattle.deck_definitions.specs.declared.DeckFaultKind.TheVariants.{BadRowType, DuplicateRow, EmptyName, TooManyRows, CombinationRow}
+use Rattle.problem_definitions.specs.Names.{Name, same}
+use Rattle.problem_definitions.specs.Problem.{Row, plain_row, combination, Entry, Bound, Group, Problem, has_row}
+use Rattle.problem_definitions.specs.Parts.{parts_of, in_row, rows_before}
+use Rattle.problem_definitions.proofs.Names.{row_is_named, same_refl, same_sym}
+use Rattle.problem_definitions.proofs.Parts.{ArePartsAfter, parts_of-new, rows_before-new, rows_before-last, in_row-last, parts_of-last}
+use Rattle.problem_definitions.proofs.Lawful.{IsLabel, AreLawfulEntries}
+use Rattle.deck_definitions.specs.declared.DeckFaultKind.{DeckFaultKind}
+use Rattle.deck_definitions.specs.declared.DeckFaultKind.TheVariants.{BadRowType, DuplicateRow, EmptyName, TooManyRows}
 use Rattle.deck_definitions.specs.declared.Section.TheVariants.{Rows}
-use Rattle.deck_definitions.specs.DataCards.{row_kinds}
-use Rattle.deck_definitions.specs.Tests.{combination_kinds, rows_fault, filled_from_3}
-use Rattle.deck_definitions.specs.Written.{row_kind_text, row_card}
-use Rattle.deck_definitions.proofs.Steps.{with_card}
+use Rattle.deck_definitions.specs.DataCards.{combination_text, kind_on, is_card_of, goes_on_last, row_of, parts_on, part_pairs_of}
+use Rattle.deck_definitions.specs.Tests.{pairs_fault, row_fields_fault, rows_fault, row_fault}
+use Rattle.deck_definitions.specs.Written.{data_card, row_kind_text, row_card, combination_cards, row_cards}
+use Rattle.deck_definitions.proofs.Steps.{last_or-push, with_card}
 use Rattle.deck_definitions.proofs.WrittenCards.{FitsField}
-use Rattle.deck_definitions.proofs.Examples.{row_words}
-use Rattle.written_laws.proofs.Cards.{fields, written-card}
+use Rattle.written_laws.proofs.Cards.{IsWritten, fields, written-card}
 use Rattle.written_laws.proofs.Accepts.{Accepts, accepts-none, accepts-then, accepts-data}
-use Rattle.written_laws.proofs.Facts.{none_found, not_found, below, apart-before, absent-before, fits-name}
+use Rattle.written_laws.proofs.Facts.{none_found, not_found, below, all-at, apart-before, absent-before, fits-name, reads-as, fits-number}
+use Rattle.written_laws.proofs.AddedPairs.{MayAdd, may-add, pair_of, pair-fine}
+
+-- ---- the words of types
 
 fits-kind : (kind : RowKind) → FitsField 2 (row_kind_text kind)
 fits-kind N = record { short = lit≤ tt; trimmed = refl }
@@ -38,75 +42,240 @@ kind-kept G = refl
 kind-kept L = refl
 kind-kept E = refl
 
-no_combination : (kind : RowKind) → has_name combination_kinds (row_kind_text kind) ≡ false
-no_combination N = refl
-no_combination G = refl
-no_combination L = refl
-no_combination E = refl
+fits-combination : (kind : RowKind) → FitsField 2 (combination_text kind)
+fits-combination N = record { short = lit≤ tt; trimmed = refl }
+fits-combination G = record { short = lit≤ tt; trimmed = refl }
+fits-combination L = record { short = lit≤ tt; trimmed = refl }
+fits-combination E = record { short = lit≤ tt; trimmed = refl }
 
-abbrev row_fields : Row Name → Reading
-row_fields row = fields (row_kind_text row.kind) row.name [] []
+combination-kept : (kind : RowKind) → without_leading is_blank (combination_text kind) ≡ combination_text kind
+combination-kept N = refl
+combination-kept G = refl
+combination-kept L = refl
+combination-kept E = refl
 
-rows_fine : (seen : Problem Name) (row : Row Name) → is_empty row.name ≡ false → has_row seen.rows row.name ≡ false → length seen.rows + 1 ≤ MAX_ROWS → rows_fault seen (row_fields row) ≡ None
-rows_fine seen row some new few = none_found (
-    (has_name combination_kinds (row_kind_text row.kind) ⟹ CombinationRow) ∷
-    (is_none (named row_kinds (row_kind_text row.kind)) ⟹ BadRowType) ∷
-    (is_empty row.name ⟹ EmptyName) ∷
-    (has_row seen.rows row.name ⟹ DuplicateRow) ∷
-    (nat_le MAX_ROWS (length seen.rows) ⟹ TooManyRows) ∷
-    filled_from_3 (row_fields row) ∷ []) (
-      not_found (has_name combination_kinds (row_kind_text row.kind)) CombinationRow (no_combination row.kind),
+-- ---- what a card of a new name does
+
+-- a card goes on with no row of another name
+new-goes-on : (card : Reading) (last : Option (Row Name)) (rows : List (Row Name)) → unwrap_or (option_map (λ row. is_some row.parts && is_card_of row.kind row.name card) last) false ≡ false → has_row rows card.name1 ≡ false
+    → unwrap_or (option_map (λ row. is_some row.parts && is_card_of row.kind row.name card) (last_or last rows)) false ≡ false
+new-goes-on card last [] none new = none
+new-goes-on card last (row ∷ rows) none new = new-goes-on card (Some row) rows
+    (other (is_some row.parts) (bytes_eq (combination_text row.kind) card.kind) (same row.name card.name1) (same_sym row.name card.name1 ∙ first (same card.name1 row.name) (has_row rows card.name1) new))
+    (second (same card.name1 row.name) (has_row rows card.name1) new)
+  where
+    other : (a b c : Bool) → c ≡ false → (a && (b && c)) ≡ false
+    other true true c h = h
+    other true false c h = refl
+    other false b c h = refl
+
+    first : (a b : Bool) → (a || b) ≡ false → a ≡ false
+    first true b h = h
+    first false b h = refl
+
+    second : (a b : Bool) → (a || b) ≡ false → b ≡ false
+    second true b h = absurd (cc h)
+    second false b h = h
+
+row-begun : (seen : Problem Name) (card : Reading) (row : Row Name) → has_row seen.rows card.name1 ≡ false → row_of card ≡ Some row → with_card Rows card seen ≡ record seen { rows = seen.rows ++ row ∷ [] }
+row-begun seen card row new is =
+    ap (λ b. record seen { rows = if b then in_row card.name1 (λ parts. parts ++ parts_on card) seen.rows else seen.rows ++ option_to_list (row_of card) }) (new-goes-on card None seen.rows refl new)
+    ∙ ap (λ o. record seen { rows = seen.rows ++ option_to_list o }) is
+
+-- the tests of a card of ROWS, one after another
+rows-tests : (seen : Problem Name) (goes_on : Bool) (earlier : List (Row Name)) (card : Reading) → is_none (kind_on card) ≡ false → is_empty card.name1 ≡ false → (not goes_on && has_row seen.rows card.name1) ≡ false
+    → (not goes_on && nat_le MAX_ROWS (length seen.rows)) ≡ false → row_fields_fault seen earlier card ≡ None → rows_fault seen goes_on earlier card ≡ None
+rows-tests seen goes_on earlier card typed named new few fine = none_found (
+    (is_none (kind_on card) ⟹ BadRowType) ∷
+    (is_empty card.name1 ⟹ EmptyName) ∷
+    (not goes_on && has_row seen.rows card.name1 ⟹ DuplicateRow) ∷
+    (not goes_on && nat_le MAX_ROWS (length seen.rows) ⟹ TooManyRows) ∷
+    row_fields_fault seen earlier card ∷ []) (
+      not_found (is_none (kind_on card)) BadRowType typed,
       (
-        not_found (is_none (named row_kinds (row_kind_text row.kind))) BadRowType (ap is_none (row_words row.kind)),
+        not_found (is_empty card.name1) EmptyName named,
         (
-          not_found (is_empty row.name) EmptyName some,
-          (
-            not_found (has_row seen.rows row.name) DuplicateRow new,
-            (
-              not_found (nat_le MAX_ROWS (length seen.rows)) TooManyRows (below MAX_ROWS (length seen.rows) few),
-              (refl, tt),
-            ),
-          ),
+          not_found (not goes_on && has_row seen.rows card.name1) DuplicateRow new,
+          (not_found (not goes_on && nat_le MAX_ROWS (length seen.rows)) TooManyRows few, (fine, tt)),
         ),
       ),
     )
 
--- one row
-row-accepted : (seen : Problem Name) (row : Row Name) → is_none row.parts ≡ true → IsLabel row.name → has_row seen.rows row.name ≡ false → length seen.rows + 1 ≤ MAX_ROWS
-    → Accepts (Some Rows) seen (row_card row ∷ []) (Some Rows) (record seen { rows = seen.rows ++ row ∷ [] })
-row-accepted seen row plain label new few =
-    subst (λ p. Accepts (Some Rows) seen (row_card row ∷ []) (Some Rows) p) (added row.kind row.name ∙ ap (λ row. record seen { rows = seen.rows ++ row ∷ [] }) (plain-is row plain))
-    (accepts-data Rows seen (row_card row) (row_fields row)
-    (written-card (row_kind_text row.kind) row.name [] [] (fits-kind row.kind) (kind-kept row.kind) (fits-name row.name label.name_of) blank blank (some (is_empty row.name) label.present))
-    (rows_fine seen row label.present new few))
+-- the same where it begins a row
+begins-fine : (seen : Problem Name) (card : Reading) → is_none (kind_on card) ≡ false → is_empty card.name1 ≡ false → has_row seen.rows card.name1 ≡ false → length seen.rows + 1 ≤ MAX_ROWS
+    → row_fields_fault seen (rows_before card.name1 seen.rows) card ≡ None → row_fault seen card ≡ None
+begins-fine seen card typed named new few fine =
+    rows-tests seen (goes_on_last seen.rows card) (rows_before card.name1 seen.rows) card typed named (either (goes_on_last seen.rows card) (has_row seen.rows card.name1) new)
+    (either (goes_on_last seen.rows card) (nat_le MAX_ROWS (length seen.rows)) (below MAX_ROWS (length seen.rows) few)) fine
   where
-    blank : {n : ℕ} → FitsField n []
-    blank = record { short = omega arith; trimmed = refl }
+    either : (a b : Bool) → b ≡ false → (not a && b) ≡ false
+    either true b h = refl
+    either false b h = h
 
-    some : (b : Bool) → b ≡ false → (b && true) ≡ false
-    some true h = h
-    some false h = refl
+blank : {n : ℕ} → FitsField n []
+blank = record { short = omega arith; trimmed = refl }
 
-    added : (kind : RowKind) (name : Name) → with_card Rows (fields (row_kind_text kind) name [] []) seen ≡ record seen { rows = seen.rows ++ plain_row kind name ∷ [] }
-    added N name = refl
-    added G name = refl
-    added L name = refl
-    added E name = refl
+some-name : (a b : Bool) → a ≡ false → (a && b) ≡ false
+some-name true b h = absurd (cc h)
+some-name false b h = refl
+
+-- ---- a plain row
+
+plain-typed : (kind : RowKind) (name : Name) → is_none (kind_on (fields (row_kind_text kind) name [] [])) ≡ false
+plain-typed N name = refl
+plain-typed G name = refl
+plain-typed L name = refl
+plain-typed E name = refl
+
+plain-fields : (seen : Problem Name) (earlier : List (Row Name)) (kind : RowKind) (name : Name) → row_fields_fault seen earlier (fields (row_kind_text kind) name [] []) ≡ None
+plain-fields seen earlier N name = refl
+plain-fields seen earlier G name = refl
+plain-fields seen earlier L name = refl
+plain-fields seen earlier E name = refl
+
+plain-row : (kind : RowKind) (name : Name) → row_of (fields (row_kind_text kind) name [] []) ≡ Some (plain_row kind name)
+plain-row N name = refl
+plain-row G name = refl
+plain-row L name = refl
+plain-row E name = refl
+
+plain-accepted : (seen : Problem Name) (kind : RowKind) (name : Name) → IsLabel name → has_row seen.rows name ≡ false → length seen.rows + 1 ≤ MAX_ROWS
+    → Accepts (Some Rows) seen (data_card (row_kind_text kind) name [] [] ∷ []) (Some Rows) (record seen { rows = seen.rows ++ plain_row kind name ∷ [] })
+plain-accepted seen kind name label new few =
+    let card = fields (row_kind_text kind) name [] [] in
+    subst (λ p. Accepts (Some Rows) seen (data_card (row_kind_text kind) name [] [] ∷ []) (Some Rows) p) (row-begun seen card (plain_row kind name) new (plain-row kind name))
+    (accepts-data Rows seen (data_card (row_kind_text kind) name [] []) card
+    (written-card (row_kind_text kind) name [] [] (fits-kind kind) (kind-kept kind) (fits-name name label.name_of) blank blank (some-name (is_empty name) true label.present))
+    (begins-fine seen card (plain-typed kind name) label.present new few (plain-fields seen (rows_before name seen.rows) kind name)))
+
+-- ---- a card of a combination
+
+combination-typed : (kind : RowKind) (name row : Name) (value : List ℕ) → is_none (kind_on (fields (combination_text kind) name row value)) ≡ false
+combination-typed N name row value = refl
+combination-typed G name row value = refl
+combination-typed L name row value = refl
+combination-typed E name row value = refl
+
+combination-fields : (seen : Problem Name) (earlier : List (Row Name)) (kind : RowKind) (name row : Name) (value : List ℕ)
+    → row_fields_fault seen earlier (fields (combination_text kind) name row value) ≡ pairs_fault (record seen { rows = earlier }) Rows (parts_of name seen.rows) 0 (part_pairs_of (fields (combination_text kind) name row value))
+combination-fields seen earlier N name row value = refl
+combination-fields seen earlier G name row value = refl
+combination-fields seen earlier L name row value = refl
+combination-fields seen earlier E name row value = refl
+
+combination-row : (kind : RowKind) (name row : Name) (value : List ℕ) → row_of (fields (combination_text kind) name row value) ≡ Some (combination kind name (parts_on (fields (combination_text kind) name row value)))
+combination-row N name row value = refl
+combination-row G name row value = refl
+combination-row L name row value = refl
+combination-row E name row value = refl
+
+-- a combination without parts
+bare-accepted : (seen : Problem Name) (kind : RowKind) (name : Name) → IsLabel name → has_row seen.rows name ≡ false → length seen.rows + 1 ≤ MAX_ROWS
+    → Accepts (Some Rows) seen (data_card (combination_text kind) name [] [] ∷ []) (Some Rows) (record seen { rows = seen.rows ++ combination kind name [] ∷ [] })
+bare-accepted seen kind name label new few =
+    let card = fields (combination_text kind) name [] [] in
+    subst (λ p. Accepts (Some Rows) seen (data_card (combination_text kind) name [] [] ∷ []) (Some Rows) p) (row-begun seen card (combination kind name []) new (combination-row kind name [] []))
+    (accepts-data Rows seen (data_card (combination_text kind) name [] []) card
+    (written-card (combination_text kind) name [] [] (fits-combination kind) (combination-kept kind) (fits-name name label.name_of) blank blank (some-name (is_empty name) true label.present))
+    (begins-fine seen card (combination-typed kind name [] []) label.present new few (combination-fields seen (rows_before name seen.rows) kind name [] [])))
+
+abbrev part_card : RowKind → Name → Entry Name → List ℕ
+part_card kind name part = data_card (combination_text kind) name part.row part.value.text
+
+abbrev part_fields : RowKind → Name → Entry Name → Reading
+part_fields kind name part = fields (combination_text kind) name part.row part.value.text
+
+written-part : (kind : RowKind) (name : Name) → IsLabel name → {rows : List (Row Name)} {taken : List (Entry Name)} (part : Entry Name) → MayAdd rows taken part → IsWritten (part_card kind name part) (part_fields kind name part)
+written-part kind name label part may = written-card (combination_text kind) name part.row part.value.text (fits-combination kind) (combination-kept kind) (fits-name name label.name_of)
+    (fits-name part.row may.label.name_of) (fits-number part.value may.value) (some-name (is_empty name) (is_empty part.row) label.present)
+
+-- its one pair, and the part that this is
+part-pair : (kind : RowKind) (name : Name) {rows : List (Row Name)} {taken : List (Entry Name)} (part : Entry Name) → MayAdd rows taken part → part_pairs_of (part_fields kind name part) ≡ pair_of part ∷ []
+part-pair kind name part may = ap (λ b. cond (b && is_empty part.value.text) [] (pair_of part ∷ []) ++ []) may.label.present
+
+part-read : (kind : RowKind) (name : Name) {rows : List (Row Name)} {taken : List (Entry Name)} (part : Entry Name) → MayAdd rows taken part → parts_on (part_fields kind name part) ≡ part ∷ []
+part-read kind name part may = rw (part-pair kind name part may) (ap (λ v. record { row = part.row; value = v } ∷ []) ((reads-as part.value may.value).again))
 
 module _ (columns rhs ranges : List (Group (Entry Name))) (bounds : List (Group (Bound Name))) where
   abbrev with_rows : List (Row Name) → Problem Name
   with_rows rows = record { name = []; rows = rows; columns = columns; rhs = rhs; ranges = ranges; bounds = bounds }
 
+  -- some rows, after which a combination stands
+  module _ (done : List (Row Name)) (labels : AllByRecursion IsLabel (map (λ row. row.name) done)) (kind : RowKind) (name : Name) (label : IsLabel name) (new : has_row done name ≡ false) where
+    -- the rows with the parts that the combination has so far
+    abbrev rows_at : List (Entry Name) → List (Row Name)
+    rows_at parts = done ++ combination kind name parts ∷ []
+
+    first-part : length done + 1 ≤ MAX_ROWS → (part : Entry Name) → MayAdd done [] part → Accepts (Some Rows) (with_rows done) (part_card kind name part ∷ []) (Some Rows) (with_rows (rows_at (part ∷ [])))
+    first-part few part may =
+        let card = part_fields kind name part in
+        subst (λ p. Accepts (Some Rows) (with_rows done) (part_card kind name part ∷ []) (Some Rows) p)
+        (row-begun (with_rows done) card (combination kind name (parts_on card)) new (combination-row kind name part.row part.value.text) ∙ ap (λ parts. with_rows (rows_at parts)) (part-read kind name part may))
+        (accepts-data Rows (with_rows done) (part_card kind name part) card (written-part kind name label part may)
+        (begins-fine (with_rows done) card (combination-typed kind name part.row part.value.text) label.present new few
+        (combination-fields (with_rows done) (rows_before name done) kind name part.row part.value.text
+        ∙ (λ i. pairs_fault (with_rows (rows_before-new name done new i)) Rows (parts_of-new name done new i) 0 (part-pair kind name part may i))
+        ∙ pair-fine (with_rows done) Rows [] 0 part may refl refl refl)))
+
+    goes-on : (sofar : List (Entry Name)) (part : Entry Name) → goes_on_last (rows_at sofar) (part_fields kind name part) ≡ true
+    goes-on sofar part =
+        ap (λ o. unwrap_or (option_map (λ (row : Row Name). is_some row.parts && is_card_of row.kind row.name (part_fields kind name part)) o) false) (last_or-push None done (Some (combination kind name sofar)))
+        ∙ ap₂ (λ a b. a && b) (same_refl (combination_text kind)) (same_refl name)
+
+    next-part : (sofar : List (Entry Name)) (part : Entry Name) → MayAdd done sofar part → Accepts (Some Rows) (with_rows (rows_at sofar)) (part_card kind name part ∷ []) (Some Rows) (with_rows (rows_at (sofar ++ part ∷ [])))
+    next-part sofar part may =
+        let card = part_fields kind name part in
+        let rows = rows_at sofar in
+        subst (λ p. Accepts (Some Rows) (with_rows rows) (part_card kind name part ∷ []) (Some Rows) p)
+        (ap (λ b. with_rows (if b then in_row name (λ parts. parts ++ parts_on card) rows else rows ++ option_to_list (row_of card))) (goes-on sofar part)
+        ∙ ap with_rows (in_row-last name (combination kind name sofar) (same_refl name) (λ parts. parts ++ parts_on card) done new)
+        ∙ ap (λ more. with_rows (rows_at (sofar ++ more))) (part-read kind name part may))
+        (accepts-data Rows (with_rows rows) (part_card kind name part) card (written-part kind name label part may)
+        (ap (λ b. rows_fault (with_rows rows) b (rows_before name rows) card) (goes-on sofar part)
+        ∙ rows-tests (with_rows rows) true (rows_before name rows) card (combination-typed kind name part.row part.value.text) label.present refl refl
+        (combination-fields (with_rows rows) (rows_before name rows) kind name part.row part.value.text
+        ∙ (λ i. pairs_fault (with_rows (rows_before-last name (combination kind name sofar) (same_refl name) done new i)) Rows (parts_of-last name (combination kind name sofar) (same_refl name) done new i) 0 (part-pair kind name part may i))
+        ∙ pair-fine (with_rows done) Rows sofar 0 part may refl refl refl)))
+
+    -- the cards of the parts to come
+    more-parts : (sofar parts : List (Entry Name)) → AreLawfulEntries done (sofar ++ parts) → Accepts (Some Rows) (with_rows (rows_at sofar)) (map (part_card kind name) parts) (Some Rows) (with_rows (rows_at (sofar ++ parts)))
+    more-parts sofar [] are = subst (λ all. Accepts (Some Rows) (with_rows (rows_at sofar)) [] (Some Rows) (with_rows (rows_at all))) (sym (append-nil sofar)) (accepts-none (Some Rows) (with_rows (rows_at sofar)))
+    more-parts sofar (part ∷ parts) are =
+        subst (λ all. Accepts (Some Rows) (with_rows (rows_at sofar)) (map (part_card kind name) (part ∷ parts)) (Some Rows) (with_rows (rows_at all))) (append_assoc sofar (part ∷ []) parts)
+        (accepts-then (part_card kind name part ∷ []) (map (part_card kind name) parts) (next-part sofar part (may-add done labels sofar part parts are))
+        (more-parts (sofar ++ part ∷ []) parts (subst (AreLawfulEntries done) (sym (append_assoc sofar (part ∷ []) parts)) are)))
+
+    combination-accepted : length done + 1 ≤ MAX_ROWS → (parts : List (Entry Name)) → AreLawfulEntries done parts → Accepts (Some Rows) (with_rows done) (combination_cards kind name parts) (Some Rows) (with_rows (rows_at parts))
+    combination-accepted few [] are = bare-accepted (with_rows done) kind name label new few
+    combination-accepted few (part ∷ parts) are =
+        accepts-then (part_card kind name part ∷ []) (map (part_card kind name) parts) (first-part few part (may-add done labels [] part parts are)) (more-parts (part ∷ []) parts are)
+
+  -- the cards of one row, whose parts stand on rows before it
+  row-accepted : (done : List (Row Name)) → AllByRecursion IsLabel (map (λ row. row.name) done) → (row : Row Name) → IsLabel row.name → has_row done row.name ≡ false → length done + 1 ≤ MAX_ROWS → IfSome row.parts (AreLawfulEntries done)
+      → Accepts (Some Rows) (with_rows done) (row_cards row) (Some Rows) (with_rows (done ++ row ∷ []))
+  row-accepted done labels row label new few are = by row.parts are
+    where
+      by : (parts : Option (List (Entry Name))) → IfSome parts (AreLawfulEntries done)
+          → Accepts (Some Rows) (with_rows done) (row_cards (record { kind = row.kind; name = row.name; parts = parts })) (Some Rows) (with_rows (done ++ record { kind = row.kind; name = row.name; parts = parts } ∷ []))
+      by None are = plain-accepted (with_rows done) row.kind row.name label new few
+      by (Some parts) are = combination-accepted done labels row.kind row.name label new few parts are
+
+  labels-front : (xs ys : List Name) → AllByRecursion IsLabel (xs ++ ys) → AllByRecursion IsLabel xs
+  labels-front [] ys each = tt
+  labels-front (x ∷ xs) ys each = (each.0, labels-front xs ys each.1)
+
   -- The cards of rows add them to those that are there.
-  pub rows-accepted : (done rows : List (Row Name)) → ArePlain rows → AllByRecursion (λ (row : Row Name). IsLabel row.name) rows → IsDistinct same (map (λ row. row.name) (done ++ rows)) → length (done ++ rows) ≤ MAX_ROWS
-      → Accepts (Some Rows) (with_rows done) (map row_card rows) (Some Rows) (with_rows (done ++ rows))
-  rows-accepted done [] plain labels distinct few = subst (λ rows. Accepts (Some Rows) (with_rows done) [] (Some Rows) (with_rows rows)) (sym (append-nil done)) (accepts-none (Some Rows) (with_rows done))
-  rows-accepted done (row ∷ rows) plain labels distinct few =
+  pub rows-accepted : (done rows : List (Row Name)) → ArePartsAfter done rows → AllByRecursion IsLabel (map (λ row. row.name) (done ++ rows)) → IsDistinct same (map (λ row. row.name) (done ++ rows)) → length (done ++ rows) ≤ MAX_ROWS
+      → Accepts (Some Rows) (with_rows done) (flat_map row_cards rows) (Some Rows) (with_rows (done ++ rows))
+  rows-accepted done [] are labels distinct few = subst (λ rows. Accepts (Some Rows) (with_rows done) [] (Some Rows) (with_rows rows)) (sym (append-nil done)) (accepts-none (Some Rows) (with_rows done))
+  rows-accepted done (row ∷ rows) are labels distinct few =
       let whole = append_assoc done (row ∷ []) rows in
       let names = map-append (λ row. row.name) done (row ∷ rows) in
+      let known = subst (AllByRecursion IsLabel) names labels in
       let apart = apart-before same (map (λ row. row.name) done) row.name (map (λ row. row.name) rows) (subst (IsDistinct same) names distinct) in
       let new = row_is_named row.name done ∙ absent-before (map (λ row. row.name) done) row.name apart in
       let room : length done + 1 ≤ MAX_ROWS = omega (arith, few, length-append done (row ∷ rows)) in
-      subst (λ all. Accepts (Some Rows) (with_rows done) (map row_card (row ∷ rows)) (Some Rows) (with_rows all)) whole
-      (accepts-then (row_card row ∷ []) (map row_card rows) (row-accepted (with_rows done) row plain.0 labels.0 new room)
-      (rows-accepted (done ++ row ∷ []) rows plain.1 labels.1 (subst (λ all. IsDistinct same (map (λ row. row.name) all)) (sym whole) distinct) (subst (λ all. length all ≤ MAX_ROWS) (sym whole) few)))
+      let own = row-accepted done (labels-front (map (λ row. row.name) done) (map (λ row. row.name) (row ∷ rows)) known) row (all-at IsLabel (map (λ row. row.name) done) row.name (map (λ row. row.name) rows) known) new room are.0 in
+      subst (λ all. Accepts (Some Rows) (with_rows done) (flat_map row_cards (row ∷ rows)) (Some Rows) (with_rows all)) whole
+      (accepts-then (row_cards row) (flat_map row_cards rows) own
+      (rows-accepted (done ++ row ∷ []) rows are.1 (subst (λ all. AllByRecursion IsLabel (map (λ row. row.name) all)) (sym whole) labels) (subst (λ all. IsDistinct same (map (λ row. row.name) all)) (sym whole) distinct) (subst (λ all. length all ≤ MAX_ROWS) (sym whole) few)))

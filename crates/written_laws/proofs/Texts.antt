@@ -1,5 +1,5 @@
 -- The text of a written deck, read as cards, is those cards.
-use Rattle.std.proofs.Common.{◌≡◌, ℕ, zero, suc, ◌-◌, Bool, true, false, cond, eqb, ◌&&◌, ◌||◌, List, [], ◌∷◌, ◌++◌, Option, Some, None, length, map, take, replicate, refl, ap, ap₂, sym, ◌∙◌}
+use Rattle.std.proofs.Common.{◌≡◌, ℕ, zero, suc, ◌-◌, Bool, true, false, cond, eqb, ◌&&◌, ◌||◌, List, [], ◌∷◌, ◌++◌, Option, Some, None, is_none, length, map, filter, take, replicate, refl, ap, ap₂, sym, ◌∙◌}
 use Rattle.std.specs.List.{AllByRecursion, list_all, flat_map, slice_split, suffix_len}
 use Rattle.std.specs.Option.{IfSome}
 use Rattle.std.specs.Prelude.{codes}
@@ -22,8 +22,11 @@ use Rattle.problem_definitions.specs.Valid.{IsName, IsDecimal, IsProblem}
 use Rattle.problem_definitions.proofs.Names.{row_is_named}
 use Rattle.problem_definitions.proofs.Groups.{has_group-names}
 use Rattle.problem_definitions.proofs.Each.{each-all, each-append, each-change}
+use Rattle.problem_definitions.proofs.Parts.{parts-there}
 use Rattle.problem_definitions.proofs.Lawful.{IsLabel, AreLawfulEntries, AreLawfulBounds, IsLawful}
-use Rattle.deck_definitions.specs.Written.{row_kind_text, bound_kind_text, data_card, row_card, entry_cards, column_cards, bound_text, bound_cards, set_section, written, card_text}
+use Rattle.deck_definitions.specs.DataCards.{combination_text}
+use Rattle.deck_definitions.specs.Written.{row_kind_text, bound_kind_text, data_card, row_cards, entry_cards, column_cards, bound_text, bound_cards, set_section, written, card_text}
+use Rattle.revise_laws.proofs.Lists.{each-filter}
 use Rattle.revise_laws.proofs.ByNames.{named-lawful}
 use Rattle.written_laws.proofs.Facts.{from-map, label-of}
 use Rattle.written_laws.proofs.Printable.{ArePrintable, number-printable}
@@ -123,10 +126,6 @@ data-is kind name1 name2 value pk p1 p2 pv =
     let s6 = append-printable (codes " " ++ K ++ codes " " ++ A ++ codes "  " ++ B) (codes "  ") s5 refl in
     trimmed-card (codes " " ++ K ++ codes " " ++ A ++ codes "  " ++ B ++ codes "  " ++ value) (append-printable (codes " " ++ K ++ codes " " ++ A ++ codes "  " ++ B ++ codes "  ") value s6 pv)
 
-cards-mapped : {X : Type 0} (P : X → Type 0) (f : X → List ℕ) → ((x : X) → P x → IsCard (f x)) → (xs : List X) → AllByRecursion P xs → AllByRecursion IsCard (map f xs)
-cards-mapped P f is [] each = tt
-cards-mapped P f is (x ∷ xs) each = (is x each.0, cards-mapped P f is xs each.1)
-
 cards-flat : {X : Type 0} (P : X → Type 0) (f : X → List (List ℕ)) → ((x : X) → P x → AllByRecursion IsCard (f x)) → (xs : List X) → AllByRecursion P xs → AllByRecursion IsCard (flat_map f xs)
 cards-flat P f is [] each = tt
 cards-flat P f is (x ∷ xs) each = each-append IsCard (f x) (flat_map f xs) (is x each.0) (cards-flat P f is xs each.1)
@@ -136,6 +135,12 @@ row-kind N = refl
 row-kind G = refl
 row-kind L = refl
 row-kind E = refl
+
+combination-kind : (kind : RowKind) → ArePrintable (combination_text kind)
+combination-kind N = refl
+combination-kind G = refl
+combination-kind L = refl
+combination-kind E = refl
 
 bound-kind : (kind : BoundKind) → ArePrintable (bound_kind_text kind)
 bound-kind Up = refl
@@ -172,6 +177,26 @@ module _ (q : Problem Name) (lawful : IsLawful q) (name : IsName q.name) where
           let label = label-of (map (λ (row : Row Name). row.name) q.rows) entry.row lawful.row_labels (sym (row_is_named entry.row q.rows) ∙ there.0) in
           (data-is [] group.name entry.row entry.value.text refl is.name.printable label.name_of.printable (number-printable entry.value values.0), by items there.1 values.1)
 
+  -- the cards of a combination, whose parts stand on rows that are there
+  parts-are : (kind : RowKind) (name : Name) → IsName name → (parts : List (Entry Name)) → AllByRecursion (λ (part : Entry Name). has_row q.rows part.row ≡ true) parts → AllByRecursion (λ (part : Entry Name). IsDecimal part.value) parts
+      → AllByRecursion IsCard (map (λ (part : Entry Name). data_card (combination_text kind) name part.row part.value.text) parts)
+  parts-are kind name is [] there values = tt
+  parts-are kind name is (part ∷ parts) there values =
+      let label = label-of (map (λ (row : Row Name). row.name) q.rows) part.row lawful.row_labels (sym (row_is_named part.row q.rows) ∙ there.0) in
+      (data-is (combination_text kind) name part.row part.value.text (combination-kind kind) is.printable label.name_of.printable (number-printable part.value values.0), parts-are kind name is parts there.1 values.1)
+
+  row-is : (row : Row Name) → IsLabel row.name → IfSome row.parts (AreLawfulEntries q.rows) → AllByRecursion IsCard (row_cards row)
+  row-is row label are = by row.parts are
+    where
+      by : (parts : Option (List (Entry Name))) → IfSome parts (AreLawfulEntries q.rows) → AllByRecursion IsCard (row_cards (record { kind = row.kind; name = row.name; parts = parts }))
+      by None are = (data-is (row_kind_text row.kind) row.name [] [] (row-kind row.kind) label.name_of.printable refl refl, tt)
+      by (Some []) are = (data-is (combination_text row.kind) row.name [] [] (combination-kind row.kind) label.name_of.printable refl refl, tt)
+      by (Some (part ∷ parts)) are = parts-are row.kind row.name label.name_of (part ∷ parts) are.on_rows are.values
+
+  rows-are : (rows : List (Row Name)) → AllByRecursion (λ (row : Row Name). IsLabel row.name) rows → AllByRecursion (λ (row : Row Name). IfSome row.parts (AreLawfulEntries q.rows)) rows → AllByRecursion IsCard (flat_map row_cards rows)
+  rows-are [] labels are = tt
+  rows-are (row ∷ rows) labels are = each-append IsCard (row_cards row) (flat_map row_cards rows) (row-is row labels.0 are.0) (rows-are rows labels.1 are.1)
+
   column-is : (column : Group (Entry Name)) → IsGroup (AreLawfulEntries q.rows) column → AllByRecursion IsCard (column_cards q.rows column)
   column-is column is = by (is_empty column.items)
     where
@@ -179,8 +204,8 @@ module _ (q : Problem Name) (lawful : IsLawful q) (name : IsName q.name) where
       zero-cards [] labels = tt
       zero-cards (row ∷ rows) labels = (data-is [] column.name row.name (codes "0") refl is.name.printable labels.0.name_of.printable refl, tt)
 
-      by : (b : Bool) → AllByRecursion IsCard (cond b (map (λ (row : Row Name). data_card [] column.name row.name (codes "0")) (take 1 q.rows)) (entry_cards column))
-      by true = zero-cards q.rows row_labels
+      by : (b : Bool) → AllByRecursion IsCard (cond b (map (λ (row : Row Name). data_card [] column.name row.name (codes "0")) (take 1 (filter (λ row. is_none row.parts) q.rows))) (entry_cards column))
+      by true = zero-cards (filter (λ row. is_none row.parts) q.rows) (each-filter (λ (row : Row Name). IsLabel row.name) (λ row. is_none row.parts) q.rows row_labels)
       by false = entries-are column is
 
   bounds-are : (set : Group (Bound Name)) → IsGroup (AreLawfulBounds q.columns) set → AllByRecursion IsCard (bound_cards set)
@@ -208,8 +233,8 @@ module _ (q : Problem Name) (lawful : IsLawful q) (name : IsName q.name) where
         trimmed-card (codes "NAME          " ++ q.name) (append-printable (codes "NAME          ") q.name refl name.printable),
         (
           record { printable = refl; trimmed = refl },
-          each-append IsCard (map row_card q.rows) (codes "COLUMNS" ∷ (C ++ S1 ++ S2 ++ S3 ++ last))
-              (cards-mapped (λ (row : Row Name). IsLabel row.name) row_card (λ row label. data-is (row_kind_text row.kind) row.name [] [] (row-kind row.kind) label.name_of.printable refl refl) q.rows row_labels) (
+          each-append IsCard (flat_map row_cards q.rows) (codes "COLUMNS" ∷ (C ++ S1 ++ S2 ++ S3 ++ last))
+              (rows-are q.rows row_labels (parts-there q.rows [] q.rows (λ name there. there) lawful.parts)) (
                 record { printable = refl; trimmed = refl },
                 each-append IsCard (C ++ S1 ++ S2 ++ S3) last
                     (each-append IsCard (C ++ S1 ++ S2) S3

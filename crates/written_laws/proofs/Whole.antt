@@ -1,5 +1,5 @@
 -- The whole deck of a problem.
-use Rattle.std.proofs.Common.{◌≡◌, ℕ, ◌+◌, ◌≤◌, Bool, true, false, cond, not, ◌&&◌, List, [], ◌∷◌, ◌++◌, Option, Some, None, Ok, length, map, take, unwrap_or, if◌then◌else◌, refl, ap, ap₂, sym, ◌∙◌, subst, arith}
+use Rattle.std.proofs.Common.{◌≡◌, ℕ, ◌+◌, ◌≤◌, Bool, true, false, cond, not, ◌&&◌, List, [], ◌∷◌, ◌++◌, Option, Some, None, is_none, Ok, length, map, filter, take, unwrap_or, if◌then◌else◌, refl, ap, ap₂, sym, ◌∙◌, subst, arith}
 use Rattle.std.specs.List.{All, AllByRecursion, flat_map}
 use Rattle.std.specs.Option.{option_map}
 use Rattle.std.specs.Prelude.{codes, bytes_eq}
@@ -24,10 +24,9 @@ use Rattle.deck_definitions.specs.declared.Style.TheVariants.{FixedFields, FreeF
 use Rattle.deck_definitions.specs.DataCards.{header_style}
 use Rattle.deck_definitions.specs.Described.{described}
 use Rattle.deck_definitions.specs.Conversion.{section_card_fault, card_fault, first_faulty, deck_fault, deck_name, conversion}
-use Rattle.deck_definitions.specs.Written.{data_card, row_card, entry_cards, bound_cards, column_cards, set_section, written}
+use Rattle.deck_definitions.specs.Written.{data_card, row_cards, entry_cards, bound_cards, column_cards, set_section, written}
 use Rattle.revise_laws.proofs.ByNames.{named-lawful}
 use Rattle.written_laws.proofs.Accepts.{Stands, Accepts, accepts-none, accepts-then, accepts-header, accepts-section}
-use Rattle.written_laws.proofs.Facts.{from-map}
 use Rattle.written_laws.proofs.Rows.{rows-accepted}
 use Rattle.written_laws.proofs.Entries.{columns-accepted, rhs-accepted, ranges-accepted}
 use Rattle.written_laws.proofs.Bounds.{bounds-accepted}
@@ -134,7 +133,7 @@ endata-follows false true true = refl
 column-cards : (rows : List (Row Name)) (groups : List (Group (Entry Name))) → AllByRecursion (λ (column : Group (Entry Name)). is_empty column.items ≡ false) groups → flat_map (column_cards rows) groups ≡ flat_map entry_cards groups
 column-cards rows [] some = refl
 column-cards rows (column ∷ groups) some =
-    ap₂ (λ a b. a ++ b) (ap (λ b. cond b (map (λ (row : Row Name). data_card [] column.name row.name (codes "0")) (take 1 rows)) (entry_cards column)) some.0) (column-cards rows groups some.1)
+    ap₂ (λ a b. a ++ b) (ap (λ b. cond b (map (λ (row : Row Name). data_card [] column.name row.name (codes "0")) (take 1 (filter (λ row. is_none row.parts) rows))) (entry_cards column)) some.0) (column-cards rows groups some.1)
 
 module _ (q : Problem Name) (lawful : IsLawful q) (some : AllByRecursion (λ (column : Group (Entry Name)). is_empty column.items ≡ false) q.columns) where
   -- the problem with an empty name
@@ -200,9 +199,9 @@ module _ (q : Problem Name) (lawful : IsLawful q) (some : AllByRecursion (λ (co
   deck-accepted short =
       let with_rows : Problem Name = record { name = []; rows = q.rows; columns = []; rhs = []; ranges = []; bounds = [] } in
       let after_columns : List (List ℕ) = flat_map (column_cards q.rows) q.columns ++ set_section (codes "RHS") entry_cards q.rhs ++ set_section (codes "RANGES") entry_cards q.ranges ++ set_section (codes "BOUNDS") bound_cards q.bounds ++ codes "ENDATA" ∷ [] in
-      accepts-then (name_card q.name ∷ []) (codes "ROWS" ∷ (map row_card q.rows ++ codes "COLUMNS" ∷ after_columns)) (name-accepted q.name nothing short)
-      (accepts-then (codes "ROWS" ∷ []) (map row_card q.rows ++ codes "COLUMNS" ∷ after_columns) (accepts-section (Some Header) Rows nothing (codes "ROWS") refl refl refl refl refl)
-      (accepts-then (map row_card q.rows) (codes "COLUMNS" ∷ after_columns) (rows-accepted [] [] [] [] [] q.rows lawful.plain_rows (from-map IsLabel (λ (row : Row Name). row.name) q.rows lawful.row_labels) lawful.rows_distinct lawful.few_rows)
+      accepts-then (name_card q.name ∷ []) (codes "ROWS" ∷ (flat_map row_cards q.rows ++ codes "COLUMNS" ∷ after_columns)) (name-accepted q.name nothing short)
+      (accepts-then (codes "ROWS" ∷ []) (flat_map row_cards q.rows ++ codes "COLUMNS" ∷ after_columns) (accepts-section (Some Header) Rows nothing (codes "ROWS") refl refl refl refl refl)
+      (accepts-then (flat_map row_cards q.rows) (codes "COLUMNS" ∷ after_columns) (rows-accepted [] [] [] [] [] q.rows lawful.parts lawful.row_labels lawful.rows_distinct lawful.few_rows)
       (accepts-then (codes "COLUMNS" ∷ []) after_columns (accepts-section (Some Rows) Columns with_rows (codes "COLUMNS") refl refl refl refl refl) sections-accepted)))
 
   start : Stands [] None nothing
