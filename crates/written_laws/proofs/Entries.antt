@@ -1,19 +1,18 @@
 -- The cards of the columns, the right-hand sides and the ranges are accepted, and add their entries.
 use Rattle.std.proofs.Common.{◌≡◌, ℕ, zero, suc, ◌+◌, ◌-◌, ◌≤◌, Bool, true, false, not, ◌&&◌, ◌||◌, List, [], ◌∷◌, ◌++◌, Some, None, length, map, take, nat_le, refl, ap, sym, ◌∙◌, subst, arith}
 use Rattle.std.specs.List.{AllByRecursion, IsDistinct, flat_map, sum_by}
-use Rattle.std.proofs.lemmas.List.{append-nil, map-append, length-append}
+use Rattle.std.proofs.lemmas.List.{append-nil, length-append}
 use Rattle.std.proofs.lemmas.List.Sums.{sum_by-append, sum_by-cons}
 use Rattle.card_definitions.specs.Words.{is_empty, ◌⟹◌}
 use Rattle.card_definitions.specs.Fields.{Reading}
 use Rattle.card_definitions.specs.Numbers.{decimal_of}
 use Rattle.problem_definitions.specs.declared.TheConstants.{MAX_COLUMNS, MAX_ENTRIES}
-use Rattle.problem_definitions.specs.Names.{Name, same, has_name, marker}
-use Rattle.problem_definitions.specs.Problem.{Row, Entry, Group, Problem, group_names, entry_count, has_row, has_free_row, has_combination, has_group}
+use Rattle.problem_definitions.specs.Names.{Name, same, marker}
+use Rattle.problem_definitions.specs.Problem.{Row, Entry, Group, Problem, group_names, entry_count, has_free_row, has_combination, has_group}
 use Rattle.problem_definitions.specs.Groups.{items_of, in_set}
 use Rattle.problem_definitions.specs.Valid.{IsName, IsDecimal}
 use Rattle.problem_definitions.proofs.Lawful.{IsLabel, AreGroups, AreLawfulEntries, AreColumnEntries, AreRightHandSides, AreRanges}
 use Rattle.deck_definitions.specs.declared.DeckFaultKind.TheVariants.{ColumnSplit, Marker, EmptyName, TooManyColumns}
-use Rattle.deck_definitions.specs.declared.Section.{Section}
 use Rattle.deck_definitions.specs.declared.Section.TheVariants.{Columns, Rhs, Ranges}
 use Rattle.deck_definitions.specs.DataCards.{pairs_of}
 use Rattle.deck_definitions.specs.Tests.{kind_filled, marks, all_but_last, columns_fault, pairs_fault}

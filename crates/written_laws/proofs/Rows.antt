@@ -1,9 +1,9 @@
 -- The cards of the rows are accepted, and add those rows.
-use Rattle.std.proofs.Common.{◌≡◌, ℕ, ◌+◌, ◌≤◌, Bool, true, false, cond, not, ◌&&◌, ◌||◌, List, [], ◌∷◌, ◌++◌, Option, Some, None, length, map, flat_map, nat_le, bytes_eq, if◌then◌else◌, refl, ap, ap₂, sym, ◌∙◌, subst, arith, lit≤, unwrap_or, is_none, is_some}
-use Rattle.std.specs.List.{AllByRecursion, IsDistinct, last_or}
-use Rattle.std.specs.Option.{IfSome, option_map, option_to_list}
+use Rattle.std.proofs.Common.{◌≡◌, ℕ, ◌+◌, ◌≤◌, Bool, true, false, cond, ◌&&◌, List, [], ◌∷◌, ◌++◌, Option, Some, None, length, map, flat_map, nat_le, if◌then◌else◌, refl, ap, ap₂, sym, ◌∙◌, subst, arith, lit≤, is_none, is_some}
+use Rattle.std.specs.List.{AllByRecursion, IsDistinct}
+use Rattle.std.specs.Option.{IfSome, option_to_list}
 use Rattle.std.proofs.lemmas.List.{append_assoc, append-nil, map-append, length-append}
-use Rattle.card_definitions.specs.Words.{is_empty, without_leading, ◌⟹◌}
+use Rattle.card_definitions.specs.Words.{named, is_empty, without_leading, ◌⟹◌}
 use Rattle.card_definitions.specs.Cards.{is_blank}
 use Rattle.card_definitions.specs.Fields.{Reading}
 use Rattle.problem_definitions.specs.declared.TheConstants.{MAX_ROWS}
@@ -11,17 +11,17 @@ use Rattle.problem_definitions.specs.declared.RowKind.{RowKind}
 use Rattle.problem_definitions.specs.declared.RowKind.TheVariants.{N, G, L, E}
 use Rattle.problem_definitions.specs.Names.{Name, same}
 use Rattle.problem_definitions.specs.Problem.{Row, plain_row, combination, Entry, Bound, Group, Problem, has_row}
-use Rattle.problem_definitions.specs.Parts.{parts_of, in_row, rows_before}
-use Rattle.problem_definitions.proofs.Names.{row_is_named, same_refl, same_sym}
-use Rattle.problem_definitions.proofs.Parts.{ArePartsAfter, parts_of-new, rows_before-new, rows_before-last, in_row-last, parts_of-last}
+use Rattle.problem_definitions.proofs.Names.{row_is_named, same_refl}
+use Rattle.problem_definitions.proofs.Parts.{ArePartsAfter}
 use Rattle.problem_definitions.proofs.Lawful.{IsLabel, AreLawfulEntries}
 use Rattle.deck_definitions.specs.declared.DeckFaultKind.{DeckFaultKind}
-use Rattle.deck_definitions.specs.declared.DeckFaultKind.TheVariants.{BadRowType, DuplicateRow, EmptyName, TooManyRows}
+use Rattle.deck_definitions.specs.declared.DeckFaultKind.TheVariants.{BadRowType, EmptyName, TooManyRows}
 use Rattle.deck_definitions.specs.declared.Section.TheVariants.{Rows}
-use Rattle.deck_definitions.specs.DataCards.{combination_text, kind_on, is_card_of, goes_on_last, row_of, parts_on, part_pairs_of}
-use Rattle.deck_definitions.specs.Tests.{pairs_fault, row_fields_fault, rows_fault, row_fault}
-use Rattle.deck_definitions.specs.Written.{data_card, row_kind_text, row_card, combination_cards, row_cards}
-use Rattle.deck_definitions.proofs.Steps.{last_or-push, with_card}
+use Rattle.deck_definitions.specs.DataCards.{combination_kinds, combination_text, kind_on, is_card_of, row_of, parts_on, part_pairs_of}
+use Rattle.deck_definitions.specs.Tests.{filled_from_3, pairs_fault, row_fault}
+use Rattle.deck_definitions.specs.Written.{data_card, row_kind_text, combination_cards, row_cards}
+use Rattle.deck_definitions.proofs.Steps.{with_card}
+use Rattle.deck_definitions.proofs.GoesOn.{with_row-new, row_fault-new, with_row-more, row_fault-more}
 use Rattle.deck_definitions.proofs.WrittenCards.{FitsField}
 use Rattle.written_laws.proofs.Cards.{IsWritten, fields, written-card}
 use Rattle.written_laws.proofs.Accepts.{Accepts, accepts-none, accepts-then, accepts-data}
@@ -54,63 +54,27 @@ combination-kept G = refl
 combination-kept L = refl
 combination-kept E = refl
 
--- ---- what a card of a new name does
+-- ---- a card that begins a row
 
--- a card goes on with no row of another name
-new-goes-on : (card : Reading) (last : Option (Row Name)) (rows : List (Row Name)) → unwrap_or (option_map (λ row. is_some row.parts && is_card_of row.kind row.name card) last) false ≡ false → has_row rows card.name1 ≡ false
-    → unwrap_or (option_map (λ row. is_some row.parts && is_card_of row.kind row.name card) (last_or last rows)) false ≡ false
-new-goes-on card last [] none new = none
-new-goes-on card last (row ∷ rows) none new = new-goes-on card (Some row) rows
-    (other (is_some row.parts) (bytes_eq (combination_text row.kind) card.kind) (same row.name card.name1) (same_sym row.name card.name1 ∙ first (same card.name1 row.name) (has_row rows card.name1) new))
-    (second (same card.name1 row.name) (has_row rows card.name1) new)
-  where
-    other : (a b c : Bool) → c ≡ false → (a && (b && c)) ≡ false
-    other true true c h = h
-    other true false c h = refl
-    other false b c h = refl
-
-    first : (a b : Bool) → (a || b) ≡ false → a ≡ false
-    first true b h = h
-    first false b h = refl
-
-    second : (a b : Bool) → (a || b) ≡ false → b ≡ false
-    second true b h = absurd (cc h)
-    second false b h = h
+-- the tests of the fields of such a card after its name
+abbrev begun_fields_fault : Problem Name → Reading → Option DeckFaultKind
+begun_fields_fault seen card = if is_some (named combination_kinds card.kind) then pairs_fault seen Rows [] 0 (part_pairs_of card) else filled_from_3 card
 
 row-begun : (seen : Problem Name) (card : Reading) (row : Row Name) → has_row seen.rows card.name1 ≡ false → row_of card ≡ Some row → with_card Rows card seen ≡ record seen { rows = seen.rows ++ row ∷ [] }
-row-begun seen card row new is =
-    ap (λ b. record seen { rows = if b then in_row card.name1 (λ parts. parts ++ parts_on card) seen.rows else seen.rows ++ option_to_list (row_of card) }) (new-goes-on card None seen.rows refl new)
-    ∙ ap (λ o. record seen { rows = seen.rows ++ option_to_list o }) is
+row-begun seen card row new is = ap (λ rows. record seen { rows = rows }) (with_row-new card seen.rows new ∙ ap (λ o. seen.rows ++ option_to_list o) is)
 
--- the tests of a card of ROWS, one after another
-rows-tests : (seen : Problem Name) (goes_on : Bool) (earlier : List (Row Name)) (card : Reading) → is_none (kind_on card) ≡ false → is_empty card.name1 ≡ false → (not goes_on && has_row seen.rows card.name1) ≡ false
-    → (not goes_on && nat_le MAX_ROWS (length seen.rows)) ≡ false → row_fields_fault seen earlier card ≡ None → rows_fault seen goes_on earlier card ≡ None
-rows-tests seen goes_on earlier card typed named new few fine = none_found (
+begins-fine : (seen : Problem Name) (card : Reading) → is_none (kind_on card) ≡ false → is_empty card.name1 ≡ false → has_row seen.rows card.name1 ≡ false → length seen.rows + 1 ≤ MAX_ROWS → begun_fields_fault seen card ≡ None → row_fault seen card ≡ None
+begins-fine seen card typed named new few fine = row_fault-new card seen new ∙ none_found (
     (is_none (kind_on card) ⟹ BadRowType) ∷
     (is_empty card.name1 ⟹ EmptyName) ∷
-    (not goes_on && has_row seen.rows card.name1 ⟹ DuplicateRow) ∷
-    (not goes_on && nat_le MAX_ROWS (length seen.rows) ⟹ TooManyRows) ∷
-    row_fields_fault seen earlier card ∷ []) (
+    (nat_le MAX_ROWS (length seen.rows) ⟹ TooManyRows) ∷
+    begun_fields_fault seen card ∷ []) (
       not_found (is_none (kind_on card)) BadRowType typed,
       (
         not_found (is_empty card.name1) EmptyName named,
-        (
-          not_found (not goes_on && has_row seen.rows card.name1) DuplicateRow new,
-          (not_found (not goes_on && nat_le MAX_ROWS (length seen.rows)) TooManyRows few, (fine, tt)),
-        ),
+        (not_found (nat_le MAX_ROWS (length seen.rows)) TooManyRows (below MAX_ROWS (length seen.rows) few), (fine, tt)),
       ),
     )
-
--- the same where it begins a row
-begins-fine : (seen : Problem Name) (card : Reading) → is_none (kind_on card) ≡ false → is_empty card.name1 ≡ false → has_row seen.rows card.name1 ≡ false → length seen.rows + 1 ≤ MAX_ROWS
-    → row_fields_fault seen (rows_before card.name1 seen.rows) card ≡ None → row_fault seen card ≡ None
-begins-fine seen card typed named new few fine =
-    rows-tests seen (goes_on_last seen.rows card) (rows_before card.name1 seen.rows) card typed named (either (goes_on_last seen.rows card) (has_row seen.rows card.name1) new)
-    (either (goes_on_last seen.rows card) (nat_le MAX_ROWS (length seen.rows)) (below MAX_ROWS (length seen.rows) few)) fine
-  where
-    either : (a b : Bool) → b ≡ false → (not a && b) ≡ false
-    either true b h = refl
-    either false b h = h
 
 blank : {n : ℕ} → FitsField n []
 blank = record { short = omega arith; trimmed = refl }
@@ -127,11 +91,11 @@ plain-typed G name = refl
 plain-typed L name = refl
 plain-typed E name = refl
 
-plain-fields : (seen : Problem Name) (earlier : List (Row Name)) (kind : RowKind) (name : Name) → row_fields_fault seen earlier (fields (row_kind_text kind) name [] []) ≡ None
-plain-fields seen earlier N name = refl
-plain-fields seen earlier G name = refl
-plain-fields seen earlier L name = refl
-plain-fields seen earlier E name = refl
+plain-fields : (seen : Problem Name) (kind : RowKind) (name : Name) → begun_fields_fault seen (fields (row_kind_text kind) name [] []) ≡ None
+plain-fields seen N name = refl
+plain-fields seen G name = refl
+plain-fields seen L name = refl
+plain-fields seen E name = refl
 
 plain-row : (kind : RowKind) (name : Name) → row_of (fields (row_kind_text kind) name [] []) ≡ Some (plain_row kind name)
 plain-row N name = refl
@@ -146,7 +110,7 @@ plain-accepted seen kind name label new few =
     subst (λ p. Accepts (Some Rows) seen (data_card (row_kind_text kind) name [] [] ∷ []) (Some Rows) p) (row-begun seen card (plain_row kind name) new (plain-row kind name))
     (accepts-data Rows seen (data_card (row_kind_text kind) name [] []) card
     (written-card (row_kind_text kind) name [] [] (fits-kind kind) (kind-kept kind) (fits-name name label.name_of) blank blank (some-name (is_empty name) true label.present))
-    (begins-fine seen card (plain-typed kind name) label.present new few (plain-fields seen (rows_before name seen.rows) kind name)))
+    (begins-fine seen card (plain-typed kind name) label.present new few (plain-fields seen kind name)))
 
 -- ---- a card of a combination
 
@@ -156,12 +120,12 @@ combination-typed G name row value = refl
 combination-typed L name row value = refl
 combination-typed E name row value = refl
 
-combination-fields : (seen : Problem Name) (earlier : List (Row Name)) (kind : RowKind) (name row : Name) (value : List ℕ)
-    → row_fields_fault seen earlier (fields (combination_text kind) name row value) ≡ pairs_fault (record seen { rows = earlier }) Rows (parts_of name seen.rows) 0 (part_pairs_of (fields (combination_text kind) name row value))
-combination-fields seen earlier N name row value = refl
-combination-fields seen earlier G name row value = refl
-combination-fields seen earlier L name row value = refl
-combination-fields seen earlier E name row value = refl
+combination-fields : (seen : Problem Name) (kind : RowKind) (name row : Name) (value : List ℕ)
+    → begun_fields_fault seen (fields (combination_text kind) name row value) ≡ pairs_fault seen Rows [] 0 (part_pairs_of (fields (combination_text kind) name row value))
+combination-fields seen N name row value = refl
+combination-fields seen G name row value = refl
+combination-fields seen L name row value = refl
+combination-fields seen E name row value = refl
 
 combination-row : (kind : RowKind) (name row : Name) (value : List ℕ) → row_of (fields (combination_text kind) name row value) ≡ Some (combination kind name (parts_on (fields (combination_text kind) name row value)))
 combination-row N name row value = refl
@@ -177,7 +141,7 @@ bare-accepted seen kind name label new few =
     subst (λ p. Accepts (Some Rows) seen (data_card (combination_text kind) name [] [] ∷ []) (Some Rows) p) (row-begun seen card (combination kind name []) new (combination-row kind name [] []))
     (accepts-data Rows seen (data_card (combination_text kind) name [] []) card
     (written-card (combination_text kind) name [] [] (fits-combination kind) (combination-kept kind) (fits-name name label.name_of) blank blank (some-name (is_empty name) true label.present))
-    (begins-fine seen card (combination-typed kind name [] []) label.present new few (combination-fields seen (rows_before name seen.rows) kind name [] [])))
+    (begins-fine seen card (combination-typed kind name [] []) label.present new few (combination-fields seen kind name [] [])))
 
 abbrev part_card : RowKind → Name → Entry Name → List ℕ
 part_card kind name part = data_card (combination_text kind) name part.row part.value.text
@@ -213,29 +177,22 @@ module _ (columns rhs ranges : List (Group (Entry Name))) (bounds : List (Group 
         (row-begun (with_rows done) card (combination kind name (parts_on card)) new (combination-row kind name part.row part.value.text) ∙ ap (λ parts. with_rows (rows_at parts)) (part-read kind name part may))
         (accepts-data Rows (with_rows done) (part_card kind name part) card (written-part kind name label part may)
         (begins-fine (with_rows done) card (combination-typed kind name part.row part.value.text) label.present new few
-        (combination-fields (with_rows done) (rows_before name done) kind name part.row part.value.text
-        ∙ (λ i. pairs_fault (with_rows (rows_before-new name done new i)) Rows (parts_of-new name done new i) 0 (part-pair kind name part may i))
+        (combination-fields (with_rows done) kind name part.row part.value.text
+        ∙ ap (pairs_fault (with_rows done) Rows [] 0) (part-pair kind name part may)
         ∙ pair-fine (with_rows done) Rows [] 0 part may refl refl refl)))
-
-    goes-on : (sofar : List (Entry Name)) (part : Entry Name) → goes_on_last (rows_at sofar) (part_fields kind name part) ≡ true
-    goes-on sofar part =
-        ap (λ o. unwrap_or (option_map (λ (row : Row Name). is_some row.parts && is_card_of row.kind row.name (part_fields kind name part)) o) false) (last_or-push None done (Some (combination kind name sofar)))
-        ∙ ap₂ (λ a b. a && b) (same_refl (combination_text kind)) (same_refl name)
 
     next-part : (sofar : List (Entry Name)) (part : Entry Name) → MayAdd done sofar part → Accepts (Some Rows) (with_rows (rows_at sofar)) (part_card kind name part ∷ []) (Some Rows) (with_rows (rows_at (sofar ++ part ∷ [])))
     next-part sofar part may =
         let card = part_fields kind name part in
-        let rows = rows_at sofar in
-        subst (λ p. Accepts (Some Rows) (with_rows rows) (part_card kind name part ∷ []) (Some Rows) p)
-        (ap (λ b. with_rows (if b then in_row name (λ parts. parts ++ parts_on card) rows else rows ++ option_to_list (row_of card))) (goes-on sofar part)
-        ∙ ap with_rows (in_row-last name (combination kind name sofar) (same_refl name) (λ parts. parts ++ parts_on card) done new)
-        ∙ ap (λ more. with_rows (rows_at (sofar ++ more))) (part-read kind name part may))
-        (accepts-data Rows (with_rows rows) (part_card kind name part) card (written-part kind name label part may)
-        (ap (λ b. rows_fault (with_rows rows) b (rows_before name rows) card) (goes-on sofar part)
-        ∙ rows-tests (with_rows rows) true (rows_before name rows) card (combination-typed kind name part.row part.value.text) label.present refl refl
-        (combination-fields (with_rows rows) (rows_before name rows) kind name part.row part.value.text
-        ∙ (λ i. pairs_fault (with_rows (rows_before-last name (combination kind name sofar) (same_refl name) done new i)) Rows (parts_of-last name (combination kind name sofar) (same_refl name) done new i) 0 (part-pair kind name part may i))
-        ∙ pair-fine (with_rows done) Rows sofar 0 part may refl refl refl)))
+        let is : is_card_of kind name card ≡ true = ap₂ (λ a b. a && b) (same_refl (combination_text kind)) (same_refl name) in
+        subst (λ p. Accepts (Some Rows) (with_rows (rows_at sofar)) (part_card kind name part ∷ []) (Some Rows) p)
+        (ap with_rows (with_row-more card done kind name sofar is new ∙ ap (λ more. rows_at (sofar ++ more)) (part-read kind name part may)))
+        (accepts-data Rows (with_rows (rows_at sofar)) (part_card kind name part) card (written-part kind name label part may)
+        (row_fault-more card done kind name sofar is (with_rows done) new
+        ∙ none_found ((is_empty name ⟹ EmptyName) ∷ pairs_fault (with_rows done) Rows sofar 0 (part_pairs_of card) ∷ []) (
+          not_found (is_empty name) EmptyName label.present,
+          (ap (pairs_fault (with_rows done) Rows sofar 0) (part-pair kind name part may) ∙ pair-fine (with_rows done) Rows sofar 0 part may refl refl refl, tt),
+        )))
 
     -- the cards of the parts to come
     more-parts : (sofar parts : List (Entry Name)) → AreLawfulEntries done (sofar ++ parts) → Accepts (Some Rows) (with_rows (rows_at sofar)) (map (part_card kind name) parts) (Some Rows) (with_rows (rows_at (sofar ++ parts)))

@@ -13,7 +13,7 @@ use Rattle.problem_definitions.specs.Names.{Name, name_at}
 use Rattle.problem_definitions.specs.Problem.{Row, Entry, Bound, Group, Problem, row_names}
 use Rattle.problem_definitions.specs.Numbering.{entry_by, group_by, numbered, by_names}
 use Rattle.problem_definitions.specs.Valid.{IsName, IsProblem}
-use Rattle.problem_definitions.proofs.Lawful.{IsLabel, IsLawful}
+use Rattle.problem_definitions.proofs.Lawful.{IsLawful}
 use Rattle.problem_definitions.proofs.Each.{all-each}
 use Rattle.deck_definitions.specs.declared.DeckFault.{DeckFault}
 use Rattle.deck_definitions.specs.declared.DeckFaultKind.TheVariants.{NoEndata}
