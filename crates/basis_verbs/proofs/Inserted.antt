@@ -170,7 +170,7 @@ module _ (card : ℕ) (cards : List (List ℕ)) (machine : Machine) where
       deck_ends end (inr bad) = λ position executed state s. subst (λ (e : End). Gives linear_programming card (verb_move Insert card state) (stops (end_shown e))) (sym bad.5) (bad_deck s bad.0 bad.1 bad.2 bad.3 bad.4)
 
       module _ (ready : IsReady machine.file setup) (t : Basis) (first last : ℕ) (b : IsBasisOf problem lp wanted decks cards t first last) where
-        inserted : (new : Setup) (deck : Name) (basic next_card : ℕ) → IsInstalledSetup card setup lp t first last cards new deck basic next_card → IsInserted card cards machine new deck basic next_card
+        inserted : (new : Setup) (deck : Name) (basic next_card : ℕ) → IsInstalledSetup card setup (choice_of machine.cells setup.options) lp t first last cards new deck basic next_card → IsInserted card cards machine new deck basic next_card
         inserted new deck basic next_card i = record {
           comes = λ position executed state s. (
             record state { decks = decks_of (drop last (numbered_cards cards)); setup = Some (record (there s) { opening = t; steps = [] }); mark = None },
@@ -195,19 +195,19 @@ module _ (card : ℕ) (cards : List (List ℕ)) (machine : Machine) where
               mark = refl;
             },
           );
-          ready = ready_solved machine.file setup ready problem on_file machine.cells lp ok new i.name i.options i.same_lp (subst (HasRates new.engine.matrix new.engine.basics lp) (sym i.same_basis) i.rates);
+          ready = ready_solved machine.file setup ready problem on_file machine.cells lp ok new i.name i.is_chosen i.same_lp (subst (HasRates new.engine.matrix new.engine.basics lp) (sym i.same_basis) i.rates);
           first = omega (arith, i.is_next);
           last = omega (arith, i.is_next, b.within);
         }
           where
-            same_line : {new : Setup} {deck : Name} {basic next_card : ℕ} → IsInstalledSetup card setup lp t first last cards new deck basic next_card →
+            same_line : {new : Setup} {deck : Name} {basic next_card : ℕ} → IsInstalledSetup card setup (choice_of machine.cells setup.options) lp t first last cards new deck basic next_card →
                 ◌≡◌ {A = Name × ℕ} (deck_name (live (cards_between first last cards)), length (basic_columns lp t)) (deck, basic)
             same_line i = let d = i.is_deck in let n = i.is_basic in cc
 
-            one_before : {new : Setup} {deck : Name} {basic next_card : ℕ} → IsInstalledSetup card setup lp t first last cards new deck basic next_card → last ≡ next_card - 1
+            one_before : {new : Setup} {deck : Name} {basic next_card : ℕ} → IsInstalledSetup card setup (choice_of machine.cells setup.options) lp t first last cards new deck basic next_card → last ≡ next_card - 1
             one_before i = let e = i.is_next in omega (arith, e)
 
-        singular : (name : Name) (p : LinearProgram) (d : List ℚ) → IsSingularFor card setup lp t first last cards name p d → IsSingularAt card cards machine name p d
+        singular : (name : Name) (p : LinearProgram) (d : List ℚ) → IsSingularFor card setup (choice_of machine.cells setup.options) lp t first last cards name p d → IsSingularAt card cards machine name p d
         singular name p d h =
             let filed : filed_under name machine.file ≡ Some problem = ap (λ (n : Name). filed_under n machine.file) h.same_name ∙ on_file in
             subst (λ (q : LinearProgram). IsSingularAt card cards machine name q d) (sym h.same_lp) (record {
@@ -221,7 +221,7 @@ module _ (card : ℕ) (cards : List (List ℕ)) (machine : Machine) where
                   (gives_dependency s (cards_between first last cards) (decks_of (drop last (numbered_cards cards))) t h.column d b.taken b.is_read h.full h.is_dependency);
             })
 
-        pub basis_found : (result : Result Found Halt) → IsInstalledFor card setup lp t first last cards result → IsFound card cards machine result
+        pub basis_found : (result : Result Found Halt) → IsInstalledFor card setup (choice_of machine.cells setup.options) lp t first last cards result → IsFound card cards machine result
         basis_found (Ok (found.Inserted new deck basic next_card)) h = inserted new deck basic next_card h
         basis_found (Ok (found.Singular name p d)) h = singular name p d h
         basis_found (Ok (found.Ends end)) h = λ position executed state s.

@@ -38,7 +38,8 @@ use Rattle.run_machine.specs.declared.end.End.TheVariants as ends
 use Rattle.run_machine.specs.declared.selecting.Refusal.{Refusal}
 use Rattle.run_machine.specs.declared.selecting.Refusal.TheVariants as refusals
 use Rattle.run_machine.specs.Ends.{end_shown}
-use Rattle.run_setup.specs.Kept.{Setup}
+use Rattle.selection_definitions.specs.Choice.{Choice}
+use Rattle.run_setup.specs.Kept.{Setup, chosen}
 use Rattle.run_setup.specs.Machines.{Machine}
 use Rattle.run_machine.specs.Singular.{IsSheetOf, lines_shown}
 use Rattle.run_setup.specs.Standing.{IsReady, Stands}
@@ -85,11 +86,12 @@ abbrev pub IsOverflowEnd : {X : Type 0} → ℕ → Basis → Basics → Evidenc
 IsOverflowEnd card present way e (Ok end) = end_shown end ≡ overflow_ending card present way e
 IsOverflowEnd card present way e (Err refused) = Unit {0}
 
-module _ (card : ℕ) (setup : Setup) (lp : LinearProgram) (s : Basis) (first last : ℕ) (cards : List (List ℕ)) where
+module _ (card : ℕ) (setup : Setup) (choice : Choice) (lp : LinearProgram) (s : Basis) (first last : ℕ) (cards : List (List ℕ)) where
   -- the setup goes on with the linear program, the basis and rates of it
   pub record IsInstalledSetup (new : Setup) (deck : Name) (basic next : ℕ) : Type 0 where
     pub name : new.name ≡ setup.name
     pub options : new.options ≡ setup.options
+    pub is_chosen : chosen new ≡ record { objective = choice.objective; rhs = choice.rhs; options = setup.options }
     pub same_lp : new.lp ≡ lp
     pub same_basis : new.basis ≡ s
     pub rates : HasRates new.engine.matrix new.engine.basics lp s

@@ -25,11 +25,12 @@ use job_decks::{Deck, take_deck};
 use job_devices::Sink;
 use listing_definitions::VerbFault;
 use lp_model::{Basis, Direction, Engine, Evidence, Lp, NoMemory};
+use lp_setup::Choice;
 use mps_convert::problem_name;
 use name_table::Name;
 use problem_file::{Problem, ProblemFile};
 use report_text::{Report, text_of};
-use run_machine::{Act, End, Halt, Machine, Refusal, SingularBasis, select_present};
+use run_machine::{Act, End, Halt, Machine, Refusal, SingularBasis, present_choice, select_present};
 use run_setup::{Setup, place_at};
 use std::alloc::Global;
 use std::mem::replace;
@@ -165,22 +166,30 @@ fn ended<E: Engine>(refusal: Refusal, card: u32) -> Result<Found<Setup<E>>, Halt
     }
 }
 
-// Makes the rates of the basis of a deck, for a setup whose linear program this is.
+// What was selected of a problem, and by which choice.
+#[derive(Drop)]
+struct Selection {
+    choice: Choice,
+    lp: Lp,
+}
+
+// Makes the rates of the basis of a deck, for a setup of whose problem this was selected.
 fn installed<E: Engine>(
     alloc: Global,
     setup: &Setup<E>,
-    lp: Lp,
+    selection: Selection,
     basis: Basis,
     deck: Deck,
     cards: &Cards,
     card: u32,
 ) -> Result<Found<Setup<E>>, Halt>
-    requires basis { IsBasis lp basis }
+    requires basis { IsBasis selection.lp basis }
     requires from_one { 1 ≤ deck.first }
     requires ordered { deck.first ≤ deck.last }
     requires within { deck.last ≤ length cards.now }
-    ensures { IsInstalledFor card setup.now lp basis deck.first deck.last cards.now result }
+    ensures { IsInstalledFor card setup.now selection.choice selection.lp basis deck.first deck.last cards.now result }
 {
+    let Selection { choice, lp } = selection;
     match install(alloc, &lp, &basis) {
         Ok(engine) => {
             let name = problem_name(cards, deck.first, deck.last, None);
@@ -189,6 +198,8 @@ fn installed<E: Engine>(
             let setup = Setup {
                 name: setup.name,
                 options: setup.options,
+                objective: choice.objective,
+                rhs: choice.rhs,
                 lp,
                 basis,
                 engine,
@@ -239,7 +250,11 @@ fn find_basis<E: Engine>(
     let wanted = machine.cells.name(NameCell::Xdata);
     let given = take_basis(alloc, problem, &lp, cards, machine.decks_from, wanted, card)?;
     match given {
-        Given::Basis { basis, deck } => installed(alloc, setup, lp, basis, deck, cards, card),
+        Given::Basis { basis, deck } => {
+            let choice = present_choice(&machine.cells, setup.options);
+            let selection = Selection { choice, lp };
+            installed(alloc, setup, selection, basis, deck, cards, card)
+        }
         Given::Ends(end) => Ok(Found::Ends(end)),
     }
 }

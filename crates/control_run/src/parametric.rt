@@ -34,8 +34,8 @@ use present_answers::{RunReport, objective_run_of, rhs_run_of};
 use problem_file::ProblemFile;
 use report_text::{Report, text_of};
 use run_cells::{Cells, NumberCell};
-use run_machine::{Act, Finding, Halt, Machine, Refusal, act_of, refused, select_present};
-use run_setup::{Setup, overflow_at};
+use run_machine::{Act, Finding, Halt, Machine, Refusal, act_of, refused};
+use run_setup::{Setup, overflow_at, select_again};
 use std::alloc::Global;
 
 // The number of the formula of a row's limit at a value of the parameter.
@@ -230,26 +230,26 @@ fn find<E: Engine, P: Sink>(
     let Some(problem) = file.get(&setup.name) else {
         unreachable!();
     };
-    let lp = match select_present(alloc, problem, cells, setup.options) {
-        Ok(lp) => lp,
-        Err(refusal) => return refused(refusal),
-    };
+    if let Err(refusal) = select_again(alloc, problem, cells, setup) {
+        return refused(refusal);
+    }
     let request = match request_of(alloc, problem, cells, verb) {
         Ok(request) => request,
         Err(stop) => return refused(refusal_of(stop)),
     };
     let sweep = run_of(request, cells.steps_allowed());
-    let sheet = Sheet { problem, lp: &lp };
-    let finding = follow(
+    let sheet = Sheet {
+        problem,
+        lp: &setup.lp,
+    };
+    follow(
         alloc,
         sheet,
         &mut setup.basis,
         &mut setup.engine,
         &sweep,
         print,
-    )?;
-    setup.lp = lp;
-    Ok(finding)
+    )
 }
 
 // A run that has gone on leaves its last value in XPARAM.

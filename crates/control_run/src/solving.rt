@@ -29,10 +29,8 @@ use present_answers::{PathReport, dual_from, path_from};
 use problem_file::ProblemFile;
 use report_text::{Report, text_of};
 use run_cells::Cells;
-use run_machine::{
-    Act, Finding, Halt, Machine, Refusal, act_of, mark_left, refused, select_present,
-};
-use run_setup::{Setup, overflow_at};
+use run_machine::{Act, Finding, Halt, Machine, Refusal, act_of, mark_left, refused};
+use run_setup::{Setup, overflow_at, select_again};
 use std::alloc::Global;
 
 /// A verb that follows a path.
@@ -184,12 +182,14 @@ fn find<E: Engine, P: Sink>(
     let Some(problem) = file.get(&setup.name) else {
         unreachable!();
     };
-    let lp = match select_present(alloc, problem, cells, setup.options) {
-        Ok(lp) => lp,
-        Err(refusal) => return refused(refusal),
+    if let Err(refusal) = select_again(alloc, problem, cells, setup) {
+        return refused(refusal);
+    }
+    let sheet = Sheet {
+        problem,
+        lp: &setup.lp,
     };
-    let sheet = Sheet { problem, lp: &lp };
-    let finding = follow(
+    follow(
         alloc,
         sheet,
         &mut setup.basis,
@@ -197,9 +197,7 @@ fn find<E: Engine, P: Sink>(
         verb,
         cells,
         print,
-    )?;
-    setup.lp = lp;
-    Ok(finding)
+    )
 }
 
 /// PRIMAL and DUAL: selects again by the cells as they stand, follows the path of the verb from the present basis to its end, and prints

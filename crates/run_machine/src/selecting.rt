@@ -74,8 +74,8 @@ pub fn setup_choice(options: &SetupOptions) -> SetupChoice
     }
 }
 
-// What the present cells choose with these options.
-fn present_choice(cells: &Cells, options: SetupChoice) -> Choice
+/// What the present cells choose with these options.
+pub fn present_choice(cells: &Cells, options: SetupChoice) -> Choice
     ensures { result ≡ choice_of cells.now options }
 {
     Choice {

@@ -13,7 +13,7 @@ use Rattle.selection_definitions.specs.Selection.{matrix_of, selected}
 use Rattle.question_definitions.specs.Answers.{Basis}
 use Rattle.run_definitions.specs.State.{Present, choice_of}
 use Rattle.run_machine.specs.Choosing.{IsSelected}
-use Rattle.run_setup.specs.Kept.{Setup}
+use Rattle.run_setup.specs.Kept.{Setup, chosen}
 use Rattle.run_setup.specs.Standing.{IsReady, IsPresent, ShowsSetup}
 use Rattle.run_setup.proofs.Selected.{same_matrix, no_change, rates_carry}
 
@@ -81,43 +81,30 @@ pub stays_on_file : (file : Filed) (setup : Setup) → IsReady file setup → fi
 stays_on_file file setup ready none = let on = ready.on_file in cc
 
 module _ (file : Filed) (setup : Setup) (r : IsReady file setup) (problem : Problem ℕ) (on_file : filed_under setup.name file ≡ Some problem) where
-  own_selected : selected problem r.choice ≡ Ok setup.lp
-  own_selected = subst (λ (q : Problem ℕ). selected q r.choice ≡ Ok setup.lp) (one_problem file setup r.problem problem r.on_file on_file) r.is_selected
+  own_selected : selected problem (chosen setup) ≡ Ok setup.lp
+  own_selected = subst (λ (q : Problem ℕ). selected q (chosen setup) ≡ Ok setup.lp) (one_problem file setup r.problem problem r.on_file on_file) r.is_selected
 
   -- the setup's linear program has the rows and the columns of the problem
   pub ready_rows : length problem.rows ≡ setup.lp.matrix.rows
-  ready_rows = as_many_rows problem r.choice setup.lp own_selected
+  ready_rows = as_many_rows problem (chosen setup) setup.lp own_selected
 
   pub ready_columns : length problem.columns ≡ setup.lp.matrix.cols
-  ready_columns = as_many_columns problem r.choice setup.lp own_selected
+  ready_columns = as_many_columns problem (chosen setup) setup.lp own_selected
 
   pub ready_unchanged : setup.lp.change ≡ None
-  ready_unchanged = no_change problem r.choice setup.lp own_selected
+  ready_unchanged = no_change problem (chosen setup) setup.lp own_selected
 
   module _ (cells : Cells) (lp : LinearProgram) (ok : selected problem (choice_of cells setup.options) ≡ Ok lp) where
     -- the setup's rates are those of what is selected now
     pub ready_rates : HasRates setup.engine.matrix setup.engine.basics lp setup.basis
-    ready_rates = rates_carry problem r.choice (choice_of cells setup.options) setup.lp lp r.has_options own_selected ok setup.engine.matrix setup.engine.basics setup.basis r.rates
+    ready_rates = rates_carry problem (chosen setup) (choice_of cells setup.options) setup.lp lp refl own_selected ok setup.engine.matrix setup.engine.basics setup.basis r.rates
 
-    -- and the other way
-    pub ready_again : (new : Setup) → new.name ≡ setup.name → new.options ≡ setup.options → new.lp ≡ setup.lp → HasRates new.engine.matrix new.engine.basics lp new.basis → IsReady file new
-    ready_again new same_name same_options same_lp has = record {
+    -- with what is selected now, and rates of it, the setup is ready
+    pub ready_solved : (new : Setup) → new.name ≡ setup.name → chosen new ≡ choice_of cells setup.options → new.lp ≡ lp → HasRates new.engine.matrix new.engine.basics lp new.basis → IsReady file new
+    ready_solved new same_name same_choice same_lp has = record {
       problem = problem;
       on_file = ap (λ name. filed_under name file) same_name ∙ on_file;
-      choice = r.choice;
-      has_options = r.has_options ∙ sym same_options;
-      is_selected = own_selected ∙ ap Ok (sym same_lp);
-      rates = subst (λ (p : LinearProgram). HasRates new.engine.matrix new.engine.basics p new.basis) (sym same_lp)
-          (rates_carry problem (choice_of cells setup.options) r.choice lp setup.lp (sym r.has_options) ok own_selected new.engine.matrix new.engine.basics new.basis has);
-    }
-
-    pub ready_solved : (new : Setup) → new.name ≡ setup.name → new.options ≡ setup.options → new.lp ≡ lp → HasRates new.engine.matrix new.engine.basics lp new.basis → IsReady file new
-    ready_solved new same_name same_options same_lp has = record {
-      problem = problem;
-      on_file = ap (λ name. filed_under name file) same_name ∙ on_file;
-      choice = choice_of cells setup.options;
-      has_options = sym same_options;
-      is_selected = ok ∙ ap Ok (sym same_lp);
+      is_selected = ap (λ (c : Choice). selected problem c) same_choice ∙ ok ∙ ap Ok (sym same_lp);
       rates = subst (λ (p : LinearProgram). HasRates new.engine.matrix new.engine.basics p new.basis) (sym same_lp) has;
     }
 

@@ -15,6 +15,7 @@ use Rattle.run_machine.specs.declared.selecting.Refusal.{Refusal}
 use Rattle.run_machine.specs.declared.selecting.Refusal.TheVariants.{Fault, Overflow, NoMemory}
 use Rattle.run_machine.specs.Choosing.{IsUnselected}
 use Rattle.run_machine.specs.Standing.{named, filed}
+use Rattle.run_setup.specs.Kept.{chosen}
 use Rattle.run_setup.specs.Machines.{Opened}
 
 module _ (cells : Cells) (file : Filed) (options : SetupOptions) where
@@ -26,6 +27,7 @@ module _ (cells : Cells) (file : Filed) (options : SetupOptions) where
     pub is_filed : filed_under opened.setup.name file ≡ Some problem
     pub is_own : opened.name ≡ problem.name
     pub are_options : opened.setup.options ≡ options
+    pub is_chosen : chosen opened.setup ≡ choice_of cells options
     pub is_selected : selected problem (choice_of cells options) ≡ Ok opened.setup.lp
     pub is_opening : opened.setup.basis ≡ opening_statuses opened.setup.lp
     pub rates : HasRates opened.setup.engine.matrix opened.setup.engine.basics opened.setup.lp

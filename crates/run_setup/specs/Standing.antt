@@ -12,22 +12,18 @@ use Rattle.method_definitions.specs.Path.{last_of}
 use Rattle.basis_values.specs.Calls.{HasRates, LieIn}
 use Rattle.listing_definitions.specs.declared.Mark.{Mark}
 use Rattle.listing_definitions.specs.declared.Mark.TheVariants.{Optimal}
-use Rattle.selection_definitions.specs.Choice.{Choice}
 use Rattle.selection_definitions.specs.Selection.{matrix_of, selected}
 use Rattle.run_definitions.specs.State.{Present, State}
 use Rattle.run_machine.specs.Choosing.{IsSelected}
 use Rattle.run_machine.specs.Standing as machines
 use Rattle.run_setup.specs.Machines.{Machine}
-use Rattle.run_setup.specs.Kept.{Setup}
+use Rattle.run_setup.specs.Kept.{Setup, chosen}
 
--- The linear program was selected of the problem on file, with the setup's options; the basis is one of it, and the rates are those
--- of this basis.
+-- The linear program is what the setup's choice selects of the problem on file; the basis is one of it, and the rates are those of this basis.
 pub record IsReady (file : Filed) (setup : Setup) : Type 0 where
   pub problem : Problem ℕ
   pub on_file : filed_under setup.name file ≡ Some problem
-  pub choice : Choice
-  pub has_options : choice.options ≡ setup.options
-  pub is_selected : selected problem choice ≡ Ok setup.lp
+  pub is_selected : selected problem (chosen setup) ≡ Ok setup.lp
   pub rates : HasRates setup.engine.matrix setup.engine.basics setup.lp setup.basis
 
 -- these names select the linear program that the setup keeps, and where the verdict was optimal, the basis is

@@ -7,11 +7,14 @@ use run_machine::Kept;
 use std::marker::Model;
 
 /// What SETUP keeps, and PRIMAL goes on with: the name under which the problem is on file, the options, the linear program that was
-/// selected last, the present basis, and the engine with its rates. Contracts see the engine by what the trait promises of it.
+/// selected last, with the names of the objective and of the right-hand side set that selected it, the present basis, and the engine
+/// with its rates. Contracts see the engine by what the trait promises of it.
 #[derive(Drop)]
 pub struct Setup<E: Engine> {
     pub name: Name,
     pub options: SetupChoice,
+    pub objective: Option<Name>,
+    pub rhs: Option<Name>,
     pub lp: Lp,
     pub basis: Basis,
     pub engine: E,
@@ -25,6 +28,8 @@ impl<E: Engine> Model for Setup<E> {
     ghost view = { λ s. record {
       name = s.name;
       options = s.options;
+      objective = s.objective;
+      rhs = s.rhs;
       lp = s.lp;
       basis = s.basis;
       engine = record {

@@ -18,7 +18,7 @@ use name_table::Name;
 use problem_file::ProblemFile;
 use report_text::{Report, text_of};
 use run_cells::{Cells, NameCell};
-use run_machine::{Act, Halt, Machine, Refusal, select_present, setup_choice, wanted_name};
+use run_machine::{Act, Halt, Machine, Refusal, present_choice, select_present, setup_choice, wanted_name};
 use std::alloc::Global;
 
 /// A problem that was chosen: its own name, and what is kept of it.
@@ -44,6 +44,7 @@ fn open<E: Engine>(
     let Some(problem) = file.get(&name) else {
         return Err(Refusal::Fault(VerbFault::NoProblem));
     };
+    let choice = present_choice(cells, options);
     let lp = match select_present(alloc, problem, cells, options) {
         Ok(lp) => lp,
         Err(refusal) => return Err(refusal),
@@ -56,6 +57,8 @@ fn open<E: Engine>(
         setup: Setup {
             name,
             options,
+            objective: choice.objective,
+            rhs: choice.rhs,
             lp,
             basis,
             engine,
