@@ -4,6 +4,8 @@
 #[cfg(test)]
 mod bases;
 #[cfg(test)]
+mod combinations;
+#[cfg(test)]
 mod devices;
 #[cfg(test)]
 mod engines;

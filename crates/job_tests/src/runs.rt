@@ -14,14 +14,14 @@ fn is_told(alloc: Global, row: &Row) -> Result<bool, Fail> {
     Ok(answer_of(alloc, row.job)?.is(row.status, row.listing))
 }
 
-// Whether it has this status, and a listing that begins so.
-fn is_begun(alloc: Global, row: &Row) -> Result<bool, Fail> {
+/// Whether it has this status, and a listing that begins so.
+pub fn is_begun(alloc: Global, row: &Row) -> Result<bool, Fail> {
     let answer = answer_of(alloc, row.job)?;
     Ok(answer.status == row.status && answer.print.bytes().starts_with(row.listing))
 }
 
-// The name of the first of these jobs that has another status or listing.
-fn first_untold(alloc: Global, rows: &[Row]) -> Result<Option<&'static str>, Fail> {
+/// The name of the first of these jobs that has another status or listing.
+pub fn first_untold(alloc: Global, rows: &[Row]) -> Result<Option<&'static str>, Fail> {
     for row in rows {
         if !is_told(alloc, row)? {
             return Ok(Some(row.name));
@@ -30,8 +30,8 @@ fn first_untold(alloc: Global, rows: &[Row]) -> Result<Option<&'static str>, Fai
     Ok(None)
 }
 
-// The name of the first of these jobs that has another status or listing, or punches other cards.
-fn first_unpunched(alloc: Global, rows: &[DeckRow]) -> Result<Option<&'static str>, Fail> {
+/// The name of the first of these jobs that has another status or listing, or punches other cards.
+pub fn first_unpunched(alloc: Global, rows: &[DeckRow]) -> Result<Option<&'static str>, Fail> {
     for row in rows {
         if !answer_of(alloc, row.job)?.is_punched(row.status, row.listing, row.cards) {
             return Ok(Some(row.name));
