@@ -172,10 +172,10 @@ const ROW_AROUND: Around = Around {
     after: b"COLUMNS\n X COST 1 LOW 1\nRHS\n LOW 1\nENDATA\n",
 };
 
-const ROW_FAULTS: [Faulty; 10] = [
+const ROW_FAULTS: [Faulty; 16] = [
     Faulty {
         cards: " Q R X\n",
-        line: b"STOP 12 DECK FAULT 25 CARD 12\n",
+        line: b"STOP 12 DECK FAULT 3 CARD 12\n",
     },
     Faulty {
         cards: " Q R\n",
@@ -195,15 +195,15 @@ const ROW_FAULTS: [Faulty; 10] = [
     },
     Faulty {
         cards: " DN\n",
-        line: b"STOP 12 DECK FAULT 19 CARD 12\n",
+        line: b"STOP 12 DECK FAULT 25 CARD 12\n",
     },
     Faulty {
         cards: " DN S COST\n",
-        line: b"STOP 12 DECK FAULT 19 CARD 12\n",
+        line: b"STOP 12 DECK FAULT 25 CARD 12\n",
     },
     Faulty {
         cards: " DL S COST 1 LOW\n",
-        line: b"STOP 12 DECK FAULT 19 CARD 12\n",
+        line: b"STOP 12 DECK FAULT 25 CARD 12\n",
     },
     Faulty {
         cards: " L LONGNAME9\n",
@@ -211,15 +211,46 @@ const ROW_FAULTS: [Faulty; 10] = [
     },
     Faulty {
         cards: " Q LONGNAME9\n",
+        line: b"STOP 12 DECK FAULT 3 CARD 12\n",
+    },
+    Faulty {
+        cards: " DL LONGNAME9 COST 1\n",
         line: b"STOP 12 DECK FAULT 26 CARD 12\n",
+    },
+    Faulty {
+        cards: " DL S LONGNAME9 1\n",
+        line: b"STOP 12 DECK FAULT 26 CARD 12\n",
+    },
+    Faulty {
+        cards: " DL S COST 1234567890123\n",
+        line: b"STOP 12 DECK FAULT 27 CARD 12\n",
+    },
+    Faulty {
+        cards: " DL S S 1\n",
+        line: b"STOP 12 DECK FAULT 6 CARD 12\n",
+    },
+    Faulty {
+        cards: " DL COST COST 1\n",
+        line: b"STOP 12 DECK FAULT 4 CARD 12\n",
+    },
+    Faulty {
+        cards: " DL S COST 1 LOW 1.2.3\n",
+        line: b"STOP 12 DECK FAULT 8 CARD 12 NUMBER 2 COLUMN 21\n",
     },
 ];
 
-const ROW_DECKS: [Lawful; 1] = [Lawful {
-    cards: " L A\n",
-    lines: b"CONVERT ONE      ROWS 3 COLUMNS 1 ENTRIES 2\nBCDOUT  ONE      CARDS 11\n",
-    deck: b"NAME          ONE\nROWS\n N  COST\n G  LOW\n L  A\nCOLUMNS\n    X         COST      1\n    X         LOW       1\nRHS\n              LOW       1\nENDATA\n",
-}];
+const ROW_DECKS: [Lawful; 2] = [
+    Lawful {
+        cards: " L A\n",
+        lines: b"CONVERT ONE      ROWS 3 COLUMNS 1 ENTRIES 2\nBCDOUT  ONE      CARDS 11\n",
+        deck: b"NAME          ONE\nROWS\n N  COST\n G  LOW\n L  A\nCOLUMNS\n    X         COST      1\n    X         LOW       1\nRHS\n              LOW       1\nENDATA\n",
+    },
+    Lawful {
+        cards: " DN S\n DL T COST 1\n DG U COST 1 LOW -2\n DG U T 3\n",
+        lines: b"CONVERT ONE      ROWS 5 COLUMNS 1 ENTRIES 2\nBCDOUT  ONE      CARDS 15\n",
+        deck: b"NAME          ONE\nROWS\n N  COST\n G  LOW\n DN S\n DL T         COST      1\n DG U         COST      1\n DG U         LOW       -2\n DG U         T         3\nCOLUMNS\n    X         COST      1\n    X         LOW       1\nRHS\n              LOW       1\nENDATA\n",
+    },
+];
 
 // A section between RHS and ENDATA, whose first data card is card 17.
 const SET_AROUND: Around = Around {
@@ -393,7 +424,7 @@ const REVISION_FAULTS_1: [Faulty; 25] = [
     },
     Faulty {
         cards: "ROWS\n MODIFY\n DL LOW\n",
-        line: b"STOP 12 DECK FAULT 19 CARD 25\n",
+        line: b"STOP 12 DECK FAULT 3 CARD 25\n",
     },
     Faulty {
         cards: "ROWS\n MODIFY\n LOW\n",

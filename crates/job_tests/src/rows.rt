@@ -266,7 +266,7 @@ pub const VERB_FAULTS: [Row; 8] = [
 ];
 
 /// Jobs of which a card is refused.
-pub const DECK_FAULTS: [Row; 13] = [
+pub const DECK_FAULTS: [Row; 12] = [
     Row {
         name: "card of 81 bytes",
         job: b"         PROGRAM\n         CONVERT\n         SETUPXXXXXXXXXXXXXXXXXXXXXXXXXXXXXXXXXXXXXXXXXXXXXXXXXXXXXXXXXXXXXXXXXXX\n         PRIMAL\n         SOLUTION\n         EXIT\n         PEND\nNAME          ONE\nROWS\n N  COST\n G  LOW\nCOLUMNS\n    X         COST      1\n    X         LOW       1\nRHS\n    B         LOW       1\nENDATA\n",
@@ -326,12 +326,6 @@ pub const DECK_FAULTS: [Row; 13] = [
         job: b"         PROGRAM\n         CONVERT\n         SETUP\n         PRIMAL\n         SOLUTION\n         EXIT\n         PEND\nNAME          T\nROWS\n N  COST\nOBJSENSE\nENDATA\n",
         status: 12,
         listing: b"STOP 12 DECK FAULT 2 CARD 11\n",
-    },
-    Row {
-        name: "deck combination row",
-        job: b"         PROGRAM\n         CONVERT\n         SETUP\n         PRIMAL\n         SOLUTION\n         EXIT\n         PEND\nNAME          T\nROWS\n N  COST\n DN R1\nCOLUMNS\nENDATA\n",
-        status: 12,
-        listing: b"STOP 12 DECK FAULT 19 CARD 11\n",
     },
     Row {
         name: "deck without endata",
