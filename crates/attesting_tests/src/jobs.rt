@@ -10,7 +10,7 @@ pub struct Row {
 }
 
 /// Listings of jobs that are refused, and of jobs that bear on what a listing can show.
-pub const JOBS: [Row; 13] = [
+pub const JOBS: [Row; 17] = [
     Row {
         name: "store without SOLUTION",
         job: b"* What must a store spend to stay within its space and its money?\n* Nothing has to be bought, so the cheapest plan buys nothing.\n         PROGRAM\n         TITLE('THE CHEAPEST PLAN')\n         MVADR(XDONFS,NONE)\n         CONVERT\n         SETUP('MIN')\n         PRIMAL\n         EXIT\nNONE     TITLE('NO PLAN KEEPS ALL LIMITS')\n         EXIT\n         PEND\nNAME          STORE\nROWS\n N  COST\n L  SPACE\n L  MONEY\nCOLUMNS\n    FLOUR     COST      3              SPACE     1\n    FLOUR     MONEY     3\n    SUGAR     COST      2.5            SPACE     .75\n    SUGAR     MONEY     2.5\nRHS\n    WEEK      SPACE     40             MONEY     100\nENDATA\n",
@@ -101,5 +101,33 @@ pub const JOBS: [Row; 13] = [
         listing: b"TITLE END 0\nEND 0\n",
         status: 0,
         line: b"ATTESTED 1 REPORTS\n",
+    },
+    Row {
+        name: "a plan over combinations",
+        job: b"         PROGRAM\n         CONVERT\n         SETUP('MAX')\n         PRIMAL\n         SOLUTION\n         EXIT\n         PEND\nNAME          PLAN\nROWS\n N  PROFIT\n L  NORTH\n L  SOUTH\n DL HOURS     NORTH     1              SOUTH     1\n DG SHARE     NORTH     1              HOURS     -.4\nCOLUMNS\n    CHAIRN    PROFIT    20             NORTH     2\n    CHAIRS    PROFIT    18             SOUTH     1.5\nRHS\n    B         NORTH     60             SOUTH     60\n    B         HOURS     100\nENDATA\n",
+        listing: b"CONVERT PLAN     ROWS 5 COLUMNS 2 ENTRIES 4\nSETUP   PLAN     MAX\nPRIMAL OPTIMAL STEPS 3 OBJECTIVE 1120 CHECKED\nSOLUTION OPTIMAL\nSECTION 1 - ROWS\nNUMBER ROW AT ACTIVITY SLACK LOWER UPPER DUAL\n    1 PROFIT   BS 1120 -1120 NONE NONE 0\n    2 NORTH    BS 40 20 NONE 60 0\n    3 SOUTH    UL 60 0 NONE 60 2\n    4 HOURS    UL 100 0 NONE 100 10\n    5 SHARE    BS 0 0 0 NONE 0\nSECTION 2 - COLUMNS\nNUMBER COLUMN AT ACTIVITY COST LOWER UPPER REDUCED\n    6 CHAIRN   BS 20 20 0 NONE 0\n    7 CHAIRS   BS 40 18 0 NONE 0\nEND 0\n",
+        status: 0,
+        line: b"ATTESTED 4 REPORTS\n",
+    },
+    Row {
+        name: "another activity of a combination",
+        job: b"         PROGRAM\n         CONVERT\n         SETUP('MAX')\n         PRIMAL\n         SOLUTION\n         EXIT\n         PEND\nNAME          PLAN\nROWS\n N  PROFIT\n L  NORTH\n L  SOUTH\n DL HOURS     NORTH     1              SOUTH     1\n DG SHARE     NORTH     1              HOURS     -.4\nCOLUMNS\n    CHAIRN    PROFIT    20             NORTH     2\n    CHAIRS    PROFIT    18             SOUTH     1.5\nRHS\n    B         NORTH     60             SOUTH     60\n    B         HOURS     100\nENDATA\n",
+        listing: b"CONVERT PLAN     ROWS 5 COLUMNS 2 ENTRIES 4\nSETUP   PLAN     MAX\nPRIMAL OPTIMAL STEPS 3 OBJECTIVE 1120 CHECKED\nSOLUTION OPTIMAL\nSECTION 1 - ROWS\nNUMBER ROW AT ACTIVITY SLACK LOWER UPPER DUAL\n    1 PROFIT   BS 1120 -1120 NONE NONE 0\n    2 NORTH    BS 40 20 NONE 60 0\n    3 SOUTH    UL 60 0 NONE 60 2\n    4 HOURS    UL 99 1 NONE 100 10\n    5 SHARE    BS 0 0 0 NONE 0\nSECTION 2 - COLUMNS\nNUMBER COLUMN AT ACTIVITY COST LOWER UPPER REDUCED\n    6 CHAIRN   BS 20 20 0 NONE 0\n    7 CHAIRS   BS 40 18 0 NONE 0\nEND 0\n",
+        status: 40,
+        line: b"WRONG LINE 4\n",
+    },
+    Row {
+        name: "a product of a combination is refused",
+        job: b"         PROGRAM\n         CONVERT\n         SETUP\n         PRIMAL\n         SOLUTION\n         EXIT\n         PEND\nNAME          T\nROWS\n N  COST\n L  A\n DL S         A         999999999E18\nCOLUMNS\n    X         COST      1              A         999999999E18\nENDATA\n",
+        listing: b"CONVERT T        ROWS 3 COLUMNS 1 ENTRIES 2\nSTOP 20 OVERFLOW F19 MUL 999999999000000000000000000 999999999000000000000000000 P 0 Q 0 I 3 J 4 TERM 0 THETA 0 CARD 3\nBASIS NONE\nWAY NONE\n",
+        status: 41,
+        line: b"OPEN LINE 2\n",
+    },
+    Row {
+        name: "a plan over numbers that can't be made",
+        job: b"         PROGRAM\n         CONVERT\n         SETUP\n         PRIMAL\n         SOLUTION\n         EXIT\n         PEND\nNAME          T\nROWS\n N  COST\n L  A\n DL S         A         999999999E18\nCOLUMNS\n    X         COST      1              A         999999999E18\nENDATA\n",
+        listing: b"CONVERT T        ROWS 3 COLUMNS 1 ENTRIES 2\nSETUP   T        MIN\nPRIMAL OPTIMAL STEPS 0 OBJECTIVE 0 CHECKED\n",
+        status: 42,
+        line: b"UNCHECKED LINE 2\n",
     },
 ];
