@@ -1,25 +1,47 @@
 #!/usr/bin/env bash
-# Times a whole run over a deck of the greatest size: 1,000 rows, 5,000 columns and 50,000 entries, whose opening basis is
-# optimal. Prints the last line of its listing, the least processor time of five runs, in seconds, and the peak memory. The program
-# is proved and built first, where it isn't fresh.
-# usage: bench_converting.sh
+# Times whole runs over decks of the greatest size, 1,000 rows, 5,000 columns and 50,000 entries, whose opening basis is optimal: one of plain
+# rows; one of which 500 rows are combinations of two parts each; and one with 500 combinations of 400 parts each, in nearly all of which each
+# column has a number. Of the last two it times the run by CONVERT alone, and then by SETUP too, so that the difference is what a selection
+# takes. Prints for each the last line of its listing, the least processor time of five runs, in seconds, and the peak memory. The program is
+# proved and built first, where it isn't fresh, unless PROGRAM is given.
+# usage: bench_converting.sh [PROGRAM]
 set -eu
-case ${1:-} in -h | --help) sed -n '2,6s/^# //p' "$0"; exit 0 ;; esac
-program=$("$(dirname "$0")/program.sh")
+case ${1:-} in -h | --help) sed -n '2,8s/^# //p' "$0"; exit 0 ;; esac
+program=${1:-$("$(dirname "$0")/program.sh")}
 job=$(mktemp)
 trap 'rm -f "$job"' EXIT
-awk 'BEGIN {
-    for (k = split("PROGRAM CONVERT SETUP PRIMAL SOLUTION EXIT PEND", verb, " "); i++ < k;) printf "         %s\n", verb[i]
-    print "NAME          GREATEST\nROWS\n N  COST"
-    for (row = 1; row < 1000; row++) printf " L  R%d\n", row
-    print "COLUMNS"
-    for (column = 1; column <= 5000; column++) {
-        name = "X" column
-        printf "    %-8s  %-8s  %-12s\n", name, "COST", column % 97
-        for (entry = 0; entry < 9; entry++) printf "    %-8s  %-8s  %-12s\n", name, "R" (1 + (column * 7 + entry * 111) % 999), "-3.25"
-    }
-    print "RHS"
-    for (row = 1; row < 1000; row++) printf "    %-8s  %-8s  %-12s\n", "LIMIT", "R" row, row
-    print "ENDATA"
-}' >"$job"
-python3 "$(dirname "$0")/timed.py" "$job" "$program"
+
+# run WHAT COMBINATIONS PARTS VERBS
+run() {
+    awk -v combinations="$2" -v parts="$3" -v verbs="$4" 'BEGIN {
+        for (k = split("PROGRAM " verbs " EXIT PEND", verb, " "); i++ < k;) printf "         %s\n", verb[i]
+        plain = 999 - combinations
+        print "NAME          GREATEST\nROWS\n N  COST"
+        for (row = 1; row <= plain; row++) printf " L  R%d\n", row
+        for (row = 1; row <= combinations; row++) {
+            for (part = 0; part < parts; part += 2) {
+                printf " DL %-10s%-10s%-12s   ", "S" row, "R" (1 + (row + part) % plain), 1 + part % 3
+                printf "%-10s%s\n", "R" (1 + (row + part + 1) % plain), 2.5
+            }
+        }
+        print "COLUMNS"
+        for (column = 1; column <= 5000; column++) {
+            name = "X" column
+            printf "    %-8s  %-8s  %-12s\n", name, "COST", column % 97
+            for (entry = 0; entry < 9; entry++) printf "    %-8s  %-8s  %-12s\n", name, "R" (1 + (column * 7 + entry * 111) % plain), "-3.25"
+        }
+        print "RHS"
+        for (row = 1; row <= plain; row++) printf "    %-8s  %-8s  %-12s\n", "LIMIT", "R" row, row
+        for (row = 1; row <= combinations; row++) printf "    %-8s  %-8s  %-12s\n", "LIMIT", "S" row, row
+        print "ENDATA"
+    }' >"$job"
+    printf '%-58s ' "$1"
+    python3 "$(dirname "$0")/timed.py" "$job" "$program"
+}
+
+run "plain rows" 0 0 "CONVERT SETUP PRIMAL SOLUTION"
+for parts in 2 400; do
+    for verbs in "CONVERT" "CONVERT SETUP" "CONVERT SETUP PRIMAL SOLUTION"; do
+        run "500 combinations of $parts parts, $verbs" 500 "$parts" "$verbs"
+    done
+done

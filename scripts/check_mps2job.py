@@ -476,7 +476,8 @@ class Random:
         rng.shuffle(kinds)
         self.kinds, self.parts, self.part_texts = {self.name("R"): kind for kind in kinds}, {}, {}
         for place, row in enumerate(self.kinds if rng.random() < 0.3 else ()):
-            if rng.random() < 0.4:
+            # a column without entries has its card on a plain row, so there is one
+            if rng.random() < 0.4 and len(self.parts) + 1 < len(self.kinds):
                 parts = rng.sample(list(self.kinds)[:place], min(place, rng.randint(0, 4)))
                 self.parts[row] = {part: Fraction(rng.randint(-3, 3)) for part in parts}
                 self.part_texts[row] = [(part, self.number(times)) for part, times in self.parts[row].items()]
