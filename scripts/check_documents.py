@@ -153,13 +153,9 @@ def rules():
     return found
 
 
-# No test gives this fault: every row is plain today.
-UNTESTED = {("deck", "EntryOnCombination")}
-
-
 def check_rules():
     page = TOP / "docs/DEFINITIONS.md"
-    numbers, given = numbers_of_faults(), set(UNTESTED)
+    numbers, given = numbers_of_faults(), set()
     for first, rule, lines in rules():
         last = {}
         for number, what, fault, name, path in lines:
