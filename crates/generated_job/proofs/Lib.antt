@@ -1,2 +1,3 @@
+pub mod Deck
 pub mod Digits
 pub mod Numbered

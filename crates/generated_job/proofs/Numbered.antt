@@ -1,57 +1,72 @@
 -- The cards of numbered things, one number after another.
-use Rattle.std.proofs.Common.{◌≡◌, ℕ, ◌+◌, suc, List, [], ◌∷◌, ◌++◌, map, codes, Option, Result, Ok, Err, OnOk, refl, ap, sym, ◌∙◌, subst, append_assoc, add-one}
+use Rattle.std.proofs.Common.{◌≡◌, ℕ, zero, suc, ◌+◌, ◌-◌, ◌<◌, ◌≤◌, List, [], ◌∷◌, ◌++◌, map, Option, Result, Ok, Err, refl, ap, sym, ◌∙◌, subst, append_assoc, add-one, arith}
+use native.Mathlib.Numerals.{unary_clauses}
 use Rattle.std.specs.List.{flat_map}
-use Rattle.std.specs.Io.KnownBytes.{Appends}
 use Rattle.std.proofs.lemmas.List.{append-nil, map-append}
 use Rattle.std.proofs.lemmas.List.Concat.{flat_map-append}
-use Rattle.job_devices.specs.Text.{Puts}
-use Rattle.job_devices.proofs.TextLemmas.{Appends-then}
-use Rattle.problem_definitions.specs.declared.RowKind.TheVariants.{N}
-use Rattle.problem_definitions.specs.Problem.{plain_row}
-use Rattle.deck_definitions.specs.Written.{data_card, row_card, card_text}
+use Rattle.job_devices.specs.declared.device.WriteStop.{WriteStop}
+use Rattle.job_devices.specs.Text.{IsFront, Writes}
+use Rattle.job_devices.proofs.TextLemmas.{writes_then, writes_more, writes_same}
+use Rattle.deck_definitions.specs.Written.{card_text}
 use Rattle.deck_definitions.specs.Transport.{up_to}
 use Rattle.bcd_out.specs.Lines.{line}
 
 abbrev pub cards_then : (a b : List (List ℕ)) → card_text (a ++ b) ≡ card_text a ++ card_text b
 cards_then a b = flat_map-append (λ card. card ++ 10 ∷ []) a b
 
+-- ---- the numbers from 1 on
+
+one_more : (i : ℕ) → up_to i ++ (i + 1) ∷ [] ≡ up_to (i + 1)
+one_more i = rw (add-one i) refl
+
+front_of_more : (i more : ℕ) → IsFront (up_to i) (up_to (i + more))
+front_of_more i zero = simp unary_clauses ([], append-nil (up_to i))
+front_of_more i (suc more) =
+    let front = front_of_more i more in
+    let last = suc (i + more) ∷ [] in
+    simp unary_clauses (front.0 ++ last, sym (append_assoc (up_to i) front.0 last) ∙ ap (λ w. w ++ last) front.1)
+
+-- the numbers up to i are the first of those up to n
+first_numbers : (i n : ℕ) → i ≤ n → IsFront (up_to i) (up_to n)
+first_numbers i n low = let back : i + (n - i) ≡ n = omega (arith, low) in subst (λ k. IsFront (up_to i) (up_to k)) back (front_of_more i (n - i))
+
+-- ---- what is written for each number
+
+-- the text of some numbers and more is that of these, and then that of the others
+abbrev GoesOn : (List ℕ → List ℕ) → Type 0
+GoesOn text = (a b : List ℕ) → text (a ++ b) ≡ text a ++ text b
+
+-- the text of the numbers up to i, and then that of the next
+numbers_then : {P T U : Type 0} {written stopped_at : P → Option (List ℕ)} {faults refusals : P → ℕ} {a b c : P} {r : Result T WriteStop} {done : U} (text : List ℕ → List ℕ) → GoesOn text → (i : ℕ) → Writes written stopped_at faults refusals a b (Ok done) (text (up_to i)) → Writes written stopped_at faults refusals b c r (text ((i + 1) ∷ [])) → Writes written stopped_at faults refusals a c r (text (up_to (i + 1)))
+numbers_then text goes_on i so_far next = writes_same (sym (goes_on (up_to i) ((i + 1) ∷ [])) ∙ ap text (one_more i)) (writes_then so_far next)
+
+-- a stop in the text of the next is one in the text of all
+numbers_stop : {P T U : Type 0} {written stopped_at : P → Option (List ℕ)} {faults refusals : P → ℕ} {a b c : P} {stop : WriteStop} {done : U} (text : List ℕ → List ℕ) → GoesOn text → (i n : ℕ) → i < n → Writes written stopped_at faults refusals a b (Ok done) (text (up_to i)) → Writes {T = T} written stopped_at faults refusals b c (Err stop) (text ((i + 1) ∷ [])) → Writes {T = T} written stopped_at faults refusals a c (Err stop) (text (up_to n))
+numbers_stop text goes_on i n inside so_far stopped =
+    let front = first_numbers (i + 1) n (omega (arith, inside)) in
+    writes_same (sym (goes_on (up_to (i + 1)) front.0) ∙ ap text front.1) (writes_more (text front.0) (numbers_then text goes_on i so_far stopped))
+
 -- ---- a card for each number
 
-one_more : (f : ℕ → List ℕ) (i : ℕ) → card_text (map f (up_to (suc i))) ≡ card_text (map f (up_to i)) ++ line (f (suc i))
-one_more f i = ap card_text (map-append f (up_to i) (suc i ∷ [])) ∙ cards_then (map f (up_to i)) (f (suc i) ∷ []) ∙ ap (λ w. card_text (map f (up_to i)) ++ w) (append-nil (line (f (suc i))))
+each_goes_on : (f : ℕ → List ℕ) → GoesOn (λ numbers. card_text (map f numbers))
+each_goes_on f a b = ap card_text (map-append f a b) ∙ cards_then (map f a) (map f b)
 
-pub appends_one : (f : ℕ → List ℕ) (i : ℕ) (a b c : Option (List ℕ)) → Appends a b (card_text (map f (up_to i))) → Appends b c (line (f (i + 1))) → Appends a c (card_text (map f (up_to (i + 1))))
-appends_one f i a b c p q =
-    let whole = Appends-then a b c (card_text (map f (up_to i))) (line (f (suc i))) p (subst (λ k. Appends b c (line (f k))) (add-one i) q) in
-    subst (λ k. Appends a c (card_text (map f (up_to k)))) (sym (add-one i)) (subst (Appends a c) (sym (one_more f i)) whole)
+pub writes_one : {P T U : Type 0} {written stopped_at : P → Option (List ℕ)} {faults refusals : P → ℕ} {a b c : P} {r : Result T WriteStop} {done : U} (f : ℕ → List ℕ) (i : ℕ) → Writes written stopped_at faults refusals a b (Ok done) (card_text (map f (up_to i))) → Writes written stopped_at faults refusals b c r (line (f (i + 1))) → Writes written stopped_at faults refusals a c r (card_text (map f (up_to (i + 1))))
+writes_one f i so_far next = numbers_then (λ numbers. card_text (map f numbers)) (each_goes_on f) i so_far (writes_same (sym (append-nil (line (f (i + 1))))) next)
+
+pub stops_at_one : {P T U : Type 0} {written stopped_at : P → Option (List ℕ)} {faults refusals : P → ℕ} {a b c : P} {stop : WriteStop} {done : U} (f : ℕ → List ℕ) (i n : ℕ) → i < n → Writes written stopped_at faults refusals a b (Ok done) (card_text (map f (up_to i))) → Writes {T = T} written stopped_at faults refusals b c (Err stop) (line (f (i + 1))) → Writes {T = T} written stopped_at faults refusals a c (Err stop) (card_text (map f (up_to n)))
+stops_at_one f i n inside so_far stopped = numbers_stop (λ numbers. card_text (map f numbers)) (each_goes_on f) i n inside so_far (writes_same (sym (append-nil (line (f (i + 1))))) stopped)
 
 -- ---- some cards for each number
 
-some_more : (f : ℕ → List (List ℕ)) (i : ℕ) → card_text (flat_map f (up_to (suc i))) ≡ card_text (flat_map f (up_to i)) ++ card_text (f (suc i))
-some_more f i = ap card_text (flat_map-append f (up_to i) (suc i ∷ [])) ∙ cards_then (flat_map f (up_to i)) (f (suc i) ++ []) ∙ ap (λ w. card_text (flat_map f (up_to i)) ++ card_text w) (append-nil (f (suc i)))
+some_go_on : (f : ℕ → List (List ℕ)) → GoesOn (λ numbers. card_text (flat_map f numbers))
+some_go_on f a b = ap card_text (flat_map-append f a b) ∙ cards_then (flat_map f a) (flat_map f b)
 
-pub appends_some : (f : ℕ → List (List ℕ)) (i : ℕ) (a b c : Option (List ℕ)) → Appends a b (card_text (flat_map f (up_to i))) → Appends b c (card_text (f (i + 1))) → Appends a c (card_text (flat_map f (up_to (i + 1))))
-appends_some f i a b c p q =
-    let whole = Appends-then a b c (card_text (flat_map f (up_to i))) (card_text (f (suc i))) p (subst (λ k. Appends b c (card_text (f k))) (add-one i) q) in
-    subst (λ k. Appends a c (card_text (flat_map f (up_to k)))) (sym (add-one i)) (subst (Appends a c) (sym (some_more f i)) whole)
+one_alone : (f : ℕ → List (List ℕ)) (i : ℕ) → card_text (f i) ≡ card_text (flat_map f (i ∷ []))
+one_alone f i = ap card_text (sym (append-nil (f i)))
 
--- ---- one text after the other
+pub writes_some : {P T U : Type 0} {written stopped_at : P → Option (List ℕ)} {faults refusals : P → ℕ} {a b c : P} {r : Result T WriteStop} {done : U} (f : ℕ → List (List ℕ)) (i : ℕ) → Writes written stopped_at faults refusals a b (Ok done) (card_text (flat_map f (up_to i))) → Writes written stopped_at faults refusals b c r (card_text (f (i + 1))) → Writes written stopped_at faults refusals a c r (card_text (flat_map f (up_to (i + 1))))
+writes_some f i so_far next = numbers_then (λ numbers. card_text (flat_map f numbers)) (some_go_on f) i so_far (writes_same (one_alone f (i + 1)) next)
 
-pub ends : {T E : Type 0} (a b c : Option (List ℕ)) (r : Result T E) (x y whole : List ℕ) → Appends a b x → OnOk r (Appends b c y) → x ++ y ≡ whole → OnOk r (Appends a c whole)
-ends a b c (Ok done) x y whole p q e = subst (Appends a c) e (Appends-then a b c x y p q)
-ends a b c (Err stop) x y whole p q e = tt
-
-pub put : {T E : Type 0} (a b : Option (List ℕ)) (r : Result T E) (x : List ℕ) → Puts a b r x → OnOk r (Appends a b x)
-put a b (Ok done) x p = p
-put a b (Err stop) x p = tt
-
--- ---- the text of the whole deck
-
-pub deck_head : line (codes "NAME          TRANSP") ++ (line (codes "ROWS") ++ line (row_card (plain_row N (codes "COST")))) ≡ codes "NAME          TRANSP\nROWS\n N  COST\n"
-unfolding data_card
-deck_head = refl
-
-pub deck_parts : (n r k c s e : List ℕ) (ls gs cs ss ds : List (List ℕ)) →
-    ((((((((line n ++ (line r ++ line k)) ++ card_text ls) ++ card_text gs) ++ line c) ++ card_text cs) ++ line s) ++ card_text ss) ++ card_text ds) ++ line e
-    ≡ card_text (n ∷ r ∷ k ∷ (ls ++ gs ++ c ∷ (cs ++ s ∷ (ss ++ ds ++ e ∷ []))))
-deck_parts n r k c s e ls gs cs ss ds = simp (flat_map-append, append_assoc, append-nil)
+pub stops_at_some : {P T U : Type 0} {written stopped_at : P → Option (List ℕ)} {faults refusals : P → ℕ} {a b c : P} {stop : WriteStop} {done : U} (f : ℕ → List (List ℕ)) (i n : ℕ) → i < n → Writes written stopped_at faults refusals a b (Ok done) (card_text (flat_map f (up_to i))) → Writes {T = T} written stopped_at faults refusals b c (Err stop) (card_text (f (i + 1))) → Writes {T = T} written stopped_at faults refusals a c (Err stop) (card_text (flat_map f (up_to n)))
+stops_at_some f i n inside so_far stopped = numbers_stop (λ numbers. card_text (flat_map f numbers)) (some_go_on f) i n inside so_far (writes_same (one_alone f (i + 1)) stopped)

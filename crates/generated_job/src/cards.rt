@@ -1,10 +1,10 @@
 // Single cards of the generated problem.
-ghost use Rattle.std.specs.Prelude.{◌≡◌, ◌<◌, ◌≤◌, [], codes, length, OnOk};
-ghost use Rattle.std.specs.Io.KnownBytes.{Appends};
+ghost use Rattle.std.specs.Prelude.{◌≡◌, ◌<◌, ◌≤◌, [], codes, length};
 ghost use Rattle.problem_definitions.specs.declared.RowKind.TheVariants.{L, G};
 ghost use Rattle.problem_definitions.specs.Problem.{plain_row};
 ghost use Rattle.deck_definitions.specs.Written.{row_card, card_text};
 ghost use Rattle.deck_definitions.specs.Transport as made;
+ghost use Rattle.job_devices.specs.Text.{Writes};
 ghost use Rattle.bcd_out.specs.Lines.{line};
 
 use crate::names::{destination, route, source};
@@ -16,8 +16,8 @@ use job_devices::{Sink, WriteStop};
 fn put_item<P: Sink>(text: &mut P, name: &[u8], row: &[u8], value: u32) -> Result<(), WriteStop>
     requires name { length name.now ≤ 8 }
     requires row { length row.now ≤ 8 }
-    ensures { OnOk result (Appends (P.written text.old) (P.written text.new)
-        (line (made.item_card name.now row.now value))) }
+    ensures { Writes P.written P.stopped_at P.faults P.refusals text.old text.new result
+        (line (made.item_card name.now row.now value)) }
 {
     let mut digits = Buffer::new();
     let card = DataCard {
@@ -41,8 +41,8 @@ fn route_cost(from: u32, to: u32) -> u32
 /// The row of a source, from which at most so many are sent as it has.
 pub fn put_source_row<P: Sink>(text: &mut P, number: u32) -> Result<(), WriteStop>
     requires { number < 1000 }
-    ensures { OnOk result (Appends (P.written text.old) (P.written text.new)
-        (line (row_card (plain_row L (made.source number))))) }
+    ensures { Writes P.written P.stopped_at P.faults P.refusals text.old text.new result
+        (line (row_card (plain_row L (made.source number)))) }
 {
     let card = DataCard {
         kind: b"L",
@@ -56,8 +56,8 @@ pub fn put_source_row<P: Sink>(text: &mut P, number: u32) -> Result<(), WriteSto
 /// The row of a destination, which gets at least so many as it wants.
 pub fn put_destination_row<P: Sink>(text: &mut P, number: u32) -> Result<(), WriteStop>
     requires { number < 1000 }
-    ensures { OnOk result (Appends (P.written text.old) (P.written text.new)
-        (line (row_card (plain_row G (made.destination number))))) }
+    ensures { Writes P.written P.stopped_at P.faults P.refusals text.old text.new result
+        (line (row_card (plain_row G (made.destination number)))) }
 {
     let card = DataCard {
         kind: b"G",
@@ -72,8 +72,8 @@ pub fn put_destination_row<P: Sink>(text: &mut P, number: u32) -> Result<(), Wri
 pub fn put_route<P: Sink>(text: &mut P, from: u32, to: u32) -> Result<(), WriteStop>
     requires from { from < 1000 }
     requires to { to < 1000 }
-    ensures { OnOk result (Appends (P.written text.old) (P.written text.new)
-        (card_text (made.route_cards from to))) }
+    ensures { Writes P.written P.stopped_at P.faults P.refusals text.old text.new result
+        (card_text (made.route_cards from to)) }
 {
     let name = route(from, to);
     put_item(text, &name, b"COST", route_cost(from, to))?;
@@ -84,8 +84,8 @@ pub fn put_route<P: Sink>(text: &mut P, from: u32, to: u32) -> Result<(), WriteS
 /// What a source has.
 pub fn put_supply<P: Sink>(text: &mut P, number: u32) -> Result<(), WriteStop>
     requires { number < 1000 }
-    ensures { OnOk result (Appends (P.written text.old) (P.written text.new)
-        (line (made.item_card (codes "RHS") (made.source number) 10))) }
+    ensures { Writes P.written P.stopped_at P.faults P.refusals text.old text.new result
+        (line (made.item_card (codes "RHS") (made.source number) 10)) }
 {
     put_item(text, b"RHS", &source(number), 10)
 }
@@ -93,8 +93,8 @@ pub fn put_supply<P: Sink>(text: &mut P, number: u32) -> Result<(), WriteStop>
 /// What a destination wants.
 pub fn put_demand<P: Sink>(text: &mut P, number: u32) -> Result<(), WriteStop>
     requires { number < 1000 }
-    ensures { OnOk result (Appends (P.written text.old) (P.written text.new)
-        (line (made.item_card (codes "RHS") (made.destination number) 10))) }
+    ensures { Writes P.written P.stopped_at P.faults P.refusals text.old text.new result
+        (line (made.item_card (codes "RHS") (made.destination number) 10)) }
 {
     put_item(text, b"RHS", &destination(number), 10)
 }

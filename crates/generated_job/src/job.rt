@@ -1,8 +1,8 @@
 // The whole job.
-ghost use Rattle.std.specs.Prelude.{◌≡◌, ◌≤◌, ◌<◌, IfOk, OnOk};
-ghost use Rattle.std.specs.Io.KnownBytes.{Appends};
+ghost use Rattle.std.specs.Prelude.{◌≡◌, ◌≤◌, ◌<◌, IfOk};
 ghost use Rattle.deck_definitions.specs.Written.{card_text};
 ghost use Rattle.deck_definitions.specs.Transport.{deck_cards, made_job, program_cards};
+ghost use Rattle.job_devices.specs.Text.{Writes};
 
 use crate::sections::{
     put_demands, put_destination_rows, put_routes, put_source_rows, put_supplies,
@@ -16,16 +16,16 @@ static PROGRAM: &[u8] =
 static ROWS: &[u8] = b"NAME          TRANSP\nROWS\n N  COST\n";
 
 fn put_program<P: Sink>(text: &mut P) -> Result<(), WriteStop>
-    ensures { OnOk result (Appends (P.written text.old) (P.written text.new)
-        (card_text program_cards)) }
+    ensures { Writes P.written P.stopped_at P.faults P.refusals text.old text.new result
+        (card_text program_cards) }
 {
     put_all(text, PROGRAM)
 }
 
 fn put_deck<P: Sink>(text: &mut P, n: u32) -> Result<(), WriteStop>
     requires { n < 1000 }
-    ensures { OnOk result (Appends (P.written text.old) (P.written text.new)
-        (card_text (deck_cards n))) }
+    ensures { Writes P.written P.stopped_at P.faults P.refusals text.old text.new result
+        (card_text (deck_cards n)) }
 {
     put_all(text, ROWS)?;
     put_source_rows(text, n)?;
@@ -40,7 +40,8 @@ fn put_deck<P: Sink>(text: &mut P, n: u32) -> Result<(), WriteStop>
 
 fn put_job<P: Sink>(text: &mut P, n: u32) -> Result<(), WriteStop>
     requires { n < 1000 }
-    ensures { OnOk result (Appends (P.written text.old) (P.written text.new) (made_job n)) }
+    ensures { Writes P.written P.stopped_at P.faults P.refusals text.old text.new result
+        (made_job n) }
 {
     put_program(text)?;
     put_deck(text, n)

@@ -1,10 +1,10 @@
 // The sections of the generated deck.
-ghost use Rattle.std.specs.Prelude.{◌≡◌, ◌<◌, codes, map, flat_map, OnOk};
-ghost use Rattle.std.specs.Io.KnownBytes.{Appends};
+ghost use Rattle.std.specs.Prelude.{◌≡◌, ◌<◌, codes, map, flat_map};
 ghost use Rattle.problem_definitions.specs.declared.RowKind.TheVariants.{L, G};
 ghost use Rattle.problem_definitions.specs.Problem.{plain_row};
 ghost use Rattle.deck_definitions.specs.Written.{row_card, card_text};
 ghost use Rattle.deck_definitions.specs.Transport as made;
+ghost use Rattle.job_devices.specs.Text.{Writes};
 
 use crate::cards::{put_demand, put_destination_row, put_route, put_source_row, put_supply};
 use job_devices::{Sink, WriteStop};
@@ -12,9 +12,8 @@ use job_devices::{Sink, WriteStop};
 /// The rows of the sources from 1 to n.
 pub fn put_source_rows<P: Sink>(text: &mut P, n: u32) -> Result<(), WriteStop>
     requires { n < 1000 }
-    ensures { OnOk result (Appends (P.written text.old) (P.written text.new)
-        (card_text (map (λ i. row_card (plain_row L (made.source i)))
-        (made.up_to n)))) }
+    ensures { Writes P.written P.stopped_at P.faults P.refusals text.old text.new result
+        (card_text (map (λ i. row_card (plain_row L (made.source i))) (made.up_to n))) }
 {
     for before in 0..n {
         put_source_row(text, before + 1)?;
@@ -25,9 +24,8 @@ pub fn put_source_rows<P: Sink>(text: &mut P, n: u32) -> Result<(), WriteStop>
 /// The rows of the destinations from 1 to n.
 pub fn put_destination_rows<P: Sink>(text: &mut P, n: u32) -> Result<(), WriteStop>
     requires { n < 1000 }
-    ensures { OnOk result (Appends (P.written text.old) (P.written text.new)
-        (card_text (map (λ j. row_card (plain_row G (made.destination j)))
-        (made.up_to n)))) }
+    ensures { Writes P.written P.stopped_at P.faults P.refusals text.old text.new result
+        (card_text (map (λ j. row_card (plain_row G (made.destination j))) (made.up_to n))) }
 {
     for before in 0..n {
         put_destination_row(text, before + 1)?;
@@ -39,8 +37,8 @@ pub fn put_destination_rows<P: Sink>(text: &mut P, n: u32) -> Result<(), WriteSt
 fn put_routes_from<P: Sink>(text: &mut P, from: u32, n: u32) -> Result<(), WriteStop>
     requires from { from < 1000 }
     requires n { n < 1000 }
-    ensures { OnOk result (Appends (P.written text.old) (P.written text.new)
-        (card_text (flat_map (λ j. made.route_cards from j) (made.up_to n)))) }
+    ensures { Writes P.written P.stopped_at P.faults P.refusals text.old text.new result
+        (card_text (flat_map (λ j. made.route_cards from j) (made.up_to n))) }
 {
     for before in 0..n {
         put_route(text, from, before + 1)?;
@@ -51,9 +49,9 @@ fn put_routes_from<P: Sink>(text: &mut P, from: u32, n: u32) -> Result<(), Write
 /// The routes from each source to each destination.
 pub fn put_routes<P: Sink>(text: &mut P, n: u32) -> Result<(), WriteStop>
     requires { n < 1000 }
-    ensures { OnOk result (Appends (P.written text.old) (P.written text.new)
+    ensures { Writes P.written P.stopped_at P.faults P.refusals text.old text.new result
         (card_text (flat_map (λ i. flat_map (λ j. made.route_cards i j) (made.up_to n))
-        (made.up_to n)))) }
+        (made.up_to n))) }
 {
     for before in 0..n {
         put_routes_from(text, before + 1, n)?;
@@ -64,8 +62,8 @@ pub fn put_routes<P: Sink>(text: &mut P, n: u32) -> Result<(), WriteStop>
 /// What the sources from 1 to n have.
 pub fn put_supplies<P: Sink>(text: &mut P, n: u32) -> Result<(), WriteStop>
     requires { n < 1000 }
-    ensures { OnOk result (Appends (P.written text.old) (P.written text.new)
-        (card_text (map (λ i. made.item_card (codes "RHS") (made.source i) 10) (made.up_to n)))) }
+    ensures { Writes P.written P.stopped_at P.faults P.refusals text.old text.new result
+        (card_text (map (λ i. made.item_card (codes "RHS") (made.source i) 10) (made.up_to n))) }
 {
     for before in 0..n {
         put_supply(text, before + 1)?;
@@ -76,9 +74,9 @@ pub fn put_supplies<P: Sink>(text: &mut P, n: u32) -> Result<(), WriteStop>
 /// What the destinations from 1 to n want.
 pub fn put_demands<P: Sink>(text: &mut P, n: u32) -> Result<(), WriteStop>
     requires { n < 1000 }
-    ensures { OnOk result (Appends (P.written text.old) (P.written text.new)
+    ensures { Writes P.written P.stopped_at P.faults P.refusals text.old text.new result
         (card_text (map (λ j. made.item_card (codes "RHS") (made.destination j) 10)
-        (made.up_to n)))) }
+        (made.up_to n))) }
 {
     for before in 0..n {
         put_demand(text, before + 1)?;

@@ -1,31 +1,49 @@
-use Rattle.std.proofs.Common.{map, codes, ap, ◌∙◌, ◌++◌, sym}
-use Rattle.std.specs.List.{flat_map}
-use Rattle.problem_definitions.specs.declared.RowKind.TheVariants.{N, L, G}
-use Rattle.problem_definitions.specs.Problem.{plain_row}
-use Rattle.deck_definitions.specs.Written.{row_card, card_text}
-use Rattle.deck_definitions.specs.Transport.{up_to, source, destination, item_card, route_cards}
-use Rattle.job_devices.proofs.TextLemmas.{Appends-then}
+use Rattle.std.proofs.Common.{codes}
+use Rattle.std.proofs.lemmas.Result.{err_from_is_err_and}
+use Rattle.job_devices.proofs.TextLemmas.{writes_then, writes_more, writes_same}
 use Rattle.bcd_out.specs.Lines.{line}
-use Rattle.generated_job.proofs.Numbered.{ends, put, deck_head, deck_parts}
+use Rattle.generated_job.proofs.Deck.{from_demands, from_supplies, from_rhs, from_routes, from_columns, from_destinations, from_sources, deck_text}
 use Rattle.generated_job.proofs.job.put_deck.Goals as goal
 
+pub returns-in_err-put_all : goal.returns-in_err-put_all
+returns-in_err-put_all g c =
+    let p = err_from_is_err_and c.from_residual.result c.from_residual.ensures.1 in
+    rw (p.1, p.2) (writes_same (deck_text c.args.n) (writes_more (from_sources c.args.n) c.in_err-put_all.ensures))
+
+pub returns-in_err-put_source_rows : goal.returns-in_err-put_source_rows
+returns-in_err-put_source_rows g c =
+    let p = err_from_is_err_and c.from_residual-in_err-put_source_rows.result c.from_residual-in_err-put_source_rows.ensures.1 in
+    rw (p.1, p.2) (writes_same (deck_text c.args.n) (writes_then c.in_ok-put_all.ensures (writes_more (from_destinations c.args.n) c.in_err-put_source_rows.ensures)))
+
+pub returns-in_err-put_destination_rows : goal.returns-in_err-put_destination_rows
+returns-in_err-put_destination_rows g c =
+    let p = err_from_is_err_and c.from_residual-in_err-put_destination_rows.result c.from_residual-in_err-put_destination_rows.ensures.1 in
+    rw (p.1, p.2) (writes_same (deck_text c.args.n) (writes_then c.in_ok-put_all.ensures (writes_then c.in_ok-put_source_rows.ensures (writes_more (from_columns c.args.n) c.in_err-put_destination_rows.ensures))))
+
+pub returns-in_err-put_all-2 : goal.returns-in_err-put_all-2
+returns-in_err-put_all-2 g c =
+    let p = err_from_is_err_and c.from_residual-in_err-put_all-2.result c.from_residual-in_err-put_all-2.ensures.1 in
+    rw (p.1, p.2) (writes_same (deck_text c.args.n) (writes_then c.in_ok-put_all.ensures (writes_then c.in_ok-put_source_rows.ensures (writes_then c.in_ok-put_destination_rows.ensures (writes_more (from_routes c.args.n) c.in_err-put_all-2.ensures)))))
+
+pub returns-in_err-put_routes : goal.returns-in_err-put_routes
+returns-in_err-put_routes g c =
+    let p = err_from_is_err_and c.from_residual-in_err-put_routes.result c.from_residual-in_err-put_routes.ensures.1 in
+    rw (p.1, p.2) (writes_same (deck_text c.args.n) (writes_then c.in_ok-put_all.ensures (writes_then c.in_ok-put_source_rows.ensures (writes_then c.in_ok-put_destination_rows.ensures (writes_then c.in_ok-put_all-2.ensures (writes_more (from_rhs c.args.n) c.in_err-put_routes.ensures))))))
+
+pub returns-in_err-put_all-3 : goal.returns-in_err-put_all-3
+returns-in_err-put_all-3 g c =
+    let p = err_from_is_err_and c.from_residual-in_err-put_all-3.result c.from_residual-in_err-put_all-3.ensures.1 in
+    rw (p.1, p.2) (writes_same (deck_text c.args.n) (writes_then c.in_ok-put_all.ensures (writes_then c.in_ok-put_source_rows.ensures (writes_then c.in_ok-put_destination_rows.ensures (writes_then c.in_ok-put_all-2.ensures (writes_then c.in_ok-put_routes.ensures (writes_more (from_supplies c.args.n) c.in_err-put_all-3.ensures)))))))
+
+pub returns-in_err-put_supplies : goal.returns-in_err-put_supplies
+returns-in_err-put_supplies g c =
+    let p = err_from_is_err_and c.from_residual-in_err-put_supplies.result c.from_residual-in_err-put_supplies.ensures.1 in
+    rw (p.1, p.2) (writes_same (deck_text c.args.n) (writes_then c.in_ok-put_all.ensures (writes_then c.in_ok-put_source_rows.ensures (writes_then c.in_ok-put_destination_rows.ensures (writes_then c.in_ok-put_all-2.ensures (writes_then c.in_ok-put_routes.ensures (writes_then c.in_ok-put_all-3.ensures (writes_more (from_demands c.args.n) c.in_err-put_supplies.ensures))))))))
+
+pub returns-in_err-put_demands : goal.returns-in_err-put_demands
+returns-in_err-put_demands g c =
+    let p = err_from_is_err_and c.from_residual-in_err-put_demands.result c.from_residual-in_err-put_demands.ensures.1 in
+    rw (p.1, p.2) (writes_same (deck_text c.args.n) (writes_then c.in_ok-put_all.ensures (writes_then c.in_ok-put_source_rows.ensures (writes_then c.in_ok-put_destination_rows.ensures (writes_then c.in_ok-put_all-2.ensures (writes_then c.in_ok-put_routes.ensures (writes_then c.in_ok-put_all-3.ensures (writes_then c.in_ok-put_supplies.ensures (writes_more (line (codes "ENDATA")) c.in_err-put_demands.ensures)))))))))
+
 pub returns : goal.returns
-returns g c =
-    let w = g.P.Sink.written in
-    let numbers = up_to c.args.n in
-    let source_cards = map (λ i. row_card (plain_row L (source i))) numbers in
-    let destination_cards = map (λ j. row_card (plain_row G (destination j))) numbers in
-    let columns = flat_map (λ i. flat_map (λ j. route_cards i j) numbers) numbers in
-    let supply_cards = map (λ i. item_card (codes "RHS") (source i) 10) numbers in
-    let demand_cards = map (λ j. item_card (codes "RHS") (destination j) 10) numbers in
-    let head = codes "NAME          TRANSP\nROWS\n N  COST\n" in
-    let to_1 = Appends-then (w c.args.text.now) (w c.put_all.new.sink) (w c.put_source_rows.new.text) head (card_text source_cards) c.in_ok-put_all.ensures.bytes c.in_ok-put_source_rows.ensures in
-    let to_2 = Appends-then (w c.args.text.now) (w c.put_source_rows.new.text) (w c.put_destination_rows.new.text) (head ++ card_text source_cards) (card_text destination_cards) to_1 c.in_ok-put_destination_rows.ensures in
-    let to_3 = Appends-then (w c.args.text.now) (w c.put_destination_rows.new.text) (w c.put_all-2.new.sink) ((head ++ card_text source_cards) ++ card_text destination_cards) (line (codes "COLUMNS")) to_2 c.in_ok-put_all-2.ensures.bytes in
-    let to_4 = Appends-then (w c.args.text.now) (w c.put_all-2.new.sink) (w c.put_routes.new.text) (((head ++ card_text source_cards) ++ card_text destination_cards) ++ line (codes "COLUMNS")) (card_text columns) to_3 c.in_ok-put_routes.ensures in
-    let to_5 = Appends-then (w c.args.text.now) (w c.put_routes.new.text) (w c.put_all-3.new.sink) ((((head ++ card_text source_cards) ++ card_text destination_cards) ++ line (codes "COLUMNS")) ++ card_text columns) (line (codes "RHS")) to_4 c.in_ok-put_all-3.ensures.bytes in
-    let to_6 = Appends-then (w c.args.text.now) (w c.put_all-3.new.sink) (w c.put_supplies.new.text) (((((head ++ card_text source_cards) ++ card_text destination_cards) ++ line (codes "COLUMNS")) ++ card_text columns) ++ line (codes "RHS")) (card_text supply_cards) to_5 c.in_ok-put_supplies.ensures in
-    let to_7 = Appends-then (w c.args.text.now) (w c.put_supplies.new.text) (w c.put_demands.new.text) ((((((head ++ card_text source_cards) ++ card_text destination_cards) ++ line (codes "COLUMNS")) ++ card_text columns) ++ line (codes "RHS")) ++ card_text supply_cards) (card_text demand_cards) to_6 c.in_ok-put_demands.ensures in
-    ends (w c.args.text.now) (w c.put_demands.new.text) (w c.put_all-4.new.sink) c.put_all-4.result (((((((head ++ card_text source_cards) ++ card_text destination_cards) ++ line (codes "COLUMNS")) ++ card_text columns) ++ line (codes "RHS")) ++ card_text supply_cards) ++ card_text demand_cards) (line (codes "ENDATA")) _ to_7 (put (w c.put_demands.new.text) (w c.put_all-4.new.sink) c.put_all-4.result (line (codes "ENDATA")) c.put_all-4.ensures.bytes)
-    (ap (λ h. ((((((((h ++ card_text source_cards) ++ card_text destination_cards) ++ line (codes "COLUMNS")) ++ card_text columns) ++ line (codes "RHS")) ++ card_text supply_cards) ++ card_text demand_cards) ++ line (codes "ENDATA"))) (sym deck_head)
-    ∙ deck_parts (codes "NAME          TRANSP") (codes "ROWS") (row_card (plain_row N (codes "COST"))) (codes "COLUMNS") (codes "RHS") (codes "ENDATA") source_cards destination_cards columns supply_cards demand_cards)
+returns g c = writes_same (deck_text c.args.n) (writes_then c.in_ok-put_all.ensures (writes_then c.in_ok-put_source_rows.ensures (writes_then c.in_ok-put_destination_rows.ensures (writes_then c.in_ok-put_all-2.ensures (writes_then c.in_ok-put_routes.ensures (writes_then c.in_ok-put_all-3.ensures (writes_then c.in_ok-put_supplies.ensures (writes_then c.in_ok-put_demands.ensures c.put_all-4.ensures))))))))

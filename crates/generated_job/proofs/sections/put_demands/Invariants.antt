@@ -1,8 +1,8 @@
-use Rattle.std.proofs.Common.{map, codes}
-use Rattle.std.specs.Io.KnownBytes.{Appends}
+use Rattle.std.proofs.Common.{Ok, map, codes}
 use Rattle.deck_definitions.specs.Written.{card_text}
 use Rattle.deck_definitions.specs.Transport.{up_to, destination, item_card}
+use Rattle.job_devices.specs.Text.{Writes}
 use Rattle.generated_job.proofs.sections.put_demands.Given as goal
 
 abbrev pub invariant-loop-before : goal.invariant-loop-before
-invariant-loop-before g l = Appends (g.P.Sink.written l.fn.text) (g.P.Sink.written l.text) (card_text (map (λ j. item_card (codes "RHS") (destination j) 10) (up_to l.before)))
+invariant-loop-before g l = Writes {T = Unit {0}} g.P.Sink.written g.P.Sink.stopped_at g.P.Sink.faults g.P.Sink.refusals l.fn.text l.text (Ok tt) (card_text (map (λ j. item_card (codes "RHS") (destination j) 10) (up_to l.before)))
