@@ -2,3 +2,4 @@ pub mod NamedValues
 pub mod Counted
 pub mod Retained
 pub mod Slots
+mod NamedRows

@@ -1,23 +1,18 @@
 -- Lists of names with values, in which one is put, changed or taken out, and what they stand for.
-use Rattle.std.proofs.Common.{◌≡◌, ℕ, zero, suc, Bool, true, false, cond, not, List, [], ◌∷◌, ◌++◌, Some, None, length, map, filter, insert, remove, is_some, slice_get, min, refl, ap, sym, ◌∙◌, subst, arith}
+use Rattle.std.proofs.Common.{◌≡◌, ℕ, zero, suc, Bool, true, false, cond, not, List, [], ◌∷◌, ◌++◌, Some, length, map, filter, insert, remove, is_some, slice_get, min, refl, ap, sym, ◌∙◌, subst, arith}
 use Rattle.std.specs.List.{IsDistinct, AllByRecursion}
-use Rattle.std.specs.Map.{lookup, keys_of}
+use Rattle.std.specs.Map.{lookup, keys_of, set_value}
 use Rattle.std.specs.Option.{option_map_or}
 use Rattle.std.proofs.lemmas.List.{map-append}
 use Rattle.indexmap.specs.IndexMap.{insert_entry, shift_remove_entry, move_index}
-use Rattle.card_definitions.specs.Words.{named}
-use Rattle.card_definitions.specs.Fields.{Reading}
 use Rattle.card_definitions.specs.Numbers.{Decimal}
-use Rattle.problem_definitions.specs.declared.RowKind.{RowKind}
 use Rattle.problem_definitions.specs.Names.{Name, same}
-use Rattle.problem_definitions.specs.Problem.{Row, Group, has_row, has_entry, has_group}
+use Rattle.problem_definitions.specs.Problem.{Group, has_entry, has_group}
 use Rattle.problem_definitions.specs.Groups.{in_group}
 use Rattle.problem_definitions.proofs.Names.{same_eq, same_refl}
 use Rattle.problem_definitions.proofs.Groups.{map_agree, map-id}
-use Rattle.deck_definitions.specs.DataCards.{row_kinds}
-use Rattle.deck_parts.specs.Shown.{row_at}
 use Rattle.deck_parts.proofs.Keyed.{there}
-use Rattle.revise_definitions.specs.Edits.{put_entry, retyped, modify_row}
+use Rattle.revise_definitions.specs.Edits.{put_entry}
 use Rattle.revise_lists.specs.Shown.{entry_on}
 
 -- ---- a new value
@@ -92,7 +87,7 @@ module _ {V X : Type 0} (f : Name × V → X) (name_of : X → Name) (own : (e :
       ap (λ b. cond (not b) (f e ∷ filter (λ x. not (same name (name_of x))) (map f es)) (filter (λ x. not (same name (name_of x))) (map f es))) (ap (same name) (own e) ∙ apart.0)
       ∙ ap (λ rest. f e ∷ rest) (kept name es apart.1)
 
-  apart_from : (name : Name) (e : Name × V) (es : List (Name × V)) → same name e.0 ≡ true → AllByRecursion (λ other. same e.0 other ≡ false) (keys_of es) → AllByRecursion (λ other. same name other ≡ false) (keys_of es)
+  pub apart_from : (name : Name) (e : Name × V) (es : List (Name × V)) → same name e.0 ≡ true → AllByRecursion (λ other. same e.0 other ≡ false) (keys_of es) → AllByRecursion (λ other. same name other ≡ false) (keys_of es)
   apart_from name e es is h = subst (λ n. AllByRecursion (λ other. same n other ≡ false) (keys_of es)) (sym (same_eq name e.0 is)) h
 
   -- the one of a name is taken out
@@ -106,7 +101,7 @@ module _ {V X : Type 0} (f : Name × V → X) (name_of : X → Name) (own : (e :
       by true is more = sym (kept name es (apart_from name e es is distinct.0))
       by false is more = ap (λ rest. f e ∷ rest) more
 
-  module _ (name : Name) (v : V) (g : X → X) (gives : (e : Name × V) → same name e.0 ≡ true → f (e.0, v) ≡ g (f e)) where
+  module _ (name : Name) (g : X → X) where
     abbrev changed : X → X
     changed x = cond (same name (name_of x)) (g x) x
 
@@ -115,14 +110,38 @@ module _ {V X : Type 0} (f : Name × V → X) (name_of : X → Name) (own : (e :
     unchanged (e ∷ es) apart = ap (λ b. cond b (g (f e)) (f e) ∷ map changed (map f es)) (ap (same name) (own e) ∙ apart.0) ∙ ap (λ rest. f e ∷ rest) (unchanged es apart.1)
 
     -- the one of a name is replaced
-    pub replaced : (es : List (Name × V)) → IsDistinct same (keys_of es) → is_some (lookup (same name) es) ≡ true → map f (insert_entry same es name v) ≡ map changed (map f es)
+    pub replaced : (v : V) → ((e : Name × V) → same name e.0 ≡ true → f (e.0, v) ≡ g (f e)) → (es : List (Name × V)) → IsDistinct same (keys_of es) → is_some (lookup (same name) es) ≡ true
+        → map f (insert_entry same es name v) ≡ map changed (map f es)
     unfolding IsDistinct
-    replaced [] distinct found = absurd (cc found)
-    replaced (e ∷ es) distinct found = by (same name e.0) refl (replaced es distinct.1) found ∙ ap (λ n. cond (same name n) (g (f e)) (f e) ∷ map changed (map f es)) (sym (own e))
+    replaced v gives [] distinct found = absurd (cc found)
+    replaced v gives (e ∷ es) distinct found = by (same name e.0) refl (replaced v gives es distinct.1) found ∙ ap (λ n. cond (same name n) (g (f e)) (f e) ∷ map changed (map f es)) (sym (own e))
       where
         by : (b : Bool) → same name e.0 ≡ b → (is_some (lookup (same name) es) ≡ true → map f (insert_entry same es name v) ≡ map changed (map f es)) → is_some (cond b (Some e.1) (lookup (same name) es)) ≡ true → map f (cond b ((e.0, v) ∷ es) (e ∷ insert_entry same es name v)) ≡ cond b (g (f e)) (f e) ∷ map changed (map f es)
         by true is more h = ap (λ x. x ∷ map f es) (gives e is) ∙ ap (λ rest. g (f e) ∷ rest) (sym (unchanged es (apart_from name e es is distinct.0)))
         by false is more h = ap (λ rest. f e ∷ rest) (more h)
+
+    -- the one of a name is written
+    pub written : (change : V → V) → ((e : Name × V) → f (e.0, change e.1) ≡ g (f e)) → (es : List (Name × V)) (v : V) → IsDistinct same (keys_of es) → lookup (same name) es ≡ Some v
+        → map f (set_value (same name) es (change v)) ≡ map changed (map f es)
+    unfolding IsDistinct
+    written change gives [] v distinct found = absurd (cc found)
+    written change gives (e ∷ es) v distinct found = by (same name e.0) refl found (written change gives es v distinct.1) ∙ ap (λ n. cond (same name n) (g (f e)) (f e) ∷ map changed (map f es)) (sym (own e))
+      where
+        by : (b : Bool) → same name e.0 ≡ b → cond b (Some e.1) (lookup (same name) es) ≡ Some v → (lookup (same name) es ≡ Some v → map f (set_value (same name) es (change v)) ≡ map changed (map f es))
+            → map f (cond b ((e.0, change v) ∷ es) (e ∷ set_value (same name) es (change v))) ≡ cond b (g (f e)) (f e) ∷ map changed (map f es)
+        by true is h more =
+            let own_value : v ≡ e.1 = cc h in
+            ap (λ w. f (e.0, change w) ∷ map f es) own_value ∙ ap (λ x. x ∷ map f es) (gives e) ∙ ap (λ rest. g (f e) ∷ rest) (sym (unchanged es (apart_from name e es is distinct.0)))
+        by false is h more = ap (λ rest. f e ∷ rest) (more h)
+
+    -- none is, where there is none of the name
+    pub untouched : (es : List (Name × V)) → is_some (lookup (same name) es) ≡ false → map changed (map f es) ≡ map f es
+    untouched [] absent = refl
+    untouched (e ∷ es) absent = ap (λ n. cond (same name n) (g (f e)) (f e) ∷ map changed (map f es)) (own e) ∙ by (same name e.0) absent (untouched es)
+      where
+        by : (b : Bool) → is_some (cond b (Some e.1) (lookup (same name) es)) ≡ false → (is_some (lookup (same name) es) ≡ false → map changed (map f es) ≡ map f es) → cond b (g (f e)) (f e) ∷ map changed (map f es) ≡ f e ∷ map f es
+        by true h more = absurd (cc h)
+        by false h more = ap (λ rest. f e ∷ rest) (more h)
 
 -- ---- entries
 
@@ -134,25 +153,8 @@ entry_put row value es distinct = by (has_entry (map entry_on es) row) (entry_is
   where
     by : (b : Bool) → is_some (lookup (same row) es) ≡ b → map entry_on (insert_entry same es row value)
         ≡ cond b (map (λ other. cond (same row other.row) (record { row = row; value = value }) other) (map entry_on es)) (map entry_on es ++ record { row = row; value = value } ∷ [])
-    by true found = replaced entry_on (λ entry. entry.row) (λ e. refl) row value (λ other. record { row = row; value = value }) (λ e is. ap (λ n. record { row = n; value = value }) (sym (same_eq row e.0 is))) es distinct found
+    by true found = replaced entry_on (λ entry. entry.row) (λ e. refl) row (λ other. record { row = row; value = value }) value (λ e is. ap (λ n. record { row = n; value = value }) (sym (same_eq row e.0 is))) es distinct found
     by false absent = ap (map entry_on) (appended row value es absent) ∙ map-append entry_on es ((row, value) ∷ [])
-
--- ---- rows
-
-either_way : {X : Type 0} (b : Bool) (x y : X) → x ≡ y → cond b x y ≡ y
-either_way true x y e = e
-either_way false x y e = refl
-
--- no row is modified where the card has no type, or names no row
-pub untyped : (card : Reading) (rows : List (Row Name)) → named row_kinds card.kind ≡ None → modify_row card rows ≡ rows
-untyped card rows none = map-id (λ row. cond (same card.name1 row.name) (retyped card row) row) (λ row. either_way (same card.name1 row.name) (retyped card row) row (rw none refl)) rows
-
-pub unnamed : (card : Reading) (rows : List (Row Name)) → has_row rows card.name1 ≡ false → modify_row card rows ≡ rows
-unnamed card rows absent = map_agree (λ (row : Row Name). same card.name1 row.name) (λ row. cond (same card.name1 row.name) (retyped card row) row) (λ row. row) (λ row unlike. rw unlike refl) rows absent ∙ map-id (λ row. row) (λ row. refl) rows
-
-pub row_modified : (card : Reading) (kind : RowKind) (es : List (Name × RowKind)) → IsDistinct same (keys_of es) → is_some (lookup (same card.name1) es) ≡ true → named row_kinds card.kind ≡ Some kind
-    → map row_at (insert_entry same es card.name1 kind) ≡ modify_row card (map row_at es)
-row_modified card kind es distinct found kind_is = replaced row_at (λ row. row.name) (λ e. refl) card.name1 kind (retyped card) (λ e is. rw kind_is refl) es distinct found
 
 -- ---- groups
 

@@ -3,10 +3,13 @@ use Rattle.std.proofs.Common.{◌≡◌, Bool, true, false, cond, not, List, [],
 use Rattle.std.specs.Map.Calls.{RetainsPairs}
 use Rattle.card_definitions.specs.Words.{is_empty}
 use Rattle.problem_definitions.specs.Names.{Name}
-use Rattle.problem_definitions.specs.Problem.{Group}
+use Rattle.problem_definitions.specs.Problem.{Entry, Group}
+use Rattle.problem_definitions.specs.Parts.{with_parts}
 use Rattle.problem_definitions.specs.Groups.{in_all, filled}
 use Rattle.problem_definitions.proofs.Groups.{map-map}
 use Rattle.deck_parts.specs.Shown.{group_at}
+use Rattle.revise_lists.specs.declared.rows.RowBody.{RowBody}
+use Rattle.revise_lists.specs.Bodies.{row_at, body_with}
 
 -- a map's `retain` whose closure keeps each value and changes it
 module _ {K X F : Type 0} (T : F → K → X → Bool → X → F → Type 0) (change : X → X) (f : F)
@@ -25,6 +28,13 @@ module _ {X F : Type 0} (T : F → Name → List X → Bool → List X → F →
   changed_groups es left h =
       ap (map group_at) (changed_all T change f says es left h) ∙ map-map group_at (λ e. (e.0, change e.1)) es
       ∙ sym (map-map (λ (group : Group X). record { name = group.name; items = change group.items }) group_at es)
+
+module _ {F : Type 0} (T : F → Name → RowBody → Bool → RowBody → F → Type 0) (change : List (Entry Name) → List (Entry Name)) (f : F)
+    (says : (k : Name) (v : RowBody) (b : Bool) (w : RowBody) (g : F) → T f k v b w g → (b ≡ true) × (w ≡ body_with change v) × (g ≡ f)) where
+  -- the parts of all rows are changed
+  pub changed_rows : (es left : List (Name × RowBody)) → RetainsPairs T f es left → map row_at left ≡ map (with_parts change) (map row_at es)
+  changed_rows es left h =
+      ap (map row_at) (changed_all T (body_with change) f says es left h) ∙ map-map row_at (λ e. (e.0, body_with change e.1)) es ∙ sym (map-map (with_parts change) row_at es)
 
 -- the groups that have an item are kept
 pub filled_groups : {X : Type 0} (es : List (Name × List X)) → map group_at (filter (λ e. not (is_empty e.1)) es) ≡ filled (map group_at es)

@@ -1,10 +1,11 @@
 // The entries of a column, or the items of a set, under revision.
-ghost use Rattle.std.specs.Prelude.{◌≡◌, ◌++◌, ◌∷◌, [], IfOk, OnOk, map, length};
+ghost use Rattle.std.specs.Prelude.{◌≡◌, ◌++◌, ◌∷◌, [], IfOk, OnOk, map, length, option_map};
+ghost use Rattle.std.specs.Option.{option_to_list};
 ghost use Rattle.card_definitions.specs.Words.{is_empty as is_none_left};
 ghost use Rattle.problem_definitions.specs.Names.{number_in};
 ghost use Rattle.problem_definitions.specs.Numbering.{entry_by};
 ghost use Rattle.problem_definitions.specs.Problem.{has_entry};
-ghost use Rattle.deck_definitions.specs.DataCards.{entry_of, entries_of};
+ghost use Rattle.deck_definitions.specs.DataCards.{entry_of, entries_of, parts_on};
 ghost use Rattle.deck_cards.specs.Shown.{shown, pair_shown};
 ghost use Rattle.revise_definitions.specs.Edits.{put_entry, put_entries, without_row};
 ghost use Rattle.revise_lists.specs.Changes.{entries_changed};
@@ -14,7 +15,7 @@ use crate::changes::EntryChange;
 use crate::named::insert_new;
 use crate::parts::NamedEntry;
 use crate::rows::Rows;
-use deck_cards::{DataCard, PairText, first_pair, second_pair};
+use deck_cards::{DataCard, PairText, first_pair, first_part, second_pair};
 use deck_fields::Decimal;
 use deck_parts::{CardStop, DeckFaultKind, number_in};
 use indexmap::IndexMap;
@@ -134,15 +135,34 @@ impl Entries {
         numbered_entries(alloc, rows, &self.values)
     }
 
+    // Puts the entry of a pair in, if there is one.
+    fn put_if(&mut self, pair: &Option<PairText<'_>>) -> Result<(), CardStop>
+        ensures { OnOk result (self.new ≡ put_entries
+            (map entry_of (option_to_list (option_map pair_shown pair.now))) self.old) }
+    {
+        match pair {
+            Some(pair) => self.put(entry_from(pair)?),
+            None => Ok(()),
+        }
+    }
+
+    // Adds the entry of a pair at the end, if there is one.
+    fn add_if(&mut self, pair: &Option<PairText<'_>>) -> Result<(), CardStop>
+        ensures { OnOk result (self.new ≡ self.old ++ map entry_of
+            (option_to_list (option_map pair_shown pair.now))) }
+    {
+        match pair {
+            Some(pair) => self.add(entry_from(pair)?),
+            None => Ok(()),
+        }
+    }
+
     // Puts the entries of a card in, one after another.
     fn put_all(&mut self, card: &DataCard<'_>) -> Result<(), CardStop>
         ensures { OnOk result (self.new ≡ put_entries (entries_of (shown card.now)) self.old) }
     {
         self.put(entry_from(&first_pair(card))?)?;
-        match second_pair(card) {
-            Some(second) => self.put(entry_from(&second)?),
-            None => Ok(()),
-        }
+        self.put_if(&second_pair(card))
     }
 
     /// Adds the entries of a card at the end.
@@ -150,10 +170,23 @@ impl Entries {
         ensures { OnOk result (self.new ≡ self.old ++ entries_of (shown card.now)) }
     {
         self.add(entry_from(&first_pair(card))?)?;
-        match second_pair(card) {
-            Some(second) => self.add(entry_from(&second)?),
-            None => Ok(()),
-        }
+        self.add_if(&second_pair(card))
+    }
+
+    /// Puts the parts on a card in, one after another.
+    pub fn put_parts(&mut self, card: &DataCard<'_>) -> Result<(), CardStop>
+        ensures { OnOk result (self.new ≡ put_entries (parts_on (shown card.now)) self.old) }
+    {
+        self.put_if(&first_part(card))?;
+        self.put_if(&second_pair(card))
+    }
+
+    /// Adds the parts on a card at the end.
+    pub fn append_parts(&mut self, card: &DataCard<'_>) -> Result<(), CardStop>
+        ensures { OnOk result (self.new ≡ self.old ++ parts_on (shown card.now)) }
+    {
+        self.add_if(&first_part(card))?;
+        self.add_if(&second_pair(card))
     }
 
     /// Changes the entries as a card says.

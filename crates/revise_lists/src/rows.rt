@@ -1,26 +1,73 @@
 // The rows of a problem under revision.
-ghost use Rattle.std.specs.Prelude.{◌≡◌, ◌++◌, ◌∷◌, [], map, filter, not, insert, length, IfOk, OnOk};
+ghost use Rattle.std.specs.Prelude.{◌≡◌, ◌++◌, ◌∷◌, [], true, map, filter, not, insert, length, take, nat_lt, ◌&&◌, unwrap_or, option_map, IfOk, OnOk};
+ghost use Rattle.std.specs.List.{IsDistinct, position_or_len};
+ghost use Rattle.std.specs.Map.{keys_of};
+ghost use Rattle.std.specs.Option.{option_copied};
 ghost use Rattle.problem_definitions.specs.Names.{same, number_in};
-ghost use Rattle.problem_definitions.specs.Problem.{plain_row, has_row, has_free_row};
-ghost use Rattle.problem_definitions.specs.Numbering.{row_by};
-ghost use Rattle.deck_parts.specs.Shown.{row_at, decl_at};
+ghost use Rattle.problem_definitions.specs.Problem.{has_row, has_free_row, has_combination};
+ghost use Rattle.problem_definitions.specs.Parts.{parts_of, with_parts, in_row};
+ghost use Rattle.problem_definitions.specs.Numbering.{entry_by, row_by};
+ghost use Rattle.deck_definitions.specs.DataCards.{parts_on};
 ghost use Rattle.deck_cards.specs.Shown.{shown};
-ghost use Rattle.revise_definitions.specs.Edits.{modify_row};
+ghost use Rattle.revise_definitions.specs.Edits.{modify_row, without_row};
+ghost use Rattle.revise_lists.specs.Bodies.{row_at, body_with, body_retyped};
 
+use crate::entries::Entries;
+use crate::kinds::kind_on;
 use crate::named::{insert_new, number_among};
-use deck_cards::{DataCard, row_kind};
+use deck_cards::DataCard;
 use deck_parts::{CardStop, DeckFaultKind, is_free};
 use indexmap::IndexMap;
 use name_table::Name;
 use problem_definitions::RowKind;
-use problem_file::{NoMemory, RowDecl};
+use problem_file::{DeckEntry, NoMemory, RowDecl};
 use std::alloc::Global;
 use std::marker::Model;
+
+/// What a row is beside its name: its type, and of a combination its parts.
+#[derive(Drop)]
+pub struct RowBody {
+    pub kind: RowKind,
+    pub parts: Option<Entries>,
+}
+
+impl RowBody {
+    // Adds the parts on a card at the end, where the row is a combination.
+    fn append(&mut self, card: &DataCard<'_>) -> Result<(), CardStop>
+        ensures { OnOk result (self.new ≡ body_with (λ parts. parts ++ parts_on (shown card.now))
+            self.old) }
+    {
+        match &mut self.parts {
+            Some(parts) => parts.append_parts(card),
+            None => Ok(()),
+        }
+    }
+
+    // Gives the row the type on a card, if there is such a type, and puts the parts on the card in, where the row is a combination.
+    fn modify(&mut self, card: &DataCard<'_>) -> Result<(), CardStop>
+        ensures { OnOk result (self.new ≡ body_retyped (shown card.now) self.old) }
+    {
+        self.kind = kind_on(card).unwrap_or(self.kind);
+        match &mut self.parts {
+            Some(parts) => parts.put_parts(card),
+            None => Ok(()),
+        }
+    }
+
+    // Takes out the part on a row.
+    fn remove_part(&mut self, row: &Name)
+        ensures { self.new ≡ body_with (without_row row.now) self.old }
+    {
+        if let Some(parts) = &mut self.parts {
+            parts.remove(row);
+        }
+    }
+}
 
 /// Rows in order.
 #[derive(Drop)]
 pub struct Rows {
-    kinds: IndexMap<Name, RowKind>,
+    rows: IndexMap<Name, RowBody>,
 }
 
 impl Model for Rows {
@@ -29,13 +76,13 @@ impl Model for Rows {
     ghost use Rattle.std.specs.Map.{keys_of};
     ghost use Rattle.problem_definitions.specs.Names.{Name as Text, same};
     ghost use Rattle.problem_definitions.specs.Problem.{Row};
-    ghost use Rattle.deck_parts.specs.Shown.{row_at};
+    ghost use Rattle.revise_lists.specs.Bodies.{row_at};
 
     ghost Value = { List (Row Text) };
 
-    ghost view = { λ rows. map row_at rows.kinds.entries };
+    ghost view = { λ rows. map row_at rows.rows.entries };
 
-    ghost invariant = { λ rows. IsDistinct same (keys_of rows.kinds.entries) };
+    ghost invariant = { λ rows. IsDistinct same (keys_of rows.rows.entries) };
 }
 
 impl Rows {
@@ -43,7 +90,7 @@ impl Rows {
         ensures { result ≡ [] }
     {
         Rows {
-            kinds: IndexMap::new(alloc),
+            rows: IndexMap::new(alloc),
         }
     }
 
@@ -51,24 +98,44 @@ impl Rows {
     pub fn len(&self) -> usize
         ensures { result ≡ length self.now }
     {
-        self.kinds.len()
+        self.rows.len()
     }
 
     /// Whether a row of this name is there.
-    #[tactic(auto, using(deck_parts::proofs::Keyed::row_is_there))]
+    #[tactic(auto, using(crate::proofs::NamedRows::row_is_there))]
     pub fn has(&self, name: &Name) -> bool
         ensures { result ≡ has_row self.now name.now }
     {
-        self.kinds.contains_key(name)
+        self.rows.contains_key(name)
     }
 
     /// Whether a free row of this name is there.
     pub fn has_free(&self, name: &Name) -> bool
         ensures { result ≡ has_free_row self.now name.now }
     {
-        match self.kinds.get(name) {
-            Some(kind) => is_free(*kind),
+        match self.rows.get(name) {
+            Some(body) => is_free(body.kind),
             None => false,
+        }
+    }
+
+    /// Whether a combination of this name is there.
+    pub fn has_combination(&self, name: &Name) -> bool
+        ensures { result ≡ has_combination self.now name.now }
+    {
+        match self.rows.get(name) {
+            Some(body) => body.parts.is_some(),
+            None => false,
+        }
+    }
+
+    /// The parts of the row of this name, if it is a combination that is there.
+    pub fn parts(&self, name: &Name) -> Option<&Entries>
+        ensures { unwrap_or (option_copied result) [] ≡ parts_of name.now self.now }
+    {
+        match self.rows.get(name) {
+            Some(body) => body.parts.as_ref(),
+            None => None,
         }
     }
 
@@ -76,7 +143,26 @@ impl Rows {
     pub fn number_of(&self, name: &Name) -> usize
         ensures { result ≡ number_in (map (λ row. row.name) self.now) name.now }
     {
-        number_among(&self.kinds, name)
+        number_among(&self.rows, name)
+    }
+
+    /// The place of the row of this name, from 0, or how many rows there are where it isn't there.
+    pub fn place_of(&self, name: &Name) -> usize
+        ensures { result ≡ position_or_len (λ row. same name.now row.name) self.now }
+    {
+        match self.rows.get_index_of(name) {
+            Some(place) => place,
+            None => self.rows.len(),
+        }
+    }
+
+    /// Whether the row of this name is among the first, up to a limit.
+    pub fn stands_before(&self, name: &Name, limit: usize) -> bool
+        ensures { result ≡ has_row (take limit self.now) name.now }
+    {
+        let place = self.place_of(name);
+        let count = self.len();
+        is_below(place, count, limit)
     }
 
     /// The rows as a problem by numbers has them.
@@ -84,62 +170,152 @@ impl Rows {
         ensures { IfOk result (λ decls. decls.items ≡ map
             (row_by (number_in (map (λ row. row.name) self.now))) self.now) }
     {
-        row_decls(alloc, &self.kinds)
+        row_decls(alloc, self, &self.rows)
     }
 
     /// Puts a row at this place, or at the end where there are fewer, or refuses a name that a row has.
-    pub fn insert(&mut self, place: usize, kind: RowKind, name: Name) -> Result<(), CardStop>
-        ensures { OnOk result (self.new ≡ insert self.old place (plain_row kind name)) }
+    pub fn insert(
+        &mut self,
+        place: usize,
+        kind: RowKind,
+        name: Name,
+        parts: Option<Entries>,
+    ) -> Result<(), CardStop>
+        ensures { OnOk result (self.new ≡ insert self.old place
+            (record { kind = kind; name = name; parts = parts })) }
     {
         insert_new(
-            &mut self.kinds,
+            &mut self.rows,
             place,
             name,
-            kind,
+            RowBody { kind, parts },
             DeckFaultKind::DuplicateRow,
         )
     }
 
     /// Adds a row at the end, or refuses a name that a row has.
-    pub fn add(&mut self, kind: RowKind, name: Name) -> Result<(), CardStop>
-        ensures { OnOk result (self.new ≡ self.old ++ plain_row kind name ∷ []) }
+    pub fn add(&mut self, kind: RowKind, name: Name, parts: Option<Entries>) -> Result<(), CardStop>
+        ensures { OnOk result (self.new ≡ self.old ++ record
+            { kind = kind; name = name; parts = parts } ∷ []) }
     {
         let last = self.len();
-        self.insert(last, kind, name)
+        self.insert(last, kind, name, parts)
     }
 
-    /// Gives the row that a card names the type in its field 1, if there is such a type.
+    /// Adds the parts on a card to the combination that the card names.
+    pub fn append_parts(&mut self, card: &DataCard<'_>) -> Result<(), CardStop>
+        ensures { OnOk result (self.new ≡ in_row card.now.name1
+            (λ parts. parts ++ parts_on (shown card.now)) self.old) }
+    {
+        let appended = append_under(&mut self.rows, card);
+        let _names = self.rows.len();
+        appended
+    }
+
+    /// Gives the row that a card names the type in its field 1, if there is such a type, and a combination the parts on the card.
     pub fn modify(&mut self, card: &DataCard<'_>) -> Result<(), CardStop>
         ensures { OnOk result (self.new ≡ modify_row (shown card.now) self.old) }
     {
-        let Some(kind) = row_kind(card.kind) else {
-            return Ok(());
-        };
-        if !self.kinds.contains_key(&card.name1) {
-            return Ok(());
-        }
-        self.kinds.insert(card.name1, kind)?;
-        Ok(())
+        let modified = modify_under(&mut self.rows, card);
+        let _names = self.rows.len();
+        modified
     }
 
-    /// Takes out the row of this name.
+    /// Takes out the row of this name, and the parts on it.
     pub fn remove(&mut self, name: &Name)
-        ensures { self.new ≡ filter (λ row. not (same name.now row.name)) self.old }
+        ensures { self.new ≡ map (with_parts (without_row name.now))
+            (filter (λ row. not (same name.now row.name)) self.old) }
     {
-        self.kinds.shift_remove(name);
+        self.rows.shift_remove(name);
+        remove_parts_in(&mut self.rows, name);
     }
 }
 
-// The rows of these names and types.
-fn row_decls(alloc: Global, kinds: &IndexMap<Name, RowKind>) -> Result<Vec<RowDecl>, NoMemory>
-    ensures { IfOk result (λ decls. decls.items ≡ map decl_at kinds.now.entries) }
+// Whether a place is below both of two others.
+fn is_below(place: usize, one: usize, other: usize) -> bool
+    ensures { result ≡ (nat_lt place one && nat_lt place other) }
+{
+    place < one && place < other
+}
+
+// Adds the parts on a card to the row in its field 2, if it is a combination that is there.
+fn append_under(rows: &mut IndexMap<Name, RowBody>, card: &DataCard<'_>) -> Result<(), CardStop>
+    ensures { OnOk result (map row_at rows.new.entries ≡ in_row card.now.name1
+        (λ parts. parts ++ parts_on (shown card.now)) (map row_at rows.old.entries)) }
+{
+    let Some(body) = rows.get_mut(&card.name1) else {
+        return Ok(());
+    };
+    body.append(card)
+}
+
+// Gives the row in field 2 of a card what the card says, if it is there.
+fn modify_under(rows: &mut IndexMap<Name, RowBody>, card: &DataCard<'_>) -> Result<(), CardStop>
+    ensures { OnOk result (map row_at rows.new.entries ≡ modify_row (shown card.now)
+        (map row_at rows.old.entries)) }
+{
+    let Some(body) = rows.get_mut(&card.name1) else {
+        return Ok(());
+    };
+    body.modify(card)
+}
+
+// Takes the parts on a row out of all rows.
+fn remove_parts_in(rows: &mut IndexMap<Name, RowBody>, row: &Name)
+    ensures left { map row_at rows.new.entries ≡ map (with_parts (without_row row.now))
+        (map row_at rows.old.entries) }
+    ensures distinct { IsDistinct same (keys_of rows.new.entries) }
+{
+    rows.retain(
+        |_name: &Name, body: &mut RowBody| -> bool
+            ensures { (result ≡ true) × (body.new ≡ body_with (without_row row.entry.now)
+                body.old) }
+        {
+            body.remove_part(row);
+            true
+        },
+    );
+}
+
+// The parts of a row on the numbers of their rows.
+fn numbered_parts(
+    alloc: Global,
+    rows: &Rows,
+    parts: &Option<Entries>,
+) -> Result<Option<Vec<DeckEntry>>, NoMemory>
+    ensures { IfOk result (λ list. option_map (λ l. l.items) list ≡ option_map
+        (map (entry_by (number_in (map (λ row. row.name) rows.now)))) parts.now) }
+{
+    match parts {
+        Some(parts) => Ok(Some(parts.numbered(alloc, rows)?)),
+        None => Ok(None),
+    }
+}
+
+// The row of this name and body, with its parts on the numbers of these rows.
+fn numbered_row(alloc: Global, rows: &Rows, name: Name, body: &RowBody) -> Result<RowDecl, NoMemory>
+    ensures { IfOk result (λ decl. decl ≡ row_by (number_in (map (λ row. row.name) rows.now))
+        (row_at (name, body.now))) }
+{
+    Ok(RowDecl {
+        kind: body.kind,
+        name,
+        parts: numbered_parts(alloc, rows, &body.parts)?,
+    })
+}
+
+// The rows of these names and bodies, with their parts on the numbers of these rows.
+fn row_decls(
+    alloc: Global,
+    rows: &Rows,
+    bodies: &IndexMap<Name, RowBody>,
+) -> Result<Vec<RowDecl>, NoMemory>
+    ensures { IfOk result (λ decls. decls.items ≡ map
+        (row_by (number_in (map (λ row. row.name) rows.now))) (map row_at bodies.now.entries)) }
 {
     let mut decls = Vec::new(alloc);
-    for (name, kind) in kinds {
-        let row = RowDecl {
-            kind: *kind,
-            name: *name,
-        };
+    for (name, body) in bodies {
+        let row = numbered_row(alloc, rows, *name, body)?;
         decls.push(row).map_err(|_| NoMemory)?;
     }
     Ok(decls)

@@ -1,10 +1,10 @@
 use Rattle.std.proofs.Common.{map, ap, ◌∙◌}
 use Rattle.std.proofs.lemmas.Result.{on_ok_weaker}
 use Rattle.indexmap.proofs.SetLemmas.{map-insert}
-use Rattle.deck_parts.specs.Shown.{row_at}
+use Rattle.revise_lists.specs.Bodies.{row_at}
 use Rattle.revise_lists.proofs.rows.Rows.insert.Goals as goal
 
 pub returns : goal.returns
 returns c =
     rw (← c.self.view_is)
-    (on_ok_weaker c.insert_new.result (λ placed. ap (map row_at) placed ∙ map-insert row_at c.self.inside.kinds.entries c.args.place (c.args.name, c.args.kind)) c.insert_new.ensures.placed)
+    (on_ok_weaker c.insert_new.result (λ placed. ap (map row_at) placed ∙ map-insert row_at c.self.inside.rows.entries c.args.place (c.args.name, record { kind = c.args.kind; parts = c.args.parts })) c.insert_new.ensures.placed)

@@ -1,0 +1,21 @@
+use Rattle.std.proofs.Common.{◌≡◌, ◌++◌, map, is_some, sym, ap, ◌∙◌}
+use Rattle.std.specs.Map.{set_value}
+use Rattle.std.proofs.lemmas.Result.{on_ok_weaker}
+use Rattle.problem_definitions.specs.Names.{same}
+use Rattle.deck_definitions.specs.DataCards.{parts_on}
+use Rattle.deck_cards.specs.Shown.{shown}
+use Rattle.revise_lists.specs.Bodies.{row_at, body_with}
+use Rattle.revise_lists.proofs.NamedRows.{parts_written, no_parts_written}
+use Rattle.revise_lists.proofs.rows.append_under.Goals as goal
+
+pub returns-in_default : goal.returns-in_default
+returns-in_default c =
+    ap (λ m. map row_at m.entries) c.get_mut.follows.holds-at-none
+    ∙ sym (no_parts_written c.args.card.now.name1 (λ parts. parts ++ parts_on (shown c.args.card.now)) c.args.rows.now.entries (sym (ap is_some c.in_default.ensures.value)))
+
+pub returns : goal.returns
+returns c =
+    on_ok_weaker {P = c.append.new.self ≡ body_with (λ parts. parts ++ parts_on (shown c.args.card.now)) c.in-Some.body.now} c.append.result
+    (λ e. ap (map row_at) ((c.get_mut.follows.holds c.append.new.self).0 ∙ ap (set_value (same c.args.card.now.name1) c.args.rows.now.entries) e)
+    ∙ parts_written c.args.card.now.name1 (λ parts. parts ++ parts_on (shown c.args.card.now)) c.args.rows.now.entries c.in-Some.body.now c.get_mut.ensures.unique (sym c.in-Some.ensures.value))
+    c.append.ensures
