@@ -8,7 +8,8 @@ Reading says how a file is read where programs differ, and which numbers are tak
 refuses what a job can't hold, "round" rounds to the nearest number that 12 columns hold. PATH may be gzipped, or - for standard input.
 
 A Model holds all of the file, by the file's names, with Fractions for numbers and None for "no limit":
-    name, rows {name: N, L, G or E}, parts {combination: {row: multiplier}}, columns {name: {row: entry}}, rhs and ranges {set: {row: number}}, bounds {set: {column: Limits}}
+    name, rows {name: N, L, G or E}, columns {name: {row: entry}}, rhs and ranges {set: {row: number}}, bounds {set: {column: Limits}}
+    parts {name of a combination, which is a row: {row: multiplier}}
     sense (MIN or MAX), objective, rhs_set, range_set, bound_set: what is taken; a set is None where the file has none
     row_limits(row), column_limits(column): the lower and the upper limit under the sets taken; constant: the objective's
     numbers_of(column): its entries, and the sums that it has on combinations (rows of type DN, DL, DG or DE)

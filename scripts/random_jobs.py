@@ -12,8 +12,8 @@ usage: random_jobs.py [--unproved | --itself] [--no-parametric] [--no-revise] [-
 
 It prints how many differ, and the first of them whole; ends with 1 where one does, with 70 where there is no program. --unproved: the
 program as it stands, where no proved one is. --no-parametric: without PARAOBJ and PARARHS; --no-revise: without REVISE; --no-bases: without
-DUAL, PUNCH and INSERT; --no-free: fixed decks alone; --no-faults: no card is changed; --no-combinations: plain rows alone. --decks: a deck and its revision alone, both written
-out, and in each job a card of one of them is changed. --itself: no program runs; what expected_listing.py says is checked by the meaning of
+DUAL, PUNCH and INSERT; --no-free: fixed decks alone; --no-faults: no card is changed; --no-combinations: plain rows alone. --decks: a deck
+and its revision alone, both written out, and in each job a card of one of them is changed. --itself: no program runs; what expected_listing.py says is checked by the meaning of
 the words, where a job is small enough (scripts/every_basis.py). --attest: the checker of listings, mps360check, is compared with
 scripts/expected_attesting.py on the listing of each job, from most of which what can't be attested is left out; none may be found wrong. With
 --itself no program runs. scripts/check_listings.py alters listings."""
@@ -55,10 +55,8 @@ def is_whole(text):
 
 def combination_cards(word, name, parts, two_on_a_card):
     "the cards of a combination, with one or two parts each"
-    pairs, size = list(parts), 2 if two_on_a_card else 1
-    cards = [pairs[at:at + size] for at in range(0, len(pairs), size)] or [[]]
-    return [f" {word:<3}{name:<10}".rstrip() if not card else f" {word:<3}{name:<10}" + f"{'':<3}".join(f"{row:<10}{times:<12}" for row, times in card).rstrip()
-            for card in cards]
+    pairs, size, head = [f"{row:<10}{times:<15}" for row, times in parts], 2 if two_on_a_card else 1, f" {word:<3}{name:<10}"
+    return [(head + "".join(pairs[at:at + size])).rstrip() for at in range(0, len(pairs), size)] or [head.rstrip()]
 
 
 def combined(chance, rows):
@@ -126,7 +124,8 @@ def combining(chance, problem):
     earlier = rows[:place]
     parts = [(row, number(chance)) for row in chance.sample(earlier, min(len(earlier), chance.randint(0, 3)))]
     head = f" {'BEFORE':<13}{before[0]}" if before else " AFTER"
-    yield [head, *combination_cards(word, name, parts, chance.random() < 0.5), *([f" DN {name}X", f" DN {name}X      {name:<10}2"] if chance.random() < 0.3 else [])]
+    other = [*combination_cards("DN", name + "X", [], False), *combination_cards("DN", name + "X", [(name, 2)], False)]
+    yield [head, *combination_cards(word, name, parts, chance.random() < 0.5), *(other if chance.random() < 0.3 else [])]
     if problem.parts:
         name = chance.choice(list(problem.parts))
         earlier = rows[:rows.index(name)]
@@ -420,7 +419,9 @@ def main(words):
     first, count = [int(word) for word in numbers] + [0, 300][len(numbers):]
     parts = [word not in modes for word in PARTS]
     kind = job_to_attest if "--attest" in modes else job
-    made = (lambda seed: job_of_decks(seed, "--no-free" not in modes, "--no-combinations" not in modes)) if "--decks" in modes else (lambda seed: kind(seed, *parts))
+    made = lambda seed: kind(seed, *parts)
+    if "--decks" in modes:
+        made = lambda seed: job_of_decks(seed, "--no-free" not in modes, "--no-combinations" not in modes)
     jobs = {str(seed): made(seed) for seed in range(first, first + count)}
     if "--attest" in modes:
         return attest_all(jobs, modes)
