@@ -117,7 +117,7 @@ sum-of-products (part ∷ parts) before = by (sum-of-products parts before) (val
         ∙ sum_from-start (part.value.value *ℚ v) (map product_of (part_products parts before))
         ∙ ap (λ s. part.value.value *ℚ v +ℚ s) more)
 
-sum-if-any : (products : List Product) → unwrap_or (sum_if_any products) zero_ℚ ≡ sum_of zero_ℚ products
+pub sum-if-any : (products : List Product) → unwrap_or (sum_if_any products) zero_ℚ ≡ sum_of zero_ℚ products
 sum-if-any [] = refl
 sum-if-any (product ∷ products) = refl
 

@@ -1,5 +1,5 @@
 -- The linear program of a choice without faults is a linear program.
-use Rattle.std.proofs.Common.{◌≡◌, ℕ, zero, suc, ◌+◌, ◌-◌, ◌<◌, Bool, true, false, ◌&&◌, ◌||◌, List, [], ◌∷◌, Option, Some, None, map, length, get_or, refl, ap, sym, ◌∙◌, subst, arith, nat_eq}
+use Rattle.std.proofs.Common.{◌≡◌, ℕ, zero, suc, ◌+◌, ◌-◌, ◌<◌, Bool, true, false, ◌&&◌, ◌||◌, List, [], ◌∷◌, Option, Some, None, map, length, get_or, refl, ap, sym, ◌∙◌, subst, arith, nat_eq, IsFalse}
 use Rattle.std.specs.List.{All, AllByRecursion, IsDistinct, slice_get, position, enumerate_from}
 use Rattle.std.specs.Option.{option_map, is_none, unwrap_or}
 use Rattle.std.proofs.lemmas.List.{length-map, length-append, get_or-map, get_or_append_left}
@@ -16,17 +16,15 @@ use Rattle.problem_definitions.specs.declared.RowKind.TheVariants.{N, G, L, E}
 use Rattle.problem_definitions.specs.Names.{Name, same}
 use Rattle.problem_definitions.specs.Kinds.{is_free_kind}
 use Rattle.problem_definitions.specs.Problem.{Row, plain_row, Entry, Bound, Group, Problem, has_free_row}
-use Rattle.problem_definitions.specs.Valid.{IsNumberOf, AreEntries, IsProblem}
+use Rattle.problem_definitions.specs.Valid.{IsNumberOf, AreEntries, IsProblem, is_combination}
 use Rattle.problem_definitions.proofs.Names.{same_eq}
-use Rattle.problem_definitions.proofs.Groups.{map-map}
 use Rattle.problem_definitions.proofs.Each.{each-change, each-all, each-mapped, all-each}
-use Rattle.problem_definitions.proofs.PlainRows.{ArePlain}
 use Rattle.selection_definitions.specs.Choice.{Choice, row_number, objective_of, rhs_items, set_items, is_not_free, selection_fault}
 use Rattle.selection_definitions.specs.Limits.{Limits, no_limits, value_on, row_limits, column_limits}
-use Rattle.selection_definitions.specs.Selection.{entered, coefficients, matrix_of, program_of_choice}
-use Rattle.selection_definitions.proofs.PlainRows.{plain_columns}
+use Rattle.selection_definitions.specs.Selection.{coefficients, matrix_of, program_of_choice}
 use Rattle.lp_setup.specs.Parts.{side_on, limits_with, program_with}
 use Rattle.lp_setup.proofs.Faults.{objective-passes}
+use Rattle.lp_setup.proofs.Distinct.{distinct-coefficients, each-coefficient}
 
 -- ---- the objective row
 
@@ -109,35 +107,36 @@ free_objective rows distinct None number e free =
 -- ---- the matrix
 
 module _ (problem : Problem ℕ) (is : IsProblem problem) where
-  coefficient : Entry ℕ → Coefficient
-  coefficient entry = record { row = entry.row; value = entry.value.value }
-
   IsOnRow : Coefficient → Type 0
   IsOnRow e = IsRow (matrix_of problem) e.row
 
-  on_rows : (column : Group (Entry ℕ)) → AreEntries (length problem.rows) column.items → All IsOnRow (entered column.items)
-  unfolding coefficient IsOnRow
-  on_rows column are =
-      each-all IsOnRow (entered column.items) (each-mapped IsOnRow coefficient column.items
-      (each-change (λ (entry : Entry ℕ). IsNumberOf (length problem.rows) entry.row) (λ (entry : Entry ℕ). IsOnRow (coefficient entry)) (λ entry number. (omega (arith, number.positive), number.at_most)) column.items
-      (all-each (λ (entry : Entry ℕ). IsNumberOf (length problem.rows) entry.row) column.items are.on_rows)))
+  -- what is asked of a column
+  abbrev IsLawfulColumn : Group (Entry ℕ) → Type 0
+  IsLawfulColumn column = AreEntries (length problem.rows) column.items × All (λ (entry : Entry ℕ). IsFalse (is_combination problem.rows entry.row)) column.items
 
-  distinct_rows : (column : Group (Entry ℕ)) → AreEntries (length problem.rows) column.items → IsDistinct nat_eq (map (λ (e : Coefficient). e.row) (entered column.items))
-  unfolding coefficient
-  distinct_rows column are = subst (IsDistinct nat_eq) (sym (map-map (λ (e : Coefficient). e.row) coefficient column.items)) are.distinct
+  on_rows : (column : Group (Entry ℕ)) → IsLawfulColumn column → All IsOnRow (coefficients problem.rows column)
+  unfolding IsOnRow
+  on_rows column lawful =
+      each-all IsOnRow (coefficients problem.rows column) (each-coefficient problem.rows column lawful.0 IsOnRow (λ e number. (omega (arith, number.positive), number.at_most))
+      (all-each (λ (entry : Entry ℕ). IsNumberOf (length problem.rows) entry.row) column.items lawful.0.on_rows))
 
-  pub plain : ArePlain problem.rows
-  plain = all-each (λ (row : Row ℕ). is_none row.parts ≡ true) problem.rows is.plain_rows
+  distinct_rows : (column : Group (Entry ℕ)) → IsLawfulColumn column → IsDistinct nat_eq (map (λ (e : Coefficient). e.row) (coefficients problem.rows column))
+  distinct_rows column lawful =
+      distinct-coefficients problem.rows column lawful.0 (all-each (λ (entry : Entry ℕ). IsFalse (is_combination problem.rows entry.row)) column.items lawful.1)
 
-  abbrev given : Group (Entry ℕ) → List Coefficient
-  given column = entered column.items
+  lawful_columns : (columns : List (Group (Entry ℕ))) → AllByRecursion (λ (column : Group (Entry ℕ)). AreEntries (length problem.rows) column.items) columns
+      → AllByRecursion (λ (column : Group (Entry ℕ)). All (λ (entry : Entry ℕ). IsFalse (is_combination problem.rows entry.row)) column.items) columns → AllByRecursion IsLawfulColumn columns
+  lawful_columns [] entries plain = tt
+  lawful_columns (column ∷ columns) entries plain = ((entries.0, plain.0), lawful_columns columns entries.1 plain.1)
 
-  -- what holds of the entries of each column, of the numbers of each column, since all rows are plain
-  each_column : (P : List Coefficient → Type 0) → ((column : Group (Entry ℕ)) → AreEntries (length problem.rows) column.items → P (given column)) → All P (map (coefficients problem.rows) problem.columns)
+  -- what holds of the numbers of each column
+  each_column : (P : List Coefficient → Type 0) → ((column : Group (Entry ℕ)) → IsLawfulColumn column → P (coefficients problem.rows column)) → All P (map (coefficients problem.rows) problem.columns)
   each_column P holds =
-      subst (All P) (sym (plain_columns problem.rows problem.columns plain)) (each-all P (map given problem.columns) (each-mapped P given problem.columns
-      (each-change (λ (column : Group (Entry ℕ)). AreEntries (length problem.rows) column.items) (λ column. P (given column)) holds problem.columns
-      (all-each (λ (column : Group (Entry ℕ)). AreEntries (length problem.rows) column.items) problem.columns is.entries))))
+      each-all P (map (coefficients problem.rows) problem.columns) (each-mapped P (coefficients problem.rows) problem.columns
+      (each-change IsLawfulColumn (λ column. P (coefficients problem.rows column)) holds problem.columns
+      (lawful_columns problem.columns
+      (all-each (λ (column : Group (Entry ℕ)). AreEntries (length problem.rows) column.items) problem.columns is.entries)
+      (all-each (λ (column : Group (Entry ℕ)). All (λ (entry : Entry ℕ). IsFalse (is_combination problem.rows entry.row)) column.items) problem.columns is.plain_entries))))
 
   pub lawful_matrix : IsMatrix (matrix_of problem)
   unfolding IsOnRow

@@ -1,8 +1,11 @@
 pub mod Refusals
 pub mod Lists
 pub mod Values
+pub mod Sums
+pub mod Columns
 pub mod Sets
 pub mod Faults
+pub mod Distinct
 pub mod Lawful
 pub mod Program
 mod Made

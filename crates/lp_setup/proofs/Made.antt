@@ -1,7 +1,6 @@
--- The range sums of rows that are made, one row after the other.
-use Rattle.std.proofs.Common.{◌≡◌, ℕ, zero, suc, ◌+◌, ◌<◌, List, [], ◌∷◌, Option, Some, None, true, length, take, refl, sym, ap, subst, ◌∙◌, arith, zero-add}
+-- The range sums of rows that are made, one row after the other, and a selection that is made.
+use Rattle.std.proofs.Common.{◌≡◌, ℕ, ◌+◌, ◌<◌, List, Option, Some, true, length, sym, ap, subst, ◌∙◌, arith, zero-add}
 use Rattle.std.specs.List.{slice_get}
-use Rattle.std.specs.Option.{is_none}
 use Rattle.std.proofs.lemmas.List.FromFn.{get_or-map-range_with_len}
 use Rattle.std.proofs.lemmas.Option.{same_Some, slice_get-get_or, slice_get_within}
 use native.Mathlib.Decide.{ℕ_discrete}
@@ -9,13 +8,13 @@ use Rattle.exact_values.specs.Rational.{ℚ}
 use Rattle.check_definitions.specs.declared.Verdict.TheVariants.{Checked}
 use Rattle.check_definitions.specs.Steps.{verdict_of}
 use Rattle.problem_definitions.specs.Problem.{Row, Entry, Problem}
-use Rattle.problem_definitions.proofs.PlainRows.{ArePlain}
 use Rattle.selection_definitions.specs.Choice.{Choice, rhs_items, set_items}
 use Rattle.selection_definitions.specs.Limits.{value_on}
 use Rattle.selection_definitions.specs.Selection.{range_of}
-use Rattle.selection_definitions.specs.Making.{range_steps, combination_steps, is_made}
+use Rattle.selection_definitions.specs.Making.{range_steps, is_made}
 use Rattle.selection_definitions.proofs.Making.{made_by_parts}
 use Rattle.lp_setup.specs.Parts.{by_number, side_on, IsRowMade, AreRowsMade}
+use Rattle.lp_setup.specs.Combined.{AreColumnsMade}
 use Rattle.lp_setup.proofs.Lists.{length-by_number}
 
 module _ (rows : List (Row ℕ)) (sides : List ℚ) (ranges : List (Option ℚ)) where
@@ -43,25 +42,16 @@ at_number f count place below =
     slice_get-get_or (by_number f count) place (f (place + 1)) (omega (arith, below, length-by_number f count))
     ∙ ap Some (get_or-map-range_with_len (λ k. f (k + 1)) 0 count place place (f (place + 1)) below (zero-add place))
 
-plain_at : (rows : List (Row ℕ)) (place : ℕ) (row : Row ℕ) → ArePlain rows → slice_get rows place ≡ Some row → is_none row.parts ≡ true
-plain_at [] place row plain is = cc
-plain_at (x ∷ rows) zero row plain is = subst (λ (r : Row ℕ). is_none r.parts ≡ true) (same_Some x row is) plain.0
-plain_at (x ∷ rows) (suc place) row plain is = plain_at rows place row plain.1 is
-
--- a plain row makes nothing in a column
-plain_makes : (before : List (Row ℕ)) (entries : List (Entry ℕ)) (parts : Option (List (Entry ℕ))) → is_none parts ≡ true → verdict_of (combination_steps before entries parts) ≡ Checked
-plain_makes before entries None plain = refl
-plain_makes before entries (Some parts) plain = absurd (cc plain)
-
 module _ (problem : Problem ℕ) (choice : Choice) (rhs ranges : List (Entry ℕ)) (is_rhs : rhs ≡ rhs_items problem.rhs choice.rhs) (is_ranges : ranges ≡ set_items problem.ranges choice.options.range) where
-  -- a selection is made where the range sums of all rows are, and all rows are plain
-  pub selection_made : ArePlain problem.rows → AreRowsMade problem.rows (by_number (side_on rhs) (length problem.rows)) (by_number (value_on ranges) (length problem.rows)) (length problem.rows) →
-      is_made problem choice ≡ true
-  selection_made plain made = made_by_parts problem choice
+  -- a selection is made where the range sums of all rows are, and what all columns make on combinations
+  pub selection_made : AreRowsMade problem.rows (by_number (side_on rhs) (length problem.rows)) (by_number (value_on ranges) (length problem.rows)) (length problem.rows) →
+      AreColumnsMade problem.rows problem.columns (length problem.columns) → is_made problem choice ≡ true
+  selection_made made columns_made = made_by_parts problem choice
       (λ place row is_row.
       let below : place < length problem.rows = slice_get_within problem.rows place row is_row in
       subst (λ items. verdict_of (range_steps row.kind (side_on items (place + 1)) (range_of problem choice (place + 1))) ≡ Checked) is_rhs
       (subst (λ items. verdict_of (range_steps row.kind (side_on rhs (place + 1)) (value_on items (place + 1))) ≡ Checked) is_ranges
       (made place below row (side_on rhs (place + 1)) (value_on ranges (place + 1)) is_row
       (at_number (side_on rhs) (length problem.rows) place below) (at_number (value_on ranges) (length problem.rows) place below))))
-      (λ column_place column is_column place row is_row. plain_makes (take place problem.rows) column.items row.parts (plain_at problem.rows place row plain is_row))
+      (λ column_place column is_column place row is_row.
+      columns_made column_place (slice_get_within problem.columns column_place column is_column) column is_column place (slice_get_within problem.rows place row is_row) row is_row)

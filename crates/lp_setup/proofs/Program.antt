@@ -1,5 +1,5 @@
 -- The linear program, from its lists.
-use Rattle.std.proofs.Common.{◌≡◌, ℕ, ◌+◌, List, ◌++◌, Option, Some, None, map, length, ap, sym, ◌∙◌, subst, unwrap_or, IsTrue}
+use Rattle.std.proofs.Common.{◌≡◌, inl, inr, ℕ, ◌+◌, List, ◌++◌, Option, Some, None, map, length, take, refl, ap, sym, ◌∙◌, subst, unwrap_or, IsTrue}
 use Rattle.std.specs.Prelude.{Ok}
 use Rattle.std.specs.List.{enumerate_from}
 use Rattle.exact_values.specs.Rational.{ℚ}
@@ -11,13 +11,16 @@ use Rattle.lp_definitions.specs.declared.Sense.{Sense}
 use Rattle.lp_definitions.specs.LinearProgram.{LinearProgram}
 use Rattle.card_definitions.specs.Words.{unless}
 use Rattle.problem_definitions.specs.Problem.{Row, Entry, Bound, Group, Problem}
-use Rattle.problem_definitions.proofs.PlainRows.{ArePlain}
 use Rattle.selection_definitions.specs.Choice.{Choice, objective_of, rhs_items, set_items, selection_fault}
+use Rattle.selection_definitions.specs.Combinations.{part_products, column_values}
 use Rattle.selection_definitions.specs.Limits.{Limits, value_on, row_limits, column_limits}
 use Rattle.selection_definitions.specs.RangeSums.{IsRangeRefusal}
-use Rattle.selection_definitions.specs.Selection.{entered, coefficients, program_of_choice, selected}
-use Rattle.selection_definitions.proofs.PlainRows.{plain_columns}
+use Rattle.selection_definitions.specs.CombinationSums.{IsCombinationRefusal}
+use Rattle.selection_definitions.specs.Refusals.{IsSelectionRefusal}
+use Rattle.selection_definitions.specs.Selection.{coefficients, program_of_choice, selected}
+use Rattle.lp_model.specs.declared.Stop.TheVariants.{Overflow}
 use Rattle.lp_setup.specs.Parts.{by_number, side_on, limits_of_rows, limits_with, program_with, IsRowRefusal}
+use Rattle.lp_setup.specs.Combined.{IsMatrixRefusal, IsProgramOverflow}
 use Rattle.lp_setup.proofs.Lists.{map-enumerate, limits-numbered, at-by_number}
 
 module _ (problem : Problem ℕ) (objective : ℕ) (rhs ranges : List (Entry ℕ)) (bounds : List (Bound ℕ)) (sense : Sense) where
@@ -35,15 +38,14 @@ module _ (problem : Problem ℕ) (objective : ℕ) (rhs ranges : List (Entry ℕ
   abbrev pub made : ℕ → ℕ → List (List Coefficient) → List (Option ℚ) → List (Option ℚ) → List ℚ → LinearProgram
   made rows cols columns lower upper sides = record { matrix = record { rows = rows; cols = cols; columns = columns }; lower = lower; upper = upper; rhs = sides; objective = objective; change = None; sense = sense }
 
-  -- it is the program of the problem, where the lists are made of what is read of it and all rows are plain
+  -- it is the program of the problem, where the lists are made of what is read of it
   pub program_made : (read_rows : List (Row ℕ)) (read_columns : List (Group (Entry ℕ))) (rows cols : ℕ) (columns : List (List Coefficient)) (limits : List Limits) (lower upper : List (Option ℚ)) (sides read_sides : List ℚ)
-      → ArePlain problem.rows → read_rows ≡ problem.rows → read_columns ≡ problem.columns → rows ≡ length problem.rows → cols ≡ length problem.columns → columns ≡ map (λ (column : Group (Entry ℕ)). entered column.items) read_columns
+      → read_rows ≡ problem.rows → read_columns ≡ problem.columns → rows ≡ length problem.rows → cols ≡ length problem.columns → columns ≡ map (coefficients read_rows) read_columns
       → limits ≡ limits_of_rows problem.rows read_sides (by_number (value_on ranges) (length problem.rows)) ++ by_number (column_limits bounds) (length problem.columns) → read_sides ≡ sides
       → lower ≡ map (λ (pair : Limits). pair.lower) limits → upper ≡ map (λ (pair : Limits). pair.upper) limits → sides ≡ by_number (side_on rhs) (length read_rows)
       → made rows cols columns lower upper sides ≡ program_with problem objective rhs ranges bounds sense
-  program_made read_rows read_columns rows cols columns limits lower upper sides read_sides plain read_is read_columns_is is_rows is_cols columns_read limits_read sides_read is_lower is_upper sides_so_far =
-      let is_columns : columns ≡ map (coefficients problem.rows) problem.columns =
-      columns_read ∙ ap (map (λ (column : Group (Entry ℕ)). entered column.items)) read_columns_is ∙ sym (plain_columns problem.rows problem.columns plain) in
+  program_made read_rows read_columns rows cols columns limits lower upper sides read_sides read_is read_columns_is is_rows is_cols columns_read limits_read sides_read is_lower is_upper sides_so_far =
+      let is_columns : columns ≡ map (coefficients problem.rows) problem.columns = columns_read ∙ (λ i. map (coefficients (read_is i)) (read_columns_is i)) in
       let is_sides : sides ≡ by_number (side_on rhs) (length problem.rows) = sides_so_far ∙ ap (λ (rs : List (Row ℕ)). by_number (side_on rhs) (length rs)) read_is in
       let is_limits : limits ≡ limits_of_rows problem.rows sides (by_number (value_on ranges) (length problem.rows)) ++ by_number (column_limits bounds) (length problem.columns) =
       limits_read ∙ ap (λ xs. limits_of_rows problem.rows xs (by_number (value_on ranges) (length problem.rows)) ++ by_number (column_limits bounds) (length problem.columns)) sides_read in
@@ -97,3 +99,31 @@ module _ (problem : Problem ℕ) (choice : Choice) (rhs ranges : List (Entry ℕ
         no_way = h.no_way;
         no_theta = h.no_theta;
       }
+
+-- a product or a sum of a combination is refused in a column
+pub refusal_of_column : (problem : Problem ℕ) (e : Evidence) → IsMatrixRefusal problem.rows problem.columns e → IsCombinationRefusal problem e
+refusal_of_column problem e h = record {
+  place = h.refused.place;
+  row = h.refused.row;
+  is_row = h.refused.is_row;
+  parts = h.refused.parts;
+  is_combination = h.refused.is_combination;
+  column_place = h.place;
+  column = h.column;
+  is_column = h.is_column;
+  products = part_products h.refused.parts (column_values (take h.refused.place problem.rows) h.column.items);
+  are_products = refl;
+  term = h.refused.refused.term;
+  product = h.refused.refused.product;
+  is_product = h.refused.refused.is_product;
+  names = h.refused.refused.names;
+  refuses = h.refused.refused.refuses;
+  no_way = h.refused.refused.no_way;
+  no_theta = h.refused.refused.no_theta;
+}
+
+-- the evidence of a stop is that of an operation of the selection
+pub refusal_of_program : (problem : Problem ℕ) (choice : Choice) (rhs ranges : List (Entry ℕ)) → rhs ≡ rhs_items problem.rhs choice.rhs → ranges ≡ set_items problem.ranges choice.options.range → (e : Evidence)
+    → IsProgramOverflow problem (by_number (side_on rhs) (length problem.rows)) (by_number (value_on ranges) (length problem.rows)) (Overflow e) → IsSelectionRefusal problem choice e
+refusal_of_program problem choice rhs ranges is_rhs is_ranges e (inl row) = inl (refusal_of_row problem choice rhs ranges is_rhs is_ranges e row)
+refusal_of_program problem choice rhs ranges is_rhs is_ranges e (inr column) = inr (refusal_of_column problem e column)

@@ -4,7 +4,9 @@
 mod changes;
 mod choice;
 mod chosen;
+mod combined;
 mod limits;
+mod matrix;
 mod parts;
 mod selection;
 mod stop;

@@ -2,18 +2,16 @@
 ghost use Rattle.std.specs.Prelude.{◌≡◌, ◌<◌, ◌≤◌, IfOk, IfErr, Some, None, length, map, replicate, unwrap_or, slice_get};
 ghost use Rattle.exact_values.specs.Rational.{zero_ℚ};
 ghost use Rattle.lp_definitions.specs.RatesEvidence.{Names};
-ghost use Rattle.lp_model.specs.Columns.{entries_of};
 ghost use Rattle.problem_definitions.specs.Valid.{AreEntries, AreBounds};
 ghost use Rattle.selection_definitions.specs.Limits.{value_on, column_limits};
-ghost use Rattle.selection_definitions.specs.Selection.{entered};
 ghost use Rattle.selection_definitions.specs.RangeSums.{range_formula};
 ghost use Rattle.lp_setup.specs.Parts.{by_number, side_on, limits_of_rows, IsRowOverflow, IsRowMade, AreRowsMade};
 
 use crate::limits::{Limits, bounded, row_limits, unbounded};
 use frac128::{Frac, Refused};
-use lp_definitions::{Entry, Evidence};
+use lp_definitions::Evidence;
 use lp_model::{NoMemory, Stop};
-use problem_file::{BoundItem, ColumnDecl, DeckEntry, RowDecl};
+use problem_file::{BoundItem, DeckEntry, RowDecl};
 use std::alloc::Global;
 
 /// A value so many times.
@@ -155,36 +153,6 @@ pub fn limits_by_column(
         limits[place] = bounded(bound, limits[place]);
     }
     Ok(limits)
-}
-
-/// The numbers that the deck gives for a column. Since all rows are plain, it has no others.
-fn coefficients(alloc: Global, column: &ColumnDecl) -> Result<Vec<Entry>, NoMemory>
-    ensures { IfOk result (λ entries. entries.items ≡ entered column.now.items) }
-{
-    Ok(
-        column
-            .entries
-            .iter()
-            .map(|entry| Entry {
-                row: entry.row,
-                value: entry.value.value(),
-            })
-            .collect(alloc)?,
-    )
-}
-
-/// The numbers of each column.
-pub fn matrix_columns(alloc: Global, columns: &[ColumnDecl]) -> Result<Vec<Vec<Entry>>, NoMemory>
-    ensures { IfOk result (λ matrix. entries_of matrix.items ≡ map
-        (λ column. entered column.items) columns.now) }
-{
-    let mut matrix = Vec::new(alloc);
-    for column in columns {
-        matrix
-            .push(coefficients(alloc, column)?)
-            .map_err(|_| NoMemory)?;
-    }
-    Ok(matrix)
 }
 
 // ---- limits

@@ -7,14 +7,15 @@ ghost use Rattle.selection_definitions.specs.Limits.{value_on, column_limits};
 ghost use Rattle.selection_definitions.specs.Selection.{selected};
 ghost use Rattle.selection_definitions.specs.Making.{is_made};
 ghost use Rattle.lp_setup.specs.Parts.{by_number, side_on, limits_of_rows, program_with, IsRowOverflow, AreRowsMade};
+ghost use Rattle.lp_setup.specs.Combined.{AreColumnsMade, IsProgramOverflow};
 ghost use Rattle.lp_setup.specs.Stops.{fault_of, IsOverflowOf};
 
 use crate::choice::Choice;
 use crate::chosen::{bound_items, is_not_free, objective_row, range_items, rhs_items};
 use crate::limits::Limits;
+use crate::matrix::matrix_columns;
 use crate::parts::{
-    limits_by_column, limits_by_row, lower_limits, matrix_columns, right_hand_sides, upper_limits,
-    values_by_row,
+    limits_by_column, limits_by_row, lower_limits, right_hand_sides, upper_limits, values_by_row,
 };
 use crate::stop::SelectStop;
 use frac128::Frac;
@@ -69,16 +70,19 @@ fn program(
     requires bound { AreBounds (length problem.now.columns) bounds.now }
     ensures program { IfOk result (λ lp. lp ≡ program_with problem.now objective rhs.now ranges.now
         bounds.now sense) }
-    ensures made { IfOk result
+    ensures limits_made { IfOk result
         (λ _. AreRowsMade problem.now.rows (by_number (side_on rhs.now) (length problem.now.rows))
         (by_number (value_on ranges.now) (length problem.now.rows)) (length problem.now.rows)) }
-    ensures overflow { IfErr result
-        (IsRowOverflow problem.now.rows (by_number (side_on rhs.now) (length problem.now.rows))
+    ensures columns_made { IfOk result (λ _. AreColumnsMade problem.now.rows problem.now.columns
+        (length problem.now.columns)) }
+    ensures overflow { IfErr result (IsProgramOverflow problem.now
+        (by_number (side_on rhs.now) (length problem.now.rows))
         (by_number (value_on ranges.now) (length problem.now.rows))) }
 {
-    let sides = right_hand_sides(alloc, problem.rows().len(), rhs)?;
+    let rows = problem.rows();
+    let sides = right_hand_sides(alloc, rows.len(), rhs)?;
     let limits = all_limits(alloc, problem, &sides, ranges, bounds)?;
-    let columns = matrix_columns(alloc, problem.columns())?;
+    let columns = matrix_columns(alloc, rows, problem.columns())?;
     let lower = lower_limits(alloc, &limits)?;
     let upper = upper_limits(alloc, &limits)?;
     Ok(Lp {
@@ -98,8 +102,8 @@ fn program(
 ///
 /// The faults of the choice come first, in the order of `SelectStop`: an objective row, a right-hand side set, a range set or a
 /// bound set that is chosen and isn't there, no N row where no objective is chosen, or an objective of another type. Without a
-/// fault only two things stop: the sum that a range makes of a row's right-hand side is too large a number, or there is no memory. Where
-/// there is a linear program, no operation that it takes is refused.
+/// fault only three things stop: the sum that a range makes of a row's right-hand side is too large a number, or a product or a sum of a
+/// combination is, or there is no memory. Where there is a linear program, no operation that it takes is refused.
 pub fn select(alloc: Global, problem: &Problem, choice: &Choice) -> Result<Lp, SelectStop>
     ensures program { IfOk result (λ lp. selected problem.now choice.now ≡ Ok lp) }
     ensures made { IfOk result (λ _. is_made problem.now choice.now ≡ true) }

@@ -22,7 +22,8 @@ pub enum SelectStop {
     /// The chosen bound set isn't there.
     #[error("there is no such bound set")]
     NoBoundSet,
-    /// A row's right-hand side with the magnitude of its range is too large a number, as the evidence shows.
+    /// A row's right-hand side with the magnitude of its range is too large a number, or a product or a sum of a combination is, as the
+    /// evidence shows.
     #[error("formula {}: {}", .0.formula, .0.refused)]
     Overflow(Evidence),
     /// There was no memory.

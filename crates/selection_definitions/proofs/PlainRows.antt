@@ -1,5 +1,5 @@
 -- Where no row is a combination, the numbers of a column are those that the deck gives.
-use Rattle.std.proofs.Common.{◌≡◌, ℕ, ◌+◌, Bool, true, false, ◌||◌, List, [], ◌∷◌, ◌++◌, Option, Some, None, refl, ap, ◌∙◌}
+use Rattle.std.proofs.Common.{◌≡◌, ℕ, ◌+◌, Bool, true, false, ◌||◌, List, [], ◌∷◌, ◌++◌, Option, Some, None, map, refl, ap, ◌∙◌}
 use Rattle.std.specs.List.{enumerate_from, filter_map, list_any}
 use Rattle.std.specs.Option.{is_some}
 use Rattle.std.proofs.lemmas.List.{append-nil}
@@ -34,3 +34,7 @@ none_from values first (row ∷ rows) plain =
 
 pub plain_coefficients : (rows : List (Row ℕ)) (column : Group (Entry ℕ)) → combines rows ≡ false → coefficients rows column ≡ entered column.items
 plain_coefficients rows column plain = ap (λ more. entered column.items ++ more) (none_from (column_values rows column.items) 1 rows plain) ∙ append-nil (entered column.items)
+
+pub plain_columns : (rows : List (Row ℕ)) (columns : List (Group (Entry ℕ))) → combines rows ≡ false → map (coefficients rows) columns ≡ map (λ (column : Group (Entry ℕ)). entered column.items) columns
+plain_columns rows [] plain = refl
+plain_columns rows (column ∷ columns) plain = λ i. plain_coefficients rows column plain i ∷ plain_columns rows columns plain i

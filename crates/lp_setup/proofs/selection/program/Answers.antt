@@ -5,33 +5,32 @@ use Rattle.selection_definitions.specs.Limits.{Limits, value_on}
 use Rattle.lp_model.specs.Columns.{entries_of}
 use Rattle.lp_setup.specs.Parts.{by_number, side_on, AreRowsMade}
 use Rattle.lp_setup.proofs.Lists.{length-by_number}
-use Rattle.lp_setup.proofs.Lawful.{plain}
 use Rattle.lp_setup.proofs.Program.{program_made}
 use Rattle.lp_setup.proofs.selection.program.Goals as goal
 
 pub all_limits-requires-clause-side : goal.all_limits-requires-clause-side
 all_limits-requires-clause-side c =
-    ap length (c.deref.ensures.value ∙ c.in_ok-sides.ensures) ∙ length-by_number (side_on c.args.rhs.now) (length c.rows.result.now) ∙ ap length c.rows.ensures.rows
+    ap length (c.deref.ensures.value ∙ c.in_ok-sides.ensures) ∙ length-by_number (side_on c.args.rhs.now) (length c.rows-rows.result.now) ∙ ap length c.rows-rows.ensures.rows
 
 pub invariant_of-result : goal.invariant_of-result
 invariant_of-result c =
     let low = c.in_ok-lower.ensures ∙ ap (map (λ (pair : Limits). pair.lower)) c.deref-2.ensures.value in
     let high = c.in_ok-upper.ensures ∙ ap (map (λ (pair : Limits). pair.upper)) c.deref-3.ensures.value in
     subst IsLinearProgram
-    (sym (program_made c.args.problem.now c.args.objective c.args.rhs.now c.args.ranges.now c.args.bounds.now c.args.sense c.rows.result.now c.columns.result.now c.row_count.result c.column_count.result
-    (entries_of c.in_ok-columns.columns.items) c.in_ok-limits.limits.items c.in_ok-lower.lower.items c.in_ok-upper.upper.items c.in_ok-sides.sides.items c.deref.result.now (plain c.args.problem.now c.rows.ensures.is_problem) c.rows.ensures.rows c.columns.ensures.columns
-    c.row_count.ensures.count c.column_count.ensures.count c.in_ok-columns.ensures c.in_ok-limits.ensures.limits c.deref.ensures.value low high c.in_ok-sides.ensures)) c.requires.lawful
+    (sym (program_made c.args.problem.now c.args.objective c.args.rhs.now c.args.ranges.now c.args.bounds.now c.args.sense c.rows-rows.result.now c.columns.result.now c.row_count.result c.column_count.result
+    (entries_of c.in_ok-columns.columns.items) c.in_ok-limits.limits.items c.in_ok-lower.lower.items c.in_ok-upper.upper.items c.in_ok-sides.sides.items c.deref.result.now c.rows-rows.ensures.rows c.columns.ensures.columns
+    c.row_count.ensures.count c.column_count.ensures.count c.in_ok-columns.ensures.matrix c.in_ok-limits.ensures.limits c.deref.ensures.value low high c.in_ok-sides.ensures)) c.requires.lawful
 
 pub returns-clause-program : goal.returns-clause-program
 returns-clause-program c =
     let low = c.in_ok-lower.ensures ∙ ap (map (λ (pair : Limits). pair.lower)) c.deref-2.ensures.value in
     let high = c.in_ok-upper.ensures ∙ ap (map (λ (pair : Limits). pair.upper)) c.deref-3.ensures.value in
-    program_made c.args.problem.now c.args.objective c.args.rhs.now c.args.ranges.now c.args.bounds.now c.args.sense c.rows.result.now c.columns.result.now c.row_count.result c.column_count.result
-    (entries_of c.in_ok-columns.columns.items) c.in_ok-limits.limits.items c.in_ok-lower.lower.items c.in_ok-upper.upper.items c.in_ok-sides.sides.items c.deref.result.now (plain c.args.problem.now c.rows.ensures.is_problem) c.rows.ensures.rows c.columns.ensures.columns
-    c.row_count.ensures.count c.column_count.ensures.count c.in_ok-columns.ensures c.in_ok-limits.ensures.limits c.deref.ensures.value low high c.in_ok-sides.ensures
+    program_made c.args.problem.now c.args.objective c.args.rhs.now c.args.ranges.now c.args.bounds.now c.args.sense c.rows-rows.result.now c.columns.result.now c.row_count.result c.column_count.result
+    (entries_of c.in_ok-columns.columns.items) c.in_ok-limits.limits.items c.in_ok-lower.lower.items c.in_ok-upper.upper.items c.in_ok-sides.sides.items c.deref.result.now c.rows-rows.ensures.rows c.columns.ensures.columns
+    c.row_count.ensures.count c.column_count.ensures.count c.in_ok-columns.ensures.matrix c.in_ok-limits.ensures.limits c.deref.ensures.value low high c.in_ok-sides.ensures
 
-pub returns-clause-made : goal.returns-clause-made
-returns-clause-made c =
-    let is_sides = c.deref.ensures.value ∙ c.in_ok-sides.ensures ∙ ap (λ (rows : List (Row ℕ)). by_number (side_on c.args.rhs.now) (length rows)) c.rows.ensures.rows in
+pub returns-clause-limits_made : goal.returns-clause-limits_made
+returns-clause-limits_made c =
+    let is_sides = c.deref.ensures.value ∙ c.in_ok-sides.ensures ∙ ap (λ (rows : List (Row ℕ)). by_number (side_on c.args.rhs.now) (length rows)) c.rows-rows.ensures.rows in
     subst (λ sides. AreRowsMade c.args.problem.now.rows sides (by_number (value_on c.args.ranges.now) (length c.args.problem.now.rows)) (length c.args.problem.now.rows)) is_sides
     c.in_ok-limits.ensures.made

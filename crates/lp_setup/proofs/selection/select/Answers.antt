@@ -1,13 +1,13 @@
 -- Each stop tells of the first fault, and without a fault the program is the one that the choice selects.
-use Rattle.std.proofs.Common.{length, inl, Some, None, true, false, ap, sym, ◌∙◌, subst}
+use Rattle.std.proofs.Common.{length, Some, None, true, false, ap, sym, ◌∙◌, subst}
 use Rattle.problem_definitions.specs.Valid.{AreEntries, AreBounds}
 use Rattle.control_definitions.specs.Program.{SetupOptions}
 use Rattle.selection_definitions.specs.Choice.{Choice}
 use Rattle.lp_setup.specs.Parts.{program_with}
 use Rattle.lp_setup.proofs.Faults.{missing-objective, limited-objective, missing-rhs, missing-range, missing-bound, faultless}
-use Rattle.lp_setup.proofs.Lawful.{free_objective, lawful_program, plain}
+use Rattle.lp_setup.proofs.Lawful.{free_objective, lawful_program}
 use Rattle.lp_setup.proofs.Made.{selection_made}
-use Rattle.lp_setup.proofs.Program.{program_selected, refusal_of_row}
+use Rattle.lp_setup.proofs.Program.{program_selected, refusal_of_program}
 use Rattle.lp_setup.proofs.Selecting.{number_found, free_found, miss_found, items_found, rhs_found}
 use Rattle.lp_setup.proofs.Sets.{rhs-entries, range-entries, bound-items}
 use Rattle.lp_setup.proofs.selection.select.Goals as goal
@@ -110,7 +110,7 @@ returns-in-Ok-clause-made c =
     let is_rhs = rhs_found c.args.problem.now.rhs c.rhs.result.now c.args.choice.now.rhs c.choice.inside.rhs c.rhs.ensures.rhs rhs c.in-Some-rhs_items.rhs.now c.in-Some-rhs_items.ensures.found.1 in
     let is_ranges = items_found c.args.problem.now.ranges c.ranges-2.result.now c.args.choice.now.options.range c.options.inside.range c.ranges-2.ensures.ranges range c.in-Some-range_items.ranges.now c.in-Some-range_items.ensures.found.1 in
     selection_made c.args.problem.now c.args.choice.now c.in-Some-rhs_items.rhs.now c.in-Some-range_items.ranges.now is_rhs is_ranges
-    (plain c.args.problem.now c.rows-rows.ensures.is_problem) c.in-Ok.ensures.made
+    c.in-Ok.ensures.limits_made c.in-Ok.ensures.columns_made
 
 pub returns-in-Err-Overflow-clause-fault : goal.returns-in-Err-Overflow-clause-fault
 returns-in-Err-Overflow-clause-fault c =
@@ -131,7 +131,8 @@ returns-in-Err-Overflow-clause-overflow c =
     let range = ap (λ (options : SetupOptions). options.range) c.options.view_is ∙ ap (λ (chosen : Choice). chosen.options.range) c.choice.view_is in
     let is_rhs = rhs_found c.args.problem.now.rhs c.rhs.result.now c.args.choice.now.rhs c.choice.inside.rhs c.rhs.ensures.rhs rhs c.in-Some-rhs_items.rhs.now c.in-Some-rhs_items.ensures.found.1 in
     let is_ranges = items_found c.args.problem.now.ranges c.ranges-2.result.now c.args.choice.now.options.range c.options.inside.range c.ranges-2.ensures.ranges range c.in-Some-range_items.ranges.now c.in-Some-range_items.ensures.found.1 in
-    inl (refusal_of_row c.args.problem.now c.args.choice.now c.in-Some-rhs_items.rhs.now c.in-Some-range_items.ranges.now is_rhs is_ranges c.in-Err-Overflow.evidence (rw c.in-Err-Overflow.field-0-is at c.in-Err-Overflow.ensures.overflow))
+    refusal_of_program c.args.problem.now c.args.choice.now c.in-Some-rhs_items.rhs.now c.in-Some-range_items.ranges.now is_rhs is_ranges c.in-Err-Overflow.evidence
+    (rw c.in-Err-Overflow.field-0-is at c.in-Err-Overflow.ensures.overflow)
 
 pub returns-in-Err-NoMemory-clause-fault : goal.returns-in-Err-NoMemory-clause-fault
 returns-in-Err-NoMemory-clause-fault c =

@@ -1,7 +1,7 @@
 use Rattle.std.proofs.Common.{◌≡◌, take, map}
 use Rattle.lp_model.specs.Columns.{entries_of}
 use Rattle.selection_definitions.specs.Selection.{entered}
-use Rattle.lp_setup.proofs.parts.matrix_columns.Given as goal
+use Rattle.lp_setup.proofs.matrix.given_columns.Given as goal
 
 -- the columns so far are there
 abbrev pub invariant-loop-column : goal.invariant-loop-column
