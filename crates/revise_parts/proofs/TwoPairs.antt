@@ -1,17 +1,18 @@
 -- The tests of one or two pairs, of which the second sees what the first has done.
-use Rattle.std.proofs.Common.{◌≡◌, ℕ, ◌+◌, ◌-◌, Bool, true, false, cond, ◌||◌, List, [], ◌∷◌, ◌++◌, Option, length, map, refl, ap, ap₂, sym, ◌∙◌, subst, arith}
-use Rattle.std.specs.Option.{option_or}
+use Rattle.std.proofs.Common.{◌≡◌, ℕ, ◌+◌, ◌-◌, Bool, true, false, cond, ◌||◌, List, [], ◌∷◌, ◌++◌, Option, Some, None, length, map, refl, ap, ap₂, sym, ◌∙◌, subst, arith}
+use Rattle.std.specs.Option.{option_or, option_to_list}
 use Rattle.std.proofs.lemmas.List.{length-append, length-map}
 use Rattle.std.proofs.lemmas.List.Folds.{list_any-append}
 use Rattle.problem_definitions.specs.Names.{Name, same}
-use Rattle.problem_definitions.specs.Problem.{Problem, Entry, has_entry}
+use Rattle.problem_definitions.specs.Problem.{Row, Problem, Entry, has_entry}
 use Rattle.problem_definitions.proofs.Names.{same_eq}
 use Rattle.deck_definitions.specs.declared.DeckFaultKind.{DeckFaultKind}
 use Rattle.deck_definitions.specs.declared.Section.{Section}
-use Rattle.deck_definitions.specs.declared.Section.TheVariants.{Columns}
+use Rattle.deck_definitions.specs.declared.Section.TheVariants.{Rows}
 use Rattle.deck_definitions.specs.DataCards.{Pair, entry_of}
 use Rattle.deck_definitions.specs.Tests.{pairs_fault}
 use Rattle.deck_definitions.proofs.Pairs.{pairs_fault-cons}
+use Rattle.deck_parts.specs.Shown.{rows_alone}
 use Rattle.revise_definitions.specs.Edits.{put_entry}
 use Rattle.revise_definitions.specs.Tests.{puts_fault}
 use Rattle.revise_definitions.proofs.Pairs.{puts_fault-cons}
@@ -77,26 +78,33 @@ module _ (seen : Problem Name) (section : Section) (items : List (Entry Name)) (
       → fault ≡ puts_fault seen section items count pairs
   puts_found_one fault there pair pairs f t p = f ∙ ap (λ b. put_test seen section b count pair) t ∙ sym (ap (puts_fault seen section items count) p ∙ puts_one pair)
 
-module _ (seen : Problem Name) (taken : List (Entry Name)) (count : ℕ) where
-  pub pairs_one : (pair : Pair) → pairs_fault seen Columns taken count (pair ∷ []) ≡ pair_test seen (has_entry taken pair.row) count pair
-  pairs_one pair = pairs_fault-cons seen Columns taken count pair [] ∙ or_none (pair_test seen (has_entry taken pair.row) count pair)
+module _ (seen : Problem Name) (section : Section) (taken : List (Entry Name)) (count : ℕ) where
+  pub pairs_one : (pair : Pair) → pairs_fault seen section taken count (pair ∷ []) ≡ pair_test seen section (has_entry taken pair.row) count pair
+  pairs_one pair = pairs_fault-cons seen section taken count pair [] ∙ or_none (pair_test seen section (has_entry taken pair.row) count pair)
 
-  pub pairs_two : (pair other : Pair) → pairs_fault seen Columns taken count (pair ∷ other ∷ [])
-      ≡ option_or (pair_test seen (has_entry taken pair.row) count pair) (pair_test seen (same other.row pair.row || has_entry taken other.row) (count + 1) other)
+  pub pairs_two : (pair other : Pair) → pairs_fault seen section taken count (pair ∷ other ∷ [])
+      ≡ option_or (pair_test seen section (has_entry taken pair.row) count pair) (pair_test seen section (same other.row pair.row || has_entry taken other.row) (count + 1) other)
   pairs_two pair other =
-      pairs_fault-cons seen Columns taken count pair (other ∷ [])
-      ∙ ap (option_or (pair_test seen (has_entry taken pair.row) count pair))
-      (pairs_fault-cons seen Columns (taken ++ entry_of pair ∷ []) (count + 1) other []
-      ∙ or_none (pair_test seen (has_entry (taken ++ entry_of pair ∷ []) other.row) (count + 1) other)
-      ∙ ap (λ there. pair_test seen there (count + 1) other) (list_any-append (λ e. same other.row e.row) taken (entry_of pair ∷ []) ∙ or_turned (has_entry taken other.row) (same other.row pair.row)))
+      pairs_fault-cons seen section taken count pair (other ∷ [])
+      ∙ ap (option_or (pair_test seen section (has_entry taken pair.row) count pair))
+      (pairs_fault-cons seen section (taken ++ entry_of pair ∷ []) (count + 1) other []
+      ∙ or_none (pair_test seen section (has_entry (taken ++ entry_of pair ∷ []) other.row) (count + 1) other)
+      ∙ ap (λ there. pair_test seen section there (count + 1) other) (list_any-append (λ e. same other.row e.row) taken (entry_of pair ∷ []) ∙ or_turned (has_entry taken other.row) (same other.row pair.row)))
 
   pub pairs_found_two : (whole fault more_fault : Option DeckFaultKind) (there second : Bool) (pair other : Pair) (pairs : List Pair) → whole ≡ option_or fault more_fault
-      → fault ≡ pair_test seen there count pair → there ≡ has_entry taken pair.row → more_fault ≡ pair_test seen second (count + 1) other
-      → second ≡ (same other.row pair.row || has_entry taken other.row) → pairs ≡ pair ∷ other ∷ [] → whole ≡ pairs_fault seen Columns taken count pairs
+      → fault ≡ pair_test seen section there count pair → there ≡ has_entry taken pair.row → more_fault ≡ pair_test seen section second (count + 1) other
+      → second ≡ (same other.row pair.row || has_entry taken other.row) → pairs ≡ pair ∷ other ∷ [] → whole ≡ pairs_fault seen section taken count pairs
   pairs_found_two whole fault more_fault there second pair other pairs w f t o s p =
-      w ∙ ap₂ option_or (f ∙ ap (λ b. pair_test seen b count pair) t) (o ∙ ap (λ b. pair_test seen b (count + 1) other) s)
-      ∙ sym (ap (pairs_fault seen Columns taken count) p ∙ pairs_two pair other)
+      w ∙ ap₂ option_or (f ∙ ap (λ b. pair_test seen section b count pair) t) (o ∙ ap (λ b. pair_test seen section b (count + 1) other) s)
+      ∙ sym (ap (pairs_fault seen section taken count) p ∙ pairs_two pair other)
 
-  pub pairs_found_one : (fault : Option DeckFaultKind) (there : Bool) (pair : Pair) (pairs : List Pair) → fault ≡ pair_test seen there count pair → there ≡ has_entry taken pair.row → pairs ≡ pair ∷ []
-      → fault ≡ pairs_fault seen Columns taken count pairs
-  pairs_found_one fault there pair pairs f t p = f ∙ ap (λ b. pair_test seen b count pair) t ∙ sym (ap (pairs_fault seen Columns taken count) p ∙ pairs_one pair)
+  pub pairs_found_one : (fault : Option DeckFaultKind) (there : Bool) (pair : Pair) (pairs : List Pair) → fault ≡ pair_test seen section there count pair → there ≡ has_entry taken pair.row → pairs ≡ pair ∷ []
+      → fault ≡ pairs_fault seen section taken count pairs
+  pairs_found_one fault there pair pairs f t p = f ∙ ap (λ b. pair_test seen section b count pair) t ∙ sym (ap (pairs_fault seen section taken count) p ∙ pairs_one pair)
+
+-- parts that replace or are added, of which each is tested by itself
+pub put_parts : (rows : List (Row Name)) (one other : Option Pair)
+    → puts_fault (rows_alone rows) Rows [] 0 (option_to_list one ++ option_to_list other) ≡ option_or (puts_fault (rows_alone rows) Rows [] 0 (option_to_list one)) (puts_fault (rows_alone rows) Rows [] 0 (option_to_list other))
+put_parts rows None other = refl
+put_parts rows (Some one) None = sym (or_none (puts_fault (rows_alone rows) Rows [] 0 (one ∷ [])))
+put_parts rows (Some one) (Some other) = puts_two (rows_alone rows) Rows [] 0 one other ∙ sym (ap₂ option_or (puts_one (rows_alone rows) Rows [] 0 one) (puts_one (rows_alone rows) Rows [] 0 other))

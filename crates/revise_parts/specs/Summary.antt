@@ -1,23 +1,26 @@
 -- What the tests and the edits of a data card look at, beside the problem and the card.
-use Rattle.std.specs.Prelude.{ℕ, ◌+◌, ◌-◌, Bool, false, not, ◌&&◌, List, [], ◌∷◌, ◌++◌, nat_le, Option, Some, None, if◌then◌else◌, unwrap_or, option_map, map, length, insert}
+use Rattle.std.specs.Prelude.{ℕ, ◌+◌, ◌-◌, Bool, false, not, ◌&&◌, List, [], ◌∷◌, ◌++◌, nat_le, Option, Some, None, if◌then◌else◌, unwrap_or, option_map, map, length, take, insert}
 use Rattle.std.specs.List.{last_or}
+use Rattle.std.specs.Option.{option_and_then}
 use Rattle.indexmap.specs.IndexSet.{insert_key}
-use Rattle.card_definitions.specs.Words.{is_empty, ◌⟹◌, first_fault}
+use Rattle.card_definitions.specs.Words.{named, is_empty, ◌⟹◌, first_fault}
 use Rattle.card_definitions.specs.Fields.{Reading}
 use Rattle.problem_definitions.specs.declared.TheConstants.{MAX_COLUMNS, MAX_ENTRIES}
+use Rattle.problem_definitions.specs.declared.RowKind.{RowKind}
 use Rattle.problem_definitions.specs.Names.{Name, same, number_in, different}
-use Rattle.problem_definitions.specs.Problem.{Row, Entry, Group, Problem, has_group, group_names, entry_count}
+use Rattle.problem_definitions.specs.Problem.{Row, Entry, Group, Problem, has_row, has_group, group_names, entry_count}
+use Rattle.problem_definitions.specs.Parts.{in_row, rows_before}
 use Rattle.problem_definitions.specs.Groups.{items_of, in_group}
 use Rattle.deck_definitions.specs.declared.DeckFaultKind.{DeckFaultKind}
-use Rattle.deck_definitions.specs.declared.DeckFaultKind.TheVariants.{DuplicateEntry, TooManyEntries, ColumnSplit, EmptyName, TooManyColumns}
+use Rattle.deck_definitions.specs.declared.DeckFaultKind.TheVariants.{UnknownRow, DuplicateEntry, TooManyEntries, ColumnSplit, EmptyName, TooManyColumns}
 use Rattle.deck_definitions.specs.declared.Section.{Section}
 use Rattle.deck_definitions.specs.declared.Section.TheVariants.{Header, Rows, Columns, Rhs, Ranges, Bounds, Endata}
 use Rattle.deck_definitions.specs.Sections.{is_section}
-use Rattle.deck_definitions.specs.DataCards.{Pair, pairs_of, entries_of, row_of}
-use Rattle.deck_definitions.specs.Tests.{kind_filled, marks, pair_row_fault, value_fault, pairs_fault}
+use Rattle.deck_definitions.specs.DataCards.{Pair, pairs_of, entries_of, parts_on, row_of, is_card_of, combination_kinds}
+use Rattle.deck_definitions.specs.Tests.{kind_filled, marks, pair_row_fault, value_fault, pairs_fault, rows_fault}
 use Rattle.revise_definitions.specs.declared.Action.{Action}
 use Rattle.revise_definitions.specs.declared.Action.TheVariants.{Modify, Delete, Before, After}
-use Rattle.revise_definitions.specs.Edits.{edit_sets, edit_bounds, modify_row, delete_row, delete_column, put_entries, without_row}
+use Rattle.revise_definitions.specs.Edits.{edit_sets, edit_bounds, modify_row, delete_row, delete_column, put_entries, without_row, rows_begun}
 use Rattle.revise_definitions.specs.Tests.{edit_fault}
 
 -- The tests of a pair that replaces an item or adds one, where one on its row is there already or isn't.
@@ -27,13 +30,20 @@ put_test seen section there count pair = first_fault (
     value_fault pair.column pair.value ∷
     (is_section Columns section && not there && nat_le MAX_ENTRIES count ⟹ TooManyEntries) ∷ [])
 
--- the tests of a pair that adds an item of a column
-abbrev pub pair_test : Problem Name → Bool → ℕ → Pair → Option DeckFaultKind
-pair_test seen taken count pair = first_fault (
-    pair_row_fault seen Columns pair.row ∷
+-- the tests of a pair that adds an item, where its column or set has one on its row already or hasn't
+abbrev pub pair_test : Problem Name → Section → Bool → ℕ → Pair → Option DeckFaultKind
+pair_test seen section taken count pair = first_fault (
+    pair_row_fault seen section pair.row ∷
     (taken ⟹ DuplicateEntry) ∷
     value_fault pair.column pair.value ∷
-    (nat_le MAX_ENTRIES count ⟹ TooManyEntries) ∷ [])
+    (is_section Columns section && nat_le MAX_ENTRIES count ⟹ TooManyEntries) ∷ [])
+
+-- the tests of a part, where these are the earlier rows, and its row has a part already or hasn't
+abbrev pub part_test : List (Row Name) → Bool → Pair → Option DeckFaultKind
+part_test earlier taken pair = first_fault (
+    first_fault ((is_empty pair.row ⟹ EmptyName) ∷ (not (has_row earlier pair.row) ⟹ UnknownRow) ∷ []) ∷
+    (taken ⟹ DuplicateEntry) ∷
+    value_fault pair.column pair.value ∷ [])
 
 -- the tests of a card that inserts a column, or goes on with that of the card before
 abbrev pub insert_columns_test : Problem Name → Bool → Reading → Option DeckFaultKind
@@ -45,30 +55,45 @@ insert_columns_test seen goes card = first_fault (
     (not (has_group seen.columns card.name1) && nat_le MAX_COLUMNS (length seen.columns) ⟹ TooManyColumns) ∷
     pairs_fault seen Columns (items_of card.name1 seen.columns) (entry_count seen) (pairs_of card) ∷ [])
 
--- What is known of the data cards so far under an action: the name on its card, how many there were, the different names
--- in their fields 2, and the last of these.
+-- the type and the name on a card of ROWS, if it makes a combination or goes on with one
+abbrev pub combination_on : Reading → Option (RowKind × Name)
+combination_on card = option_map (λ kind. (kind, card.name1)) (named combination_kinds card.kind)
+
+-- What is known of the data cards so far under an action: the name on its card, how many rows they begin as cards of ROWS,
+-- the different names in their fields 2, the last of these, and the combination on the last card.
 pub record Under : Type 0 where
   pub anchor : Name
   pub there : ℕ
   pub names : List Name
   pub last : Option Name
+  pub combination : Option (RowKind × Name)
 
 abbrev pub under_of : Name → List Reading → Under
-under_of anchor cards = record { anchor = anchor; there = length cards; names = different (map (λ card. card.name1) cards); last = last_or None (map (λ card. card.name1) cards) }
-
--- one more card
-abbrev pub with_card_under : Under → Reading → Under
-with_card_under under card = record { anchor = under.anchor; there = under.there + 1; names = insert_key same under.names card.name1; last = Some card.name1 }
+under_of anchor cards = record {
+  anchor = anchor;
+  there = rows_begun cards;
+  names = different (map (λ card. card.name1) cards);
+  last = last_or None (map (λ card. card.name1) cards);
+  combination = option_and_then combination_on (last_or None cards);
+}
 
 -- whether a card has the name of the last
 abbrev pub goes_on_from : Under → Reading → Bool
 goes_on_from under card = unwrap_or (option_map (same card.name1) under.last) false
 
--- the tests of a data card under an action of its section
-abbrev pub edit_test : Problem Name → Section → Action → Under → Reading → Option DeckFaultKind
-edit_test seen Columns Before under card = insert_columns_test seen (goes_on_from under card) card
-edit_test seen Columns After under card = insert_columns_test seen (goes_on_from under card) card
-edit_test seen section action under card = edit_fault seen section action [] card
+-- whether a card of ROWS goes on with the combination on the last
+abbrev pub goes_on_row_from : Under → Reading → Bool
+goes_on_row_from under card = unwrap_or (option_map (λ made. is_card_of made.0 made.1 card) under.combination) false
+
+-- one more card
+abbrev pub with_card_under : Under → Reading → Under
+with_card_under under card = record {
+  anchor = under.anchor;
+  there = under.there + (if goes_on_row_from under card then 0 else 1);
+  names = insert_key same under.names card.name1;
+  last = Some card.name1;
+  combination = combination_on card;
+}
 
 -- The place of the next new thing among so many, where so many stand there already and the anchor has this number.
 abbrev pub place_at : Action → Name → ℕ → ℕ → ℕ → ℕ
@@ -78,10 +103,28 @@ place_at _ anchor there count number = if is_empty anchor then there else number
 abbrev pub place_among : Action → Name → ℕ → List Name → ℕ
 place_among action anchor there names = place_at action anchor there (length names) (number_in names anchor)
 
--- the rows with the card's row put next to the anchor
+-- the place of the next new row
+abbrev pub row_place_among : Action → Under → List (Row Name) → ℕ
+row_place_among action under rows = place_among action under.anchor under.there (map (λ row. row.name) rows)
+
+-- the rows before the one that a card goes on with, or before the place of its own
+abbrev pub earlier_among : Action → Under → Reading → List (Row Name) → List (Row Name)
+earlier_among action under card rows =
+    if goes_on_row_from under card then rows_before card.name1 rows else take (row_place_among action under rows) rows
+
+-- the tests of a data card under an action of its section
+abbrev pub edit_test : Problem Name → Section → Action → Under → Reading → Option DeckFaultKind
+edit_test seen Rows Before under card = rows_fault seen (goes_on_row_from under card) (earlier_among Before under card seen.rows) card
+edit_test seen Rows After under card = rows_fault seen (goes_on_row_from under card) (earlier_among After under card seen.rows) card
+edit_test seen Columns Before under card = insert_columns_test seen (goes_on_from under card) card
+edit_test seen Columns After under card = insert_columns_test seen (goes_on_from under card) card
+edit_test seen section action under card = edit_fault seen section action [] [] card
+
+-- the rows with the card's row put next to the anchor, or with the card's parts added to the combination that it goes on with
 abbrev pub row_inserted : Action → Under → Reading → List (Row Name) → List (Row Name)
 row_inserted action under card rows =
-    unwrap_or (option_map (insert rows (place_among action under.anchor under.there (map (λ row. row.name) rows))) (row_of card)) rows
+    if goes_on_row_from under card then in_row card.name1 (λ parts. parts ++ parts_on card) rows
+    else unwrap_or (option_map (insert rows (row_place_among action under rows)) (row_of card)) rows
 
 -- the columns with the card's column put next to the anchor, or with its entries added to the column that it goes on with
 abbrev pub column_inserted : Action → Under → Reading → List (Group (Entry Name)) → List (Group (Entry Name))

@@ -1,14 +1,14 @@
 // The edits of data cards under actions.
-ghost use Rattle.std.specs.Prelude.{◌≡◌, [], OnOk, IfOk, IfErr, insert, length, None, map, unwrap_or, option_map};
+ghost use Rattle.std.specs.Prelude.{◌≡◌, [], OnOk, IfOk, IfErr, insert, None, unwrap_or, option_map};
 ghost use Rattle.problem_definitions.specs.Groups.{in_all, filled};
-ghost use Rattle.problem_definitions.specs.Problem.{group_names};
-ghost use Rattle.deck_definitions.specs.DataCards.{entries_of, row_of};
+ghost use Rattle.deck_definitions.specs.DataCards.{entries_of, parts_on, row_of};
 ghost use Rattle.deck_cards.specs.Shown.{shown};
 ghost use Rattle.revise_definitions.specs.Edits.{without_row, without_column, delete_row, delete_column, edit_sets, edit_bounds};
-ghost use Rattle.revise_parts.specs.Summary.{place_among, row_inserted, column_inserted, rows_edited, columns_edited, edited_by};
+ghost use Rattle.revise_parts.specs.Summary.{row_inserted, column_inserted, rows_edited, columns_edited, edited_by};
 
-use crate::under::{UnderAction, place_for};
-use deck_cards::{DataCard, bound_kind, is_blank, row_kind};
+use crate::places::{next_column_place, next_row_place};
+use crate::under::UnderAction;
+use deck_cards::{DataCard, bound_kind, combination_kind, is_blank, row_kind};
 use deck_parts::{CardStop, Section};
 use name_table::Name;
 use revise_definitions::Action;
@@ -51,29 +51,40 @@ fn remove_column(name: Name, problem: &mut NamedProblem)
     remove_column_from_sets(&name, &mut problem.bounds);
 }
 
-// Where the next new row goes.
-fn next_row_place(action: Action, under: &UnderAction, rows: &Rows) -> Result<usize, CardStop>
-    ensures { IfOk result (λ place. place ≡ place_among action under.now.anchor under.now.there
-        (map (λ row. row.name) rows.now)) }
+// The parts on a card that begins a combination.
+fn parts_of(alloc: Global, card: &DataCard<'_>) -> Result<Entries, CardStop>
+    ensures { IfOk result (λ parts. parts ≡ parts_on (shown card.now)) }
 {
-    let anchor = under.anchor();
-    let number = rows.number_of(&anchor);
-    place_for(action, &anchor, under.there(), rows.len(), number)
+    let mut parts = Entries::new(alloc);
+    parts.append_parts(card)?;
+    Ok(parts)
 }
 
 // Puts the row of a card at this place, if the card has a type.
-fn insert_row_at(rows: &mut Rows, place: usize, card: &DataCard<'_>) -> Result<(), CardStop>
+fn insert_row_at(
+    alloc: Global,
+    rows: &mut Rows,
+    place: usize,
+    card: &DataCard<'_>,
+) -> Result<(), CardStop>
     ensures { OnOk result (rows.new ≡ unwrap_or (option_map (insert rows.old place)
         (row_of (shown card.now))) rows.old) }
 {
-    match row_kind(card.kind) {
-        Some(kind) => rows.insert(place, kind, card.name1),
+    if let Some(kind) = row_kind(card.kind) {
+        return rows.insert(place, kind, card.name1, None);
+    }
+    match combination_kind(card.kind) {
+        Some(kind) => {
+            let parts = parts_of(alloc, card)?;
+            rows.insert(place, kind, card.name1, Some(parts))
+        }
         None => Ok(()),
     }
 }
 
-// Puts the row of a card next to the anchor.
+// Puts the row of a card next to the anchor, or goes on with the combination of the card before.
 fn insert_row_of(
+    alloc: Global,
     action: Action,
     under: &UnderAction,
     card: &DataCard<'_>,
@@ -81,22 +92,11 @@ fn insert_row_of(
 ) -> Result<(), CardStop>
     ensures { OnOk result (rows.new ≡ row_inserted action under.now (shown card.now) rows.old) }
 {
-    let place = next_row_place(action, under, rows)?;
-    insert_row_at(rows, place, card)
-}
-
-// Where the next new column goes.
-fn next_column_place(
-    action: Action,
-    under: &UnderAction,
-    columns: &Groups,
-) -> Result<usize, CardStop>
-    ensures { IfOk result (λ place. place ≡ place_among action under.now.anchor
-        (length under.now.names) (group_names columns.now)) }
-{
-    let anchor = under.anchor();
-    let number = columns.number_of(&anchor);
-    place_for(action, &anchor, under.name_count(), columns.len(), number)
+    if under.goes_on_row(card) {
+        return rows.append_parts(card);
+    }
+    let place = next_row_place(action, under, rows);
+    insert_row_at(alloc, rows, place, card)
 }
 
 // Puts a new column with the entries of a card at a place.
@@ -128,12 +128,13 @@ fn insert_column_of(
     if under.goes_on(card) {
         return columns.change(alloc, EntryChange::Append, card);
     }
-    let place = next_column_place(action, under, columns)?;
+    let place = next_column_place(action, under, columns);
     insert_new_column(alloc, place, card, columns)
 }
 
 // The edit of a card of ROWS.
 fn edit_rows_of(
+    alloc: Global,
     action: Action,
     under: &UnderAction,
     card: &DataCard<'_>,
@@ -145,8 +146,8 @@ fn edit_rows_of(
     match action {
         Action::Modify => problem.rows.modify(card),
         Action::Delete => remove_row(card.name1, problem),
-        Action::Before => insert_row_of(Action::Before, under, card, &mut problem.rows),
-        Action::After => insert_row_of(Action::After, under, card, &mut problem.rows),
+        Action::Before => insert_row_of(alloc, Action::Before, under, card, &mut problem.rows),
+        Action::After => insert_row_of(alloc, Action::After, under, card, &mut problem.rows),
     }
 }
 
@@ -157,7 +158,7 @@ fn delete_column_of(
     problem: &mut NamedProblem,
 ) -> Result<(), CardStop>
     ensures { OnOk result (problem.new ≡ columns_edited Action.Delete
-        (record { anchor = []; there = 0; names = []; last = None }) (shown card.now) problem.old) }
+        (record { anchor = []; there = 0; names = []; last = None; combination = None }) (shown card.now) problem.old) }
 {
     if is_blank(card.name2.bytes()) {
         remove_column(card.name1, problem);
@@ -244,7 +245,7 @@ fn edit_section(
         problem.old) }
 {
     match section {
-        Section::Rows => edit_rows_of(action, under, card, problem),
+        Section::Rows => edit_rows_of(alloc, action, under, card, problem),
         Section::Columns => edit_columns_of(alloc, action, under, card, problem),
         Section::Rhs => edit_sets_of(alloc, action, card, &mut problem.rhs),
         Section::Ranges => edit_sets_of(alloc, action, card, &mut problem.ranges),

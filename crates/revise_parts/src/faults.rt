@@ -1,23 +1,22 @@
 // The faults of data cards under actions.
-ghost use Rattle.std.specs.Prelude.{◌≡◌, [], ◌∷◌, None, Some, ◌&&◌, not, nat_le, length, sum_by};
+ghost use Rattle.std.specs.Prelude.{◌≡◌, [], ◌∷◌, None, Some, ◌&&◌, not, nat_le, length, take, sum_by};
 ghost use Rattle.card_definitions.specs.Words.{is_empty, ◌⟹◌, first_fault};
-ghost use Rattle.problem_definitions.specs.Problem.{has_group};
+ghost use Rattle.problem_definitions.specs.Problem.{has_row, has_group};
 ghost use Rattle.problem_definitions.specs.Groups.{items_of};
 ghost use Rattle.deck_definitions.specs.DataCards.{pairs_of};
 ghost use Rattle.deck_definitions.specs.declared.Section.TheVariants.{Columns};
-ghost use Rattle.deck_definitions.specs.Tests.{kind_filled, marks, filled_from_4, rows_fault, pairs_fault, of_bound_type};
+ghost use Rattle.deck_definitions.specs.Tests.{kind_filled, marks, filled_from_3, filled_from_4, row_fields_fault, rows_fault, pairs_fault, of_bound_type};
 ghost use Rattle.deck_cards.specs.Shown.{shown};
-ghost use Rattle.revise_definitions.specs.Tests.{has_range, puts_fault, modify_rows_fault, delete_rows_fault, modify_columns_fault, modify_sets_fault, delete_entry_fault, delete_columns_fault, delete_sets_fault, modify_bound_fault, delete_bounds_fault};
+ghost use Rattle.deck_parts.specs.Shown.{rows_alone};
+ghost use Rattle.revise_definitions.specs.Tests.{has_range, has_type_for, frees, modified_fields_fault, puts_fault, modify_rows_fault, delete_rows_fault, modify_columns_fault, modify_sets_fault, delete_entry_fault, delete_columns_fault, delete_sets_fault, modify_bound_fault, delete_bounds_fault};
 ghost use Rattle.revise_parts.specs.Summary.{insert_columns_test};
 
-use crate::pairs::{first_of, pairs_fault_of, puts_fault_of};
-use deck_cards::{DataCard, bound_kind, is_blank};
-use deck_parts::{
-    DeckFaultKind, Section, bound_value, has_more, is_free, is_marker, new_row_fault, row_kind_of,
-};
+use crate::pairs::{first_of, pairs_fault_of, parts_fault_of, put_parts_fault_of, puts_fault_of};
+use deck_cards::{DataCard, bound_kind, combination_kind, is_blank, row_kind};
+use deck_parts::{DeckFaultKind, Section, bound_value, has_more, is_free, is_marker};
 use name_table::Name;
-use problem_definitions::{BoundKind, MAX_COLUMNS};
-use revise_lists::{Groups, NamedProblem};
+use problem_definitions::{BoundKind, MAX_COLUMNS, MAX_ROWS};
+use revise_lists::{Groups, NamedProblem, Rows, kind_on};
 
 // Whether a range set has an item on this row.
 fn has_range_on(seen: &NamedProblem, row: &Name) -> bool
@@ -36,24 +35,71 @@ fn rest_fault(card: &DataCard<'_>) -> Option<DeckFaultKind>
     Some(DeckFaultKind::ExtraField)
 }
 
-/// The fault of a card of ROWS under MODIFY.
-pub fn modified_row_fault(seen: &NamedProblem, card: &DataCard<'_>) -> Option<DeckFaultKind>
-    ensures { result ≡ modify_rows_fault seen.now (shown card.now) }
+// Whether the type on a card is one for a combination, or one for a plain row.
+fn has_type_for(combines: bool, card: &DataCard<'_>) -> bool
+    ensures { result ≡ has_type_for combines (shown card.now) }
 {
-    let kind = match row_kind_of(card) {
-        Ok(kind) => kind,
-        Err(fault) => return Some(fault),
-    };
-    if !seen.rows.has(&card.name1) {
-        return Some(DeckFaultKind::ModifyMissing);
+    if combines {
+        combination_kind(card.kind).is_some()
+    } else {
+        row_kind(card.kind).is_some()
     }
-    if is_free(kind) && has_range_on(seen, &card.name1) {
-        return Some(DeckFaultKind::RangeOnFree);
+}
+
+// Whether the type on a card is that of a free row.
+fn frees(card: &DataCard<'_>) -> bool
+    ensures { result ≡ frees (shown card.now) }
+{
+    match kind_on(card) {
+        Some(kind) => is_free(kind),
+        None => false,
     }
+}
+
+// The fault of a card that has a name, a type and nothing else.
+fn more_fault(card: &DataCard<'_>) -> Option<DeckFaultKind>
+    ensures { result ≡ filled_from_3 (shown card.now) }
+{
     if has_more(card) {
         return Some(DeckFaultKind::ExtraField);
     }
     None
+}
+
+// Whether a card would free a row that has a range.
+fn frees_ranged(seen: &NamedProblem, card: &DataCard<'_>) -> bool
+    ensures { result ≡ (frees (shown card.now) && has_range seen.now card.now.name1) }
+{
+    frees(card) && has_range_on(seen, &card.name1)
+}
+
+// The fault of the fields after the name of a card that modifies one of these rows.
+fn changed_fields_fault(rows: &Rows, card: &DataCard<'_>) -> Option<DeckFaultKind>
+    ensures { result ≡ modified_fields_fault (rows_alone rows.now) (shown card.now) }
+{
+    if rows.has_combination(&card.name1) {
+        return put_parts_fault_of(rows, rows.place_of(&card.name1), card);
+    }
+    more_fault(card)
+}
+
+/// The fault of a card of ROWS under MODIFY.
+pub fn modified_row_fault(seen: &NamedProblem, card: &DataCard<'_>) -> Option<DeckFaultKind>
+    ensures { result ≡ modify_rows_fault seen.now (shown card.now) }
+{
+    if is_blank(card.name1.bytes()) {
+        return Some(DeckFaultKind::EmptyName);
+    }
+    if !seen.rows.has(&card.name1) {
+        return Some(DeckFaultKind::ModifyMissing);
+    }
+    if !has_type_for(seen.rows.has_combination(&card.name1), card) {
+        return Some(DeckFaultKind::BadRowType);
+    }
+    if frees_ranged(seen, card) {
+        return Some(DeckFaultKind::RangeOnFree);
+    }
+    changed_fields_fault(&seen.rows, card)
 }
 
 /// The fault of a card of ROWS under DELETE.
@@ -72,17 +118,71 @@ pub fn deleted_row_fault(seen: &NamedProblem, card: &DataCard<'_>) -> Option<Dec
     None
 }
 
-/// The fault of a card of ROWS under BEFORE or AFTER.
-pub fn inserted_row_fault(seen: &NamedProblem, card: &DataCard<'_>) -> Option<DeckFaultKind>
-    ensures { result ≡ rows_fault seen.now (shown card.now) }
+// The fault of a name that begins a row, or goes on with one.
+fn new_row_fault(rows: &Rows, goes_on: bool, name: &Name) -> Option<DeckFaultKind>
+    ensures { result ≡ first_fault
+        ((not goes_on && has_row rows.now name.now ⟹ DeckFaultKind.DuplicateRow) ∷
+        (not goes_on && nat_le MAX_ROWS (length rows.now) ⟹ DeckFaultKind.TooManyRows) ∷ []) }
 {
-    if let Err(fault) = row_kind_of(card) {
-        return Some(fault);
+    if goes_on {
+        return None;
     }
-    if seen.rows.has(&card.name1) {
+    if rows.has(name) {
         return Some(DeckFaultKind::DuplicateRow);
     }
-    new_row_fault(seen.rows.len(), card)
+    if MAX_ROWS <= rows.len() {
+        return Some(DeckFaultKind::TooManyRows);
+    }
+    None
+}
+
+// The fault of the fields after the name of a card of ROWS, where the first rows, up to a limit, are the earlier ones.
+fn row_fields_fault_of(rows: &Rows, limit: usize, card: &DataCard<'_>) -> Option<DeckFaultKind>
+    ensures { result ≡ row_fields_fault (rows_alone rows.now) (take limit rows.now)
+        (shown card.now) }
+{
+    if combination_kind(card.kind).is_some() {
+        return parts_fault_of(rows, limit, rows.parts(&card.name1), card);
+    }
+    more_fault(card)
+}
+
+// The fault of a card of ROWS that has a type and a name.
+fn row_rest_fault(
+    rows: &Rows,
+    goes_on: bool,
+    limit: usize,
+    card: &DataCard<'_>,
+) -> Option<DeckFaultKind>
+    ensures { result ≡ first_fault
+        ((not goes_on && has_row rows.now card.now.name1 ⟹ DeckFaultKind.DuplicateRow) ∷
+        (not goes_on && nat_le MAX_ROWS (length rows.now) ⟹ DeckFaultKind.TooManyRows) ∷
+        row_fields_fault (rows_alone rows.now) (take limit rows.now) (shown card.now) ∷ []) }
+{
+    first_of(
+        new_row_fault(rows, goes_on, &card.name1),
+        row_fields_fault_of(rows, limit, card),
+    )
+}
+
+/// The fault of a card of ROWS under BEFORE or AFTER that goes on with the combination of the card before it, or begins a row, where
+/// the first rows, up to a limit, are the earlier ones.
+pub fn inserted_row_fault(
+    rows: &Rows,
+    goes_on: bool,
+    limit: usize,
+    card: &DataCard<'_>,
+) -> Option<DeckFaultKind>
+    ensures { result ≡ rows_fault (rows_alone rows.now) goes_on (take limit rows.now)
+        (shown card.now) }
+{
+    if kind_on(card).is_none() {
+        return Some(DeckFaultKind::BadRowType);
+    }
+    if is_blank(card.name1.bytes()) {
+        return Some(DeckFaultKind::EmptyName);
+    }
+    row_rest_fault(rows, goes_on, limit, card)
 }
 
 // The fault of a card of COLUMNS before those of its column: field 1, a marker, or no name.

@@ -5,6 +5,7 @@
 mod edits;
 mod faults;
 mod pairs;
+mod places;
 mod under;
 mod verdicts;
 

@@ -1,20 +1,23 @@
 // The tests of the pairs of a card.
-ghost use Rattle.std.specs.Prelude.{◌≡◌, ◌≤◌, ◌+◌, ◌^◌, ◌||◌, [], None, Some, if◌then◌else◌, unwrap_or};
-ghost use Rattle.std.specs.Option.{option_or, option_copied};
+ghost use Rattle.std.specs.Prelude.{◌≡◌, ◌≤◌, ◌+◌, ◌^◌, ◌||◌, [], None, Some, if◌then◌else◌, take, option_map, unwrap_or};
+ghost use Rattle.std.specs.Option.{option_or, option_copied, option_to_list};
 ghost use Rattle.problem_definitions.specs.Names.{same};
 ghost use Rattle.problem_definitions.specs.Problem.{has_entry};
 ghost use Rattle.deck_definitions.specs.declared.Section.TheVariants.{Columns};
-ghost use Rattle.deck_definitions.specs.DataCards.{pairs_of};
+ghost use Rattle.deck_definitions.specs.DataCards.{pairs_of, part_pairs_of};
 ghost use Rattle.deck_definitions.specs.Tests.{value_fault, pair_row_fault, pairs_fault};
 ghost use Rattle.deck_cards.specs.Shown.{shown, pair_shown};
+ghost use Rattle.deck_parts.specs.Shown.{rows_alone};
 ghost use Rattle.revise_definitions.specs.Tests.{puts_fault};
-ghost use Rattle.revise_parts.specs.Summary.{put_test, pair_test};
+ghost use Rattle.revise_parts.specs.Summary.{put_test, pair_test, part_test};
 
-use deck_cards::{DataCard, PairText, first_pair, is_blank, is_columns, is_ranges, second_pair};
+use deck_cards::{
+    DataCard, PairText, first_pair, first_part, is_blank, is_columns, is_ranges, second_pair,
+};
 use deck_parts::{DeckFaultKind, Section, number_in};
 use name_table::Name;
 use problem_definitions::MAX_ENTRIES;
-use revise_lists::{Entries, NamedProblem};
+use revise_lists::{Entries, NamedProblem, Rows};
 
 // The fault of the row in a pair.
 fn row_fault(seen: &NamedProblem, section: Section, row: &Name) -> Option<DeckFaultKind>
@@ -25,6 +28,9 @@ fn row_fault(seen: &NamedProblem, section: Section, row: &Name) -> Option<DeckFa
     }
     if !seen.rows.has(row) {
         return Some(DeckFaultKind::UnknownRow);
+    }
+    if is_columns(section) && seen.rows.has_combination(row) {
+        return Some(DeckFaultKind::EntryOnCombination);
     }
     if is_ranges(section) && seen.rows.has_free(row) {
         return Some(DeckFaultKind::RangeOnFree);
@@ -71,7 +77,7 @@ fn pair_fault_at(
     count: u128,
     pair: &PairText<'_>,
 ) -> Option<DeckFaultKind>
-    ensures { result ≡ pair_test seen.now is_taken count (pair_shown pair.now) }
+    ensures { result ≡ pair_test seen.now Columns is_taken count (pair_shown pair.now) }
 {
     if let Some(kind) = row_fault(seen, Section::Columns, &pair.row) {
         return Some(kind);
@@ -86,6 +92,27 @@ fn pair_fault_at(
         return Some(DeckFaultKind::TooManyEntries);
     }
     None
+}
+
+// The fault of a part whose row is to be one of the first, up to a limit.
+fn part_fault_at(
+    rows: &Rows,
+    limit: usize,
+    is_taken: bool,
+    part: &PairText<'_>,
+) -> Option<DeckFaultKind>
+    ensures { result ≡ part_test (take limit rows.now) is_taken (pair_shown part.now) }
+{
+    if is_blank(part.row.bytes()) {
+        return Some(DeckFaultKind::EmptyName);
+    }
+    if !rows.stands_before(&part.row, limit) {
+        return Some(DeckFaultKind::UnknownRow);
+    }
+    if is_taken {
+        return Some(DeckFaultKind::DuplicateEntry);
+    }
+    number_fault(part)
 }
 
 // The number of entries once one more is put on a row that has one or hasn't.
@@ -178,4 +205,72 @@ pub fn pairs_fault_of(
         }
         None => fault,
     }
+}
+
+// The fault of a part that is added to these, if there is one, or none.
+fn part_fault_if(
+    rows: &Rows,
+    limit: usize,
+    parts: Option<&Entries>,
+    part: &Option<PairText<'_>>,
+) -> Option<DeckFaultKind>
+    ensures { result ≡ pairs_fault (rows_alone (take limit rows.now)) Section.Rows
+        (unwrap_or (option_copied parts.entry) []) 0
+        (option_to_list (option_map pair_shown part.now)) }
+{
+    match part {
+        Some(part) => part_fault_at(rows, limit, stands_on(parts, &part.row), part),
+        None => None,
+    }
+}
+
+/// The fault of the parts on a card that are added to these, where each is to stand on one of the first rows, up to a limit.
+pub fn parts_fault_of(
+    rows: &Rows,
+    limit: usize,
+    parts: Option<&Entries>,
+    card: &DataCard<'_>,
+) -> Option<DeckFaultKind>
+    ensures { result ≡ pairs_fault (rows_alone (take limit rows.now)) Section.Rows
+        (unwrap_or (option_copied parts.entry) []) 0 (part_pairs_of (shown card.now)) }
+{
+    let Some(first) = first_part(card) else {
+        return part_fault_if(rows, limit, parts, &second_pair(card));
+    };
+    let is_first = stands_on(parts, &first.row);
+    let fault = part_fault_at(rows, limit, is_first, &first);
+    match second_pair(card) {
+        Some(second) => {
+            let is_second = is_second_there(parts, &first.row, &second.row);
+            let other = part_fault_at(rows, limit, is_second, &second);
+            first_of(fault, other)
+        }
+        None => fault,
+    }
+}
+
+// The fault of a part that replaces one or is added, if there is one, or none.
+fn put_part_fault_if(
+    rows: &Rows,
+    limit: usize,
+    part: &Option<PairText<'_>>,
+) -> Option<DeckFaultKind>
+    ensures { result ≡ puts_fault (rows_alone (take limit rows.now)) Section.Rows [] 0
+        (option_to_list (option_map pair_shown part.now)) }
+{
+    match part {
+        Some(part) => part_fault_at(rows, limit, false, part),
+        None => None,
+    }
+}
+
+/// The fault of the parts on a card that replace some or are added, where each is to stand on one of the first rows, up to a limit.
+pub fn put_parts_fault_of(rows: &Rows, limit: usize, card: &DataCard<'_>) -> Option<DeckFaultKind>
+    ensures { result ≡ puts_fault (rows_alone (take limit rows.now)) Section.Rows [] 0
+        (part_pairs_of (shown card.now)) }
+{
+    first_of(
+        put_part_fault_if(rows, limit, &first_part(card)),
+        put_part_fault_if(rows, limit, &second_pair(card)),
+    )
 }

@@ -1,19 +1,54 @@
 // The fault of a data card under an action of its section.
-ghost use Rattle.std.specs.Prelude.{◌≡◌};
-ghost use Rattle.deck_definitions.specs.declared.Section.TheVariants.{Rows, Columns, Rhs, Ranges, Bounds};
+ghost use Rattle.std.specs.Prelude.{◌≡◌, take};
+ghost use Rattle.deck_definitions.specs.declared.Section.TheVariants.{Columns, Rhs, Ranges, Bounds};
+ghost use Rattle.deck_definitions.specs.Tests.{rows_fault};
 ghost use Rattle.deck_cards.specs.Shown.{shown};
-ghost use Rattle.revise_parts.specs.Summary.{edit_test};
+ghost use Rattle.deck_parts.specs.Shown.{rows_alone};
+ghost use Rattle.revise_parts.specs.Summary.{goes_on_row_from, earlier_among, edit_test};
 
 use crate::faults::{
     deleted_bounds_fault, deleted_column_fault, deleted_row_fault, deleted_set_fault,
     inserted_column_fault, inserted_row_fault, modified_bounds_fault, modified_column_fault,
     modified_row_fault, modified_set_fault,
 };
+use crate::places::next_row_place;
 use crate::under::UnderAction;
 use deck_cards::DataCard;
 use deck_parts::{DeckFaultKind, Section};
 use revise_definitions::Action;
-use revise_lists::NamedProblem;
+use revise_lists::{NamedProblem, Rows};
+
+// How many rows are the earlier ones of a card under BEFORE or AFTER.
+fn earlier_count(
+    rows: &Rows,
+    action: Action,
+    under: &UnderAction,
+    goes_on: bool,
+    card: &DataCard<'_>,
+) -> usize
+    requires { goes_on ≡ goes_on_row_from under.now (shown card.now) }
+    ensures { take result rows.now ≡ earlier_among action under.now (shown card.now) rows.now }
+{
+    if goes_on {
+        return rows.place_of(&card.name1);
+    }
+    next_row_place(action, under, rows)
+}
+
+// The fault of a card of ROWS under BEFORE or AFTER.
+fn added_row_fault(
+    rows: &Rows,
+    action: Action,
+    under: &UnderAction,
+    card: &DataCard<'_>,
+) -> Option<DeckFaultKind>
+    ensures { result ≡ rows_fault (rows_alone rows.now) (goes_on_row_from under.now (shown card.now))
+        (earlier_among action under.now (shown card.now) rows.now) (shown card.now) }
+{
+    let goes_on = under.goes_on_row(card);
+    let limit = earlier_count(rows, action, under, goes_on, card);
+    inserted_row_fault(rows, goes_on, limit, card)
+}
 
 // The fault of a card of ROWS.
 fn rows_fault_of(
@@ -22,13 +57,13 @@ fn rows_fault_of(
     under: &UnderAction,
     card: &DataCard<'_>,
 ) -> Option<DeckFaultKind>
-    ensures { result ≡ edit_test seen.now Rows action under.now (shown card.now) }
+    ensures { result ≡ edit_test seen.now Section.Rows action under.now (shown card.now) }
 {
     match action {
         Action::Modify => modified_row_fault(seen, card),
         Action::Delete => deleted_row_fault(seen, card),
-        Action::Before => inserted_row_fault(seen, card),
-        Action::After => inserted_row_fault(seen, card),
+        Action::Before => added_row_fault(&seen.rows, Action::Before, under, card),
+        Action::After => added_row_fault(&seen.rows, Action::After, under, card),
     }
 }
 
