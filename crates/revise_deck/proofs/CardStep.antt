@@ -1,30 +1,34 @@
 -- The tests of a card of a REVISE deck, and what it changes, by what is known of the cards before it.
-use Rattle.std.proofs.Common.{◌≡◌, ℕ, Bool, true, false, cond, ◌||◌, List, [], ◌∷◌, ◌++◌, Option, Some, None, map, refl, ap, ap₂, sym, ◌∙◌, unwrap_or}
+use Rattle.std.proofs.Common.{◌≡◌, ℕ, ◌+◌, Bool, true, false, cond, ◌||◌, List, [], ◌∷◌, ◌++◌, Option, Some, None, map, take, refl, ap, ap₂, sym, ◌∙◌, unwrap_or}
 use Rattle.std.specs.List.{last_or}
 use Rattle.std.specs.Option.{option_or, option_map, option_and_then}
-use Rattle.std.proofs.lemmas.List.{length-append, map-append}
+use Rattle.std.proofs.lemmas.List.{map-append}
 use Rattle.indexmap.specs.IndexSet.{insert_key}
 use Rattle.card_definitions.specs.Words.{named}
 use Rattle.card_definitions.specs.Cards.{Card}
 use Rattle.card_definitions.specs.Fields.{Reading, reading_of}
+use Rattle.problem_definitions.specs.declared.RowKind.{RowKind}
 use Rattle.problem_definitions.specs.Names.{Name, same, different}
 use Rattle.problem_definitions.specs.Problem.{Problem}
+use Rattle.problem_definitions.specs.Parts.{rows_before}
 use Rattle.problem_definitions.proofs.Names.{has_name-different, different-push}
+use Rattle.deck_definitions.specs.declared.DeckFaultKind.{DeckFaultKind}
 use Rattle.deck_definitions.specs.declared.Section.{Section}
 use Rattle.deck_definitions.specs.declared.Section.TheVariants.{Header, Rows, Columns, Rhs, Ranges, Bounds, Endata}
 use Rattle.deck_definitions.specs.Sections.{is_section_card, section_after, section_words, section_word}
 use Rattle.deck_definitions.specs.declared.Style.{Style}
-use Rattle.deck_definitions.specs.DataCards.{style_begun, style_of, form_on}
+use Rattle.deck_definitions.specs.DataCards.{style_begun, style_of, form_on, combination_kinds, is_card_of}
+use Rattle.deck_definitions.specs.Tests.{rows_fault}
 use Rattle.deck_definitions.specs.Conversion.{section_card_fault, form_fault}
 use Rattle.deck_definitions.proofs.Steps.{section_after-push, style_of-push, style_of-data, last_or-push}
 use Rattle.revise_definitions.specs.declared.Action.{Action}
 use Rattle.revise_definitions.specs.declared.Action.TheVariants.{Modify, Delete, Before, After}
 use Rattle.revise_definitions.specs.Actions.{is_action_card, is_heading, deletes, action_on, anchor_on, action_card_after, action_after, anchor_after, under_after, edit_in, edit_of}
-use Rattle.revise_definitions.specs.Edits.{goes_on, edited}
+use Rattle.revise_definitions.specs.Edits.{goes_on, goes_on_row, rows_begun, row_place, edited}
 use Rattle.revise_definitions.specs.Tests.{action_fault, edit_fault, action_data_fault}
 use Rattle.revise_definitions.specs.Revision.{revised, may_come_after, inner_card_fault, revise_card_fault}
-use Rattle.revise_definitions.proofs.Steps.{action_card_after-push, under_after-push, revised-push, with_edit}
-use Rattle.revise_parts.specs.Summary.{under_of, with_card_under, goes_on_from, insert_columns_test, edit_test, edited_by}
+use Rattle.revise_definitions.proofs.Steps.{action_card_after-push, under_after-push, revised-push, with_edit, rows_begun-push}
+use Rattle.revise_parts.specs.Summary.{combination_on, under_of, with_card_under, goes_on_from, goes_on_row_from, insert_columns_test, edit_test, edited_by}
 use Rattle.revise_deck.specs.State.{State, state_of, read_at, data_fault, standing_fault, inner_fault, fault_at, problem_in, problem_with, state_with}
 
 -- ---- what is known of the cards under an action
@@ -40,9 +44,24 @@ goes-same anchor under card = sym (ap (λ o. unwrap_or (option_map (same card.na
     twice None = refl
     twice (Some before) = refl
 
-under-push : (anchor : Name) (under : List Reading) (card : Reading) → under_of anchor (under ++ card ∷ []) ≡ with_card_under (under_of anchor under) card
-under-push anchor under card = λ i. record { anchor = anchor; there = length-append under (card ∷ []) i; names = names i; last = last i }
+goes-row-same : (anchor : Name) (under : List Reading) (card : Reading) → goes_on_row under card ≡ goes_on_row_from (under_of anchor under) card
+goes-row-same anchor under card = twice (last_or None under)
   where
+    made : (kind : Option RowKind) (name : Name) → option_map (λ kind. is_card_of kind name card) kind ≡ option_map (λ (made : RowKind × Name). is_card_of made.0 made.1 card) (option_map {U = RowKind × Name} (λ kind. (kind, name)) kind)
+    made None name = refl
+    made (Some kind) name = refl
+
+    twice : (o : Option Reading) → unwrap_or (option_and_then (λ (before : Reading). option_map (λ kind. is_card_of kind before.name1 card) (named combination_kinds before.kind)) o) false
+        ≡ unwrap_or (option_map (λ (made : RowKind × Name). is_card_of made.0 made.1 card) (option_and_then combination_on o)) false
+    twice None = refl
+    twice (Some before) = ap (λ o. unwrap_or o false) (made (named combination_kinds before.kind) before.name1)
+
+under-push : (anchor : Name) (under : List Reading) (card : Reading) → under_of anchor (under ++ card ∷ []) ≡ with_card_under (under_of anchor under) card
+under-push anchor under card = λ i. record { anchor = anchor; there = there i; names = names i; last = last i; combination = option_and_then combination_on (last_or-push None under (Some card) i) }
+  where
+    there : rows_begun (under ++ card ∷ []) ≡ rows_begun under + cond (goes_on_row_from (under_of anchor under) card) 0 1
+    there = rows_begun-push under card ∙ ap (λ b. rows_begun under + cond b 0 1) (goes-row-same anchor under card)
+
     mapped : map (λ (c : Reading). c.name1) (under ++ card ∷ []) ≡ map (λ (c : Reading). c.name1) under ++ card.name1 ∷ []
     mapped = map-append (λ (c : Reading). c.name1) under (card ∷ [])
 
@@ -55,13 +74,17 @@ under-push anchor under card = λ i. record { anchor = anchor; there = length-ap
 
 -- ---- tests and edits
 
-edit-same : (seen : Problem Name) (section : Section) (action : Action) (anchor : Name) (under : List Reading) (card : Reading) → edit_fault seen section action under card ≡ edit_test seen section action (under_of anchor under) card
+-- the tests of a card of ROWS under BEFORE or AFTER, if it goes on with a combination or begins a row
+abbrev rows_test : Problem Name → Action → Name → List Reading → Reading → Bool → Option DeckFaultKind
+rows_test seen action anchor under card goes = rows_fault seen goes (cond goes (rows_before card.name1 seen.rows) (take (row_place action anchor under seen.rows) seen.rows)) card
+
+edit-same : (seen : Problem Name) (section : Section) (action : Action) (anchor : Name) (under : List Reading) (card : Reading) → edit_fault seen section action anchor under card ≡ edit_test seen section action (under_of anchor under) card
 edit-same seen Columns Before anchor under card = ap (λ b. insert_columns_test seen b card) (goes-same anchor under card)
 edit-same seen Columns After anchor under card = ap (λ b. insert_columns_test seen b card) (goes-same anchor under card)
 edit-same seen Rows Modify anchor under card = refl
 edit-same seen Rows Delete anchor under card = refl
-edit-same seen Rows Before anchor under card = refl
-edit-same seen Rows After anchor under card = refl
+edit-same seen Rows Before anchor under card = ap (rows_test seen Before anchor under card) (goes-row-same anchor under card)
+edit-same seen Rows After anchor under card = ap (rows_test seen After anchor under card) (goes-row-same anchor under card)
 edit-same seen Columns Modify anchor under card = refl
 edit-same seen Columns Delete anchor under card = refl
 edit-same seen Rhs Modify anchor under card = refl
@@ -85,8 +108,8 @@ edited-same problem Columns Before anchor under card = rw (goes-same anchor unde
 edited-same problem Columns After anchor under card = rw (goes-same anchor under card) refl
 edited-same problem Rows Modify anchor under card = refl
 edited-same problem Rows Delete anchor under card = refl
-edited-same problem Rows Before anchor under card = refl
-edited-same problem Rows After anchor under card = refl
+edited-same problem Rows Before anchor under card = rw (goes-row-same anchor under card) refl
+edited-same problem Rows After anchor under card = rw (goes-row-same anchor under card) refl
 edited-same problem Columns Modify anchor under card = refl
 edited-same problem Columns Delete anchor under card = refl
 edited-same problem Rhs Modify anchor under card = refl
@@ -109,14 +132,14 @@ module _ (old : Problem Name) (cards : List Card) where
   abbrev state_in : Option Section → Option Action → State
   state_in section action = record { style = style_of cards; section = section; action = action; under = under_of (anchor_after cards) (under_after cards); problem = revised old cards }
 
-  data-same : (section : Section) (s : Option Section) (action : Option Action) (card : List ℕ) → action_data_fault (revised old cards) (style_of cards) section action (under_after cards) card ≡ data_fault (state_in s action) section card
+  data-same : (section : Section) (s : Option Section) (action : Option Action) (card : List ℕ) → action_data_fault (revised old cards) (style_of cards) section action (anchor_after cards) (under_after cards) card ≡ data_fault (state_in s action) section card
   data-same section s None card = refl
   data-same section s (Some action) card =
       ap (λ o. option_or (form_fault (style_of cards) section (deletes action) card) (option_or o None))
       (edit-same (revised old cards) section action (anchor_after cards) (under_after cards) (reading_of (form_on (style_of cards) section (deletes action) card) card))
 
   standing-same : (section : Section) (card : List ℕ)
-      → cond (is_action_card (style_of cards) card) (action_fault (revised old cards) section (action_on (style_of cards) card) (anchor_on (style_of cards) card)) (action_data_fault (revised old cards) (style_of cards) section (action_after cards) (under_after cards) card)
+      → cond (is_action_card (style_of cards) card) (action_fault (revised old cards) section (action_on (style_of cards) card) (anchor_on (style_of cards) card)) (action_data_fault (revised old cards) (style_of cards) section (action_after cards) (anchor_after cards) (under_after cards) card)
       ≡ standing_fault (state_in (Some section) (action_after cards)) section card
   standing-same section card = ap (cond (is_action_card (style_of cards) card) (action_fault (revised old cards) section (action_on (style_of cards) card) (anchor_on (style_of cards) card))) (data-same section (Some section) (action_after cards) card)
 

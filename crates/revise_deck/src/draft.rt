@@ -101,7 +101,7 @@ impl ReviseDraft {
             card,
             &mut self.problem,
         )?;
-        self.under.add(card.name1)
+        self.under.add(card)
     }
 
     // Takes a data card of this section.

@@ -1,5 +1,5 @@
 // A problem with names in place of numbers.
-ghost use Rattle.std.specs.Prelude.{◌≡◌, IfOk, map};
+ghost use Rattle.std.specs.Prelude.{◌≡◌, IfOk, map, option_map};
 ghost use Rattle.problem_definitions.specs.Names.{name_at};
 ghost use Rattle.problem_definitions.specs.Numbering.{entry_by, row_by, bound_by, group_by, by_names};
 ghost use Rattle.problem_definitions.specs.Problem.{group_names};
@@ -128,6 +128,22 @@ fn named_bound_sets(
     Ok(list)
 }
 
+// The parts of a row on the names of their rows.
+fn named_parts(
+    alloc: Global,
+    rows: &[RowDecl],
+    parts: &Option<Vec<DeckEntry>>,
+) -> Result<Option<Entries>, CardStop>
+    ensures { IfOk result (λ list. list ≡ option_map
+        (map (entry_by (name_at (map (λ row. row.name) rows.now))))
+        (option_map (λ p. p.items) parts.now)) }
+{
+    match parts {
+        Some(parts) => Ok(Some(named_entries(alloc, rows, parts)?)),
+        None => Ok(None),
+    }
+}
+
 // Rows with names for the rows that they refer to.
 fn named_rows(alloc: Global, rows: &[RowDecl]) -> Result<Rows, CardStop>
     ensures { IfOk result (λ list. list ≡ map (row_by (name_at (map (λ row. row.name) rows.now)))
@@ -135,7 +151,7 @@ fn named_rows(alloc: Global, rows: &[RowDecl]) -> Result<Rows, CardStop>
 {
     let mut list = Rows::new(alloc);
     for row in rows {
-        list.add(row.kind, row.name)?;
+        list.add(row.kind, row.name, named_parts(alloc, rows, &row.parts)?)?;
     }
     Ok(list)
 }
