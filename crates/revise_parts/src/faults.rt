@@ -56,8 +56,8 @@ fn frees(card: &DataCard<'_>) -> bool
     }
 }
 
-// The fault of a card that has a name, a type and nothing else.
-fn more_fault(card: &DataCard<'_>) -> Option<DeckFaultKind>
+// The fault of a card on which the fields from field 3 on are to be blank.
+fn fields_fault(card: &DataCard<'_>) -> Option<DeckFaultKind>
     ensures { result ≡ filled_from_3 (shown card.now) }
 {
     if has_more(card) {
@@ -80,7 +80,7 @@ fn changed_fields_fault(rows: &Rows, card: &DataCard<'_>) -> Option<DeckFaultKin
     if rows.has_combination(&card.name1) {
         return put_parts_fault_of(rows, rows.place_of(&card.name1), card);
     }
-    more_fault(card)
+    fields_fault(card)
 }
 
 /// The fault of a card of ROWS under MODIFY.
@@ -112,10 +112,7 @@ pub fn deleted_row_fault(seen: &NamedProblem, card: &DataCard<'_>) -> Option<Dec
     if !seen.rows.has(&card.name1) {
         return Some(DeckFaultKind::DeleteMissing);
     }
-    if has_more(card) {
-        return Some(DeckFaultKind::ExtraField);
-    }
-    None
+    fields_fault(card)
 }
 
 // The fault of a name that begins a row, or goes on with one.
@@ -144,7 +141,7 @@ fn row_fields_fault_of(rows: &Rows, limit: usize, card: &DataCard<'_>) -> Option
     if combination_kind(card.kind).is_some() {
         return parts_fault_of(rows, limit, rows.parts(&card.name1), card);
     }
-    more_fault(card)
+    fields_fault(card)
 }
 
 // The fault of a card of ROWS that has a type and a name.

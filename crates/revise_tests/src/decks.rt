@@ -2,7 +2,7 @@ use card_reader::{Cards, read_job};
 use deck_fields::{DeckFault, DeckFaultKind, DeckStop};
 use job_devices::SureSource;
 use mps_convert::convert;
-use problem_file::Problem;
+use problem_file::{Problem, RowDecl};
 use revise_deck::revise;
 use std::alloc::Global;
 use std::test::Fail;
@@ -66,6 +66,7 @@ pub fn text_of(alloc: Global, problem: &Problem) -> Result<Vec<u8>, Fail> {
     let mut text = Vec::new(alloc);
     for row in problem.rows() {
         text.extend_from_slice(row.name.bytes())?;
+        put_parts(&mut text, row)?;
         text.push(b' ')?;
     }
     text.push(b'/')?;
@@ -111,6 +112,25 @@ pub fn text_of(alloc: Global, problem: &Problem) -> Result<Vec<u8>, Fail> {
         text.push(b';')?;
     }
     Ok(text)
+}
+
+// The parts of a row, if it is a combination.
+fn put_parts(text: &mut Vec<u8>, row: &RowDecl) -> Result<(), Fail> {
+    let Some(parts) = &row.parts else {
+        return Ok(());
+    };
+    text.push(b'=')?;
+    let mut is_first = true;
+    for part in parts {
+        if !is_first {
+            text.push(b',')?;
+        }
+        is_first = false;
+        text.push(digit(part.row))?;
+        text.push(b':')?;
+        text.extend_from_slice(part.value.text())?;
+    }
+    Ok(())
 }
 
 // A number below 10 as a digit.

@@ -23,3 +23,78 @@ fn faults_of_actions_and_missing_things(rt: HostRuntime) -> Result<(), Fail> {
     }
     Ok(())
 }
+
+#[test]
+fn faults_of_combinations(rt: HostRuntime) -> Result<(), Fail> {
+    let decks: [(&[u8], u32, DeckFaultKind); 13] = [
+        (
+            b"ROWS\n BEFORE       LIM\n DL U         LIM       1\n",
+            4,
+            DeckFaultKind::UnknownRow,
+        ),
+        (
+            b"ROWS\n AFTER\n DL S         S         1\n",
+            4,
+            DeckFaultKind::UnknownRow,
+        ),
+        (
+            b"ROWS\n AFTER\n DL S         COST      1\n DL S         COST      2\n",
+            5,
+            DeckFaultKind::DuplicateEntry,
+        ),
+        (
+            b"ROWS\n AFTER\n DL S         COST      1\n DG S         LIM       1\n",
+            5,
+            DeckFaultKind::DuplicateRow,
+        ),
+        (
+            b"ROWS\n AFTER\n DL S         COST      1\n AFTER\n DL S         LIM       1\n",
+            6,
+            DeckFaultKind::DuplicateRow,
+        ),
+        (
+            b"ROWS\n AFTER\n L  S         COST      1\n",
+            4,
+            DeckFaultKind::ExtraField,
+        ),
+        (
+            b"ROWS\n AFTER\n DL S         COST      1                        2\n",
+            4,
+            DeckFaultKind::EmptyName,
+        ),
+        (
+            b"ROWS\n MODIFY\n DL LIM       COST      1\n",
+            4,
+            DeckFaultKind::BadRowType,
+        ),
+        (
+            b"ROWS\n AFTER\n DL S         COST      1\n MODIFY\n L  S\n",
+            6,
+            DeckFaultKind::BadRowType,
+        ),
+        (
+            b"ROWS\n AFTER\n DL S         COST      1\n MODIFY\n DL S         S         1\n",
+            6,
+            DeckFaultKind::UnknownRow,
+        ),
+        (
+            b"ROWS\n AFTER\n DL S         COST      1\n DELETE\n    S         COST      \n",
+            6,
+            DeckFaultKind::ExtraField,
+        ),
+        (
+            b"ROWS\n AFTER\n DL S         COST      1\nCOLUMNS\n MODIFY\n    X         S         1\n",
+            7,
+            DeckFaultKind::EntryOnCombination,
+        ),
+        (
+            b"ROWS\n AFTER\n DL S         COST      1\nCOLUMNS\n AFTER\n    Z         S         1\n",
+            7,
+            DeckFaultKind::EntryOnCombination,
+        ),
+    ];
+    for (edits, card, kind) in decks {
+        assert_eq!(rt; fault_of(rt.alloc(), edits)?, Some((card, kind)));
+    }
+    Ok(())
+}

@@ -76,3 +76,46 @@ fn each_action_edits_its_section(rt: HostRuntime) -> Result<(), Fail> {
     }
     Ok(())
 }
+
+#[test]
+fn combinations_are_revised(rt: HostRuntime) -> Result<(), Fail> {
+    let decks: [(&[u8], &[u8]); 8] = [
+        (
+            b"ROWS\n AFTER\n DL SUM       COST      1              LIM       2\n",
+            b"COST LIM SUM=1:1,2:2 /X 1:1 2:1;Y 1:2;/B 2:4;/R 2:2;/BND 1 1;",
+        ),
+        (
+            b"ROWS\n AFTER\n DL SUM       LIM       2\n DL SUM       COST      1\n DG TWO       SUM       3\n",
+            b"COST LIM SUM=2:2,1:1 TWO=3:3 /X 1:1 2:1;Y 1:2;/B 2:4;/R 2:2;/BND 1 1;",
+        ),
+        (
+            b"ROWS\n AFTER        COST\n DL U         COST      1\n DL U\n G  W\n DN Z         U         1\n",
+            b"COST U=1:1 W Z=2:1 LIM /X 1:1 5:1;Y 1:2;/B 5:4;/R 5:2;/BND 1 1;",
+        ),
+        (
+            b"ROWS\n BEFORE       LIM\n DG U         COST      2\n G  W\n DG V         U         1\n DG V         COST      3\n",
+            b"COST U=1:2 W V=2:1,1:3 LIM /X 1:1 5:1;Y 1:2;/B 5:4;/R 5:2;/BND 1 1;",
+        ),
+        (
+            b"ROWS\n AFTER\n DL SUM       COST      1              LIM       2\n MODIFY\n DG SUM       LIM       7\n",
+            b"COST LIM SUM=1:1,2:7 /X 1:1 2:1;Y 1:2;/B 2:4;/R 2:2;/BND 1 1;",
+        ),
+        (
+            b"ROWS\n AFTER\n DL SUM       LIM       2\n MODIFY\n DL SUM       LIM       7              COST      5\n",
+            b"COST LIM SUM=2:7,1:5 /X 1:1 2:1;Y 1:2;/B 2:4;/R 2:2;/BND 1 1;",
+        ),
+        (
+            b"ROWS\n AFTER\n DL SUM       COST      1              LIM       2\n DELETE\n    LIM\n",
+            b"COST SUM=1:1 /X 1:1;Y 1:2;///BND 1 1;",
+        ),
+        (
+            b"ROWS\n AFTER\n DN SUM       LIM       2\n DN TWO       SUM       1\n DELETE\n    SUM\n",
+            b"COST LIM TWO= /X 1:1 2:1;Y 1:2;/B 2:4;/R 2:2;/BND 1 1;",
+        ),
+    ];
+    for (edits, text) in decks {
+        let problem = revised(rt.alloc(), edits)?;
+        assert_eq!(rt; text_of(rt.alloc(), &problem)?.as_slice(), text);
+    }
+    Ok(())
+}
