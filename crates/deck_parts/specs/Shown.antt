@@ -1,22 +1,21 @@
 -- What the reader's structures show, in the words of the definitions.
-use Rattle.std.specs.Prelude.{◌≡◌, ℕ, Bool, not, ◌&&◌, Option, List, [], ◌∷◌, map, length, nat_le, is_none, if◌then◌else◌}
+use Rattle.std.specs.Prelude.{◌≡◌, ℕ, Bool, not, ◌&&◌, Option, List, [], ◌∷◌, map, length, nat_le, if◌then◌else◌}
 use Rattle.std.specs.List.{list_any}
 use Rattle.indexmap.specs.IndexSet.{insert_key}
-use Rattle.card_definitions.specs.Words.{is_empty, named, ◌⟹◌, first_fault}
+use Rattle.card_definitions.specs.Words.{is_empty, ◌⟹◌, first_fault}
 use Rattle.card_definitions.specs.Fields.{Reading}
-use Rattle.problem_definitions.specs.declared.TheConstants.{MAX_COLUMNS, MAX_ENTRIES}
-use Rattle.problem_definitions.specs.declared.RowKind.{RowKind}
+use Rattle.problem_definitions.specs.declared.TheConstants.{MAX_ROWS, MAX_COLUMNS, MAX_ENTRIES}
 use Rattle.problem_definitions.specs.declared.BoundKind.{BoundKind}
-use Rattle.problem_definitions.specs.Names.{Name, same, has_name, number_in}
-use Rattle.problem_definitions.specs.Problem.{Row, plain_row, Entry, Bound, Group, Problem, has_group, group_names}
+use Rattle.problem_definitions.specs.Names.{Name, same, number_in}
+use Rattle.problem_definitions.specs.Problem.{Row, Entry, Bound, Group, Problem, has_row, has_group, group_names}
 use Rattle.deck_definitions.specs.declared.DeckFaultKind.{DeckFaultKind}
-use Rattle.deck_definitions.specs.declared.DeckFaultKind.TheVariants.{BadRowType, ColumnSplit, BoundTwice, EmptyName, TooManyColumns, TooManyEntries, CombinationRow}
+use Rattle.deck_definitions.specs.declared.DeckFaultKind.TheVariants.{DuplicateRow, ColumnSplit, BoundTwice, EmptyName, TooManyRows, TooManyColumns, TooManyEntries}
 use Rattle.deck_definitions.specs.declared.Section.{Section}
-use Rattle.deck_definitions.specs.declared.Section.TheVariants.{Columns}
+use Rattle.deck_definitions.specs.declared.Section.TheVariants.{Rows, Columns}
 use Rattle.deck_definitions.specs.Sections.{is_section}
-use Rattle.deck_definitions.specs.DataCards.{Pair, row_kinds}
+use Rattle.deck_definitions.specs.DataCards.{Pair}
 use Rattle.deck_parts.specs.declared.on_row.OnRow.{OnRow}
-use Rattle.deck_definitions.specs.Tests.{combination_kinds, value_fault, all_but_last, is_bound_already, bound_value_fault, filled_from_5}
+use Rattle.deck_definitions.specs.Tests.{value_fault, pairs_fault, all_but_last, is_bound_already, bound_value_fault, filled_from_5}
 
 -- the number of the row, or of the column, of a name, from 1; 0 where it isn't there
 abbrev pub row_number : List (Row Name) → Name → ℕ
@@ -24,14 +23,6 @@ row_number rows name = number_in (map (λ row. row.name) rows) name
 
 abbrev pub column_number : List (Group (Entry Name)) → Name → ℕ
 column_number columns name = number_in (group_names columns) name
-
--- the rows that names with types stand for
-abbrev pub row_at : Name × RowKind → Row Name
-row_at e = plain_row e.1 e.0
-
--- the same rows in a problem by numbers
-abbrev pub decl_at : Name × RowKind → Row ℕ
-decl_at e = plain_row e.1 e.0
 
 -- the entry that a row's name with a number stands for
 abbrev pub entry_at : Name × OnRow → Entry Name
@@ -85,9 +76,17 @@ column_fault columns name rest = first_fault (
 abbrev pub bound_end_fault : Reading → BoundKind → Option DeckFaultKind
 bound_end_fault card kind = first_fault (bound_value_fault card kind ∷ filled_from_5 card ∷ [])
 
--- the tests of a card of ROWS that come before that of a row of its name
-abbrev pub row_kind_fault : Reading → Option DeckFaultKind
-row_kind_fault card = first_fault (
-    (has_name combination_kinds card.kind ⟹ CombinationRow) ∷
-    (is_none (named row_kinds card.kind) ⟹ BadRowType) ∷
-    (is_empty card.name1 ⟹ EmptyName) ∷ [])
+-- the tests of the name of a row that a card begins: it isn't empty, no row has it, and there is room for one more
+abbrev pub new_row_fault : List (Row Name) → Name → Option DeckFaultKind
+new_row_fault rows name = first_fault (
+    (is_empty name ⟹ EmptyName) ∷
+    (has_row rows name ⟹ DuplicateRow) ∷
+    (nat_le MAX_ROWS (length rows) ⟹ TooManyRows) ∷ [])
+
+-- the tests of a card that begins a row of this name, and then the rest
+abbrev pub begun_fault : List (Row Name) → Name → Option DeckFaultKind → Option DeckFaultKind
+begun_fault rows name rest = first_fault (new_row_fault rows name ∷ rest ∷ [])
+
+-- the tests of the parts on a card, where these rows are the earlier ones and these parts are there already
+abbrev pub parts_fault : List (Row Name) → List (Entry Name) → List Pair → Option DeckFaultKind
+parts_fault rows parts pairs = pairs_fault (rows_alone rows) Rows parts 0 pairs

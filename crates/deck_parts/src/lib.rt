@@ -11,6 +11,7 @@ mod groups;
 mod numbers;
 mod on_row;
 mod pairs;
+mod row_cards;
 mod rows;
 mod sections;
 
@@ -20,8 +21,6 @@ pub use deck_cards::CardStop;
 pub use deck_definitions::{DeckFaultKind, Section};
 pub use groups::Groups;
 pub use pairs::number_in;
+pub use row_cards::{has_more, take_row_card};
 pub use rows::{Rows, is_free};
-pub use sections::{
-    follows, has_more, is_marker, new_row_fault, row_kind_of, take_column_card, take_row_card,
-    take_set_card,
-};
+pub use sections::{follows, is_marker, take_column_card, take_set_card};

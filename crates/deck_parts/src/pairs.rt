@@ -1,11 +1,12 @@
-// The pairs of a card of COLUMNS, RHS or RANGES.
-ghost use Rattle.std.specs.Prelude.{◌≡◌, ◌≤◌, ◌++◌, ◌∷◌, [], None, Some, ℕ, length, IfOk, OnOk, IfErr};
+// The pairs of a card of COLUMNS, RHS or RANGES, and the parts on a card of ROWS.
+ghost use Rattle.std.specs.Prelude.{◌≡◌, ◌≤◌, ◌++◌, ◌∷◌, [], None, Some, ℕ, length, map, option_map, IfOk, OnOk, IfErr};
+ghost use Rattle.std.specs.Option.{option_to_list};
 ghost use Rattle.card_definitions.specs.Numbers.{decimal_of};
 ghost use Rattle.card_definitions.specs.declared.NumberFault.TheVariants.{BadCharacter};
-ghost use Rattle.deck_definitions.specs.DataCards.{entry_of, entries_of, pairs_of};
+ghost use Rattle.deck_definitions.specs.DataCards.{entry_of, entries_of, pairs_of, part_pairs_of, parts_on};
 ghost use Rattle.deck_definitions.specs.Tests.{number_fault_from, value_fault, pair_row_fault, pair_fault, pairs_fault};
 ghost use Rattle.deck_cards.specs.Told.{TellsDeckFault};
-ghost use Rattle.deck_parts.specs.Shown.{rows_alone, pair_value_fault};
+ghost use Rattle.deck_parts.specs.Shown.{rows_alone, pair_value_fault, parts_fault};
 ghost use Rattle.deck_cards.specs.Shown.{shown, pair_shown};
 
 use crate::entries::Entries;
@@ -14,7 +15,8 @@ use crate::on_row::OnRow;
 use crate::rows::{FoundRow, Rows, is_free};
 use card_definitions::NumberFault;
 use deck_cards::{
-    CardStop, DataCard, PairText, first_pair, is_blank, is_columns, is_ranges, second_pair,
+    CardStop, DataCard, PairText, first_pair, first_part, is_blank, is_columns, is_ranges,
+    second_pair,
 };
 use deck_definitions::{DeckFaultKind, Section};
 use deck_fields::{Decimal, number};
@@ -33,6 +35,9 @@ fn row_of(rows: &Rows, section: Section, row: &Name) -> Result<FoundRow, DeckFau
     let Some(found) = rows.find(row) else {
         return Err(DeckFaultKind::UnknownRow);
     };
+    if is_columns(section) && found.is_combination {
+        return Err(DeckFaultKind::EntryOnCombination);
+    }
     if is_ranges(section) && is_free(found.kind) {
         return Err(DeckFaultKind::RangeOnFree);
     }
@@ -134,5 +139,34 @@ pub fn take_pairs(
     match second_pair(card) {
         Some(second) => take_pair(rows, section, items, count + 1, &second),
         None => Ok(()),
+    }
+}
+
+// Takes a pair, where there is one, as a part of a combination of which these rows are the earlier ones.
+fn take_part(rows: &Rows, parts: &mut Entries, pair: &Option<PairText<'_>>) -> Result<(), CardStop>
+    ensures no_fault { OnOk result (parts_fault rows.now parts.old
+        (option_to_list (option_map pair_shown pair.now)) ≡ None) }
+    ensures step { OnOk result (parts.new ≡ parts.old ++ map entry_of
+        (option_to_list (option_map pair_shown pair.now))) }
+    ensures stop { IfErr result (TellsDeckFault (parts_fault rows.now parts.old
+        (option_to_list (option_map pair_shown pair.now)))) }
+{
+    match pair {
+        Some(pair) => take_pair(rows, Section::Rows, parts, 0, pair),
+        None => Ok(()),
+    }
+}
+
+/// Takes the parts on a card of a combination, where these rows are the earlier ones.
+pub fn take_parts(rows: &Rows, parts: &mut Entries, card: &DataCard<'_>) -> Result<(), CardStop>
+    ensures no_fault { OnOk result (parts_fault rows.now parts.old
+        (part_pairs_of (shown card.now)) ≡ None) }
+    ensures step { OnOk result (parts.new ≡ parts.old ++ parts_on (shown card.now)) }
+    ensures stop { IfErr result (TellsDeckFault (parts_fault rows.now parts.old
+        (part_pairs_of (shown card.now)))) }
+{
+    match take_part(rows, parts, &first_part(card)) {
+        Ok(()) => take_part(rows, parts, &second_pair(card)),
+        Err(stop) => Err(stop),
     }
 }
