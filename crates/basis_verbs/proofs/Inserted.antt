@@ -23,6 +23,7 @@ use Rattle.basis_values.specs.Calls.{HasRates, LieIn}
 use Rattle.bounded_primal.proofs.SameChoices.{listed_is}
 use Rattle.control_definitions.specs.Program.{Insert}
 use Rattle.control_definitions.specs.Cells.{Cells}
+use Rattle.selection_definitions.specs.Choice.{Choice}
 use Rattle.selection_definitions.specs.Selection.{matrix_of, selected}
 use Rattle.listing_definitions.specs.declared.Mark.{Mark}
 use Rattle.listing_definitions.specs.declared.VerbFault.TheVariants.{NoSetup, DeckNotFound}
@@ -221,13 +222,16 @@ module _ (card : ℕ) (cards : List (List ℕ)) (machine : Machine) where
                   (gives_dependency s (cards_between first last cards) (decks_of (drop last (numbered_cards cards))) t h.column d b.taken b.is_read h.full h.is_dependency);
             })
 
-        pub basis_found : (result : Result Found Halt) → IsInstalledFor card setup (choice_of machine.cells setup.options) lp t first last cards result → IsFound card cards machine result
-        basis_found (Ok (found.Inserted new deck basic next_card)) h = inserted new deck basic next_card h
-        basis_found (Ok (found.Singular name p d)) h = singular name p d h
-        basis_found (Ok (found.Ends end)) h = λ position executed state s.
+        found_by : (result : Result Found Halt) → IsInstalledFor card setup (choice_of machine.cells setup.options) lp t first last cards result → IsFound card cards machine result
+        found_by (Ok (found.Inserted new deck basic next_card)) h = inserted new deck basic next_card h
+        found_by (Ok (found.Singular name p d)) h = singular name p d h
+        found_by (Ok (found.Ends end)) h = λ position executed state s.
             subst (λ (e : endings.Ending). Gives linear_programming card (verb_move Insert card state) (stops e)) (sym h.is_end)
             (gives_overflow s (cards_between first last cards) (decks_of (drop last (numbered_cards cards))) t b.taken b.is_read h.evidence h.way h.is_refused)
-        basis_found (Err halted) h = h
+        found_by (Err halted) h = h
+
+        pub basis_found : (choice : Choice) → choice ≡ choice_of machine.cells setup.options → (result : Result Found Halt) → IsInstalledFor card setup choice lp t first last cards result → IsFound card cards machine result
+        basis_found choice same result h = found_by result (subst (λ (c : Choice). IsInstalledFor card setup c lp t first last cards result) same h)
 
 -- ---- what is found decides what the statement does
 

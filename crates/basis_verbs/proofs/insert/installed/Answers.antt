@@ -1,8 +1,9 @@
 -- What comes of the basis of a deck.
-use Rattle.std.proofs.Common.{List, refl, sym, ap, subst}
+use Rattle.std.proofs.Common.{List, refl, sym, ap, ap₂, subst}
 use Rattle.exact_values.specs.Rational.{ℚ}
 use Rattle.lp_definitions.specs.Waypoints.{waypoint}
 use Rattle.basis_deck.specs.Installing.{InstallStops}
+use Rattle.selection_definitions.specs.Choice.{Choice}
 use Rattle.run_setup.specs.Kept.{Setup}
 use Rattle.basis_verbs.specs.Inserting.{IsSingularFor}
 use Rattle.basis_verbs.proofs.Inserted.{ended_at}
@@ -12,7 +13,7 @@ pub returns-in-Ok : goal.returns-in-Ok
 returns-in-Ok g c = record {
   name = ap (λ (s : Setup). s.name) c.setup.view_is;
   options = ap (λ (s : Setup). s.options) c.setup.view_is;
-  is_chosen = ap (λ (s : Setup). record { objective = c.args.selection.choice.objective; rhs = c.args.selection.choice.rhs; options = s.options }) c.setup.view_is;
+  is_chosen = ap₂ (λ (chosen : Choice) (s : Setup). record { objective = chosen.objective; rhs = chosen.rhs; options = s.options }) c.choice.view_is c.setup.view_is;
   same_lp = refl;
   same_basis = refl;
   rates = c.in-Ok.ensures.rates;
