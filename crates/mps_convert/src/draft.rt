@@ -159,7 +159,7 @@ impl DeckDraft {
             (shown card.now))) }
     {
         match section {
-            Section::Rows => take_row_card(&mut self.rows, card),
+            Section::Rows => take_row_card(self.alloc, &mut self.rows, card),
             Section::Columns => take_column(
                 self.alloc,
                 &self.rows,
