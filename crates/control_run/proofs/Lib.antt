@@ -11,7 +11,8 @@ pub mod Present
 pub mod Solving_steps
 pub mod Solving_comes
 pub mod Keeping
-pub mod Showing
+pub mod Selected_again
+mod Showing
 pub mod Ranging
 pub mod Demanded
 pub mod Sweep_comes

@@ -38,7 +38,9 @@ use Rattle.run_machine.specs.declared.act.Halt.TheVariants as halt
 use Rattle.run_machine.specs.declared.end.Place.{Place as OwnPlace}
 use Rattle.run_machine.specs.declared.finding.Finding.{Finding}
 use Rattle.run_machine.specs.declared.finding.Finding.TheVariants.{Ended, Overflow}
-use Rattle.run_setup.specs.Kept.{Setup}
+use Rattle.basis_values.specs.Calls.{HasRates}
+use Rattle.run_setup.specs.Kept.{Engine, Setup}
+use Rattle.run_setup.specs.Standing.{IsReady, IsSolved}
 use Rattle.run_machine.specs.declared.selecting.Refusal.{Refusal}
 use Rattle.run_machine.specs.declared.selecting.Refusal.TheVariants.{Fault, NoMemory}
 use Rattle.run_machine.specs.declared.selecting.Refusal.TheVariants as refusals
@@ -49,7 +51,8 @@ use Rattle.control_run.specs.declared.solving.SolvingVerb.{SolvingVerb}
 use Rattle.control_run.specs.Found.{solver_of, limit_of, PathReaches, PathFinds, reached, wrong_prices, at_limit, overflows, Finds, unselected, too_large, solved}
 use Rattle.run_setup.proofs.Selected.{no_change}
 use Rattle.control_run.proofs.Telling.{tells_more, tells_quietly}
-use Rattle.run_setup.proofs.Present.{one_problem}
+use Rattle.run_setup.proofs.Present.{one_problem, now_selected}
+use Rattle.control_run.proofs.Selected_again.{name_kept, options_kept, basis_kept, engine_kept, now_is, rates_again}
 
 -- ---- the path
 
@@ -159,3 +162,40 @@ module _ {P : Type 0} (written stopped_at : P → Option (List ℕ)) (faults ref
       (tells_more written stopped_at faults refusals (PathFinds (solver_of verb) (record { problem = there; lp = lp }) setup.basis new.basis limit setup.engine.waypoints new.engine.waypoints) (Finds verb there cells setup new) print_old print_new
       (λ gain finding f. solved ok same_name same_options
       (subst (λ (n : Option ℕ). PathFinds (solver_of verb) (record { problem = there; lp = lp }) setup.basis new.basis n setup.engine.waypoints new.engine.waypoints gain finding) within f)) result t)
+
+-- The path of a setup of whose problem was selected again.
+module _ {P : Type 0} (written stopped_at : P → Option (List ℕ)) (faults refusals : P → ℕ) (verb : SolvingVerb) (cells : Cells) (file : Filed) (setup : Setup) {given mid : Setup} (seen : mid ≡ given)
+    (others : given ≡ record setup { objective = given.objective; rhs = given.rhs; lp = given.lp }) (problem : Problem ℕ) (on_file : filed_under setup.name file ≡ Some problem)
+    (ok : selected problem (choice_of cells setup.options) ≡ Ok given.lp) (new : Setup) (name : new.name ≡ mid.name) (options : new.options ≡ mid.options) (print_old print_new : P) (result : Result Finding Halt)
+    (t : TellsFinding (PathFinds (solver_of verb) (record { problem = problem; lp = mid.lp }) mid.basis new.basis (limit_of verb cells) mid.engine.waypoints new.engine.waypoints) written stopped_at faults refusals print_old print_new result) where
+  pub again_told : (filed : Problem ℕ) → filed_under setup.name file ≡ Some filed → TellsFinding (Finds verb filed cells setup new) written stopped_at faults refusals print_old print_new result
+  again_told =
+      path_told written stopped_at faults refusals verb cells file refl new problem on_file mid.lp (limit_of verb cells) print_old print_new result refl (now_is setup seen others file problem cells ok)
+      (name ∙ name_kept setup seen others) (options ∙ options_kept setup seen others)
+      (subst (λ (b : Basis). TellsFinding (PathFinds (solver_of verb) (record { problem = problem; lp = mid.lp }) b new.basis (limit_of verb cells) setup.engine.waypoints new.engine.waypoints) written stopped_at faults refusals print_old print_new result) (basis_kept setup seen others)
+      (subst (λ (e : Engine). TellsFinding (PathFinds (solver_of verb) (record { problem = problem; lp = mid.lp }) mid.basis new.basis (limit_of verb cells) e.waypoints new.engine.waypoints) written stopped_at faults refusals print_old print_new result) (engine_kept setup seen others) t))
+
+  -- with an optimal verdict the basis is optimal in what is selected
+  pub again_solved : IsReady file setup → new.lp ≡ mid.lp → IsLinearProgram mid.lp → HasRates new.engine.matrix new.engine.basics mid.lp new.basis →
+      IfOk result (λ finding. IfEnded finding (λ mark. IsSolved mark cells.xobj cells.xrhs file new))
+  again_solved ready same_lp lawful has = by result t
+    where
+      is_now : selected problem (choice_of cells setup.options) ≡ Ok mid.lp
+      is_now = now_is setup seen others file problem cells ok
+
+      from : HasRates mid.engine.matrix mid.engine.basics mid.lp mid.basis
+      from = rates_again setup seen others file problem cells ok ready on_file
+
+      solved_with : (mark : Mark) → (mark ≡ Optimal → IsOptimalBasis mid.lp new.basis) → IsSolved mark cells.xobj cells.xrhs file new
+      solved_with mark optimal = record {
+        is_selected = now_selected file setup ready problem on_file cells mid.lp is_now new (name ∙ name_kept setup seen others) (options ∙ options_kept setup seen others) same_lp;
+        optimal = subst (λ (p : LinearProgram). mark ≡ Optimal → IsOptimalBasis p new.basis) (sym same_lp) optimal;
+      }
+
+      by : (result : Result Finding Halt) → TellsFinding (PathFinds (solver_of verb) (record { problem = problem; lp = mid.lp }) mid.basis new.basis (limit_of verb cells) mid.engine.waypoints new.engine.waypoints) written stopped_at faults refusals print_old print_new result →
+          IfOk result (λ finding. IfEnded finding (λ mark. IsSolved mark cells.xobj cells.xrhs file new))
+      by (Ok finding) told =
+          solved_ends (solver_of verb) (record { problem = problem; lp = mid.lp }) mid.basis new.basis (limit_of verb cells) mid.engine.waypoints new.engine.waypoints told.gain finding lawful
+          (no_change problem (choice_of cells setup.options) mid.lp is_now) (record { is_basis = from.is_basis; nonsingular = from.nonsingular }) (record { is_basis = has.is_basis; nonsingular = has.nonsingular }) told.holds
+          (λ mark. IsSolved mark cells.xobj cells.xrhs file new) solved_with
+      by (Err halted) told = tt

@@ -44,7 +44,8 @@ use Rattle.run_machine.specs.declared.act.Halt.TheVariants as halt
 use Rattle.run_machine.specs.declared.end.Place.{Place as OwnPlace}
 use Rattle.run_machine.specs.declared.finding.Finding.{Finding}
 use Rattle.run_machine.specs.declared.finding.Finding.TheVariants.{Ended, Overflow, Swept}
-use Rattle.run_setup.specs.Kept.{Setup}
+use Rattle.run_setup.specs.Kept.{Engine, Setup}
+use Rattle.control_run.proofs.Selected_again.{name_kept, options_kept, basis_kept, engine_kept, now_is}
 use Rattle.run_machine.specs.declared.selecting.Refusal.{Refusal}
 use Rattle.run_machine.specs.declared.selecting.Refusal.TheVariants.{Fault, NoMemory}
 use Rattle.run_machine.specs.declared.selecting.Refusal.TheVariants as refusal
@@ -219,3 +220,16 @@ module _ {P : Type 0} (written stopped_at : P → Option (List ℕ)) (faults ref
         at_problem print_old print_new result
         (tells_more written stopped_at faults refusals (SweepFinds (record { problem = there; lp = lp }) setup.basis new.basis sweep setup.engine.waypoints new.engine.waypoints) (Sweeps there cells verb setup new) print_old print_new
         (λ gain finding f. swept ok a same_name same_options f) result t)
+
+-- The run of a setup of whose problem was selected again.
+module _ {P : Type 0} (written stopped_at : P → Option (List ℕ)) (faults refusals : P → ℕ) (verb : ParametricVerb) (cells : Cells) (file : Filed) (setup : Setup) {given mid : Setup} (seen : mid ≡ given)
+    (others : given ≡ record setup { objective = given.objective; rhs = given.rhs; lp = given.lp }) (problem : Problem ℕ) (on_file : filed_under setup.name file ≡ Some problem)
+    (ok : selected problem (choice_of cells setup.options) ≡ Ok given.lp) where
+  pub again_told : (new : Setup) → new.name ≡ mid.name → new.options ≡ mid.options → (sweep : Sweep) → IsAsked verb problem cells sweep → (print_old print_new : P) (result : Result Finding Halt) →
+      TellsFinding (SweepFinds (record { problem = problem; lp = mid.lp }) mid.basis new.basis sweep mid.engine.waypoints new.engine.waypoints) written stopped_at faults refusals print_old print_new result →
+      (filed : Problem ℕ) → filed_under setup.name file ≡ Some filed → TellsFinding (Sweeps filed cells verb setup new) written stopped_at faults refusals print_old print_new result
+  again_told new name options sweep asked print_old print_new result t =
+      run_told written stopped_at faults refusals verb cells file refl new problem on_file mid.lp (now_is setup seen others file problem cells ok) sweep asked print_old print_new result
+      (name ∙ name_kept setup seen others) (options ∙ options_kept setup seen others)
+      (subst (λ (b : Basis). TellsFinding (SweepFinds (record { problem = problem; lp = mid.lp }) b new.basis sweep setup.engine.waypoints new.engine.waypoints) written stopped_at faults refusals print_old print_new result) (basis_kept setup seen others)
+      (subst (λ (e : Engine). TellsFinding (SweepFinds (record { problem = problem; lp = mid.lp }) mid.basis new.basis sweep e.waypoints new.engine.waypoints) written stopped_at faults refusals print_old print_new result) (engine_kept setup seen others) t))

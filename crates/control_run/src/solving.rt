@@ -185,6 +185,8 @@ fn find<E: Engine, P: Sink>(
     if let Err(refusal) = select_again(alloc, problem, cells, setup) {
         return refused(refusal);
     }
+    // recalls that it is a linear program
+    let _size = setup.lp.number_of_variables();
     let sheet = Sheet {
         problem,
         lp: &setup.lp,
