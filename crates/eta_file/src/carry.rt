@@ -239,12 +239,14 @@ pub fn cross<L: Ledger>(
     Ok(())
 }
 
-/// Fills with 0.
+/// Fills with 0. Most places of a sparse program are 0 already, and what is 0 isn't written.
 pub fn clear(out: &mut [Frac])
     ensures { (k : ℕ) → slice_index_or out.new k zero_ℚ ≡ zero_ℚ }
 {
     for place in out.iter_mut() {
-        *place = Frac::whole(0);
+        if !place.is_zero() {
+            *place = Frac::whole(0);
+        }
     }
 }
 

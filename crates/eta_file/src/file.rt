@@ -65,8 +65,8 @@ fn row_marks(alloc: Global, lp: &Lp) -> Result<Vec<bool>, NoMemory>
 }
 
 /// Whether a variable has an entry: it is basic, and its rate is not 0.
-fn has_entry(mark: bool, rate: Frac) -> bool
-    ensures { result ≡ mark && not (eq_ℚ rate zero_ℚ) }
+fn has_entry(mark: bool, rate: &Frac) -> bool
+    ensures { result ≡ mark && not (eq_ℚ rate.now zero_ℚ) }
 {
     mark && !rate.is_zero()
 }
@@ -80,7 +80,7 @@ fn entries_at(alloc: Global, direction: &[Frac], marks: &[bool]) -> Result<Vec<E
 {
     let mut entries = Vec::new(alloc);
     for (k, rate) in direction.iter().enumerate() {
-        if has_entry(marks[k], *rate) {
+        if has_entry(marks[k], rate) {
             let i = k as u32 + 1;
             entries
                 .push(EtaEntry { i, rate: *rate })

@@ -22,8 +22,8 @@ impl Wanted {
     {
         match self {
             Wanted::Nothing => false,
-            Wanted::Below => turned(up, rate).is_less(Frac::whole(0)),
-            Wanted::Above => Frac::whole(0).is_less(turned(up, rate)),
+            Wanted::Below => turned(up, rate).sign() < 0,
+            Wanted::Above => is_above(turned(up, rate)),
             Wanted::Apart => is_apart(turned(up, rate)),
         }
     }
@@ -34,6 +34,14 @@ fn turned(up: bool, rate: Frac) -> Frac
     ensures { result ≡ turned up rate }
 {
     if up { rate } else { rate.neg() }
+}
+
+/// Whether the rate is above 0: its opposite is below.
+#[tactic(auto, using(crate::proofs::Opposites::opposite_below))]
+fn is_above(rate: Frac) -> bool
+    ensures { result ≡ is_wanted Wanted.Above rate }
+{
+    rate.neg().sign() < 0
 }
 
 /// Whether the rate is below or above 0.

@@ -113,7 +113,9 @@ fn begin(i: u32, out: &mut [Frac])
     ensures { IsUnit i out.new }
 {
     for place in out.iter_mut() {
-        *place = Frac::whole(0);
+        if !place.is_zero() {
+            *place = Frac::whole(0);
+        }
     }
     out[i as usize - 1] = Frac::whole(1);
 }
