@@ -30,7 +30,9 @@ use mps_convert::problem_name;
 use name_table::Name;
 use problem_file::{Problem, ProblemFile};
 use report_text::{Report, text_of};
-use run_machine::{Act, End, Halt, Machine, Refusal, SingularBasis, present_choice, select_present};
+use run_machine::{
+    Act, End, Halt, Machine, Refusal, SingularBasis, present_choice, select_present,
+};
 use run_setup::{Setup, place_at};
 use std::alloc::Global;
 use std::mem::replace;
