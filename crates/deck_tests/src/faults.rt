@@ -1,4 +1,5 @@
 // The first fault of a deck: its card and its kind.
+use crate::combinations::{COMBINATIONS, FREE_COMBINATIONS, FREE_ROWS, PARTS, THREE_ROWS};
 use crate::decks::fault_after;
 use crate::set_faults::{BOUNDS, FIRST_TESTS, SECOND_PAIRS, SETS};
 use deck_fields::NumberFault;
@@ -8,7 +9,7 @@ use std::test::Fail;
 // A deck, or what follows the cards before it, the card of its fault and the kind.
 pub type DeckOfFault = (&'static [u8], u32, DeckFaultKind);
 
-const SECTIONS: [DeckOfFault; 5] = [
+const SECTIONS: [DeckOfFault; 4] = [
     (b"ROWS\n", 1, DeckFaultKind::SectionOrder),
     (
         b"NAME          T\n N  COST\n",
@@ -24,11 +25,6 @@ const SECTIONS: [DeckOfFault; 5] = [
         b"NAME          T\nROWS\n N  COST\n Q  R1\nENDATA\n",
         4,
         DeckFaultKind::BadRowType,
-    ),
-    (
-        b"NAME          T\nROWS\n N  COST\n DN R1\nCOLUMNS\nENDATA\n",
-        4,
-        DeckFaultKind::CombinationRow,
     ),
 ];
 
@@ -122,7 +118,7 @@ const ENTRIES: [DeckOfFault; 6] = [
     ),
 ];
 
-const FREE_DECKS: [DeckOfFault; 7] = [
+const FREE_DECKS: [DeckOfFault; 6] = [
     (
         b"NAME          ONE       FREE\nROWS\n N COST\n G LOW\nCOLUMNS\n X COST\n",
         6,
@@ -149,11 +145,6 @@ const FREE_DECKS: [DeckOfFault; 7] = [
         DeckFaultKind::WordCount,
     ),
     (
-        b"NAME          ONE       FREE\nROWS\n DN\n",
-        3,
-        DeckFaultKind::CombinationRow,
-    ),
-    (
         b"NAME          ONE      FREE\nROWS\n N COST\n",
         3,
         DeckFaultKind::ExtraField,
@@ -172,7 +163,7 @@ struct Group {
 pub const A_COLUMN: &[u8] =
     b"NAME          T\nROWS\n N  COST\n L  LIM\nCOLUMNS\n    X         COST      1\n";
 
-const GROUPS: [Group; 9] = [
+const GROUPS: [Group; 12] = [
     Group {
         name: "sections",
         before: b"",
@@ -197,6 +188,21 @@ const GROUPS: [Group; 9] = [
         name: "free decks",
         before: b"",
         decks: &FREE_DECKS,
+    },
+    Group {
+        name: "combinations",
+        before: THREE_ROWS,
+        decks: &COMBINATIONS,
+    },
+    Group {
+        name: "parts",
+        before: THREE_ROWS,
+        decks: &PARTS,
+    },
+    Group {
+        name: "combinations in free decks",
+        before: FREE_ROWS,
+        decks: &FREE_COMBINATIONS,
     },
     Group {
         name: "sets",

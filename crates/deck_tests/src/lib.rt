@@ -6,6 +6,8 @@ mod basis_decks;
 #[cfg(test)]
 mod cards;
 #[cfg(test)]
+mod combinations;
+#[cfg(test)]
 mod decks;
 #[cfg(test)]
 mod faults;
