@@ -1,12 +1,13 @@
 #!/usr/bin/env bash
 # Times whole runs over decks of the greatest size, 1,000 rows, 5,000 columns and 50,000 entries, whose opening basis is optimal: one of plain
-# rows; one of which 500 rows are combinations of two parts each; and one with 500 combinations of 400 parts each, in nearly all of which each
-# column has a number. Of the last two it times the run by CONVERT alone, and then by SETUP too, so that the difference is what a selection
-# takes. Prints for each the last line of its listing, the least processor time of five runs, in seconds, and the peak memory. The program is
-# proved and built first, where it isn't fresh, unless PROGRAM is given.
+# rows; one of which 500 rows are combinations of two parts each; one with 500 combinations of 400 parts each, in nearly all of which each
+# column has a number; and one with 990 combinations, in all of which each column has one, which is the greatest linear program, of 5,000,000
+# entries. Of the last three it times the run by CONVERT alone, and then by SETUP too, so that the difference is what a selection takes. Prints
+# for each the last line of its listing, the least processor time of five runs, in seconds, and the peak memory. The program is proved and
+# built first, where it isn't fresh, unless PROGRAM is given.
 # usage: bench_converting.sh [PROGRAM]
 set -eu
-case ${1:-} in -h | --help) sed -n '2,8s/^# //p' "$0"; exit 0 ;; esac
+case ${1:-} in -h | --help) sed -n '2,9s/^# //p' "$0"; exit 0 ;; esac
 program=${1:-$("$(dirname "$0")/program.sh")}
 job=$(mktemp)
 trap 'rm -f "$job"' EXIT
@@ -28,7 +29,7 @@ run() {
         for (column = 1; column <= 5000; column++) {
             name = "X" column
             printf "    %-8s  %-8s  %-12s\n", name, "COST", column % 97
-            for (entry = 0; entry < 9; entry++) printf "    %-8s  %-8s  %-12s\n", name, "R" (1 + (column * 7 + entry * 111) % plain), "-3.25"
+            for (entry = 0; entry < 9; entry++) printf "    %-8s  %-8s  %-12s\n", name, "R" (1 + (column * 7 + entry * 110) % plain), "-3.25"
         }
         print "RHS"
         for (row = 1; row <= plain; row++) printf "    %-8s  %-8s  %-12s\n", "LIMIT", "R" row, row
@@ -40,8 +41,9 @@ run() {
 }
 
 run "plain rows" 0 0 "CONVERT SETUP PRIMAL SOLUTION"
-for parts in 2 400; do
+for sizes in "500 2" "500 400" "990 2"; do
+    read -r combinations parts <<<"$sizes"
     for verbs in "CONVERT" "CONVERT SETUP" "CONVERT SETUP PRIMAL SOLUTION"; do
-        run "500 combinations of $parts parts, $verbs" 500 "$parts" "$verbs"
+        run "$combinations combinations of $parts parts, $verbs" "$combinations" "$parts" "$verbs"
     done
 done

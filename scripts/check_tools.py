@@ -139,11 +139,12 @@ def try_expected(folder):
     check("expected_listing.py --make", made == b"CONVERT TRANSP   ROWS 5 COLUMNS 4 ENTRIES 12\nSETUP   TRANSP   MIN\n"
           b"PRIMAL OPTIMAL STEPS 4 OBJECTIVE 180 CHECKED\nEND 0\n")
     for words, count, told_of in ((("--itself", "40", "8"), 8, "optimal"), (("--itself", "--no-parametric", "--no-revise", "0", "12"), 12, "optimal"),
-                                  (("--itself", "--decks", "0", "60"), 60, "deck 25")):
+                                  (("--itself", "--decks", "0", "60"), 60, "deck 25"), (("--itself", "--sums", "0", "40"), 40, "f19"),
+                                  (("--itself", "--no-combinations", "--no-bases", "0", "4"), 4, "optimal")):
         told = call(SCRIPTS / "random_jobs.py", *words)
         said = told.stdout.decode()
         check(f"random_jobs.py {words}: {said}", told.returncode == 0 and said.startswith(f"{count} jobs, 0 differ") and told_of in said)
-    for words in (("x",), ("1", "2", "3"), ("--itself", "--unproved"), ("--revise",)):
+    for words in (("x",), ("1", "2", "3"), ("--itself", "--unproved"), ("--revise",), ("--decks", "--sums")):
         check(f"random_jobs.py: wrong use {words}", call(SCRIPTS / "random_jobs.py", *words).returncode == 64)
     check("random_jobs.py --help", call(SCRIPTS / "random_jobs.py", "--help").returncode == 0)
 

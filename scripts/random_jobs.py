@@ -7,14 +7,17 @@ which mostly makes a fault. Outside the gate: a run of 300 takes some minutes un
 usage: random_jobs.py [--unproved | --itself] [--no-parametric] [--no-revise] [--no-bases] [--no-free] [--no-faults] [--no-combinations]
                       [FIRST [COUNT]]
        random_jobs.py [--unproved | --itself] --decks [--no-free] [--no-combinations] [FIRST [COUNT]]
-       random_jobs.py [--unproved | --itself] --attest [--decks] [..] [FIRST [COUNT]]
+       random_jobs.py [--unproved | --itself] --sums [FIRST [COUNT]]
+       random_jobs.py [--unproved | --itself] --attest [--decks | --sums] [..] [FIRST [COUNT]]
        jobs FIRST, FIRST + 1, ..; 0 and 300 where nothing is said
 
 It prints how many differ, and the first of them whole; ends with 1 where one does, with 70 where there is no program. --unproved: the
 program as it stands, where no proved one is. --no-parametric: without PARAOBJ and PARARHS; --no-revise: without REVISE; --no-bases: without
 DUAL, PUNCH and INSERT; --no-free: fixed decks alone; --no-faults: no card is changed; --no-combinations: plain rows alone. --decks: a deck
-and its revision alone, both written out, and in each job a card of one of them is changed. --itself: no program runs; what expected_listing.py says is checked by the meaning of
-the words, where a job is small enough (scripts/every_basis.py). --attest: the checker of listings, mps360check, is compared with
+and its revision alone, both written out, and in each job a card of one of them is changed. --sums: CONVERT and SETUP alone, with numbers so
+large or so small that many a sum of a selection doesn't fit, and the run ends with 20; where several don't, the line may show any, and the
+program shows the first, as the script does. --itself: no program runs; what expected_listing.py says is checked by the meaning of the words,
+where a job is small enough (scripts/every_basis.py). --attest: the checker of listings, mps360check, is compared with
 scripts/expected_attesting.py on the listing of each job, from most of which what can't be attested is left out; none may be found wrong. With
 --itself no program runs. scripts/check_listings.py alters listings."""
 import collections, random, re, sys
@@ -349,6 +352,33 @@ def job_of_decks(seed, has_free, has_combinations):
     return "\n".join([*program, *decks[0], *decks[1]]) + "\n"
 
 
+def wide_number(chance):
+    "a number of few digits or many, large or small"
+    kind = chance.random()
+    if kind < 0.3:
+        return str(chance.randint(-9, 9))
+    if kind < 0.6:
+        return f"{chance.randint(-999999, 999999)}E{chance.randint(-18, 18)}"
+    return f".{chance.randint(1, 99999)}E{chance.choice((-18, -17, 18))}" if kind < 0.8 else f"{chance.randint(1, 999999999)}E18"
+
+
+def job_of_sums(seed):
+    "a job whose selection makes sums of combinations and of ranges"
+    chance = random.Random(f"sums {seed}")
+    rows = [("N", "COST"), ("L", "A"), ("G", "B"), ("E", "C")][:chance.randint(1, 4)]
+    cards = ["NAME          SUMS", "ROWS", *(f" {kind}  {row}" for kind, row in rows), "COLUMNS"]
+    columns = [ITEM(f"X{j}", row, wide_number(chance)) for j in range(chance.randint(1, 3)) for _, row in rows if chance.random() < 0.7]
+    for k in range(chance.randint(1, 4)):
+        earlier, kind = [row for _, row in rows], chance.choice("NLGE")
+        parts = [(row, wide_number(chance)) for row in chance.sample(earlier, min(len(earlier), chance.randint(0, 3)))]
+        cards[-1:-1] = combination_cards("D" + kind, f"S{k}", parts, chance.random() < 0.5)
+        rows.append((kind, f"S{k}"))
+    values = [ITEM("B", row, wide_number(chance)) for _, row in rows if chance.random() < 0.4]
+    ranges = [ITEM("R", row, wide_number(chance)) for kind, row in rows if kind != "N" and chance.random() < 0.2]
+    program = statements("PROGRAM", "CONVERT", "SETUP('RANGE','R')" if ranges else "SETUP", "EXIT", "PEND")
+    return "\n".join([*program, *cards, *columns, "RHS", *values, *(["RANGES", *ranges] if ranges else []), "ENDATA"]) + "\n"
+
+
 def kind_of(line):
     "what is counted of a listing: verdicts, RANGE, ends of parametric runs, faults"
     if line == "RANGE":
@@ -356,7 +386,7 @@ def kind_of(line):
     if line.startswith(("REVISE ", "INSERT ")):
         return {"R": "revised", "I": "inserted"}[line[0]]
     found = re.match("(?:PRIMAL|(DUAL)) (OPTIMAL|INFEASIBLE|UNBOUNDED) |(PARAOBJ|PARARHS) (ENDS|INFEASIBLE|UNBOUNDED) "
-                     "|STOP (?:10|12) (VERB|DECK) FAULT ([0-9]+)", line)
+                     "|STOP (?:10|12) (VERB|DECK) FAULT ([0-9]+)|STOP 20 OVERFLOW (F[0-9]+)", line)
     return found and " ".join(word for word in found.groups() if word).lower()
 
 
@@ -411,9 +441,9 @@ PARTS = ("--no-parametric", "--no-revise", "--no-bases", "--no-free", "--no-faul
 
 
 def main(words):
-    modes = {word for word in words if word in ("--unproved", "--itself", "--decks", "--attest", *PARTS)}
+    modes = {word for word in words if word in ("--unproved", "--itself", "--decks", "--sums", "--attest", *PARTS)}
     numbers = [word for word in words if word not in modes]
-    if any(not word.isdigit() for word in numbers) or len(numbers) > 2 or {"--unproved", "--itself"} <= modes:
+    if any(not word.isdigit() for word in numbers) or len(numbers) > 2 or {"--unproved", "--itself"} <= modes or {"--decks", "--sums"} <= modes:
         print(__doc__)
         return 0 if words in (["-h"], ["--help"]) else 64
     first, count = [int(word) for word in numbers] + [0, 300][len(numbers):]
@@ -422,6 +452,8 @@ def main(words):
     made = lambda seed: kind(seed, *parts)
     if "--decks" in modes:
         made = lambda seed: job_of_decks(seed, "--no-free" not in modes, "--no-combinations" not in modes)
+    elif "--sums" in modes:
+        made = job_of_sums
     jobs = {str(seed): made(seed) for seed in range(first, first + count)}
     if "--attest" in modes:
         return attest_all(jobs, modes)
