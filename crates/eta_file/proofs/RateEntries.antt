@@ -1,5 +1,5 @@
 -- The entries of a direction at a set of basics.
-use Rattle.std.proofs.Common.{◌≡◌, ◌≢◌, ℕ, zero, suc, ◌+◌, ◌-◌, ◌<◌, ◌≤◌, List, [], ◌∷◌, ◌++◌, length, take, get_or, map, filter, refl, sym, ◌∙◌, ap, ap₂, true, false, cond, arith, Bool}
+use Rattle.std.proofs.Common.{◌≡◌, ◌≢◌, ℕ, zero, suc, ◌+◌, ◌-◌, ◌<◌, ◌≤◌, List, [], ◌∷◌, ◌++◌, length, take, get_or, map, filter, refl, sym, ◌∙◌, ap, true, false, cond, arith, Bool}
 use Rattle.std.specs.Prelude.{nat_eq, not, ◌&&◌}
 use Rattle.std.proofs.lemmas.List.{map-append, append-nil}
 use Rattle.std.proofs.lemmas.List.Elements.{filter-append}
@@ -8,11 +8,10 @@ use Rattle.exact_values.specs.Rational.{ℚ, zero_ℚ, ◌+ℚ◌}
 use Rattle.exact_values.specs.Tests.{eq_ℚ}
 use Rattle.exact_values.proofs.Tests_laws.{same_from_test, test_from_same, eq_fails_from_apart}
 use Rattle.exact_values.proofs.Ring_laws.{add-zero, zero-add}
-use Rattle.lp_definitions.specs.LinearProgram.{Matrix, Vector, size, numbers_from, IsVariable, value_at}
+use Rattle.lp_definitions.specs.LinearProgram.{Matrix, Vector, size, numbers_from, IsVariable}
 use Rattle.lp_definitions.specs.Basis.{Basics, is_in}
 use Rattle.lp_laws.proofs.Values.{clash}
 use Rattle.lp_laws.proofs.Opening.{numbers_from-append}
-use Rattle.lp_laws.proofs.Places.{value_next}
 use Rattle.eta_file.specs.declared.eta.EtaEntry.{EtaEntry}
 use Rattle.eta_file.specs.Entries.{sum_rate, others, AreApart}
 use Rattle.eta_file.specs.Prefixes.{is_entry, entry_of, entries_to, rate_entries}
@@ -151,26 +150,22 @@ length_from w d first (suc n) = at (is_entry w d first) (length_from w d (suc fi
 pub length-rate_entries : (a : Matrix) (w : Basics) (d : Vector) → length (rate_entries a w d) ≤ size a
 length-rate_entries a w d = length_from w d 1 (size a)
 
-mark_next : (w : Basics) (n : ℕ) → get_or w n false ≡ is_in w (n + 1)
+pub mark_next : (w : Basics) (n : ℕ) → get_or w n false ≡ is_in w (n + 1)
 mark_next w n = let same : n + 1 - 1 ≡ n = omega arith in ap (λ k. get_or w k false) (sym same)
 
 -- what a loop over a direction makes of the next variable
-pub entry_more : (w : Basics) (xs : List ℚ) (n : ℕ) (mark keeps : Bool) (x : ℚ) (es : List EtaEntry) → n < length xs → x ≡ get_or xs n x → mark ≡ get_or w n false → keeps ≡ mark && not (eq_ℚ x zero_ℚ)
-    → es ≡ entries_to w (value_at xs) n → keeps ≡ true → es ++ (record { i = n + 1; rate = x } ∷ []) ≡ entries_to w (value_at xs) (n + 1)
-entry_more w xs n mark keeps x es within is_x is_mark tested so_far kept =
-    let at_x : x ≡ value_at xs (n + 1) = sym (value_next xs n x within is_x) in
-    let passes : is_entry w (value_at xs) (n + 1) ≡ true = ap₂ (λ m v. m && not (eq_ℚ v zero_ℚ)) (sym (is_mark ∙ mark_next w n)) (sym at_x) ∙ sym tested ∙ kept in
+pub entry_more : (w : Basics) (d : Vector) (n : ℕ) (keeps : Bool) (x : ℚ) (es : List EtaEntry) → x ≡ d (n + 1) → keeps ≡ is_entry w d (n + 1)
+    → es ≡ entries_to w d n → keeps ≡ true → es ++ (record { i = n + 1; rate = x } ∷ []) ≡ entries_to w d (n + 1)
+entry_more w d n keeps x es at_x tested so_far kept =
     let one : EtaEntry = record { i = n + 1; rate = x } in
     ap (λ ys. ys ++ (one ∷ [])) so_far
-    ∙ ap (λ v. entries_to w (value_at xs) n ++ (record { i = n + 1; rate = v } ∷ [])) at_x
-    ∙ sym (entries_to-more w (value_at xs) n ∙ ap (λ t. entries_to w (value_at xs) n ++ cond t (entry_of (value_at xs) (n + 1) ∷ []) []) passes)
+    ∙ ap (λ v. entries_to w d n ++ (record { i = n + 1; rate = v } ∷ [])) at_x
+    ∙ sym (entries_to-more w d n ∙ ap (λ t. entries_to w d n ++ cond t (entry_of d (n + 1) ∷ []) []) (sym tested ∙ kept))
 
-pub entry_none : (w : Basics) (xs : List ℚ) (n : ℕ) (mark keeps : Bool) (x : ℚ) (es : List EtaEntry) → n < length xs → x ≡ get_or xs n x → mark ≡ get_or w n false → keeps ≡ mark && not (eq_ℚ x zero_ℚ)
-    → es ≡ entries_to w (value_at xs) n → keeps ≡ false → es ≡ entries_to w (value_at xs) (n + 1)
-entry_none w xs n mark keeps x es within is_x is_mark tested so_far kept =
-    let at_x : x ≡ value_at xs (n + 1) = sym (value_next xs n x within is_x) in
-    let fails : is_entry w (value_at xs) (n + 1) ≡ false = ap₂ (λ m v. m && not (eq_ℚ v zero_ℚ)) (sym (is_mark ∙ mark_next w n)) (sym at_x) ∙ sym tested ∙ kept in
-    so_far ∙ sym (entries_to-more w (value_at xs) n ∙ ap (λ t. entries_to w (value_at xs) n ++ cond t (entry_of (value_at xs) (n + 1) ∷ []) []) fails ∙ append-nil (entries_to w (value_at xs) n))
+pub entry_none : (w : Basics) (d : Vector) (n : ℕ) (keeps : Bool) (es : List EtaEntry) → keeps ≡ is_entry w d (n + 1)
+    → es ≡ entries_to w d n → keeps ≡ false → es ≡ entries_to w d (n + 1)
+entry_none w d n keeps es tested so_far kept =
+    so_far ∙ sym (entries_to-more w d n ∙ ap (λ t. entries_to w d n ++ cond t (entry_of d (n + 1) ∷ []) []) (sym tested ∙ kept) ∙ append-nil (entries_to w d n))
 
 -- the test for 0
 pub zero_test : (b : Bool) (x : ℚ) → (b ≡ true → x ≡ zero_ℚ) → (x ≡ zero_ℚ → b ≡ true) → b ≡ eq_ℚ x zero_ℚ

@@ -9,7 +9,7 @@ ghost use Rattle.lp_definitions.specs.Waypoints.{waypoint};
 ghost use Rattle.lp_definitions.specs.RatesEvidence.{ExchangeRefused};
 ghost use Rattle.lp_model.specs.RatesCalls.{HasPivot, ColumnOverflow, ExchangeOverflow};
 ghost use Rattle.eta_file.specs.Crossings.{NoneLater, LeftAt};
-ghost use Rattle.eta_file.specs.Prefixes.{Passed, entries_to, IsLent, IsLentScaled, IsExchangeOf, basic_columns, after, entry_count};
+ghost use Rattle.eta_file.specs.Prefixes.{Passed, is_entry, entries_to, IsLent, IsLentScaled, IsExchangeOf, basic_columns, after, entry_count};
 ghost use Rattle.eta_file.specs.declared.eta.StoredEta.{StoredEta};
 ghost use Rattle.eta_file.specs.Inverse.{ways_of, IsAppended, IsDirectionAfter};
 ghost use Rattle.whole_vectors.specs.Quotients.{StandFor};
@@ -64,11 +64,14 @@ fn row_marks(alloc: Global, lp: &Lp) -> Result<Vec<bool>, NoMemory>
     Ok(marks)
 }
 
-/// Whether a variable has an entry: it is basic, and its rate is not 0.
-fn has_entry(mark: bool, rate: &Frac) -> bool
-    ensures { result ≡ mark && not (eq_ℚ rate.now zero_ℚ) }
+/// Whether the variable of a place has an entry: it is basic, and its rate is not 0. Most variables aren't basic, so the mark is looked
+/// at first.
+fn has_entry(marks: &[bool], direction: &[Frac], k: usize) -> bool
+    requires places { length direction.now ≡ length marks.now }
+    requires within { k < length marks.now }
+    ensures { result ≡ is_entry marks.now (value_at direction.now) (k + 1) }
 {
-    mark && !rate.is_zero()
+    marks[k] && !direction[k].is_zero()
 }
 
 /// The numbers of a direction at the marked variables, where they are not 0.
@@ -79,12 +82,10 @@ fn entries_at(alloc: Global, direction: &[Frac], marks: &[bool]) -> Result<Vec<E
         (length marks.now)) }
 {
     let mut entries = Vec::new(alloc);
-    for (k, rate) in direction.iter().enumerate() {
-        if has_entry(marks[k], rate) {
-            let i = k as u32 + 1;
-            entries
-                .push(EtaEntry { i, rate: *rate })
-                .map_err(|_| NoMemory)?;
+    for k in 0..marks.len() {
+        if has_entry(marks, direction, k) {
+            let (i, rate) = (k as u32 + 1, direction[k]);
+            entries.push(EtaEntry { i, rate }).map_err(|_| NoMemory)?;
         }
     }
     Ok(entries)
