@@ -10,8 +10,8 @@
 # PRIMAL and DUAL from the basis of that optimum, which INSERT takes.
 # Usage: scripts/bench_path.sh [--instructions] [PROGRAM [WHOLE]], a program that takes the words `path table` and `path product`, and
 # the one of whole jobs; with --instructions it counts the instructions of one run of each by valgrind, in place of time and memory; or
-# scripts/bench_path.sh --dense N or --queens N or --wide, which print a deck: the N-th of the fifty, that of N queens, and the one
-# of the parametric run.
+# scripts/bench_path.sh --dense N, --queens N, --transportation N or --wide, which print a deck: the N-th of the fifty, that of N queens,
+# that of N sources and N destinations, and the one of the parametric run.
 set -eu
 case ${1:-} in -h | --help) sed -n '2,16s/^# //p' "$0"; exit 0 ;; esac
 here=$(cd "$(dirname "$0")" && pwd)
@@ -164,6 +164,7 @@ replanned() {
 case ${1:-} in
 --dense) dense "$2"; exit 0 ;;
 --queens) queens "$2"; exit 0 ;;
+--transportation) transport "$2"; exit 0 ;;
 --wide) wide; exit 0 ;;
 --instructions) counting=yes; shift ;;
 *) counting= ;;
