@@ -5,16 +5,20 @@
 # entries. Of the last three it times the run by CONVERT alone, and then by SETUP too, so that the difference is what a selection takes. Prints
 # for each the last line of its listing, the least processor time of five runs, in seconds, and the peak memory. The program is proved and
 # built first, where it isn't fresh, unless PROGRAM is given.
-# usage: bench_converting.sh [PROGRAM]
+# The greatest one is selected by the checker of listings too, which makes no engine of it, where CHECKER is given.
+# usage: bench_converting.sh [PROGRAM [CHECKER]]
 set -eu
-case ${1:-} in -h | --help) sed -n '2,9s/^# //p' "$0"; exit 0 ;; esac
-program=${1:-$("$(dirname "$0")/program.sh")}
+case ${1:-} in -h | --help) sed -n '2,10s/^# //p' "$0"; exit 0 ;; esac
+program=$(realpath "${1:-$("$(dirname "$0")/program.sh")}")
+checker=${2:+$(realpath "$2")}
+here=$(cd "$(dirname "$0")" && pwd)
 job=$(mktemp)
-trap 'rm -f "$job"' EXIT
+folder=$(mktemp -d)
+trap 'rm -rf "$job" "$folder"' EXIT
 
-# run WHAT COMBINATIONS PARTS VERBS
-run() {
-    awk -v combinations="$2" -v parts="$3" -v verbs="$4" 'BEGIN {
+# make COMBINATIONS PARTS VERBS: the job
+make() {
+    awk -v combinations="$1" -v parts="$2" -v verbs="$3" 'BEGIN {
         for (k = split("PROGRAM " verbs " EXIT PEND", verb, " "); i++ < k;) printf "         %s\n", verb[i]
         plain = 999 - combinations
         print "NAME          GREATEST\nROWS\n N  COST"
@@ -36,8 +40,13 @@ run() {
         for (row = 1; row <= combinations; row++) printf "    %-8s  %-8s  %-12s\n", "LIMIT", "S" row, row
         print "ENDATA"
     }' >"$job"
-    printf '%-58s ' "$1"
-    python3 "$(dirname "$0")/timed.py" "$job" "$program"
+}
+
+# run WHAT COMBINATIONS PARTS VERBS
+run() {
+    make "$2" "$3" "$4"
+    printf '%-60s ' "$1"
+    python3 "$here/timed.py" "$job" "$program"
 }
 
 run "plain rows" 0 0 "CONVERT SETUP PRIMAL SOLUTION"
@@ -47,3 +56,10 @@ for sizes in "500 2" "500 400" "990 2"; do
         run "$combinations combinations of $parts parts, $verbs" "$combinations" "$parts" "$verbs"
     done
 done
+if [ -n "$checker" ]; then
+    make 990 2 "CONVERT SETUP"
+    cd "$folder"
+    "$program" <"$job" >LISTING
+    printf '%-60s ' "the listing of its CONVERT and SETUP, by the checker"
+    python3 "$here/timed.py" "$job" "$checker"
+fi
