@@ -18,3 +18,4 @@ pub mod Inside
 pub mod AtOnce
 pub mod Still
 pub mod FirstWanted
+mod Passed

@@ -1,10 +1,12 @@
 -- A step, variable by variable.
 --     step_formula f p q i         formula 8 or 9 of the variable i, where q moves until p stops it
+--     StandStill d n m             the variables after n up to m have the rate 0
+--     IsNextMoving d n from k      of n variables, that after k is the first after from whose rate isn't 0
 --     IsMoved t d z n w            the first n variables of w are those of z, each with t times its rate
 --     IsMovedAtLimits p t d z n w  the same of those that have a limit
 --     MovedRefused                 the product at i is refused, or the sum with it
 --     ReturnRefused                the distance of k to the limit of the status to is refused, or that over the rate of k
-use Rattle.std.specs.Prelude.{◌≡◌, ◌≢◌, ℕ, Bool, ◌≤◌, ◌||◌, Some, IsTrue}
+use Rattle.std.specs.Prelude.{◌≡◌, ◌≢◌, ℕ, Bool, ◌+◌, ◌<◌, ◌≤◌, ◌||◌, Some, IsTrue}
 use Rattle.exact_values.specs.Rational.{ℚ, zero_ℚ, one_ℚ, ◌+ℚ◌, ◌-ℚ◌, ◌*ℚ◌}
 use Rattle.frac128.specs.declared.Op.TheVariants.{Add, Sub, Mul, Div}
 use Rattle.lp_definitions.specs.LinearProgram.{LinearProgram, Vector, IsVariable}
@@ -19,6 +21,15 @@ use Rattle.bounded_primal.specs.declared.moves.Stopper.{Stopper}
 
 abbrev pub step_formula : ℕ → ℕ → ℕ → ℕ → Formula
 step_formula number p q i = record { number = number; p = p; q = q; i = i; j = 0; term = 0; theta = zero_ℚ }
+
+abbrev pub StandStill : Vector → ℕ → ℕ → Type 0
+StandStill d n m = (k : ℕ) → n < k → k ≤ m → d k ≡ zero_ℚ
+
+pub record IsNextMoving (d : Vector) (n from k : ℕ) : Type 0 where
+  pub after : from ≤ k
+  pub within : k < n
+  pub moves : d (k + 1) ≢ zero_ℚ
+  pub still : StandStill d from k
 
 abbrev pub IsMoved : ℚ → Vector → Vector → ℕ → Vector → Type 0
 IsMoved t d z n w = (k : ℕ) → 1 ≤ k → k ≤ n → w k ≡ z k +ℚ t *ℚ d k

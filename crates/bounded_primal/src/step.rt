@@ -1,6 +1,6 @@
 //! One step: a basis goes over to the next one, and its point with it.
 
-ghost use Rattle.std.specs.Prelude.{◌≡◌, ◌≢◌, ◌||◌, length, OnOk, OnErr, IfOk, IfErr, IfSome, IsSome, IsTrue};
+ghost use Rattle.std.specs.Prelude.{◌≡◌, ◌≢◌, ◌<◌, ◌^◌, ◌||◌, None, length, OnOk, OnErr, IfOk, IfErr, IfSome, IsSome, IsTrue};
 ghost use Rattle.exact_values.specs.Rational.{zero_ℚ, ◌+ℚ◌, ◌*ℚ◌};
 ghost use Rattle.lp_definitions.specs.LinearProgram.{size, value_at, IsVariable};
 ghost use Rattle.lp_definitions.specs.Basis.{basics_of, IsNonbasic, IsPointOf, IsDirectionOf};
@@ -11,7 +11,7 @@ ghost use Rattle.basis_values.specs.Calls.{HasRates};
 ghost use Rattle.lp_model.specs.RatesCalls.{IfOverflow};
 ghost use Rattle.bounded_primal.specs.KeptPoints.{all_kept, all_needed, has_limit as is_limited, AgreesWithPoint};
 ghost use Rattle.bounded_primal.specs.Moves.{IsStepBy, StepsFromPoint, move_by, return_by, StepRefused, StepOverflow};
-ghost use Rattle.bounded_primal.specs.Steps.{IsMoved, IsMovedAtLimits, MovedRefused, SomeMovedRefused, ReturnRefused, step_formula};
+ghost use Rattle.bounded_primal.specs.Steps.{StandStill, IsNextMoving, IsMoved, IsMovedAtLimits, MovedRefused, SomeMovedRefused, ReturnRefused, step_formula};
 
 use crate::kept::Kept;
 use crate::moves::Stopper;
@@ -104,6 +104,23 @@ fn moved_if_possible(
     }
 }
 
+/// The first place from `from` on where the direction isn't 0.
+pub fn next_moving(direction: &[Frac], from: u32) -> Option<u32>
+    requires { length direction.now < 2 ^ 32 }
+    ensures found { IfSome result (IsNextMoving (value_at direction.now) (length direction.now)
+        from) }
+    ensures none { result ≡ None → StandStill (value_at direction.now) from
+        (length direction.now) }
+{
+    let places = direction.len() as u32;
+    for k in from..places {
+        if !direction[k as usize].is_zero() {
+            return Some(k);
+        }
+    }
+    None
+}
+
 /// Moves the values of the point that are `kept` by the step, and answers which are still kept after it: where not all are
 /// needed, a refused one of a variable without limits stays as it was. Most rates of a sparse program are 0, and what has such a
 /// rate stays as it is.
@@ -126,12 +143,12 @@ fn move_point(
     ensures refused { IfErr result (SomeMovedRefused lp.now (all_needed kept) by.now
         (value_at direction.now) (value_at point.old) q) }
 {
+    let _size = lp.number_of_variables();
     let mut still = kept;
-    for k in 0..lp.number_of_variables() {
+    let mut from = 0;
+    'moving: while let Some(k) = next_moving(direction, from) {
+        from = k + 1;
         let rate = direction[k as usize];
-        if rate.is_zero() {
-            continue;
-        }
         let needed = is_needed(lp, kept, k + 1);
         if !needed && !still.has_all() {
             continue;

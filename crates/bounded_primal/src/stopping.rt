@@ -11,6 +11,7 @@ ghost use Rattle.bounded_primal.specs.Moves.{stopper_of, StopperRefused};
 ghost use Rattle.basis_values.specs.Reach.{length_of, IsFirst, IsNearest, Reaches, SomeRoomRefused};
 
 use crate::moves::Stopper;
+use crate::step::next_moving;
 use basis_values::reach::{Reach, length_to, nearer, yields};
 use basis_values::{counted, is_less};
 use frac128::Frac;
@@ -43,11 +44,11 @@ fn nearest_by_lengths(
     ensures refused { IfErr result (SomeRoomRefused lp.now (value_at point.now)
         (value_at direction.now) up q) }
 {
+    let _size = lp.number_of_variables();
     let mut nearest: Option<Reach> = None;
-    for k in 0..lp.number_of_variables() {
-        if direction[k as usize].is_zero() {
-            continue;
-        }
+    let mut from = 0;
+    'moving: while let Some(k) = next_moving(direction, from) {
+        from = k + 1;
         let length = length_to(lp, point, direction, up, q, k + 1)?;
         nearest = nearer(nearest, length, k + 1);
         if is_at_once(&nearest) {
