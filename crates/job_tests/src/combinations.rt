@@ -37,7 +37,7 @@ const PLANS: [Row; 10] = [
     },
     Row {
         name: "a combination as change row",
-        job: b"         PROGRAM\n         CONVERT\n         SETUP\n         MOVE(XCHROW,'CHG')\n         MOVE(XPARMAX,'2')\n         PARAOBJ\n         EXIT\n         PEND\nNAME          T\nROWS\n N  COST\n L  A\n DN CHG       COST      1              A         -1\nCOLUMNS\n    X         COST      -1             A         1\nRHS\n    B         A         3\nENDATA\n",
+        job: b"         PROGRAM\n         CONVERT\n         SETUP\n         MOVE(XCHROW,'CHG')\n         MOVE(XPARMAX,2)\n         PARAOBJ\n         EXIT\n         PEND\nNAME          T\nROWS\n N  COST\n L  A\n DN CHG       COST      1              A         -1\nCOLUMNS\n    X         COST      -1             A         1\nRHS\n    B         A         3\nENDATA\n",
         status: 0,
         listing: b"CONVERT T        ROWS 3 COLUMNS 1 ENTRIES 2\nSETUP   T        MIN\nPARAOBJ FROM 0 CHANGE CHG\nINTERVAL 1 FROM 0 TO 2\n    1 COST     BS -3 0 0 0\n    2 A        UL 3 0 -1 -2\n    3 CHG      BS -6 0 0 0\n    4 X        BS 3 0 0 0\nPARAOBJ ENDS AT 2\nEND 0\n",
     },

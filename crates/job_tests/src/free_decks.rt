@@ -428,7 +428,7 @@ const REVISION_FAULTS_1: [Faulty; 25] = [
     },
     Faulty {
         cards: "ROWS\n MODIFY\n LOW\n",
-        line: b"STOP 12 DECK FAULT 25 CARD 25\n",
+        line: b"STOP 12 DECK FAULT 3 CARD 25\n",
     },
     Faulty {
         cards: "ROWS\n DELETE\n NOROW\n",
