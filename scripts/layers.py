@@ -19,12 +19,12 @@ SELECTED = "that what is selected of a lawful problem is a lawful linear program
     "definitions alone, and could stand in `selection_definitions/proofs`"
 PREFIX = "`IsFront`, that a text is a prefix of another, stands in `job_devices/specs/Text`, and could stand in `card_definitions/specs/Words`"
 UPWARD = {
-    ("text_laws", "name_table"): "the text that stands in 8 places (`name_table/specs/Places`, `Places_laws`) is a matter of texts, and could "
+    ("listing_laws", "name_table"): "the text that stands in 8 places (`name_table/specs/Places`, `Places_laws`) is a matter of texts, and could "
         "stand in `card_definitions`, but for what it says of names, which could stand in `problem_definitions`",
     ("run_definitions", "job_devices"): PREFIX,
-    ("run_laws", "lp_setup"): SELECTED,
-    ("run_functions", "lp_setup"): SELECTED,
-    ("stop_laws", "job_devices"): PREFIX,
+    ("soundness_laws", "lp_setup"): SELECTED,
+    ("determinism_laws", "lp_setup"): SELECTED,
+    ("ending_laws", "job_devices"): PREFIX,
 }
 
 # The picture: sizes, what fills a box by its crate's kind, and the colours of lines by the layer in which they begin.

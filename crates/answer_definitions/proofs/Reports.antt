@@ -5,9 +5,9 @@ use Rattle.exact_values.specs.Rational.{ℚ, fraction, whole, ◌+ℚ◌, ◌*�
 use Rattle.exact_values.specs.Sums.{sum_to}
 use Rattle.lp_definitions.specs.declared.Sense.TheVariants.{Min}
 use Rattle.lp_definitions.specs.declared.Status.TheVariants.{Bs, Ll, Ul}
-use Rattle.method_definitions.proofs.Solve.{tableau_for, table_for}
-use Rattle.method_definitions.specs.Ranges.{Interval as Ends, RangeReport}
-use Rattle.method_definitions.specs.Chain.{Part, ChainEnd, AtMax, UnboundedPast as PastUnbounded, InfeasiblePast as PastInfeasible}
+use Rattle.simplex_definitions.proofs.Solve.{tableau_for, table_for}
+use Rattle.simplex_definitions.specs.Ranges.{Interval as Ends, RangeReport}
+use Rattle.simplex_definitions.specs.Chain.{Part, ChainEnd, AtMax, UnboundedPast as PastUnbounded, InfeasiblePast as PastInfeasible}
 use Rattle.card_definitions.specs.Cards.{cards_of}
 use Rattle.card_definitions.specs.Fields.{reading_of}
 use Rattle.card_definitions.specs.Numbers.{number_of, number_fault, value_of}

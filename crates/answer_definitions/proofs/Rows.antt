@@ -9,8 +9,8 @@ use Rattle.frac128.specs.Operations.{refuses, shared_factor, raised_numerator, r
 use Rattle.lp_definitions.specs.declared.Sense.TheVariants.{Min, Max}
 use Rattle.lp_definitions.specs.Basis.{opening_statuses}
 use Rattle.check_definitions.specs.declared.Verdict.{Verdict as CheckVerdict}
-use Rattle.method_definitions.specs.Path.{PathEnding, EndsOptimal, EndsCrossed, EndsInfeasible, EndsUnbounded, turn}
-use Rattle.method_definitions.proofs.Solve.{solved, tableau_for, table_for}
+use Rattle.simplex_definitions.specs.Path.{PathEnding, EndsOptimal, EndsCrossed, EndsInfeasible, EndsUnbounded, turn}
+use Rattle.simplex_definitions.proofs.Solve.{solved, tableau_for, table_for}
 use Rattle.card_definitions.specs.Cards.{cards_of, numbered_cards}
 use Rattle.card_definitions.specs.Fields.{reading_of}
 use Rattle.card_definitions.specs.Numbers.{number_of, number_fault, value_of}

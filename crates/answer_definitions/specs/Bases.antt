@@ -4,7 +4,7 @@
 use Rattle.std.specs.Prelude.{◌≡◌, ℕ, List}
 use Rattle.lp_definitions.specs.LinearProgram.{Vector}
 use Rattle.lp_definitions.specs.Basis.{basics_of, IsNonsingular}
-use Rattle.method_definitions.specs.Path.{listed}
+use Rattle.simplex_definitions.specs.Path.{listed}
 use Rattle.question_definitions.specs.Answers.{Basis, Sheet, InstallEnd, Installed, DependsBy}
 use Rattle.basis_deck_definitions.specs.Writing.{basis_deck}
 use Rattle.basis_deck_definitions.specs.Dependencies.{IsDependency}

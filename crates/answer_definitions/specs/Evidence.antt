@@ -5,11 +5,11 @@ use Rattle.std.specs.Prelude.{◌≡◌, ℕ, ◌+◌, Bool, List, [], ◌∷◌
 use Rattle.exact_values.specs.Rational.{ℚ}
 use Rattle.lp_definitions.specs.Basis.{basics_of}
 use Rattle.lp_definitions.specs.declared.Evidence.{Evidence}
-use Rattle.method_definitions.specs.Path.{Rule, turn, RulePath, last_of}
-use Rattle.method_definitions.specs.DualPath.{dual_turn}
-use Rattle.method_definitions.specs.Chain.{RunPlace, break_of, Reaches}
-use Rattle.method_definitions.specs.Statements.{SolvingStatement, Primal, Dual, Solution, Range, Paraobj, Pararhs}
-use Rattle.method_definitions.specs.Evidence.{EvidenceHolds, ShiftHolds}
+use Rattle.simplex_definitions.specs.Path.{Rule, turn, RulePath, last_of}
+use Rattle.simplex_definitions.specs.DualPath.{dual_turn}
+use Rattle.simplex_definitions.specs.Chain.{RunPlace, break_of, Reaches}
+use Rattle.simplex_definitions.specs.Statements.{SolvingStatement, Primal, Dual, Solution, Range, Paraobj, Pararhs}
+use Rattle.simplex_definitions.specs.Evidence.{EvidenceHolds, ShiftHolds}
 use Rattle.basis_deck_definitions.specs.Dependencies.{InstallRefused}
 use Rattle.listing_definitions.specs.declared.Solver.{Solver}
 use Rattle.listing_definitions.specs.declared.Solver.TheVariants.{Primal as ByPrimal, Dual as ByDual, Paraobj as ByParaobj, Pararhs as ByPararhs}

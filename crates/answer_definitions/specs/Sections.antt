@@ -5,7 +5,7 @@ use Rattle.std.specs.Prelude.{◌≡◌, ℕ, ◌-◌, not, ◌&&◌, List, [], 
 use Rattle.exact_values.specs.Rational.{◌-ℚ◌}
 use Rattle.lp_definitions.specs.LinearProgram.{LinearProgram, value_at, cost, lower_of, upper_of}
 use Rattle.lp_definitions.specs.Basis.{is_basic, status_of, basics_of, Tableau, IsTableau, price_at}
-use Rattle.method_definitions.specs.Ranges.{Interval, RangeReport, IsRangeReport}
+use Rattle.simplex_definitions.specs.Ranges.{Interval, RangeReport, IsRangeReport}
 use Rattle.listing_definitions.specs.Report.{Value, Code, Number, Dash, limit_value, SolutionLines, RangeLines}
 use Rattle.question_definitions.specs.Answers.{Basis, Sheet}
 use Rattle.answer_definitions.specs.Lines.{row_numbers, column_numbers, at_of, lines_of}

@@ -6,10 +6,10 @@ use Rattle.std.specs.List.{enumerate_from}
 use Rattle.exact_values.specs.Rational.{ℚ, zero_ℚ}
 use Rattle.lp_definitions.specs.declared.Status.{Status}
 use Rattle.lp_definitions.specs.LinearProgram.{LinearProgram, value_at, variables}
-use Rattle.method_definitions.specs.Path.{PathEnding}
-use Rattle.method_definitions.specs.Chain.{Part, ChainEnd as PastBreak, AtMax, UnboundedPast as PastUnbounded, InfeasiblePast as PastInfeasible, FaceTurn, IsRun, IsFailedOpening, RunGoesOnFor}
-use Rattle.method_definitions.specs.ObjectiveRun.{objective_family, IsObjectiveFace}
-use Rattle.method_definitions.specs.RhsRun.{rhs_family, IsRhsFace}
+use Rattle.simplex_definitions.specs.Path.{PathEnding}
+use Rattle.simplex_definitions.specs.Chain.{Part, ChainEnd as PastBreak, AtMax, UnboundedPast as PastUnbounded, InfeasiblePast as PastInfeasible, FaceTurn, IsRun, IsFailedOpening, RunGoesOnFor}
+use Rattle.simplex_definitions.specs.ObjectiveRun.{objective_family, IsObjectiveFace}
+use Rattle.simplex_definitions.specs.RhsRun.{rhs_family, IsRhsFace}
 use Rattle.problem_definitions.specs.Names.{Name, number_in}
 use Rattle.problem_definitions.specs.Problem.{Problem, row_names}
 use Rattle.problem_definitions.specs.Groups.{items_of}

@@ -9,8 +9,8 @@ use Rattle.lp_definitions.specs.declared.Change.{Change}
 use Rattle.lp_definitions.specs.declared.Evidence.{Evidence}
 use Rattle.lp_definitions.specs.declared.Status.{Status}
 use Rattle.lp_laws.proofs.WaypointLaws.{Covers, covered, kept_within, within_itself}
-use Rattle.method_definitions.specs.Statements.{SolvingStatement, program_at}
-use Rattle.method_definitions.specs.Evidence.{ShowsRefusal}
+use Rattle.simplex_definitions.specs.Statements.{SolvingStatement, program_at}
+use Rattle.simplex_definitions.specs.Evidence.{ShowsRefusal}
 use Rattle.basis_values.specs.Calls.{StopsAt, job_of, PointRefused}
 
 -- a change of the objective leaves the matrix

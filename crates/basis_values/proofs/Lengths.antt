@@ -8,7 +8,7 @@ use Rattle.exact_values.proofs.Order.{lt_irrefl}
 use Rattle.exact_values.proofs.Ring.{by_ring1, by_ring2, number, ◌⊗◌, ◌≐◌, opposite}
 use Rattle.exact_values.proofs.Tests_laws.{lt_from_test}
 use Rattle.lp_definitions.specs.LinearProgram.{LinearProgram, Vector, lower_of, upper_of}
-use Rattle.method_definitions.specs.Moves.{limit_ahead, room, signed}
+use Rattle.simplex_definitions.specs.Moves.{limit_ahead, room, signed}
 use Rattle.basis_values.specs.Motions.{motion}
 use Rattle.frac128.specs.declared.Op.TheVariants.{Sub, Div}
 use Rattle.lp_definitions.specs.declared.Evidence.{Evidence}

@@ -7,8 +7,8 @@ use Rattle.exact_values.specs.Tests.{le_ℚ}
 use Rattle.exact_values.proofs.Order.{le_refl, le_of_lt, lt_of_lt_of_le}
 use Rattle.exact_values.proofs.Tests_laws.{le_fails_from_lt, lt_from_le_fails, le_from_test, test_from_le}
 use Rattle.lp_definitions.specs.LinearProgram.{LinearProgram, Vector, size}
-use Rattle.method_definitions.specs.Moves.{is_no_later, room, stopper}
-use Rattle.path_laws.proofs.Searches.{stopper_is, stopper_nothing}
+use Rattle.simplex_definitions.specs.Moves.{is_no_later, room, stopper}
+use Rattle.simplex_laws.proofs.Searches.{stopper_is, stopper_nothing}
 use Rattle.basis_values.specs.Reach.{reach_of, sooner, IsFirst, IsNearest}
 use Rattle.basis_values.specs.declared.reach.Reach.{Reach}
 

@@ -10,7 +10,7 @@ use Rattle.exact_values.proofs.Ring_laws.{mul_comm}
 use Rattle.exact_values.proofs.Tests_laws.{le_fails_from_lt, lt_from_test, le_from_lt_fails, test_from_le}
 use Rattle.exact_values.proofs.Signs.{neg_above}
 use Rattle.lp_definitions.specs.LinearProgram.{LinearProgram, Vector}
-use Rattle.method_definitions.specs.Moves.{room, signed, is_no_later}
+use Rattle.simplex_definitions.specs.Moves.{room, signed, is_no_later}
 use Rattle.basis_values.specs.Motions.{motion}
 use Rattle.basis_values.specs.Reach.{IsAhead, IsFirst, Reaches, Yields, reach_of, sooner}
 use Rattle.basis_values.specs.declared.reach.Ahead.{Ahead}

@@ -18,7 +18,7 @@ use Rattle.lp_laws.proofs.Equations.{KeepsEquations-same}
 use Rattle.lp_laws.proofs.Points.{IsPointOf-combination}
 use Rattle.lp_laws.proofs.Statuses.{basic_from}
 use Rattle.lp_laws.proofs.Uniqueness.{is_in-basics_of, one_direction}
-use Rattle.method_definitions.specs.Formulas.{nonbasics, PointFormula, f10_product, f10_sum}
+use Rattle.simplex_definitions.specs.Formulas.{nonbasics, PointFormula, f10_product, f10_sum}
 use Rattle.basis_values.specs.Calls.{PointRefused}
 use Rattle.basis_values.specs.Points.{nonbasics_to, with_term, sum_at, IsSoFar, AreAdded, TermRefused, of_product, of_sum, ColumnTermRefused}
 use Rattle.basis_values.proofs.Existence.{rates_exist}

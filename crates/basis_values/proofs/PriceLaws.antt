@@ -13,9 +13,9 @@ use Rattle.lp_model.specs.RatesCalls.{IsRowOf}
 use Rattle.lp_laws.proofs.Values.{clash}
 use Rattle.lp_laws.proofs.WaypointLaws.{within_itself}
 use Rattle.lp_laws.proofs.Uniqueness.{is_in-basics_of, one_table}
-use Rattle.method_definitions.specs.Formulas.{ObjectiveFormula, f17_product, f17_sum}
-use Rattle.method_definitions.specs.Statements.{thetas_of}
-use Rattle.method_definitions.specs.Evidence.{ShowsRefusal, by_objective, names_waypoint}
+use Rattle.simplex_definitions.specs.Formulas.{ObjectiveFormula, f17_product, f17_sum}
+use Rattle.simplex_definitions.specs.Statements.{thetas_of}
+use Rattle.simplex_definitions.specs.Evidence.{ShowsRefusal, by_objective, names_waypoint}
 use Rattle.basis_values.specs.Calls.{job_of, is_of_point, PointRefused}
 use Rattle.basis_values.specs.Prices.{AreChanged, ChangedRefused, of_product, of_sum, SomeChangedRefused}
 use Rattle.basis_values.proofs.Refusals.{IsTableau-changed}

@@ -14,8 +14,8 @@ use Rattle.lp_laws.specs.Points.{standing}
 use Rattle.lp_laws.proofs.Points.{IsPointOf-combination}
 use Rattle.lp_laws.proofs.Values.{clash}
 use Rattle.lp_laws.proofs.WaypointLaws.{within_itself, Covers, kept_within}
-use Rattle.method_definitions.specs.Statements.{is_between}
-use Rattle.method_definitions.specs.Evidence.{ShowsRefusal, by_exchange, by_entry, by_carried, names_waypoint}
+use Rattle.simplex_definitions.specs.Statements.{is_between}
+use Rattle.simplex_definitions.specs.Evidence.{ShowsRefusal, by_exchange, by_entry, by_carried, names_waypoint}
 use Rattle.lp_model.specs.RatesCalls.{IfOverflow}
 use Rattle.lp_model.specs.declared.Stop.{Stop}
 use Rattle.lp_model.proofs.Stops.{IfOverflow-map}

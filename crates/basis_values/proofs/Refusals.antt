@@ -10,9 +10,9 @@ use Rattle.lp_definitions.specs.declared.Evidence.{Evidence}
 use Rattle.lp_definitions.specs.declared.Status.{Status}
 use Rattle.lp_laws.proofs.Values.{clash}
 use Rattle.lp_laws.proofs.WaypointLaws.{within_itself}
-use Rattle.method_definitions.specs.Formulas.{PointFormula, f6, f7, f10_product, f10_sum}
-use Rattle.method_definitions.specs.Statements.{thetas_of}
-use Rattle.method_definitions.specs.Evidence.{ShowsRefusal, by_point, names_waypoint}
+use Rattle.simplex_definitions.specs.Formulas.{PointFormula, f6, f7, f10_product, f10_sum}
+use Rattle.simplex_definitions.specs.Statements.{thetas_of}
+use Rattle.simplex_definitions.specs.Evidence.{ShowsRefusal, by_point, names_waypoint}
 use Rattle.basis_values.specs.Calls.{StopsAt, job_of}
 
 -- the formulas of a point name no waypoint

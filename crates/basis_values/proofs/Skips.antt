@@ -8,8 +8,8 @@ use Rattle.exact_values.proofs.Ring_laws.{add-zero, mul-zero}
 use Rattle.lp_laws.proofs.Places.{value_next}
 use Rattle.lp_definitions.specs.LinearProgram.{LinearProgram, size, value_at}
 use Rattle.lp_definitions.specs.declared.Status.{Status}
-use Rattle.method_definitions.specs.Moves.{least, lowers, signed}
-use Rattle.path_laws.proofs.Searches.{least_is, least_none}
+use Rattle.simplex_definitions.specs.Moves.{least, lowers, signed}
+use Rattle.simplex_laws.proofs.Searches.{least_is, least_none}
 use Rattle.basis_values.specs.Motions.{motion}
 
 -- a value that is had at all

@@ -13,9 +13,9 @@ use Rattle.lp_laws.proofs.Statuses.{changed_other}
 use Rattle.lp_model.specs.Wanted.{is_wanted, turned, wanted_at, meets, IsLeastWanted}
 use Rattle.lp_model.specs.declared.wanted.Wanted.{Wanted}
 use Rattle.lp_model.specs.declared.wanted.Wanted.TheVariants.{Nothing}
-use Rattle.method_definitions.specs.Moves.{is_fixed, rises_from, falls_from, lowers, entering}
-use Rattle.method_definitions.specs.Path.{Move, after}
-use Rattle.path_laws.proofs.Searches.{least_is, least_none}
+use Rattle.simplex_definitions.specs.Moves.{is_fixed, rises_from, falls_from, lowers, entering}
+use Rattle.simplex_definitions.specs.Path.{Move, after}
+use Rattle.simplex_laws.proofs.Searches.{least_is, least_none}
 use Rattle.basis_values.specs.Motions.{motion}
 use Rattle.basis_values.specs.Wants.{want_from, want_of, AreWants, AreWantsBut}
 

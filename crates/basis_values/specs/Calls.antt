@@ -12,8 +12,8 @@ use Rattle.lp_definitions.specs.Waypoints.{IsWithinOne, KeepsWaypoints, waypoint
 use Rattle.lp_definitions.specs.declared.Evidence.{Evidence}
 use Rattle.lp_definitions.specs.declared.Status.{Status}
 use Rattle.lp_definitions.specs.declared.Change.{Change}
-use Rattle.method_definitions.specs.Statements.{SolvingStatement, Primal, Paraobj, Range, belongs, is_between, thetas_of}
-use Rattle.method_definitions.specs.Evidence.{ShowsRefusal}
+use Rattle.simplex_definitions.specs.Statements.{SolvingStatement, Primal, Paraobj, Range, belongs, is_between, thetas_of}
+use Rattle.simplex_definitions.specs.Evidence.{ShowsRefusal}
 
 -- a basis of the program, whose basics are nonsingular and are those of the rates
 pub record HasRates (a : Matrix) (b : Basics) (p : LinearProgram) (s : List Status) : Type 0 where

@@ -4,7 +4,7 @@
 use Rattle.std.specs.Prelude.{ℕ, Bool, List, if◌then◌else◌}
 use Rattle.lp_definitions.specs.LinearProgram.{LinearProgram, Vector}
 use Rattle.lp_definitions.specs.declared.Status.{Status}
-use Rattle.method_definitions.specs.Moves.{may_rise, may_fall, signed}
+use Rattle.simplex_definitions.specs.Moves.{may_rise, may_fall, signed}
 
 abbrev pub may_move : LinearProgram → List Status → Bool → ℕ → Bool
 may_move p s up q = if up then may_rise p s q else may_fall p s q

@@ -9,8 +9,8 @@ use Rattle.exact_values.specs.Rational.{ℚ, zero_ℚ, one_ℚ, ◌-ℚ◌}
 use Rattle.frac128.specs.declared.Op.TheVariants.{Sub, Div}
 use Rattle.lp_definitions.specs.LinearProgram.{LinearProgram, Vector, IsVariable}
 use Rattle.lp_definitions.specs.declared.Evidence.{Evidence}
-use Rattle.method_definitions.specs.Moves.{limit_ahead, is_no_later}
-use Rattle.method_definitions.specs.Formulas.{limit_numbered}
+use Rattle.simplex_definitions.specs.Moves.{limit_ahead, is_no_later}
+use Rattle.simplex_definitions.specs.Formulas.{limit_numbered}
 use Rattle.basis_values.specs.Formulas.{IsRefusal}
 use Rattle.basis_values.specs.Motions.{motion}
 use Rattle.basis_values.specs.declared.formula.Formula.{Formula}

@@ -10,7 +10,7 @@ use Rattle.lp_definitions.specs.declared.Status.TheVariants.{Bs, Ll, Ul, Fr}
 use Rattle.lp_model.specs.Wanted.{wanted_at}
 use Rattle.lp_model.specs.declared.wanted.Wanted.{Wanted}
 use Rattle.lp_model.specs.declared.wanted.Wanted.TheVariants.{Nothing, Below, Above, Apart}
-use Rattle.method_definitions.specs.Moves.{is_fixed}
+use Rattle.simplex_definitions.specs.Moves.{is_fixed}
 
 -- a variable may rise from its lower limit, fall from its upper one, and do either where it is free
 abbrev pub want_from : Status → Wanted

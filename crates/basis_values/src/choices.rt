@@ -5,7 +5,7 @@ ghost use Rattle.exact_values.specs.Rational.{ℚ};
 ghost use Rattle.exact_values.specs.Tests.{lt_ℚ};
 ghost use Rattle.lp_definitions.specs.LinearProgram.{size, value_at, for_min, IsVariable};
 ghost use Rattle.lp_definitions.specs.Basis.{basics_of, is_in};
-ghost use Rattle.method_definitions.specs.Moves.{least, is_crossed, is_fixed, is_below, is_above, is_outside, lowers, entering, signed};
+ghost use Rattle.simplex_definitions.specs.Moves.{least, is_crossed, is_fixed, is_below, is_above, is_outside, lowers, entering, signed};
 ghost use Rattle.basis_values.specs.Motions.{motion};
 ghost use Rattle.basis_values.specs.Prices.{worth_by};
 

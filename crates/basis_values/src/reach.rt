@@ -2,7 +2,7 @@
 
 ghost use Rattle.std.specs.Prelude.{◌≡◌, length, IfOk, IfErr, IsTrue};
 ghost use Rattle.lp_definitions.specs.LinearProgram.{size, value_at, IsVariable};
-ghost use Rattle.method_definitions.specs.Moves.{room};
+ghost use Rattle.simplex_definitions.specs.Moves.{room};
 ghost use Rattle.basis_values.specs.Motions.{motion};
 ghost use Rattle.basis_values.specs.Reach.{RoomRefused, IsAhead, Yields, sooner, reach_formula};
 

@@ -14,7 +14,7 @@ use Rattle.lp_definitions.specs.LinearProgram.{Matrix, LinearProgram, size, valu
 use Rattle.lp_definitions.specs.Basis.{Basics, basics_of, IsNonsingular}
 use Rattle.lp_definitions.specs.Waypoints.{HasColumnsWithin, waypoint}
 use Rattle.lp_definitions.specs.declared.Evidence.{Evidence}
-use Rattle.method_definitions.specs.Path.{last_of, listed}
+use Rattle.simplex_definitions.specs.Path.{last_of, listed}
 use Rattle.basis_deck_definitions.specs.Placings.{HasNames}
 use Rattle.basis_deck_definitions.specs.Dependencies.{IsDependency, InstallRefused}
 use Rattle.basis_deck_definitions.specs.Reading.{basis_reading}

@@ -6,11 +6,11 @@ use Rattle.lp_definitions.specs.LinearProgram.{Matrix, LinearProgram, IsLinearPr
 use Rattle.lp_definitions.specs.Basis.{Basics}
 use Rattle.lp_definitions.specs.declared.Status.{Status}
 use Rattle.lp_model.specs.declared.reports.Outcome.{Outcome}
-use Rattle.method_definitions.specs.Counts.{counted_steps}
-use Rattle.method_definitions.specs.DualPath.{dual_turn, HasRightPrices, DualEndsAt}
-use Rattle.method_definitions.specs.Path.{PathEnding, EndsOptimal, EndsCrossed, EndsInfeasible, EndsUnbounded, last_of}
-use Rattle.method_definitions.specs.Statements.{Dual}
-use Rattle.path_laws.specs.Laws.{IsNonsingularBasis}
+use Rattle.simplex_definitions.specs.Counts.{counted_steps}
+use Rattle.simplex_definitions.specs.DualPath.{dual_turn, HasRightPrices, DualEndsAt}
+use Rattle.simplex_definitions.specs.Path.{PathEnding, EndsOptimal, EndsCrossed, EndsInfeasible, EndsUnbounded, last_of}
+use Rattle.simplex_definitions.specs.Statements.{Dual}
+use Rattle.simplex_laws.specs.Laws.{IsNonsingularBasis}
 use Rattle.basis_values.specs.Calls.{HasRates}
 use Rattle.bounded_primal.specs.Calls.{RuleCallEnds, outcome_of}
 use Rattle.bounded_primal.specs.Complete.{RuleEndsUnhindered, IsEndOr}

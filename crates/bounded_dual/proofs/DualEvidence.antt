@@ -9,7 +9,7 @@ use Rattle.lp_definitions.specs.declared.Status.{Status}
 use Rattle.lp_model.specs.RatesCalls.{IfOverflow}
 use Rattle.lp_model.specs.declared.Stop.{Stop}
 use Rattle.lp_model.specs.declared.Stop.TheVariants as stop
-use Rattle.method_definitions.specs.Statements.{Dual}
+use Rattle.simplex_definitions.specs.Statements.{Dual}
 use Rattle.basis_values.specs.Calls.{PointRefused}
 use Rattle.basis_values.proofs.Covered.{point_refused_later}
 use Rattle.bounded_primal.specs.Calls.{EvidenceHere}

@@ -8,10 +8,10 @@ use Rattle.lp_definitions.specs.Waypoints.{KeepsWaypoints}
 use Rattle.lp_definitions.specs.declared.Status.{Status}
 use Rattle.lp_model.specs.declared.reports.Outcome.{Outcome}
 use Rattle.lp_model.specs.declared.reports.Outcome.TheVariants.{Optimal, Crossed}
-use Rattle.method_definitions.specs.DualPath.{dual_for, dual_turn, HasRightPrices, IsWrongAt}
-use Rattle.method_definitions.specs.Moves.{least, is_crossed, entering}
-use Rattle.method_definitions.specs.Path.{EndsOptimal, EndsCrossed, listed, crossed, outside, mover, worth_rate}
-use Rattle.path_laws.specs.Laws.{IsNonsingularBasis}
+use Rattle.simplex_definitions.specs.DualPath.{dual_for, dual_turn, HasRightPrices, IsWrongAt}
+use Rattle.simplex_definitions.specs.Moves.{least, is_crossed, entering}
+use Rattle.simplex_definitions.specs.Path.{EndsOptimal, EndsCrossed, listed, crossed, outside, mover, worth_rate}
+use Rattle.simplex_laws.specs.Laws.{IsNonsingularBasis}
 use Rattle.basis_values.specs.Prices.{worth_by}
 use Rattle.basis_values.proofs.RatesStops.{tableau_of, IsTableau-of}
 use Rattle.bounded_primal.specs.Calls.{RuleCallEnds}

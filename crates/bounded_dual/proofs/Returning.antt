@@ -14,14 +14,14 @@ use Rattle.lp_model.specs.RatesCalls.{IsRowOf, IfOverflow}
 use Rattle.lp_model.specs.declared.Stop.{Stop}
 use Rattle.lp_model.specs.declared.Stop.TheVariants as stop
 use Rattle.lp_model.specs.declared.reports.Outcome.TheVariants.{Infeasible}
-use Rattle.method_definitions.specs.DualPath.{dual_for, dual_turn}
-use Rattle.method_definitions.specs.DualRatio.{brings_back, cheapest}
-use Rattle.method_definitions.specs.Formulas.{limit_numbered, number_of_limit}
-use Rattle.method_definitions.specs.Moves.{is_below, signed}
-use Rattle.method_definitions.specs.Path.{Moves, EndsInfeasible, listed, ray_of, crossed, outside, bring_back, after}
-use Rattle.method_definitions.specs.Statements.{Dual, RuleMoves, BringsAt}
-use Rattle.path_laws.specs.Laws.{IsNonsingularBasis}
-use Rattle.path_laws.proofs.Searches.{found_passes}
+use Rattle.simplex_definitions.specs.DualPath.{dual_for, dual_turn}
+use Rattle.simplex_definitions.specs.DualRatio.{brings_back, cheapest}
+use Rattle.simplex_definitions.specs.Formulas.{limit_numbered, number_of_limit}
+use Rattle.simplex_definitions.specs.Moves.{is_below, signed}
+use Rattle.simplex_definitions.specs.Path.{Moves, EndsInfeasible, listed, ray_of, crossed, outside, bring_back, after}
+use Rattle.simplex_definitions.specs.Statements.{Dual, RuleMoves, BringsAt}
+use Rattle.simplex_laws.specs.Laws.{IsNonsingularBasis}
+use Rattle.simplex_laws.proofs.Searches.{found_passes}
 use Rattle.basis_values.specs.Calls.{HasRates}
 use Rattle.basis_values.proofs.Covered.{point_refused_later}
 use Rattle.bounded_primal.specs.Calls.{EvidenceHere}

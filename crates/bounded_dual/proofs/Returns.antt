@@ -4,8 +4,8 @@ use Rattle.std.specs.Prelude.{Result, None, IfErr, IsErrOf}
 use Rattle.lp_definitions.specs.LinearProgram.{Matrix, LinearProgram, IsLinearProgram}
 use Rattle.lp_definitions.specs.Basis.{Basics}
 use Rattle.lp_definitions.specs.declared.Status.{Status}
-use Rattle.method_definitions.specs.DualPath.{dual_turn, HasRightPrices}
-use Rattle.path_laws.specs.Laws.{IsNonsingularBasis}
+use Rattle.simplex_definitions.specs.DualPath.{dual_turn, HasRightPrices}
+use Rattle.simplex_laws.specs.Laws.{IsNonsingularBasis}
 use Rattle.basis_values.specs.Calls.{HasRates}
 use Rattle.bounded_primal.specs.Calls.{RuleNeverReturned, RuleWaypointsFollow}
 use Rattle.termination_laws.specs.Laws.{lists_of}

@@ -9,9 +9,9 @@ use Rattle.lp_model.specs.RatesCalls.{IfOverflow}
 use Rattle.lp_model.specs.declared.Stop.{Stop}
 use Rattle.lp_model.specs.declared.Stop.TheVariants as stop
 use Rattle.lp_laws.proofs.WaypointLaws.{keeps_then}
-use Rattle.method_definitions.specs.DualPath.{dual_turn, HasRightPrices}
-use Rattle.method_definitions.specs.Path.{after}
-use Rattle.method_definitions.specs.Statements.{Dual}
+use Rattle.simplex_definitions.specs.DualPath.{dual_turn, HasRightPrices}
+use Rattle.simplex_definitions.specs.Path.{after}
+use Rattle.simplex_definitions.specs.Statements.{Dual}
 use Rattle.basis_values.specs.Calls.{HasRates, LieIn, PointRefused}
 use Rattle.lp_model.specs.declared.reports.Outcome.{Outcome}
 use Rattle.bounded_primal.specs.Calls.{RuleWaypointsFollow}

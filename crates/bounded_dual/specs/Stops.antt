@@ -11,9 +11,9 @@ use Rattle.lp_model.specs.declared.Stop.{Stop}
 use Rattle.lp_model.specs.declared.Stop.TheVariants as stop
 use Rattle.lp_model.specs.declared.reports.Outcome.{Outcome}
 use Rattle.lp_model.specs.declared.reports.Outcome.TheVariants.{Optimal, Crossed, Infeasible, Unbounded}
-use Rattle.method_definitions.specs.Path.{last_of}
-use Rattle.method_definitions.specs.DualPath.{dual_turn, HasRightPrices, IsWrongAt, IsDualPath}
-use Rattle.method_definitions.specs.Statements.{Dual}
+use Rattle.simplex_definitions.specs.Path.{last_of}
+use Rattle.simplex_definitions.specs.DualPath.{dual_turn, HasRightPrices, IsWrongAt, IsDualPath}
+use Rattle.simplex_definitions.specs.Statements.{Dual}
 use Rattle.bounded_primal.specs.Calls.{RuleCallEnds, RuleCallGoesOn, RuleStopsOnPath}
 use Rattle.bounded_dual.specs.declared.moves.DualStop.{DualStop}
 use Rattle.bounded_dual.specs.declared.moves.DualStop.TheVariants.{NotDualFeasible, Limit, Overflow, NoMemory}

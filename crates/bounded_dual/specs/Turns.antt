@@ -9,8 +9,8 @@ use Rattle.lp_definitions.specs.Basis.{Basics, basics_of, IsBasic, IsNonbasic, I
 use Rattle.lp_definitions.specs.declared.Status.{Status}
 use Rattle.lp_definitions.specs.declared.Status.TheVariants.{Bs}
 use Rattle.lp_model.specs.RatesCalls.{IsRowOf}
-use Rattle.method_definitions.specs.DualPath.{dual_turn, IsDualStep}
-use Rattle.method_definitions.specs.Statements.{Dual, RuleMoves}
+use Rattle.simplex_definitions.specs.DualPath.{dual_turn, IsDualStep}
+use Rattle.simplex_definitions.specs.Statements.{Dual, RuleMoves}
 use Rattle.bounded_primal.specs.Calls.{EvidenceHere}
 use Rattle.bounded_primal.specs.Moves.{StepsFromPoint, move_by}
 use Rattle.bounded_primal.specs.Turns.{RuleEndsHere}

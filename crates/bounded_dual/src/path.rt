@@ -4,9 +4,9 @@ ghost use Rattle.std.specs.Prelude.{◌≡◌, ◌<◌, None, List, length, OnOk
 ghost use Rattle.lp_definitions.specs.LinearProgram.{size, value_at, IsLinearProgram};
 ghost use Rattle.lp_definitions.specs.Basis.{ArePricesOf};
 ghost use Rattle.lp_definitions.specs.declared.Status.{Status};
-ghost use Rattle.method_definitions.specs.Path.{PathEnding};
-ghost use Rattle.method_definitions.specs.DualPath.{dual_turn, HasRightPrices};
-ghost use Rattle.method_definitions.specs.Statements.{Dual};
+ghost use Rattle.simplex_definitions.specs.Path.{PathEnding};
+ghost use Rattle.simplex_definitions.specs.DualPath.{dual_turn, HasRightPrices};
+ghost use Rattle.simplex_definitions.specs.Statements.{Dual};
 ghost use Rattle.basis_values.specs.Calls.{HasRates, KeepsRates};
 ghost use Rattle.basis_values.specs.Stops.{PointOverflow};
 ghost use Rattle.bounded_primal.specs.Calls.{RuleCallEnds, RuleNeverReturned, RuleWaypointsFollow};

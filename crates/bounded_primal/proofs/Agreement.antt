@@ -12,10 +12,10 @@ use Rattle.lp_definitions.specs.declared.Status.{Status}
 use Rattle.lp_laws.specs.Vectors.{along}
 use Rattle.lp_laws.proofs.Uniqueness.{one_point}
 use Rattle.frac128.specs.declared.Op.TheVariants.{Sub, Div}
-use Rattle.method_definitions.specs.Moves.{on_limit, is_below, is_above, is_outside, limit_ahead, room, stopper, is_no_later, reaches_first, signed, reached}
-use Rattle.path_laws.proofs.Numbered.{find_same, list_all_same}
-use Rattle.path_laws.proofs.Stoppers.{stopper_some}
-use Rattle.method_definitions.specs.Formulas.{limit_numbered, number_of_limit}
+use Rattle.simplex_definitions.specs.Moves.{on_limit, is_below, is_above, is_outside, limit_ahead, room, stopper, is_no_later, reaches_first, signed, reached}
+use Rattle.simplex_laws.proofs.Numbered.{find_same, list_all_same}
+use Rattle.simplex_laws.proofs.Stoppers.{stopper_some}
+use Rattle.simplex_definitions.specs.Formulas.{limit_numbered, number_of_limit}
 use Rattle.basis_values.specs.Formulas.{IsRefusal}
 use Rattle.basis_values.specs.Motions.{motion}
 use Rattle.basis_values.specs.Reach.{reach_formula, RoomRefused, SomeRoomRefused}

@@ -10,10 +10,10 @@ use Rattle.exact_values.proofs.Tests_laws.{lt_from_test, test_from_le}
 use Rattle.exact_values.proofs.Signs.{neg_above}
 use Rattle.lp_definitions.specs.LinearProgram.{LinearProgram, Vector, size, lower_of, upper_of}
 use Rattle.lp_definitions.specs.Solutions.{IsWithinLimits}
-use Rattle.method_definitions.specs.Moves.{is_no_later, room}
+use Rattle.simplex_definitions.specs.Moves.{is_no_later, room}
 use Rattle.basis_values.specs.Reach.{length_of, IsNearest}
 use Rattle.basis_values.specs.declared.reach.Reach.{Reach}
-use Rattle.path_laws.proofs.Motions.{difference_above}
+use Rattle.simplex_laws.proofs.Motions.{difference_above}
 
 some_value : {a b : ℚ} → Some a ≡ Some b → a ≡ b
 some_value e = cc

@@ -7,10 +7,10 @@ use Rattle.lp_definitions.specs.declared.Status.{Status}
 use Rattle.lp_model.specs.declared.Stop.{Stop}
 use Rattle.lp_model.specs.declared.Stop.TheVariants as stop
 use Rattle.lp_model.specs.declared.reports.Outcome.{Outcome}
-use Rattle.method_definitions.specs.Path.{PathEnding, Rule, turn, RulePathEnds, last_of}
-use Rattle.method_definitions.specs.Counts.{counted_steps}
-use Rattle.path_laws.specs.Laws.{IsNonsingularBasis, SameEnds}
-use Rattle.path_laws.proofs.OnePath.{one_path, not_both}
+use Rattle.simplex_definitions.specs.Path.{PathEnding, Rule, turn, RulePathEnds, last_of}
+use Rattle.simplex_definitions.specs.Counts.{counted_steps}
+use Rattle.simplex_laws.specs.Laws.{IsNonsingularBasis, SameEnds}
+use Rattle.simplex_laws.proofs.OnePath.{one_path, not_both}
 use Rattle.termination_laws.specs.Laws.{lists_of}
 use Rattle.basis_values.specs.Calls.{HasRates}
 use Rattle.bounded_primal.specs.Calls.{CallEnds, RuleCallEnds, outcome_of}

@@ -7,8 +7,8 @@ use Rattle.lp_definitions.specs.Basis.{basics_of, IsBasis, ArePricesOf}
 use Rattle.lp_definitions.specs.declared.Status.{Status}
 use Rattle.lp_model.specs.Wanted.{IsFirstWanted, IsUpTo}
 use Rattle.lp_model.specs.declared.wanted.Wanted.{Wanted}
-use Rattle.method_definitions.specs.Moves.{signed, entering}
-use Rattle.method_definitions.specs.Path.{after}
+use Rattle.simplex_definitions.specs.Moves.{signed, entering}
+use Rattle.simplex_definitions.specs.Path.{after}
 use Rattle.basis_values.specs.Motions.{motion}
 use Rattle.basis_values.specs.Prices.{worth_by}
 use Rattle.basis_values.specs.Wants.{AreWants, AreWantsBut}

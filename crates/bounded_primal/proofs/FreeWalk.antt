@@ -6,21 +6,21 @@ use Rattle.lp_definitions.specs.Basis.{Basics}
 use Rattle.lp_definitions.specs.declared.Status.{Status}
 use Rattle.lp_model.specs.declared.Stop.{Stop}
 use Rattle.lp_model.specs.declared.Stop.TheVariants as stop
-use Rattle.path_laws.specs.Laws.{IsNonsingularBasis}
+use Rattle.simplex_laws.specs.Laws.{IsNonsingularBasis}
 use Rattle.termination_laws.specs.Laws.{lists_of}
 use Rattle.termination_laws.proofs.Ending.{apart, short, limited}
 use Rattle.lp_definitions.specs.declared.Evidence.{Evidence}
 use Rattle.lp_model.specs.declared.reports.Outcome.{Outcome}
-use Rattle.method_definitions.specs.Counts.{counted_steps}
-use Rattle.method_definitions.specs.Statements.{SolvingStatement}
-use Rattle.method_definitions.specs.Evidence.{IsAhead}
+use Rattle.simplex_definitions.specs.Counts.{counted_steps}
+use Rattle.simplex_definitions.specs.Statements.{SolvingStatement}
+use Rattle.simplex_definitions.specs.Evidence.{IsAhead}
 use Rattle.basis_values.specs.Calls.{HasRates, job_of}
 use Rattle.bounded_primal.specs.Calls.{CallEnds, NeverReturned, WaypointsFollow}
 use Rattle.bounded_primal.specs.Stops.{primal_stop_of, PrimalStops, FreeStops}
 use Rattle.bounded_primal.specs.Turns.{EndsHere, EvidenceAt, TurnStops}
 use Rattle.bounded_primal.specs.declared.moves.PrimalStop.{PrimalStop}
 use Rattle.bounded_primal.specs.declared.moves.PrimalStop.TheVariants.{Limit, Overflow, NoMemory}
-use Rattle.method_definitions.specs.Path.{turn}
+use Rattle.simplex_definitions.specs.Path.{turn}
 use Rattle.bounded_primal.proofs.PathWalk.{HasReached, ends_there, stops_there}
 
 module _ (p : LinearProgram) (lawful : IsLinearProgram p) (a : Matrix) (b : Basics) (s : List Status) (has : HasRates a b p s) where

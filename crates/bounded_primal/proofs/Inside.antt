@@ -8,14 +8,14 @@ use Rattle.lp_definitions.specs.LinearProgram.{LinearProgram, Matrix, Vector, Is
 use Rattle.lp_definitions.specs.Basis.{Basics, basics_of, is_in, IsPointOf, Tableau, IsTableau}
 use Rattle.lp_definitions.specs.Solutions.{IsFeasible}
 use Rattle.lp_definitions.specs.declared.Status.{Status}
-use Rattle.method_definitions.specs.Moves.{on_limit, is_outside, is_below, is_above}
-use Rattle.method_definitions.specs.Path.{IsStep, after}
-use Rattle.path_laws.specs.Laws.{IsNonsingularBasis}
-use Rattle.path_laws.proofs.Ends.{feasible}
-use Rattle.path_laws.proofs.Turns.{IsSecondPhase}
-use Rattle.path_laws.proofs.Second.{feasible_step}
-use Rattle.path_laws.proofs.Searches.{least_none}
-use Rattle.path_laws.proofs.Steps.{step_leads}
+use Rattle.simplex_definitions.specs.Moves.{on_limit, is_outside, is_below, is_above}
+use Rattle.simplex_definitions.specs.Path.{IsStep, after}
+use Rattle.simplex_laws.specs.Laws.{IsNonsingularBasis}
+use Rattle.simplex_laws.proofs.Ends.{feasible}
+use Rattle.simplex_laws.proofs.Turns.{IsSecondPhase}
+use Rattle.simplex_laws.proofs.Second.{feasible_step}
+use Rattle.simplex_laws.proofs.Searches.{least_none}
+use Rattle.simplex_laws.proofs.Steps.{step_leads}
 use Rattle.basis_values.proofs.Existence.{rates_exist}
 use Rattle.basis_values.specs.Calls.{HasRates}
 use Rattle.bounded_primal.specs.KeptPoints.{AgreesWithPoint}

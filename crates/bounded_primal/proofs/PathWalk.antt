@@ -10,10 +10,10 @@ use Rattle.lp_definitions.specs.declared.Evidence.{Evidence}
 use Rattle.lp_definitions.specs.declared.Status.{Status}
 use Rattle.lp_model.specs.declared.reports.Outcome.{Outcome}
 use Rattle.lp_laws.proofs.WaypointLaws.{within_itself, within_by}
-use Rattle.method_definitions.specs.Path.{Rule, turn, RuleStep, RuleEnd, RulePath, last_of}
-use Rattle.method_definitions.specs.Counts.{counted_steps}
-use Rattle.method_definitions.specs.Statements.{SolvingStatement}
-use Rattle.method_definitions.specs.Evidence.{EvidenceHolds}
+use Rattle.simplex_definitions.specs.Path.{Rule, turn, RuleStep, RuleEnd, RulePath, last_of}
+use Rattle.simplex_definitions.specs.Counts.{counted_steps}
+use Rattle.simplex_definitions.specs.Statements.{SolvingStatement}
+use Rattle.simplex_definitions.specs.Evidence.{EvidenceHolds}
 use Rattle.basis_values.specs.Calls.{LieIn, job_of}
 use Rattle.bounded_primal.specs.Calls.{RuleCallEnds, RuleCallGoesOn, RuleWaypointsFollow, RuleStopsOnPath, outcome_of}
 use Rattle.bounded_primal.specs.Stops.{PrimalStops}

@@ -8,11 +8,11 @@ use Rattle.lp_definitions.specs.Basis.{is_in, basics_of, status_of, is_basic, Is
 use Rattle.lp_definitions.specs.declared.Status.{Status}
 use Rattle.lp_laws.proofs.Uniqueness.{is_in-basics_of}
 use Rattle.lp_model.specs.RatesCalls.{IsRowOf}
-use Rattle.method_definitions.specs.Moves.{signed, is_fixed, rises_from, falls_from, lowers, entering, room, is_no_later, reaches_first, stopper}
-use Rattle.method_definitions.specs.Path.{listed, ray_of}
-use Rattle.path_laws.proofs.Numbered.{find_same, list_all_same, get_or-listed}
-use Rattle.path_laws.proofs.OneTurn.{idle_basic}
-use Rattle.path_laws.proofs.Steps.{signed_zero}
+use Rattle.simplex_definitions.specs.Moves.{signed, is_fixed, rises_from, falls_from, lowers, entering, room, is_no_later, reaches_first, stopper}
+use Rattle.simplex_definitions.specs.Path.{listed, ray_of}
+use Rattle.simplex_laws.proofs.Numbered.{find_same, list_all_same, get_or-listed}
+use Rattle.simplex_laws.proofs.OneTurn.{idle_basic}
+use Rattle.simplex_laws.proofs.Steps.{signed_zero}
 use Rattle.bounded_primal.specs.Turns.{ray_from}
 use Rattle.std.proofs.lemmas.List.{ext_get_or}
 

@@ -12,10 +12,10 @@ use Rattle.lp_definitions.specs.declared.Evidence.{Evidence}
 use Rattle.lp_definitions.specs.declared.Status.{Status}
 use Rattle.lp_laws.proofs.Values.{clash}
 use Rattle.lp_laws.proofs.WaypointLaws.{Covers, Covers-all, covered, within_itself}
-use Rattle.method_definitions.specs.Path.{Move, after}
-use Rattle.method_definitions.specs.Formulas.{PointFormula, f6, f7, f10_product, f10_sum, SlackFormula, f6_slack, MoveFormula, f8, f9, IsStepTo, RatioFormula, f14, RangeFormula, f15_limit, f15_nonbasic, f15_basic, ObjectiveFormula, f16, f17_product, f17_sum, SlopeFormula, f18_product, f18_sum, f18_difference, f18_quotient}
-use Rattle.method_definitions.specs.Statements.{SolvingStatement, Primal, is_between, belongs, program_at, change_row, shift_at, thetas_of, MovesAt}
-use Rattle.method_definitions.specs.Evidence.{Formula, by_exchange, by_entry, by_carried, by_point, by_slack, by_move, by_ratio, by_range, by_objective, by_slope, ShowsRefusal, GoesTo, IsOfMove}
+use Rattle.simplex_definitions.specs.Path.{Move, after}
+use Rattle.simplex_definitions.specs.Formulas.{PointFormula, f6, f7, f10_product, f10_sum, SlackFormula, f6_slack, MoveFormula, f8, f9, IsStepTo, RatioFormula, f14, RangeFormula, f15_limit, f15_nonbasic, f15_basic, ObjectiveFormula, f16, f17_product, f17_sum, SlopeFormula, f18_product, f18_sum, f18_difference, f18_quotient}
+use Rattle.simplex_definitions.specs.Statements.{SolvingStatement, Primal, is_between, belongs, program_at, change_row, shift_at, thetas_of, MovesAt}
+use Rattle.simplex_definitions.specs.Evidence.{Formula, by_exchange, by_entry, by_carried, by_point, by_slack, by_move, by_ratio, by_range, by_objective, by_slope, ShowsRefusal, GoesTo, IsOfMove}
 use Rattle.basis_values.specs.Calls.{StopsAt, job_of}
 use Rattle.bounded_primal.specs.Calls.{EvidenceHere}
 

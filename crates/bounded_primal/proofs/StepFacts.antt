@@ -18,10 +18,10 @@ use Rattle.lp_laws.proofs.Exchange.{IsNonsingular-exchanged}
 use Rattle.lp_laws.proofs.Statuses.{basics_of-replaced, basics_of-flipped, status_of_basic, status_of_nonbasic, IsBasis-replaced, IsBasis-flipped}
 use Rattle.lp_laws.proofs.Uniqueness.{one_point}
 use Rattle.lp_laws.proofs.Points.{IsPointOf-replaced, IsPointOf-flipped}
-use Rattle.method_definitions.specs.Moves.{signed, limit_ahead, room, stopper}
-use Rattle.path_laws.proofs.Stoppers.{stopper_some, reaches_limit}
-use Rattle.path_laws.proofs.Steps.{ahead_some}
-use Rattle.method_definitions.specs.Formulas.{limit_numbered, number_of_limit}
+use Rattle.simplex_definitions.specs.Moves.{signed, limit_ahead, room, stopper}
+use Rattle.simplex_laws.proofs.Stoppers.{stopper_some, reaches_limit}
+use Rattle.simplex_laws.proofs.Steps.{ahead_some}
+use Rattle.simplex_definitions.specs.Formulas.{limit_numbered, number_of_limit}
 use Rattle.basis_values.specs.Calls.{HasRates}
 use Rattle.basis_values.specs.Motions.{motion}
 use Rattle.bounded_primal.specs.KeptPoints.{AgreesWithPoint}

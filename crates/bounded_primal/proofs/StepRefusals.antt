@@ -16,9 +16,9 @@ use Rattle.lp_model.proofs.Stops.{IfOverflow-map}
 use Rattle.lp_laws.proofs.Values.{clash}
 use Rattle.lp_laws.proofs.WaypointLaws.{Covers-insert, kept_within, within_itself}
 use Rattle.lp_laws.proofs.Uniqueness.{one_direction}
-use Rattle.method_definitions.specs.Formulas.{MoveFormula, f8, f9, IsStepTo}
-use Rattle.method_definitions.specs.Statements.{Primal, belongs, is_between}
-use Rattle.method_definitions.specs.Evidence.{ShowsRefusal, by_move, names_waypoint}
+use Rattle.simplex_definitions.specs.Formulas.{MoveFormula, f8, f9, IsStepTo}
+use Rattle.simplex_definitions.specs.Statements.{Primal, belongs, is_between}
+use Rattle.simplex_definitions.specs.Evidence.{ShowsRefusal, by_move, names_waypoint}
 use Rattle.basis_values.specs.Calls.{HasRates, StopsAt, job_of}
 use Rattle.bounded_primal.specs.KeptPoints.{has_limit}
 use Rattle.bounded_primal.specs.Moves.{IsStepBy, StepRefused}

@@ -3,8 +3,8 @@ use Rattle.std.proofs.Common.{◌≡◌, ℕ, ◌+◌, ◌≤◌, Bool, refl, sy
 use Rattle.std.specs.Prelude.{Option, Some, None, IsTrue}
 use Rattle.exact_values.specs.Rational.{ℚ, zero_ℚ, ◌+ℚ◌, ◌*ℚ◌}
 use Rattle.lp_definitions.specs.LinearProgram.{LinearProgram, Vector}
-use Rattle.method_definitions.specs.Moves.{room, signed}
-use Rattle.path_laws.proofs.Steps.{signed_zero}
+use Rattle.simplex_definitions.specs.Moves.{room, signed}
+use Rattle.simplex_laws.proofs.Steps.{signed_zero}
 use Rattle.basis_values.specs.Motions.{motion}
 use Rattle.basis_values.specs.Reach.{IsNearest, sooner}
 use Rattle.basis_values.specs.declared.reach.Reach.{Reach}

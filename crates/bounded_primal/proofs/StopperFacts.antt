@@ -8,9 +8,9 @@ use Rattle.lp_definitions.specs.declared.Evidence.{Evidence}
 use Rattle.lp_definitions.specs.declared.Status.{Status}
 use Rattle.lp_laws.proofs.Values.{clash}
 use Rattle.lp_laws.proofs.Uniqueness.{one_direction}
-use Rattle.method_definitions.specs.Moves.{stopper, limit_ahead, room, signed, reached}
-use Rattle.path_laws.proofs.Stoppers.{stopper_none}
-use Rattle.method_definitions.specs.Formulas.{PointFormula, f6, f7}
+use Rattle.simplex_definitions.specs.Moves.{stopper, limit_ahead, room, signed, reached}
+use Rattle.simplex_laws.proofs.Stoppers.{stopper_none}
+use Rattle.simplex_definitions.specs.Formulas.{PointFormula, f6, f7}
 use Rattle.basis_values.specs.Motions.{motion}
 use Rattle.bounded_primal.specs.Moves.{stopper_of, StopperRefused, stop_at}
 use Rattle.basis_values.specs.Reach.{RoomRefused, of_distance, of_quotient, IsFirst, IsNearest}

@@ -11,15 +11,15 @@ use Rattle.lp_laws.proofs.Opening.{length-numbers_from}
 use Rattle.lp_laws.proofs.Duality.{infeasible_by_crossed, infeasible_by_ray, unbounded_by_direction}
 use Rattle.lp_model.specs.declared.reports.Outcome.{Outcome}
 use Rattle.lp_model.specs.declared.reports.Outcome.TheVariants.{Crossed}
-use Rattle.method_definitions.specs.Moves.{least, is_crossed, is_below}
-use Rattle.method_definitions.specs.Path.{turn, PathEnding, EndsOptimal, EndsCrossed, EndsInfeasible, EndsUnbounded, Ends, EndsAt, listed, ray_of, last_of}
-use Rattle.path_laws.specs.Laws.{IsNonsingularBasis}
-use Rattle.path_laws.proofs.Turns.{bettering, rule_of, optimal_turn, stuck_turn, endless_turn}
-use Rattle.path_laws.proofs.Ends.{optimal_end}
-use Rattle.path_laws.proofs.Endless.{crossed_end, unbounded_end}
-use Rattle.path_laws.proofs.Rays.{infeasible_end}
-use Rattle.path_laws.proofs.OnePath.{path_leads}
-use Rattle.method_definitions.specs.Counts.{counted_steps}
+use Rattle.simplex_definitions.specs.Moves.{least, is_crossed, is_below}
+use Rattle.simplex_definitions.specs.Path.{turn, PathEnding, EndsOptimal, EndsCrossed, EndsInfeasible, EndsUnbounded, Ends, EndsAt, listed, ray_of, last_of}
+use Rattle.simplex_laws.specs.Laws.{IsNonsingularBasis}
+use Rattle.simplex_laws.proofs.Turns.{bettering, rule_of, optimal_turn, stuck_turn, endless_turn}
+use Rattle.simplex_laws.proofs.Ends.{optimal_end}
+use Rattle.simplex_laws.proofs.Endless.{crossed_end, unbounded_end}
+use Rattle.simplex_laws.proofs.Rays.{infeasible_end}
+use Rattle.simplex_laws.proofs.OnePath.{path_leads}
+use Rattle.simplex_definitions.specs.Counts.{counted_steps}
 use Rattle.basis_values.specs.Calls.{HasRates}
 use Rattle.bounded_primal.specs.Calls.{CallEnds, outcome_of}
 use Rattle.bounded_primal.specs.Outcomes.{IsTrueOutcome}

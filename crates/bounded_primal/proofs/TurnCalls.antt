@@ -10,10 +10,10 @@ use Rattle.lp_definitions.specs.declared.Status.{Status}
 use Rattle.lp_definitions.specs.declared.Status.TheVariants.{Ll, Ul}
 use Rattle.lp_model.specs.RatesCalls.{IsRowOf}
 use Rattle.lp_laws.proofs.WaypointLaws.{within_itself, within_by}
-use Rattle.method_definitions.specs.Moves.{is_below, is_outside, entering}
-use Rattle.method_definitions.specs.Path.{Move, after, IsStep}
-use Rattle.path_laws.proofs.Numbered.{find_some}
-use Rattle.method_definitions.specs.Statements.{PathMoves}
+use Rattle.simplex_definitions.specs.Moves.{is_below, is_outside, entering}
+use Rattle.simplex_definitions.specs.Path.{Move, after, IsStep}
+use Rattle.simplex_laws.proofs.Numbered.{find_some}
+use Rattle.simplex_definitions.specs.Statements.{PathMoves}
 use Rattle.basis_values.specs.Calls.{LieIn}
 use Rattle.basis_values.specs.Motions.{motion}
 use Rattle.bounded_primal.specs.Turns.{IsUncrossed, least_outside, mover_by, ReturnStops, by_column, by_return, RunStops, by_direction, by_stopper, EvidenceAt, TurnStops, TurnFound}

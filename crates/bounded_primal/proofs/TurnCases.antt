@@ -13,8 +13,8 @@ use Rattle.lp_model.specs.RatesCalls.{IsRowOf, IfOverflow}
 use Rattle.lp_model.specs.declared.Stop.{Stop}
 use Rattle.lp_model.specs.declared.reports.Outcome.{Outcome}
 use Rattle.lp_model.specs.declared.reports.Outcome.TheVariants.{Optimal, Infeasible}
-use Rattle.method_definitions.specs.Moves.{is_below, entering}
-use Rattle.method_definitions.specs.Formulas.{limit_numbered, number_of_limit}
+use Rattle.simplex_definitions.specs.Moves.{is_below, entering}
+use Rattle.simplex_definitions.specs.Formulas.{limit_numbered, number_of_limit}
 use Rattle.basis_values.specs.Calls.{HasRates, PointRefused}
 use Rattle.basis_values.specs.Motions.{may_move, motion}
 use Rattle.bounded_primal.specs.KeptPoints.{AgreesWithPoint}

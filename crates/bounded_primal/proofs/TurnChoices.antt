@@ -15,17 +15,17 @@ use Rattle.lp_model.specs.declared.reports.Outcome.{Outcome}
 use Rattle.lp_model.specs.declared.reports.Outcome.TheVariants.{Optimal, Crossed, Infeasible, Unbounded}
 use Rattle.lp_laws.proofs.Uniqueness.{one_direction}
 use Rattle.lp_laws.proofs.Values.{clash}
-use Rattle.method_definitions.specs.Moves.{least, is_crossed, is_below, signed, goes_up, lowers, may_rise, may_fall, entering, limit_ahead, room, stopper}
-use Rattle.method_definitions.specs.Path.{Move, Moves, EndsOptimal, EndsCrossed, EndsInfeasible, EndsUnbounded, listed, ray_of, excess_rate, outside, worth_rate, mover, bring_back, run_until, better, turn_for, turn}
-use Rattle.path_laws.proofs.Numbered.{find_some}
-use Rattle.path_laws.proofs.Stoppers.{stopper_some, reaches_limit}
-use Rattle.path_laws.proofs.Turns.{IsFirstPhase, IsSecondPhase, bettering}
-use Rattle.path_laws.proofs.Ends.{feasible}
-use Rattle.path_laws.proofs.Endless.{IsEntering, enters}
-use Rattle.path_laws.proofs.Rays.{Breaks, breaks_lower, breaks_upper, broken_basic, broken_limit}
-use Rattle.path_laws.proofs.Steps.{rate_apart, signed_zero}
-use Rattle.method_definitions.specs.Formulas.{limit_numbered, number_of_limit}
-use Rattle.method_definitions.specs.Statements.{PathMoves, PathEnters}
+use Rattle.simplex_definitions.specs.Moves.{least, is_crossed, is_below, signed, goes_up, lowers, may_rise, may_fall, entering, limit_ahead, room, stopper}
+use Rattle.simplex_definitions.specs.Path.{Move, Moves, EndsOptimal, EndsCrossed, EndsInfeasible, EndsUnbounded, listed, ray_of, excess_rate, outside, worth_rate, mover, bring_back, run_until, better, turn_for, turn}
+use Rattle.simplex_laws.proofs.Numbered.{find_some}
+use Rattle.simplex_laws.proofs.Stoppers.{stopper_some, reaches_limit}
+use Rattle.simplex_laws.proofs.Turns.{IsFirstPhase, IsSecondPhase, bettering}
+use Rattle.simplex_laws.proofs.Ends.{feasible}
+use Rattle.simplex_laws.proofs.Endless.{IsEntering, enters}
+use Rattle.simplex_laws.proofs.Rays.{Breaks, breaks_lower, breaks_upper, broken_basic, broken_limit}
+use Rattle.simplex_laws.proofs.Steps.{rate_apart, signed_zero}
+use Rattle.simplex_definitions.specs.Formulas.{limit_numbered, number_of_limit}
+use Rattle.simplex_definitions.specs.Statements.{PathMoves, PathEnters}
 use Rattle.basis_values.specs.Motions.{may_move, motion}
 use Rattle.basis_values.specs.Prices.{worth_by}
 use Rattle.bounded_primal.specs.Moves.{stop_at, stopper_of, return_by, IsStepBy, is_stopper, brings, StepsFromPoint, move_by}

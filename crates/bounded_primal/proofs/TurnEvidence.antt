@@ -17,11 +17,11 @@ use Rattle.lp_laws.proofs.Values.{clash}
 use Rattle.lp_laws.proofs.Statuses.{basics_of-replaced}
 use Rattle.lp_laws.proofs.Uniqueness.{one_direction}
 use Rattle.lp_laws.proofs.WaypointLaws.{Covers, Covers-all, Covers-insert, kept_within, within_itself}
-use Rattle.method_definitions.specs.Path.{Move, after}
-use Rattle.method_definitions.specs.ObjectiveRun.{objective_family}
-use Rattle.method_definitions.specs.Formulas.{PointFormula, f6, f7, MoveFormula, f8, f9, limit_numbered, number_of_limit}
-use Rattle.method_definitions.specs.Statements.{SolvingStatement, Primal, is_between, belongs, program_at, PathMoves, PathEnters, MovesAt, EntersAt}
-use Rattle.method_definitions.specs.Evidence.{Formula, by_exchange, by_entry, by_carried, by_point, by_slack, by_move, by_ratio, by_range, by_objective, by_slope, ShowsRefusal, IsLeaver, GoesTo, TakesStep, IsOfMove}
+use Rattle.simplex_definitions.specs.Path.{Move, after}
+use Rattle.simplex_definitions.specs.ObjectiveRun.{objective_family}
+use Rattle.simplex_definitions.specs.Formulas.{PointFormula, f6, f7, MoveFormula, f8, f9, limit_numbered, number_of_limit}
+use Rattle.simplex_definitions.specs.Statements.{SolvingStatement, Primal, is_between, belongs, program_at, PathMoves, PathEnters, MovesAt, EntersAt}
+use Rattle.simplex_definitions.specs.Evidence.{Formula, by_exchange, by_entry, by_carried, by_point, by_slack, by_move, by_ratio, by_range, by_objective, by_slope, ShowsRefusal, IsLeaver, GoesTo, TakesStep, IsOfMove}
 use Rattle.basis_values.specs.Calls.{StopsAt, job_of, is_of_point, PointRefused}
 use Rattle.bounded_primal.specs.Moves.{StopperRefused, StepRefused, stopper_of, move_by}
 use Rattle.bounded_primal.specs.Steps.{ReturnRefused, of_distance, of_quotient}

@@ -7,7 +7,7 @@ use Rattle.lp_definitions.specs.declared.Status.{Status}
 use Rattle.lp_model.specs.RatesCalls.{IfOverflow}
 use Rattle.lp_model.specs.declared.Stop.{Stop}
 use Rattle.lp_laws.proofs.WaypointLaws.{keeps_then}
-use Rattle.method_definitions.specs.Path.{turn, after}
+use Rattle.simplex_definitions.specs.Path.{turn, after}
 use Rattle.basis_values.specs.Calls.{PointRefused}
 use Rattle.bounded_primal.specs.Moves.{move_by, StepRefused}
 use Rattle.bounded_primal.specs.Stops.{primal_stop_of, PrimalStops}

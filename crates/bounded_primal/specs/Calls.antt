@@ -13,10 +13,10 @@ use Rattle.lp_definitions.specs.declared.Evidence.{Evidence}
 use Rattle.lp_definitions.specs.declared.Status.{Status}
 use Rattle.lp_model.specs.declared.reports.Outcome.{Outcome}
 use Rattle.lp_model.specs.declared.reports.Outcome.TheVariants.{Optimal, Crossed, Infeasible, Unbounded}
-use Rattle.method_definitions.specs.Path.{PathEnding, EndsOptimal, EndsCrossed, EndsInfeasible, EndsUnbounded, Rule, turn, RulePath, RulePathEnds, RuleGoesOn, last_of}
-use Rattle.method_definitions.specs.Counts.{counted_steps}
-use Rattle.method_definitions.specs.Statements.{SolvingStatement}
-use Rattle.method_definitions.specs.Evidence.{EvidenceHolds}
+use Rattle.simplex_definitions.specs.Path.{PathEnding, EndsOptimal, EndsCrossed, EndsInfeasible, EndsUnbounded, Rule, turn, RulePath, RulePathEnds, RuleGoesOn, last_of}
+use Rattle.simplex_definitions.specs.Counts.{counted_steps}
+use Rattle.simplex_definitions.specs.Statements.{SolvingStatement}
+use Rattle.simplex_definitions.specs.Evidence.{EvidenceHolds}
 use Rattle.basis_values.specs.Calls.{LieIn, job_of}
 use Rattle.termination_laws.specs.Laws.{NeverReturns}
 

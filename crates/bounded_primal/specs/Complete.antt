@@ -13,9 +13,9 @@ use Rattle.lp_definitions.specs.declared.Status.{Status}
 use Rattle.lp_model.specs.declared.Stop.{Stop}
 use Rattle.lp_model.specs.declared.Stop.TheVariants as stop
 use Rattle.lp_model.specs.declared.reports.Outcome.{Outcome}
-use Rattle.method_definitions.specs.Path.{PathEnding, Rule, turn, PathEnds, RulePathEnds, last_of}
-use Rattle.method_definitions.specs.Statements.{SolvingStatement}
-use Rattle.method_definitions.specs.Counts.{counted_steps}
+use Rattle.simplex_definitions.specs.Path.{PathEnding, Rule, turn, PathEnds, RulePathEnds, last_of}
+use Rattle.simplex_definitions.specs.Statements.{SolvingStatement}
+use Rattle.simplex_definitions.specs.Counts.{counted_steps}
 use Rattle.termination_laws.specs.Laws.{lists_of}
 use Rattle.basis_values.specs.Calls.{job_of}
 use Rattle.bounded_primal.specs.Calls.{outcome_of, RuleStopsOnPath}

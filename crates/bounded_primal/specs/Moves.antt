@@ -14,10 +14,10 @@ use Rattle.lp_definitions.specs.declared.Evidence.{Evidence}
 use Rattle.lp_definitions.specs.declared.Status.{Status}
 use Rattle.lp_model.specs.declared.Stop.{Stop}
 use Rattle.lp_model.specs.RatesCalls.{IfOverflow}
-use Rattle.method_definitions.specs.Moves.{signed, room, stopper, reached}
-use Rattle.method_definitions.specs.Path.{Move}
-use Rattle.method_definitions.specs.Formulas.{limit_numbered, number_of_limit}
-use Rattle.method_definitions.specs.Statements.{Primal, belongs, is_between}
+use Rattle.simplex_definitions.specs.Moves.{signed, room, stopper, reached}
+use Rattle.simplex_definitions.specs.Path.{Move}
+use Rattle.simplex_definitions.specs.Formulas.{limit_numbered, number_of_limit}
+use Rattle.simplex_definitions.specs.Statements.{Primal, belongs, is_between}
 use Rattle.basis_values.specs.Calls.{StopsAt}
 use Rattle.basis_values.specs.Motions.{may_move, motion}
 use Rattle.bounded_primal.specs.declared.moves.Stopper.{Stopper}

@@ -10,7 +10,7 @@ use Rattle.frac128.specs.declared.Op.TheVariants.{Add, Sub, Mul, Div}
 use Rattle.lp_definitions.specs.LinearProgram.{LinearProgram, Vector, IsVariable}
 use Rattle.lp_definitions.specs.declared.Evidence.{Evidence}
 use Rattle.lp_definitions.specs.declared.Status.{Status}
-use Rattle.method_definitions.specs.Formulas.{limit_numbered, number_of_limit}
+use Rattle.simplex_definitions.specs.Formulas.{limit_numbered, number_of_limit}
 use Rattle.basis_values.specs.Formulas.{IsRefusal}
 use Rattle.basis_values.specs.Reach.{reach_formula}
 use Rattle.basis_values.specs.declared.formula.Formula.{Formula}

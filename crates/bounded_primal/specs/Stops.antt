@@ -5,7 +5,7 @@ use Rattle.lp_definitions.specs.Basis.{Basics}
 use Rattle.lp_definitions.specs.declared.Status.{Status}
 use Rattle.lp_model.specs.declared.Stop.{Stop}
 use Rattle.lp_model.specs.declared.Stop.TheVariants as stop
-use Rattle.method_definitions.specs.Path.{IsPath, last_of}
+use Rattle.simplex_definitions.specs.Path.{IsPath, last_of}
 use Rattle.termination_laws.specs.Laws.{lists_of}
 use Rattle.bounded_primal.specs.Calls.{PathGoesOn, StopsOnPath}
 use Rattle.bounded_primal.specs.declared.moves.PrimalStop.{PrimalStop}

@@ -19,10 +19,10 @@ use Rattle.lp_definitions.specs.declared.Status.{Status}
 use Rattle.lp_model.specs.RatesCalls.{IsRowOf}
 use Rattle.lp_model.specs.declared.reports.Outcome.{Outcome}
 use Rattle.lp_model.specs.declared.reports.Outcome.TheVariants.{Unbounded}
-use Rattle.method_definitions.specs.Moves.{least, is_crossed, is_outside, signed, goes_up, entering}
-use Rattle.method_definitions.specs.Path.{PathEnding, Rule, turn, RuleEnd, IsStep}
-use Rattle.method_definitions.specs.Statements.{PathMoves, PathEnters}
-use Rattle.method_definitions.specs.Evidence.{EvidenceHolds}
+use Rattle.simplex_definitions.specs.Moves.{least, is_crossed, is_outside, signed, goes_up, entering}
+use Rattle.simplex_definitions.specs.Path.{PathEnding, Rule, turn, RuleEnd, IsStep}
+use Rattle.simplex_definitions.specs.Statements.{PathMoves, PathEnters}
+use Rattle.simplex_definitions.specs.Evidence.{EvidenceHolds}
 use Rattle.lp_model.specs.declared.Stop.{Stop}
 use Rattle.bounded_primal.specs.Stops.{primal_stop_of}
 use Rattle.basis_values.specs.Calls.{LieIn, job_of, PointRefused}

@@ -4,7 +4,7 @@ ghost use Rattle.std.specs.Prelude.{◌≡◌, ◌≢◌, ◌<◌, List, length,
 ghost use Rattle.lp_definitions.specs.LinearProgram.{size, value_at, IsLinearProgram};
 ghost use Rattle.lp_definitions.specs.Basis.{IsPointOf};
 ghost use Rattle.lp_definitions.specs.declared.Status.{Status};
-ghost use Rattle.method_definitions.specs.Path.{PathEnding};
+ghost use Rattle.simplex_definitions.specs.Path.{PathEnding};
 ghost use Rattle.termination_laws.specs.Laws.{lists_of};
 ghost use Rattle.basis_values.specs.Calls.{HasRates, KeepsRates};
 ghost use Rattle.basis_values.specs.Wants.{AreWants};

@@ -3,7 +3,7 @@
 ghost use Rattle.std.specs.Prelude.{◌≡◌, ◌<◌, None, List, length, vec_len, IfOk, IfErr, IsErrOf};
 ghost use Rattle.lp_definitions.specs.LinearProgram.{size, value_at, IsLinearProgram};
 ghost use Rattle.lp_definitions.specs.declared.Status.{Status};
-ghost use Rattle.method_definitions.specs.Path.{PathEnding};
+ghost use Rattle.simplex_definitions.specs.Path.{PathEnding};
 ghost use Rattle.basis_values.specs.Calls.{HasRates};
 ghost use Rattle.basis_values.specs.Wants.{AreWants};
 ghost use Rattle.bounded_primal.specs.Calls.{CallEnds, NeverReturned, WaypointsFollow};

@@ -5,7 +5,7 @@ ghost use Rattle.exact_values.specs.Rational.{zero_ℚ};
 ghost use Rattle.lp_definitions.specs.LinearProgram.{size, value_at, IsVariable};
 ghost use Rattle.lp_definitions.specs.Solutions.{IsFeasible, IsWithinLimits};
 ghost use Rattle.lp_definitions.specs.Basis.{basics_of, IsBasis, IsNonbasic, IsNonsingular, IsPointOf, IsDirectionOf};
-ghost use Rattle.method_definitions.specs.Moves.{room, signed, reached};
+ghost use Rattle.simplex_definitions.specs.Moves.{room, signed, reached};
 ghost use Rattle.basis_values.specs.Motions.{may_move, motion};
 ghost use Rattle.bounded_primal.specs.Moves.{stopper_of, StopperRefused};
 ghost use Rattle.basis_values.specs.Reach.{length_of, IsFirst, IsNearest, Reaches, SomeRoomRefused};

@@ -6,8 +6,8 @@ ghost use Rattle.lp_definitions.specs.LinearProgram.{size, value_at, for_min, Is
 ghost use Rattle.lp_definitions.specs.Solutions.{IsWithinLimits};
 ghost use Rattle.lp_definitions.specs.Basis.{basics_of, IsBasic, IsNonbasic, IsDirectionOf, IsPointOf};
 ghost use Rattle.lp_model.specs.RatesCalls.{IfOverflow};
-ghost use Rattle.method_definitions.specs.Moves.{signed};
-ghost use Rattle.method_definitions.specs.Formulas.{limit_numbered, number_of_limit};
+ghost use Rattle.simplex_definitions.specs.Moves.{signed};
+ghost use Rattle.simplex_definitions.specs.Formulas.{limit_numbered, number_of_limit};
 ghost use Rattle.basis_values.specs.Calls.{HasRates, KeepsRates, PointRefused};
 ghost use Rattle.basis_values.specs.Motions.{may_move, motion};
 ghost use Rattle.basis_values.specs.Wants.{AreWants};

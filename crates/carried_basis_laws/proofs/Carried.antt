@@ -4,7 +4,7 @@ use Rattle.std.proofs.lemmas.Option.{same_Some}
 use Rattle.lp_definitions.specs.LinearProgram.{LinearProgram}
 use Rattle.card_definitions.specs.Cards.{Card, numbered_from}
 use Rattle.problem_definitions.specs.Problem.{Problem}
-use Rattle.path_laws.specs.Laws.{IsNonsingularBasis}
+use Rattle.simplex_laws.specs.Laws.{IsNonsingularBasis}
 use Rattle.deck_definitions.specs.declared.DeckFault.{DeckFault}
 use Rattle.deck_definitions.specs.Decks.{deck_taken}
 use Rattle.basis_deck_definitions.specs.Reading.{basis_reading}
@@ -28,10 +28,10 @@ use Rattle.run_definitions.specs.Moves.{Nothing, Prints, Punches, Refusals, Outc
 use Rattle.run_definitions.specs.Verbs.{or_deck_fault, or_selection_fault, after_install, punches_basis, inserts, verb_move}
 use Rattle.run_definitions.specs.Run.{counted, Step}
 use Rattle.run_definitions.specs.Answer.{IsSoFar}
-use Rattle.run_laws.specs.Truth.{PresentProgram}
-use Rattle.run_laws.proofs.Moves.{HasProblem, Knows}
-use Rattle.run_laws.proofs.Runs.{has_problem, known, knows_linear_programming}
-use Rattle.run_laws.proofs.Selected.{selected_is_lawful, selected_has_names}
+use Rattle.soundness_laws.specs.Truth.{PresentProgram}
+use Rattle.soundness_laws.proofs.Moves.{HasProblem, Knows}
+use Rattle.soundness_laws.proofs.Runs.{has_problem, known, knows_linear_programming}
+use Rattle.soundness_laws.proofs.Selected.{selected_is_lawful, selected_has_names}
 use Rattle.carried_basis_laws.specs.Laws.{StandsForPresent, ComesBack, goes, overflows}
 
 -- ---- a fact of every outcome of a move, where it says nothing of an end

@@ -6,7 +6,7 @@
 use Rattle.std.specs.Prelude.{◌≡◌, ℕ, List, [], ◌∷◌, Option, Some, Ok}
 use Rattle.card_definitions.specs.Cards.{Card, cards_of, numbered_from}
 use Rattle.problem_definitions.specs.Names.{Name}
-use Rattle.path_laws.specs.Laws.{IsNonsingularBasis}
+use Rattle.simplex_laws.specs.Laws.{IsNonsingularBasis}
 use Rattle.deck_definitions.specs.Decks.{decks_of, deck_taken, name_of_deck}
 use Rattle.deck_definitions.specs.Written.{card_text}
 use Rattle.basis_deck_definitions.specs.Reading.{basis_reading}
@@ -20,7 +20,7 @@ use Rattle.run_definitions.specs.State.{Present, present_basis, State}
 use Rattle.run_definitions.specs.Moves.{Nothing, Prints, Punches, Outcome, Goes, Ends}
 use Rattle.run_definitions.specs.Run.{Step}
 use Rattle.run_definitions.specs.Answer.{IsSoFar}
-use Rattle.run_laws.specs.Truth.{PresentProgram}
+use Rattle.soundness_laws.specs.Truth.{PresentProgram}
 
 -- The cards are one deck under the problem's name, whatever number the first of them has where they are read; in the linear program that
 -- is selected they stand for the present basis, which is nonsingular; and they come back from their text.

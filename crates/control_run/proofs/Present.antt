@@ -6,10 +6,10 @@ use Rattle.lp_definitions.specs.LinearProgram.{Matrix, LinearProgram, IsLinearPr
 use Rattle.lp_definitions.specs.Basis.{Basics, basics_of}
 use Rattle.lp_definitions.specs.Waypoints.{IsWithinOne, IsKept, KeepsWaypoints}
 use Rattle.lp_laws.proofs.WaypointLaws.{within_itself, within_by}
-use Rattle.method_definitions.specs.Path.{PathEnding, Rule, turn, RuleEnd, RulePathEnds, last_of}
-use Rattle.method_definitions.specs.DualPath.{dual_turn}
-use Rattle.path_laws.specs.Laws.{IsNonsingularBasis, SameEnds}
-use Rattle.path_laws.proofs.OnePath.{one_path}
+use Rattle.simplex_definitions.specs.Path.{PathEnding, Rule, turn, RuleEnd, RulePathEnds, last_of}
+use Rattle.simplex_definitions.specs.DualPath.{dual_turn}
+use Rattle.simplex_laws.specs.Laws.{IsNonsingularBasis, SameEnds}
+use Rattle.simplex_laws.proofs.OnePath.{one_path}
 use Rattle.dual_laws.proofs.OneDualPath.{one_path as one_dual_path}
 use Rattle.listing_definitions.specs.declared.Solver.TheVariants as solvers
 use Rattle.problem_definitions.specs.Problem.{Problem}
@@ -20,13 +20,13 @@ use Rattle.basis_values.specs.Calls.{HasRates, LieIn}
 use Rattle.bounded_primal.specs.Calls.{WaypointsFollow, RuleWaypointsFollow}
 use Rattle.listing_tables.specs.declared.sheet.Sheet.{Sheet}
 use Rattle.report_text.specs.Verdicts.{verdict_shown, check_shown}
-use Rattle.present_answers.specs.declared.path.PathReport.{PathReport}
-use Rattle.present_answers.specs.Reports.{sheet_shown, RuleIsReached, IsReached, IsDualReached}
+use Rattle.verb_answers.specs.declared.path.PathReport.{PathReport}
+use Rattle.verb_answers.specs.Reports.{sheet_shown, RuleIsReached, IsReached, IsDualReached}
 use Rattle.run_definitions.specs.State.{Present, gone_through}
 use Rattle.run_setup.specs.Kept.{Setup}
 use Rattle.run_setup.specs.Standing.{ShowsSetup}
 use Rattle.control_run.specs.Found.{PathReaches}
-use Rattle.sweep_laws.proofs.Runs.{last_of-append}
+use Rattle.parametric_laws.proofs.Runs.{last_of-append}
 use Rattle.run_setup.proofs.Present.{IsPresentOf, present_with}
 
 module _ (problem : Problem ℕ) (setup : Setup) (shown : Option Present) (p : IsPresentOf problem setup shown) (lp : LinearProgram) (same : matrix_of problem ≡ lp.matrix) where

@@ -9,7 +9,7 @@ use Rattle.lp_definitions.specs.LinearProgram.{LinearProgram}
 use Rattle.lp_definitions.specs.Basis.{Basics, basics_of}
 use Rattle.lp_definitions.specs.Waypoints.{waypoint}
 use Rattle.lp_definitions.specs.declared.Evidence.{Evidence}
-use Rattle.method_definitions.specs.Statements.{Range as RangeStatement}
+use Rattle.simplex_definitions.specs.Statements.{Range as RangeStatement}
 use Rattle.problem_definitions.specs.Problem.{Problem}
 use Rattle.problem_file.specs.Filed.{Filed, filed_under}
 use Rattle.listing_tables.specs.Lines.{range_lines}
@@ -27,8 +27,8 @@ use Rattle.control_definitions.specs.Cells.{Cells}
 use Rattle.answer_definitions.specs.Sections.{IsRanged}
 use Rattle.answer_definitions.specs.Evidence.{IsEvidence}
 use Rattle.listing_tables.specs.declared.sheet.Sheet.{Sheet as OwnSheet}
-use Rattle.present_answers.specs.Answers.{sheet_shown}
-use Rattle.present_answers.specs.Stops.{RangesRefused}
+use Rattle.verb_answers.specs.Answers.{sheet_shown}
+use Rattle.verb_answers.specs.Stops.{RangesRefused}
 use Rattle.run_definitions.specs.State.{Present, State, choice_of, present_basis, path_of}
 use Rattle.run_definitions.specs.Moves.{Gain, Nothing, Prints, punched_by, Outcome, next, stops, InAnswer, Move, MayStop, Asks, Gives, or_fault}
 use Rattle.run_definitions.specs.Verbs.{if_optimal, or_selection_fault, verb_move}

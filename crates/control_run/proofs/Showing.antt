@@ -7,7 +7,7 @@ use Rattle.lp_definitions.specs.LinearProgram.{Matrix, LinearProgram}
 use Rattle.lp_definitions.specs.Basis.{Basics, basics_of, IsOptimalBasis}
 use Rattle.lp_definitions.specs.Waypoints.{waypoint, KeepsWaypoints}
 use Rattle.lp_definitions.specs.declared.Evidence.{Evidence}
-use Rattle.method_definitions.specs.Statements.{Solution as SolutionStatement}
+use Rattle.simplex_definitions.specs.Statements.{Solution as SolutionStatement}
 use Rattle.problem_definitions.specs.Problem.{Problem}
 use Rattle.problem_file.specs.Filed.{Filed, filed_under}
 use Rattle.basis_values.specs.Calls.{LieIn}
@@ -24,8 +24,8 @@ use Rattle.control_definitions.specs.Cells.{Cells}
 use Rattle.answer_definitions.specs.Sections.{IsShown}
 use Rattle.answer_definitions.specs.Evidence.{IsEvidence}
 use Rattle.listing_tables.specs.declared.sheet.Sheet.{Sheet as OwnSheet}
-use Rattle.present_answers.specs.Answers.{sheet_shown}
-use Rattle.present_answers.specs.Stops.{SolutionRefused}
+use Rattle.verb_answers.specs.Answers.{sheet_shown}
+use Rattle.verb_answers.specs.Stops.{SolutionRefused}
 use Rattle.run_definitions.specs.State.{Present, State, choice_of, present_basis, path_of}
 use Rattle.run_definitions.specs.Moves.{Gain, Nothing, Prints, punched_by, Outcome, next, stops, InAnswer, Move, MayStop, Asks, Gives, or_fault}
 use Rattle.run_definitions.specs.Verbs.{or_selection_fault, verb_move}

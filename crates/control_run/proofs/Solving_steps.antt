@@ -7,11 +7,11 @@ use Rattle.lp_definitions.specs.LinearProgram.{LinearProgram, IsLinearProgram}
 use Rattle.lp_definitions.specs.Basis.{Basics, basics_of, IsOptimalBasis}
 use Rattle.lp_definitions.specs.Waypoints.{waypoint}
 use Rattle.lp_definitions.specs.declared.Evidence.{Evidence}
-use Rattle.method_definitions.specs.Path.{PathEnding, EndsOptimal, EndsCrossed, EndsInfeasible, EndsUnbounded, Rule, EndsAt, last_of}
-use Rattle.method_definitions.specs.DualPath.{HasRightPrices, DualEndsAt}
-use Rattle.method_definitions.specs.Statements.{SolvingStatement}
-use Rattle.path_laws.specs.Laws.{IsNonsingularBasis}
-use Rattle.path_laws.proofs.Ends.{optimal_end}
+use Rattle.simplex_definitions.specs.Path.{PathEnding, EndsOptimal, EndsCrossed, EndsInfeasible, EndsUnbounded, Rule, EndsAt, last_of}
+use Rattle.simplex_definitions.specs.DualPath.{HasRightPrices, DualEndsAt}
+use Rattle.simplex_definitions.specs.Statements.{SolvingStatement}
+use Rattle.simplex_laws.specs.Laws.{IsNonsingularBasis}
+use Rattle.simplex_laws.proofs.Ends.{optimal_end}
 use Rattle.dual_laws.proofs.DualTurns.{dual_end}
 use Rattle.dual_laws.proofs.OneDualPath.{path_right}
 use Rattle.problem_definitions.specs.Problem.{Problem}
@@ -29,7 +29,7 @@ use Rattle.question_definitions.specs.Answers.{Basis, Sheet, Reached, PathLimit}
 use Rattle.answer_definitions.specs.Verdicts.{verdict_of, IsSolvedBy}
 use Rattle.answer_definitions.specs.Evidence.{RuleOverflowsOnPath, OverflowsBy}
 use Rattle.listing_tables.specs.declared.sheet.Sheet.{Sheet as OwnSheet}
-use Rattle.present_answers.specs.Reports.{sheet_shown, RuleOverflowsThere, PassesLimit}
+use Rattle.verb_answers.specs.Reports.{sheet_shown, RuleOverflowsThere, PassesLimit}
 use Rattle.run_definitions.specs.State.{choice_of}
 use Rattle.run_definitions.specs.Moves.{Gain, Nothing, Prints}
 use Rattle.run_definitions.specs.Verbs.{mark_of}

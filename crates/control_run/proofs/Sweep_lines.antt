@@ -9,9 +9,9 @@ use Rattle.lp_model.specs.declared.reports.ParaEnd.{ParaEnd}
 use Rattle.lp_model.specs.declared.reports.ParaEnd.TheVariants as ends
 use Rattle.lp_model.specs.declared.reports.ParaPart.{ParaPart}
 use Rattle.lp_model.specs.declared.reports.ParaRun.{ParaRun}
-use Rattle.method_definitions.specs.Moves.{is_fixed}
-use Rattle.path_laws.proofs.Numbered.{map_same}
-use Rattle.changed_programs.proofs.MovedLimits.{fixed_same}
+use Rattle.simplex_definitions.specs.Moves.{is_fixed}
+use Rattle.simplex_laws.proofs.Numbered.{map_same}
+use Rattle.sensitivity_laws.proofs.MovedLimits.{fixed_same}
 use Rattle.problem_definitions.specs.Names.{Name}
 use Rattle.listing_definitions.specs.declared.At.{At}
 use Rattle.listing_definitions.specs.declared.At.TheVariants.{Equal, Lower, Upper, Free}
@@ -23,9 +23,9 @@ use Rattle.answer_definitions.specs.Sweeps.{shifts_of, family_of, sheet_at, inte
 use Rattle.listing_tables.specs.declared.sheet.Sheet.{Sheet as OwnSheet}
 use Rattle.listing_tables.specs.Lines as printed
 use Rattle.report_text.specs.Parametric.{interval_shown, end_shown, chain_shown}
-use Rattle.run_calls.specs.Calls.{part_of, end_of}
+use Rattle.parametric_run.specs.Calls.{part_of, end_of}
 use Rattle.run_definitions.specs.Verbs.{last_value}
-use Rattle.present_answers.specs.Reports.{sheet_shown}
+use Rattle.verb_answers.specs.Reports.{sheet_shown}
 use Rattle.control_run.specs.Sweeping.{value_left}
 
 -- ---- where a variable stands

@@ -33,9 +33,9 @@ use Rattle.answer_definitions.specs.Evidence.{OverflowsAt}
 use Rattle.listing_tables.specs.declared.sheet.Sheet.{Sheet as OwnSheet}
 use Rattle.report_text.specs.Parametric.{chain_shown}
 use Rattle.report_text.specs.Verdicts.{verdict_shown, check_shown}
-use Rattle.run_calls.specs.Calls as calls
-use Rattle.present_answers.specs.Reports.{sheet_shown}
-use Rattle.present_answers.specs.RunReports.{IsAnswered, RunOverflowsThere, LimitOverflows}
+use Rattle.parametric_run.specs.Calls as calls
+use Rattle.verb_answers.specs.Reports.{sheet_shown}
+use Rattle.verb_answers.specs.RunReports.{IsAnswered, RunOverflowsThere, LimitOverflows}
 use Rattle.run_definitions.specs.State.{choice_of}
 use Rattle.run_definitions.specs.Moves.{Gain, Nothing, Prints}
 use Rattle.run_definitions.specs.Verbs.{mark_of, last_value}

@@ -11,8 +11,8 @@ use Rattle.std.specs.Prelude.{◌≡◌, ℕ, List, [], ◌∷◌, ◌++◌, Opt
 use Rattle.lp_definitions.specs.LinearProgram.{LinearProgram}
 use Rattle.lp_definitions.specs.Basis.{Basics}
 use Rattle.lp_definitions.specs.declared.Evidence.{Evidence}
-use Rattle.method_definitions.specs.Path.{last_of}
-use Rattle.method_definitions.specs.Statements.{Solution as SolutionStatement, Range as RangeStatement}
+use Rattle.simplex_definitions.specs.Path.{last_of}
+use Rattle.simplex_definitions.specs.Statements.{Solution as SolutionStatement, Range as RangeStatement}
 use Rattle.problem_definitions.specs.Problem.{Problem}
 use Rattle.selection_definitions.specs.Selection.{selected}
 use Rattle.listing_definitions.specs.declared.Mark.{Mark}

@@ -13,7 +13,7 @@ use Rattle.lp_definitions.specs.Basis.{Basics}
 use Rattle.lp_definitions.specs.declared.Evidence.{Evidence}
 use Rattle.lp_model.specs.declared.reports.ParaEnd.{ParaEnd}
 use Rattle.lp_model.specs.declared.reports.ParaEnd.TheVariants.{AtMax, Unbounded, Infeasible}
-use Rattle.method_definitions.specs.Path.{last_of}
+use Rattle.simplex_definitions.specs.Path.{last_of}
 use Rattle.problem_definitions.specs.Problem.{Problem}
 use Rattle.selection_definitions.specs.Selection.{selected}
 use Rattle.listing_definitions.specs.declared.VerbFault.{VerbFault}
@@ -26,9 +26,9 @@ use Rattle.question_definitions.specs.Answers.{Basis, Sheet, changing_name, swee
 use Rattle.answer_definitions.specs.Sweeps.{IsSwept}
 use Rattle.answer_definitions.specs.Evidence.{OverflowsAt}
 use Rattle.listing_tables.specs.declared.sheet.Sheet.{Sheet as OwnSheet}
-use Rattle.present_answers.specs.Objective as objective
-use Rattle.present_answers.specs.RunReports.{RunOverflowsThere, LimitOverflows, SweepStops}
-use Rattle.present_answers.specs.RightHandSide as right_hand_side
+use Rattle.verb_answers.specs.Objective as objective
+use Rattle.verb_answers.specs.RunReports.{RunOverflowsThere, LimitOverflows, SweepStops}
+use Rattle.verb_answers.specs.RightHandSide as right_hand_side
 use Rattle.run_definitions.specs.State.{choice_of}
 use Rattle.run_definitions.specs.Moves.{Gain, Nothing, Prints}
 use Rattle.run_definitions.specs.Verbs.{mark_of, last_value}

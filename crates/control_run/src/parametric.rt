@@ -11,8 +11,8 @@ ghost use Rattle.listing_tables.specs.Sheets.{IsSheet};
 ghost use Rattle.report_text.specs.Verdicts.{IsOutcome};
 ghost use Rattle.report_text.specs.Parametric.{IsParametric};
 ghost use Rattle.answer_definitions.specs.Real.{linear_programming};
-ghost use Rattle.present_answers.specs.Reports.{sheet_shown};
-ghost use Rattle.present_answers.specs.RunReports.{IsAnswered, IsPrintable};
+ghost use Rattle.verb_answers.specs.Reports.{sheet_shown};
+ghost use Rattle.verb_answers.specs.RunReports.{IsAnswered, IsPrintable};
 ghost use Rattle.run_machine.specs.Standing.{AreDemands};
 ghost use Rattle.run_setup.specs.Standing.{IsReady, IsSound};
 ghost use Rattle.run_setup.specs.Statements.{Executes};
@@ -30,13 +30,13 @@ use listing_tables::Sheet;
 use lp_definitions::Evidence;
 use lp_model::{Basis, Engine, Lp, Outcome, ParaEnd, ParaReport, ParaRun, Rates};
 use parametric_request::{ParametricVerb, RequestStop, request_of};
-use present_answers::{RunReport, objective_run_of, rhs_run_of};
 use problem_file::ProblemFile;
 use report_text::{Report, text_of};
 use run_cells::{Cells, NumberCell};
 use run_machine::{Act, Finding, Halt, Machine, Refusal, act_of, refused};
 use run_setup::{Setup, overflow_at, select_again};
 use std::alloc::Global;
+use verb_answers::{RunReport, objective_run_of, rhs_run_of};
 
 // The number of the formula of a row's limit at a value of the parameter.
 const LIMIT_FORMULA: u8 = 13;

@@ -9,7 +9,7 @@ ghost use Rattle.listing_tables.specs.Lines.{range_lines};
 ghost use Rattle.listing_tables.specs.Sheets.{IsSheet};
 ghost use Rattle.basis_values.specs.Calls.{HasRates, KeepsRates};
 ghost use Rattle.answer_definitions.specs.Sections.{IsRanged};
-ghost use Rattle.present_answers.specs.Answers.{sheet_shown, AreRanged};
+ghost use Rattle.verb_answers.specs.Answers.{sheet_shown, AreRanged};
 ghost use Rattle.answer_definitions.specs.Real.{linear_programming};
 ghost use Rattle.run_setup.specs.Standing.{IsReady, IsSolved, IsSound};
 ghost use Rattle.run_setup.specs.Statements.{Executes};
@@ -20,12 +20,12 @@ use job_devices::Sink;
 use listing_definitions::{Mark, VerbFault};
 use listing_tables::Sheet;
 use lp_model::{Basis, Engine, Rates, Stop};
-use present_answers::{Ranged, ranges_of};
 use problem_file::ProblemFile;
 use report_text::{Report, text_of};
 use run_machine::{Act, Finding, Halt, Machine, Refusal, act_of};
 use run_setup::{Setup, overflow_at};
 use std::alloc::Global;
+use verb_answers::{Ranged, ranges_of};
 
 // Prints the intervals of a basis.
 fn print_ranges<P: Sink>(

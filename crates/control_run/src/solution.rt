@@ -9,7 +9,7 @@ ghost use Rattle.listing_tables.specs.Lines.{solution_lines};
 ghost use Rattle.listing_tables.specs.Sheets.{IsSheet};
 ghost use Rattle.basis_values.specs.Calls.{HasRates, KeepsRates};
 ghost use Rattle.answer_definitions.specs.Sections.{IsShown};
-ghost use Rattle.present_answers.specs.Answers.{sheet_shown, AreShown};
+ghost use Rattle.verb_answers.specs.Answers.{sheet_shown, AreShown};
 ghost use Rattle.answer_definitions.specs.Real.{linear_programming};
 ghost use Rattle.run_setup.specs.Standing.{IsReady, IsSolved, IsSound};
 ghost use Rattle.run_setup.specs.Statements.{Executes};
@@ -20,12 +20,12 @@ use job_devices::Sink;
 use listing_definitions::{Mark, VerbFault};
 use listing_tables::Sheet;
 use lp_model::{Basis, Engine, Rates, Stop};
-use present_answers::{Shown, solution_of};
 use problem_file::ProblemFile;
 use report_text::{Report, text_of};
 use run_machine::{Act, Finding, Halt, Machine, Refusal, act_of};
 use run_setup::{Setup, overflow_at};
 use std::alloc::Global;
+use verb_answers::{Shown, solution_of};
 
 // Prints the point and the prices of a basis.
 fn print_lines<P: Sink>(

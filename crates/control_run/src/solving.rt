@@ -10,7 +10,7 @@ ghost use Rattle.listing_definitions.specs.declared.Solver.TheVariants as solver
 ghost use Rattle.listing_tables.specs.declared.sheet.Sheet as sheets;
 ghost use Rattle.listing_tables.specs.Sheets.{IsSheet};
 ghost use Rattle.report_text.specs.Verdicts.{IsOutcome, verdict_shown, check_shown};
-ghost use Rattle.present_answers.specs.Reports.{sheet_shown};
+ghost use Rattle.verb_answers.specs.Reports.{sheet_shown};
 ghost use Rattle.run_definitions.specs.Verbs.{mark_of};
 ghost use Rattle.answer_definitions.specs.Real.{linear_programming};
 ghost use Rattle.run_machine.specs.Standing.{AreDemands};
@@ -25,13 +25,13 @@ use job_devices::Sink;
 use listing_definitions::{Mark, Solver, VerbFault};
 use listing_tables::Sheet;
 use lp_model::{Basis, Engine, Outcome, Rates};
-use present_answers::{PathReport, dual_from, path_from};
 use problem_file::ProblemFile;
 use report_text::{Report, text_of};
 use run_cells::Cells;
 use run_machine::{Act, Finding, Halt, Machine, Refusal, act_of, mark_left, refused};
 use run_setup::{Setup, overflow_at, select_again};
 use std::alloc::Global;
+use verb_answers::{PathReport, dual_from, path_from};
 
 /// A verb that follows a path.
 #[derive(Clone, Copy)]

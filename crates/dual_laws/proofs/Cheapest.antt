@@ -10,9 +10,9 @@ use Rattle.lp_definitions.specs.LinearProgram.{LinearProgram, size, IsVariable}
 use Rattle.lp_definitions.specs.Basis.{Tableau}
 use Rattle.lp_definitions.specs.declared.Status.{Status}
 use Rattle.lp_laws.proofs.Values.{clash}
-use Rattle.method_definitions.specs.DualRatio.{brings_back, ratio, is_cheapest, cheapest}
-use Rattle.path_laws.proofs.Numbered.{from_first, list_all_from}
-use Rattle.path_laws.proofs.Searches.{none_passes}
+use Rattle.simplex_definitions.specs.DualRatio.{brings_back, ratio, is_cheapest, cheapest}
+use Rattle.simplex_laws.proofs.Numbered.{from_first, list_all_from}
+use Rattle.simplex_laws.proofs.Searches.{none_passes}
 
 -- what is no greater than one number that is no greater than a second one
 no_greater : (a : Bool) (x y z : ℚ) → x ≤ℚ y → (not a || le_ℚ y z) ≡ true → (not a || le_ℚ x z) ≡ true

@@ -10,7 +10,7 @@ use Rattle.exact_values.proofs.Inverse.{div-mul_cancel, zero_or_not}
 use Rattle.exact_values.proofs.Order.{le_of_lt, le_by_one, le_by_two, lt_or_le, le_by_product}
 use Rattle.exact_values.proofs.Ring.{by_ring1, by_ring2, by_ring3, ◌⊕◌, ◌⊖◌, ◌⊗◌, ◌≐◌, number, opposite}
 use Rattle.exact_values.proofs.Tests_laws.{lt_from_test, test_from_lt}
-use Rattle.path_laws.proofs.Booleans.{betters_not, rises_right, falls_right}
+use Rattle.simplex_laws.proofs.Booleans.{betters_not, rises_right, falls_right}
 use Rattle.lp_definitions.specs.Basis.{is_in, basics_of, status_of, with_status, exchanged, IsBasic, IsNonbasic, AreRates, Tableau, IsTableau, objective_rate}
 use Rattle.lp_definitions.specs.LinearProgram.{LinearProgram, size, IsVariable, with_change_row, for_min}
 use Rattle.lp_definitions.specs.declared.Sense.{Sense}
@@ -21,12 +21,12 @@ use Rattle.lp_laws.proofs.Exchange.{AreRates-exchanged, was_nonbasic}
 use Rattle.lp_laws.proofs.Statuses.{basics_of-replaced, changed_own, changed_other}
 use Rattle.lp_laws.proofs.Values.{clash}
 use Rattle.lp_laws.specs.Rates.{exchanged_rate}
-use Rattle.method_definitions.specs.DualRatio.{brings_back, ratio}
-use Rattle.method_definitions.specs.Moves.{rises_from, falls_from, is_fixed, lowers, signed, may_rise, may_fall}
-use Rattle.method_definitions.specs.Path.{after, worth_rate, excess_rate}
-use Rattle.path_laws.specs.Laws.{IsNonsingularBasis}
-use Rattle.path_laws.proofs.OneTurn.{lowers_idle}
-use Rattle.path_laws.proofs.Steps.{signed_zero}
+use Rattle.simplex_definitions.specs.DualRatio.{brings_back, ratio}
+use Rattle.simplex_definitions.specs.Moves.{rises_from, falls_from, is_fixed, lowers, signed, may_rise, may_fall}
+use Rattle.simplex_definitions.specs.Path.{after, worth_rate, excess_rate}
+use Rattle.simplex_laws.specs.Laws.{IsNonsingularBasis}
+use Rattle.simplex_laws.proofs.OneTurn.{lowers_idle}
+use Rattle.simplex_laws.proofs.Steps.{signed_zero}
 use Rattle.dual_laws.proofs.Movers.{IsMover, is_mover}
 use Rattle.dual_laws.proofs.Magnitudes.{ratio_times, magnitude_least, magnitude_above, magnitude_below, magnitude-neg}
 

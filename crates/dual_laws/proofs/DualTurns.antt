@@ -9,20 +9,20 @@ use Rattle.lp_definitions.specs.LinearProgram.{LinearProgram, size, IsVariable, 
 use Rattle.lp_definitions.specs.Basis.{basics_of, Tableau, IsTableau, IsPointOf}
 use Rattle.lp_definitions.specs.declared.Status.{Status}
 use Rattle.lp_definitions.specs.declared.Status.TheVariants.{Ll, Ul}
-use Rattle.method_definitions.specs.Moves.{least, lowers, entering, is_below}
-use Rattle.method_definitions.specs.DualRatio.{brings_back, ratio, is_cheapest, cheapest}
-use Rattle.method_definitions.specs.Path.{PathEnding, EndsUnbounded, Turn, Moves, Ends, Move, after, turn, turn_for, crossed, outside, mover, bring_back, better, excess_rate, worth_rate, RuleStep, RuleEnd, EndsAt}
-use Rattle.method_definitions.specs.DualPath.{dual_for, dual_turn, HasRightPrices, IsWrongAt, IsDualStep, DualEndsAt}
-use Rattle.path_laws.specs.Laws.{IsNonsingularBasis}
-use Rattle.path_laws.proofs.Endless.{IsEntering, enters, lowering_enters}
-use Rattle.path_laws.proofs.Goes.{tableau_from}
-use Rattle.path_laws.proofs.Numbered.{list_all_true}
-use Rattle.path_laws.proofs.OnePath.{same_tableau}
-use Rattle.path_laws.proofs.OneTurn.{SameTableau, outside_same, below_same, back_same, better_same, worth_same, entering_same}
-use Rattle.path_laws.proofs.Rays.{broken_basic}
-use Rattle.path_laws.proofs.Searches.{least_none, none_passes, found_passes}
-use Rattle.path_laws.proofs.Steps.{LeadsTo, returned_leads}
-use Rattle.path_laws.proofs.Turns.{IsFirstPhase}
+use Rattle.simplex_definitions.specs.Moves.{least, lowers, entering, is_below}
+use Rattle.simplex_definitions.specs.DualRatio.{brings_back, ratio, is_cheapest, cheapest}
+use Rattle.simplex_definitions.specs.Path.{PathEnding, EndsUnbounded, Turn, Moves, Ends, Move, after, turn, turn_for, crossed, outside, mover, bring_back, better, excess_rate, worth_rate, RuleStep, RuleEnd, EndsAt}
+use Rattle.simplex_definitions.specs.DualPath.{dual_for, dual_turn, HasRightPrices, IsWrongAt, IsDualStep, DualEndsAt}
+use Rattle.simplex_laws.specs.Laws.{IsNonsingularBasis}
+use Rattle.simplex_laws.proofs.Endless.{IsEntering, enters, lowering_enters}
+use Rattle.simplex_laws.proofs.Goes.{tableau_from}
+use Rattle.simplex_laws.proofs.Numbered.{list_all_true}
+use Rattle.simplex_laws.proofs.OnePath.{same_tableau}
+use Rattle.simplex_laws.proofs.OneTurn.{SameTableau, outside_same, below_same, back_same, better_same, worth_same, entering_same}
+use Rattle.simplex_laws.proofs.Rays.{broken_basic}
+use Rattle.simplex_laws.proofs.Searches.{least_none, none_passes, found_passes}
+use Rattle.simplex_laws.proofs.Steps.{LeadsTo, returned_leads}
+use Rattle.simplex_laws.proofs.Turns.{IsFirstPhase}
 use Rattle.lp_laws.specs.Points.{standing}
 use Rattle.lp_laws.specs.Rates.{exchanged_rate, combination}
 use Rattle.lp_laws.proofs.Points.{IsPointOf-combination}

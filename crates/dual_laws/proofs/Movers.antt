@@ -4,10 +4,10 @@ use Rattle.exact_values.specs.Rational.{zero_ℚ}
 use Rattle.lp_definitions.specs.LinearProgram.{LinearProgram, Vector, IsVariable}
 use Rattle.lp_definitions.specs.Basis.{basics_of, IsNonbasic}
 use Rattle.lp_definitions.specs.declared.Status.{Status}
-use Rattle.method_definitions.specs.Moves.{lowers}
-use Rattle.path_laws.specs.Laws.{IsNonsingularBasis}
-use Rattle.path_laws.proofs.Endless.{lowering_enters}
-use Rattle.path_laws.proofs.Steps.{rate_apart as entering_apart}
+use Rattle.simplex_definitions.specs.Moves.{lowers}
+use Rattle.simplex_laws.specs.Laws.{IsNonsingularBasis}
+use Rattle.simplex_laws.proofs.Endless.{lowering_enters}
+use Rattle.simplex_laws.proofs.Steps.{rate_apart as entering_apart}
 
 -- a variable that lowers a quantity is nonbasic, and has a rate other than 0
 pub record IsMover (p : LinearProgram) (s : List Status) (f : Vector) (q : ℕ) : Type 0 where

@@ -5,15 +5,15 @@ use Rattle.exact_values.specs.Rational.{ℚ}
 use Rattle.lp_definitions.specs.LinearProgram.{LinearProgram, IsVariable, IsLinearProgram, lower_of, upper_of}
 use Rattle.lp_definitions.specs.Basis.{status_of, IsFixed, IsRightAt, Tableau, IsTableau}
 use Rattle.lp_definitions.specs.declared.Status.{Status}
-use Rattle.method_definitions.specs.Moves.{lowers}
-use Rattle.method_definitions.specs.Path.{PathEnding, last_of, mover, worth_rate}
-use Rattle.method_definitions.specs.DualPath.{dual_turn, HasRightPrices, IsWrongAt, IsDualStep, DualEndsAt, IsDualPath, DualPathEnds, DualGoesOnFor}
-use Rattle.path_laws.specs.Laws.{IsNonsingularBasis, HasTableau, SameEnds, RuleEndsWithin}
-use Rattle.path_laws.proofs.Ends.{rates_right}
-use Rattle.path_laws.proofs.Goes.{rule_ends_or_goes_on}
-use Rattle.path_laws.proofs.OnePath.{same_tableau, rule_path_leads, rule_one_step, rule_one_end, rule_step_or_end, rule_one_path, rule_not_both}
-use Rattle.path_laws.proofs.Searches.{least_none}
-use Rattle.path_laws.proofs.Booleans.{right_betters_not}
+use Rattle.simplex_definitions.specs.Moves.{lowers}
+use Rattle.simplex_definitions.specs.Path.{PathEnding, last_of, mover, worth_rate}
+use Rattle.simplex_definitions.specs.DualPath.{dual_turn, HasRightPrices, IsWrongAt, IsDualStep, DualEndsAt, IsDualPath, DualPathEnds, DualGoesOnFor}
+use Rattle.simplex_laws.specs.Laws.{IsNonsingularBasis, HasTableau, SameEnds, RuleEndsWithin}
+use Rattle.simplex_laws.proofs.Ends.{rates_right}
+use Rattle.simplex_laws.proofs.Goes.{rule_ends_or_goes_on}
+use Rattle.simplex_laws.proofs.OnePath.{same_tableau, rule_path_leads, rule_one_step, rule_one_end, rule_step_or_end, rule_one_path, rule_not_both}
+use Rattle.simplex_laws.proofs.Searches.{least_none}
+use Rattle.simplex_laws.proofs.Booleans.{right_betters_not}
 use Rattle.dual_laws.proofs.DualTurns.{dual_turn_same, dual_leads_to, keeps_right}
 
 pub dual_leads : (p : LinearProgram) (s next : List Status) → IsNonsingularBasis p s → IsDualStep p s next → IsNonsingularBasis p next

@@ -6,11 +6,11 @@ use Rattle.exact_values.specs.Tests.{le_ℚ, magnitude}
 use Rattle.lp_definitions.specs.LinearProgram.{LinearProgram, size, IsVariable, IsLinearProgram}
 use Rattle.lp_definitions.specs.Basis.{is_in, basics_of, IsBasis, IsNonbasic, Tableau}
 use Rattle.lp_definitions.specs.declared.Status.{Status}
-use Rattle.method_definitions.specs.Moves.{signed}
-use Rattle.method_definitions.specs.Path.{excess_rate}
-use Rattle.method_definitions.specs.DualRatio.{brings_back, ratio, is_cheapest, cheapest}
-use Rattle.path_laws.proofs.Numbered.{find_same, list_all_same}
-use Rattle.path_laws.proofs.OneTurn.{SameTableau, lowers_idle, lowers_same}
+use Rattle.simplex_definitions.specs.Moves.{signed}
+use Rattle.simplex_definitions.specs.Path.{excess_rate}
+use Rattle.simplex_definitions.specs.DualRatio.{brings_back, ratio, is_cheapest, cheapest}
+use Rattle.simplex_laws.proofs.Numbered.{find_same, list_all_same}
+use Rattle.simplex_laws.proofs.OneTurn.{SameTableau, lowers_idle, lowers_same}
 
 module _ (p : LinearProgram) (s : List Status) (t u : Tableau) (lawful : IsLinearProgram p) (basis : IsBasis p s) (same : SameTableau p s t u)
     (r : ℕ) (is_r : IsVariable p.matrix r) (below : Bool) where

@@ -5,9 +5,9 @@ use Rattle.exact_values.specs.Rational.{ℚ}
 use Rattle.lp_definitions.specs.LinearProgram.{LinearProgram, IsVariable, IsLinearProgram}
 use Rattle.lp_definitions.specs.Basis.{status_of, IsFixed, IsRightAt, Tableau, IsTableau}
 use Rattle.lp_definitions.specs.declared.Status.{Status}
-use Rattle.method_definitions.specs.Path.{PathEnding, EndsUnbounded, EndsAt, last_of, mover, worth_rate}
-use Rattle.method_definitions.specs.DualPath.{dual_turn, HasRightPrices, IsWrongAt, IsDualStep, DualEndsAt, IsDualPath, DualPathEnds, DualGoesOnFor}
-use Rattle.path_laws.specs.Laws.{IsNonsingularBasis, HasTableau, SameEnds, RuleEndsWithin}
+use Rattle.simplex_definitions.specs.Path.{PathEnding, EndsUnbounded, EndsAt, last_of, mover, worth_rate}
+use Rattle.simplex_definitions.specs.DualPath.{dual_turn, HasRightPrices, IsWrongAt, IsDualStep, DualEndsAt, IsDualPath, DualPathEnds, DualGoesOnFor}
+use Rattle.simplex_laws.specs.Laws.{IsNonsingularBasis, HasTableau, SameEnds, RuleEndsWithin}
 
 pub record DualLaws : Type 0 where
   -- a step leads to a basis, and the prices of that are right again; and so it is along a path

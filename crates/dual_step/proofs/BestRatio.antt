@@ -11,13 +11,13 @@ use Rattle.lp_definitions.specs.LinearProgram.{LinearProgram, Vector, size, vari
 use Rattle.lp_definitions.specs.declared.Evidence.{Evidence}
 use Rattle.lp_definitions.specs.declared.Status.{Status}
 use Rattle.lp_laws.proofs.Values.{clash}
-use Rattle.method_definitions.specs.Moves.{is_no_later, signed, may_rise, may_fall}
-use Rattle.path_laws.proofs.Numbered.{find_first, list_all_from, list_all_true}
-use Rattle.path_laws.proofs.Searches.{least_none}
+use Rattle.simplex_definitions.specs.Moves.{is_no_later, signed, may_rise, may_fall}
+use Rattle.simplex_laws.proofs.Numbered.{find_first, list_all_from, list_all_true}
+use Rattle.simplex_laws.proofs.Searches.{least_none}
 use Rattle.basis_values.specs.Formulas.{IsRefusal}
 use Rattle.basis_values.specs.Reach.{IsNearest, sooner}
 use Rattle.basis_values.proofs.Nearest.{next_nearest}
-use Rattle.path_laws.proofs.Steps.{signed_zero}
+use Rattle.simplex_laws.proofs.Steps.{signed_zero}
 use Rattle.dual_step.specs.Cheapest.{brings, ratio_of, cheapest_by, ratio_if, ratio_at, reach_by, IsCandidate, IsBest, ratio_formula, KeptRefused, of_best, of_other, SomeRatioRefused}
 use Rattle.dual_step.specs.declared.ratios.Candidate.{Candidate}
 

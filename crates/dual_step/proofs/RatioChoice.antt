@@ -10,11 +10,11 @@ use Rattle.lp_definitions.specs.declared.Change.{Change}
 use Rattle.lp_definitions.specs.declared.Status.{Status}
 use Rattle.lp_laws.proofs.Uniqueness.{one_table}
 use Rattle.lp_model.specs.RatesCalls.{IsRowOf}
-use Rattle.method_definitions.specs.DualRatio.{brings_back, ratio, cheapest}
-use Rattle.method_definitions.specs.Moves.{lowers, signed}
-use Rattle.path_laws.proofs.Numbered.{find_same, list_all_same}
-use Rattle.path_laws.proofs.OneTurn.{lowers_idle}
-use Rattle.path_laws.specs.Laws.{IsNonsingularBasis}
+use Rattle.simplex_definitions.specs.DualRatio.{brings_back, ratio, cheapest}
+use Rattle.simplex_definitions.specs.Moves.{lowers, signed}
+use Rattle.simplex_laws.proofs.Numbered.{find_same, list_all_same}
+use Rattle.simplex_laws.proofs.OneTurn.{lowers_idle}
+use Rattle.simplex_laws.specs.Laws.{IsNonsingularBasis}
 use Rattle.dual_step.specs.Cheapest.{brings, ratio_of, cheapest_by}
 
 module _ (p : LinearProgram) (s : List Status) (lawful : IsLinearProgram p) (no_change : p.change ≡ None) (at : IsNonsingularBasis p s) (prices row : Vector) (priced : ArePricesOf p s prices) (r : ℕ) (r_is : IsVariable p.matrix r)

@@ -16,12 +16,12 @@ use Rattle.lp_laws.proofs.Uniqueness.{one_direction}
 use Rattle.lp_laws.proofs.Values.{clash}
 use Rattle.lp_laws.proofs.WaypointLaws.{within_itself}
 use Rattle.lp_model.specs.RatesCalls.{IsRowOf}
-use Rattle.method_definitions.specs.Evidence.{by_ratio, names_waypoint, IsLeaver, GoesTo, TakesStep, IsOfMove}
-use Rattle.method_definitions.specs.Formulas.{PointFormula, f6, f7, RatioFormula, f14, number_of_limit}
-use Rattle.method_definitions.specs.Moves.{signed}
-use Rattle.method_definitions.specs.Path.{Move}
-use Rattle.method_definitions.specs.Statements.{SolvingStatement, is_between, belongs, thetas_of, program_at, MovesAt, EntersAt, BringsAt}
-use Rattle.path_laws.specs.Laws.{IsNonsingularBasis}
+use Rattle.simplex_definitions.specs.Evidence.{by_ratio, names_waypoint, IsLeaver, GoesTo, TakesStep, IsOfMove}
+use Rattle.simplex_definitions.specs.Formulas.{PointFormula, f6, f7, RatioFormula, f14, number_of_limit}
+use Rattle.simplex_definitions.specs.Moves.{signed}
+use Rattle.simplex_definitions.specs.Path.{Move}
+use Rattle.simplex_definitions.specs.Statements.{SolvingStatement, is_between, belongs, thetas_of, program_at, MovesAt, EntersAt, BringsAt}
+use Rattle.simplex_laws.specs.Laws.{IsNonsingularBasis}
 use Rattle.basis_values.specs.Calls.{StopsAt, job_of, is_of_point, PointRefused}
 use Rattle.basis_values.proofs.Existence.{rates_exist}
 use Rattle.basis_values.proofs.Refusals.{stops_at_basis}

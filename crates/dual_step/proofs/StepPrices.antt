@@ -15,8 +15,8 @@ use Rattle.lp_laws.proofs.Idle.{right_nothing, right_difference}
 use Rattle.lp_laws.proofs.Statuses.{basics_of-replaced}
 use Rattle.lp_laws.specs.Rates.{exchanged_rate}
 use Rattle.lp_model.specs.RatesCalls.{IsRowOf}
-use Rattle.method_definitions.specs.Path.{after}
-use Rattle.path_laws.specs.Laws.{IsNonsingularBasis}
+use Rattle.simplex_definitions.specs.Path.{after}
+use Rattle.simplex_laws.specs.Laws.{IsNonsingularBasis}
 use Rattle.dual_step.specs.Prices.{ArePricesOver}
 use Rattle.dual_step.proofs.RatioChoice.{row_at, price_at}
 

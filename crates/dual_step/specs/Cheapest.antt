@@ -17,7 +17,7 @@ use Rattle.frac128.specs.declared.Op.TheVariants.{Div}
 use Rattle.lp_definitions.specs.LinearProgram.{LinearProgram, Vector, IsVariable, variables}
 use Rattle.lp_definitions.specs.declared.Evidence.{Evidence}
 use Rattle.lp_definitions.specs.declared.Status.{Status}
-use Rattle.method_definitions.specs.Moves.{least, lowers, signed}
+use Rattle.simplex_definitions.specs.Moves.{least, lowers, signed}
 use Rattle.basis_values.specs.Formulas.{IsRefusal}
 use Rattle.basis_values.specs.Reach.{IsNearest}
 use Rattle.basis_values.specs.declared.formula.Formula.{Formula}

@@ -11,9 +11,9 @@ use Rattle.lp_definitions.specs.Solutions.{IsFeasible, AreProvingPrices}
 use Rattle.lp_definitions.specs.declared.Change.{Change}
 use Rattle.lp_laws.specs.Vectors.{along}
 use Rattle.lp_laws.proofs.Duality.{best_by_prices}
-use Rattle.changed_programs.proofs.MovedLimits.{moved}
-use Rattle.changed_programs.proofs.Signs.{for_min-add}
-use Rattle.sweep_laws.specs.Truth.{IsSolvedBy}
+use Rattle.sensitivity_laws.proofs.MovedLimits.{moved}
+use Rattle.sensitivity_laws.proofs.Signs.{for_min-add}
+use Rattle.parametric_laws.specs.Truth.{IsSolvedBy}
 use Rattle.interval_laws.specs.Laws.{StandAtBoth}
 use Rattle.interval_laws.proofs.Affine.{same_between, positive_at, negative_at}
 use Rattle.interval_laws.proofs.Limits.{above_between, below_between, stands_between}

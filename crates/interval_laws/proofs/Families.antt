@@ -4,11 +4,11 @@ use Rattle.std.specs.Prelude.{Option, Some, None}
 use Rattle.exact_values.specs.Rational.{ℚ, zero_ℚ, ◌+ℚ◌, ◌*ℚ◌}
 use Rattle.exact_values.proofs.Ring.{by_ring2, number, ◌⊕◌, ◌⊗◌, ◌≐◌}
 use Rattle.lp_definitions.specs.LinearProgram.{LinearProgram, value_at, IsRow, HasNoLimits, IsLinearProgram, entry, cost, lower_of, upper_of}
-use Rattle.method_definitions.specs.ObjectiveRun.{objective_family}
-use Rattle.method_definitions.specs.RhsRun.{shift_of, shifted, rhs_family}
-use Rattle.changed_programs.proofs.MovedLimits.{moved, lower_is, upper_is}
-use Rattle.sweep_laws.proofs.OneObjective.{lawful_objective}
-use Rattle.sweep_laws.proofs.OneRhs.{lawful_rhs}
+use Rattle.simplex_definitions.specs.ObjectiveRun.{objective_family}
+use Rattle.simplex_definitions.specs.RhsRun.{shift_of, shifted, rhs_family}
+use Rattle.sensitivity_laws.proofs.MovedLimits.{moved, lower_is, upper_is}
+use Rattle.parametric_laws.proofs.OneObjective.{lawful_objective}
+use Rattle.parametric_laws.proofs.OneRhs.{lawful_rhs}
 use Rattle.interval_laws.specs.Laws.{HoldsBetween, BetweenLaws}
 use Rattle.interval_laws.proofs.Between.{IsLinearIn, solved_between}
 

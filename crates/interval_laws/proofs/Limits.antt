@@ -3,7 +3,7 @@ use Rattle.std.proofs.Common.{◌≡◌, ap}
 use Rattle.std.specs.Prelude.{Option, Some, None, IfSome}
 use Rattle.std.proofs.lemmas.Option.{same_Some}
 use Rattle.exact_values.specs.Rational.{ℚ, ◌+ℚ◌, ◌*ℚ◌, ◌≤ℚ◌}
-use Rattle.changed_programs.proofs.MovedLimits.{moved}
+use Rattle.sensitivity_laws.proofs.MovedLimits.{moved}
 use Rattle.interval_laws.proofs.Affine.{le_between, same_between}
 
 module _ (from x to : ℚ) (after : from ≤ℚ x) (before : x ≤ℚ to) (v r slope : ℚ) where

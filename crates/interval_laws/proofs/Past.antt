@@ -11,11 +11,11 @@ use Rattle.lp_definitions.specs.LinearProgram.{LinearProgram, Vector, size, valu
 use Rattle.lp_definitions.specs.Solutions.{IsRay, limit_against, ProvesUnbounded}
 use Rattle.lp_laws.proofs.Duality.{infeasible_by_ray, unbounded_by_direction}
 use Rattle.lp_laws.proofs.Rays.{limit_of_positive, limit_of_negative}
-use Rattle.method_definitions.specs.ObjectiveRun.{objective_family}
-use Rattle.method_definitions.specs.RhsRun.{shift_of, rhs_family}
-use Rattle.changed_programs.proofs.MovedLimits.{moved, lower_is, upper_is}
-use Rattle.changed_programs.proofs.Signs.{for_min-add}
-use Rattle.sweep_laws.specs.Truth.{IsEndlessBy, IsRefutedBy}
+use Rattle.simplex_definitions.specs.ObjectiveRun.{objective_family}
+use Rattle.simplex_definitions.specs.RhsRun.{shift_of, rhs_family}
+use Rattle.sensitivity_laws.proofs.MovedLimits.{moved, lower_is, upper_is}
+use Rattle.sensitivity_laws.proofs.Signs.{for_min-add}
+use Rattle.parametric_laws.specs.Truth.{IsEndlessBy, IsRefutedBy}
 use Rattle.interval_laws.specs.Laws.{ClosesUnbounded, ClosesInfeasible, PastLaws}
 
 -- what isn't positive at t and falls is negative past t

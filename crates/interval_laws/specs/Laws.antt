@@ -10,10 +10,10 @@ use Rattle.exact_values.specs.Rational.{ℚ, zero_ℚ, ◌+ℚ◌, ◌*ℚ◌, �
 use Rattle.exact_values.specs.Sums.{sum_up_to}
 use Rattle.lp_definitions.specs.LinearProgram.{LinearProgram, Vector, value_at, size, IsRow, IsColumn, IsVariable, KeepsEquations, lower_of, upper_of, entry, for_min, HasNoLimits, IsLinearProgram}
 use Rattle.lp_definitions.specs.Solutions.{IsFeasible, limit_against}
-use Rattle.method_definitions.specs.Chain.{Part, along}
-use Rattle.method_definitions.specs.ObjectiveRun.{objective_family}
-use Rattle.method_definitions.specs.RhsRun.{rhs_family}
-use Rattle.sweep_laws.specs.Truth.{IsSolvedBy, IsTruePart, IsEndlessBy, IsRefutedBy}
+use Rattle.simplex_definitions.specs.Chain.{Part, along}
+use Rattle.simplex_definitions.specs.ObjectiveRun.{objective_family}
+use Rattle.simplex_definitions.specs.RhsRun.{rhs_family}
+use Rattle.parametric_laws.specs.Truth.{IsSolvedBy, IsTruePart, IsEndlessBy, IsRefutedBy}
 
 -- ---- between the ends of an interval
 

@@ -8,8 +8,8 @@ use Rattle.exact_values.specs.Rational.{ℚ, ◌≤ℚ◌, ◌<ℚ◌}
 use Rattle.exact_values.proofs.Order.{lt_not_le, le_of_lt, lt_or_le}
 use Rattle.lp_definitions.specs.LinearProgram.{LinearProgram, IsLinearProgram, variables}
 use Rattle.check_definitions.specs.declared.Verdict.{Verdict}
-use Rattle.method_definitions.specs.Chain.{Part, ChainEnd as PastBreak}
-use Rattle.sweep_laws.specs.Truth.{IsTruePart, AreJoined, last_end, IsCovered, IsTrueEnd, IsTrueRun}
+use Rattle.simplex_definitions.specs.Chain.{Part, ChainEnd as PastBreak}
+use Rattle.parametric_laws.specs.Truth.{IsTruePart, AreJoined, last_end, IsCovered, IsTrueEnd, IsTrueRun}
 use Rattle.interval_laws.specs.Laws.{BetweenLaws, PastLaws}
 use Rattle.listing_definitions.specs.Report.{Line, Interval, ChainEnd}
 use Rattle.listing_definitions.specs.Numbers.{digits, rational_text}

@@ -10,10 +10,10 @@ use Rattle.check_definitions.specs.Steps.{verdict_of, in_turn, sum_steps, sum_of
 use Rattle.check_definitions.specs.Checks.{equations, feasible_point, ray_columns, multiplied, limit_product, ray_limits, free_direction}
 use Rattle.certificate_check.proofs.Meaning.{keeps_if_checked, feasible_if_checked, vanishes_if_checked, free_if_checked, meets_if_checked, sum_of_met}
 use Rattle.certificate_check.proofs.Products.{sum_of-all}
-use Rattle.method_definitions.specs.ObjectiveRun.{objective_family}
-use Rattle.method_definitions.specs.RhsRun.{rhs_family}
-use Rattle.sweep_laws.specs.Truth.{IsEndlessBy, IsRefutedBy, IsProvedPast, IsTrueEnd}
-use Rattle.sweep_laws.proofs.OneRhs.{lawful_rhs}
+use Rattle.simplex_definitions.specs.ObjectiveRun.{objective_family}
+use Rattle.simplex_definitions.specs.RhsRun.{rhs_family}
+use Rattle.parametric_laws.specs.Truth.{IsEndlessBy, IsRefutedBy, IsProvedPast, IsTrueEnd}
+use Rattle.parametric_laws.proofs.OneRhs.{lawful_rhs}
 use Rattle.interval_laws.specs.Laws.{ClosesUnbounded, ClosesInfeasible, PastLaws}
 use Rattle.problem_definitions.specs.Names.{Name}
 use Rattle.listing_definitions.specs.Report.{Line, ChainEnd, EndsAt, UnboundedPast, InfeasiblePast}

@@ -15,8 +15,8 @@ use Rattle.check_definitions.specs.declared.Verdict.TheVariants.{Checked}
 use Rattle.check_definitions.specs.Steps.{Step, verdict_of}
 use Rattle.check_definitions.specs.Checks.{is_at, by_sign, optimal_check}
 use Rattle.check_definitions.proofs.Passing.{checked-append, holds_if_checked, each_checked as checked_at}
-use Rattle.method_definitions.specs.Chain.{Part, along}
-use Rattle.sweep_laws.specs.Truth.{IsSolvedBy, IsTruePart}
+use Rattle.simplex_definitions.specs.Chain.{Part, along}
+use Rattle.parametric_laws.specs.Truth.{IsSolvedBy, IsTruePart}
 use Rattle.interval_laws.specs.Laws.{StandAtBoth, IsProvedAtEnds, HoldsBetween, BetweenLaws, point_at, prices_at}
 use Rattle.question_definitions.specs.Answers.{Sheet, Changing, Row, Set}
 use Rattle.answer_definitions.specs.Sweeps.{row_of, shifts_of, family_of}

@@ -2,8 +2,8 @@
 use Rattle.std.proofs.Common.{◌≡◌, ℕ, List, [], ◌∷◌, Option, Some, None, subst}
 use Rattle.exact_values.specs.Rational.{ℚ}
 use Rattle.lp_definitions.specs.LinearProgram.{IsLinearProgram}
-use Rattle.sweep_laws.proofs.OneObjective.{lawful_objective}
-use Rattle.sweep_laws.proofs.OneRhs.{lawful_rhs}
+use Rattle.parametric_laws.proofs.OneObjective.{lawful_objective}
+use Rattle.parametric_laws.proofs.OneRhs.{lawful_rhs}
 use Rattle.check_definitions.specs.declared.Verdict.{Verdict}
 use Rattle.check_definitions.specs.Steps.{verdict_of, in_turn}
 use Rattle.listing_definitions.specs.declared.Solver.{Solver}

@@ -7,7 +7,7 @@ use Rattle.check_definitions.specs.declared.Verdict.TheVariants.{Checked}
 use Rattle.check_definitions.specs.Steps.{verdict_of}
 use Rattle.check_definitions.specs.Checks.{equations, reduced_costs, optimal_check}
 use Rattle.certificate_check.proofs.Meaning.{optimal_if_checked}
-use Rattle.sweep_laws.specs.Truth.{IsSolvedBy}
+use Rattle.parametric_laws.specs.Truth.{IsSolvedBy}
 use Rattle.listing_definitions.specs.declared.Mark.TheVariants.{Optimal}
 use Rattle.listing_definitions.specs.Report.{SolutionLines}
 use Rattle.question_definitions.specs.Answers.{Sheet, OfSolution}

@@ -7,7 +7,7 @@ use Rattle.exact_values.specs.Rational.{ℚ, zero_ℚ}
 use Rattle.exact_values.specs.Tests.{eq_ℚ}
 use Rattle.exact_values.proofs.Tests_laws.{test_from_same}
 use Rattle.lp_definitions.specs.LinearProgram.{Vector, value_at, size, numbers_from, variables}
-use Rattle.path_laws.proofs.Ends.{value_at-listed}
+use Rattle.simplex_laws.proofs.Ends.{value_at-listed}
 use Rattle.listing_definitions.specs.Report.{Value, Number, Line}
 use Rattle.question_definitions.specs.Answers.{Sheet}
 use Rattle.answer_definitions.specs.Lines.{lines_of, pair_lines, ray_lines}

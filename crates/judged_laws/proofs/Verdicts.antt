@@ -15,7 +15,7 @@ use Rattle.listing_definitions.specs.declared.Solver.TheVariants.{Dual}
 use Rattle.listing_definitions.specs.Report.{Line, PathVerdict, OptimalAt, CrossedAt, InfeasibleBy, UnboundedBy, Check}
 use Rattle.question_definitions.specs.Answers.{Basis, Sheet, OfPath, Reached, PathEnd}
 use Rattle.answer_definitions.specs.Lines.{pair_lines, ray_lines}
-use Rattle.run_laws.specs.Truth.{AreLinesOfRay, AreLinesOfDirection, IsNotUnbounded}
+use Rattle.soundness_laws.specs.Truth.{AreLinesOfRay, AreLinesOfDirection, IsNotUnbounded}
 use Rattle.walk_definitions.specs.Tables.{multipliers, column_of}
 use Rattle.walk_definitions.specs.Tests.{asked, says_checked, claim_test, verdict_test}
 use Rattle.walk_definitions.specs.Reading.{Claim, Right, judged, tested, verdict_in}

@@ -3,14 +3,14 @@
 --     JudgedLaws                   what passed its test says the truth
 use Rattle.std.specs.Prelude.{◌≡◌, ℕ, List, Option, None, map}
 use Rattle.lp_definitions.specs.LinearProgram.{IsLinearProgram}
-use Rattle.sweep_laws.specs.Truth.{IsSolvedBy, IsTrueRun}
+use Rattle.parametric_laws.specs.Truth.{IsSolvedBy, IsTrueRun}
 use Rattle.listing_definitions.specs.declared.Mark.TheVariants.{Optimal}
 use Rattle.listing_definitions.specs.declared.Solver.{Solver}
 use Rattle.listing_definitions.specs.declared.Solver.TheVariants.{Dual}
 use Rattle.listing_definitions.specs.Report.{PathVerdict, OptimalAt, Check, SolutionLines, Interval, ChainEnd}
 use Rattle.question_definitions.specs.Answers.{Basis, Sheet, Sweep, OfPath, OfSolution, OfSweep, Reached, Opening, Chained}
 use Rattle.answer_definitions.specs.Sweeps.{family_of, sheet_at}
-use Rattle.run_laws.specs.Truth.{IsTrueOf, IsNotUnbounded}
+use Rattle.soundness_laws.specs.Truth.{IsTrueOf, IsNotUnbounded}
 use Rattle.walk_definitions.specs.Tests.{point_of, prices_of}
 use Rattle.walk_definitions.specs.Reading.{Right, judged}
 use Rattle.judged_laws.specs.Shown.{part_of, past_of, MayChange, IsTrueAtFirst}

@@ -8,12 +8,12 @@ use Rattle.std.specs.Prelude.{◌≡◌, List, []}
 use Rattle.exact_values.specs.Rational.{ℚ}
 use Rattle.lp_definitions.specs.LinearProgram.{IsRow, HasNoLimits, value_at}
 use Rattle.lp_definitions.specs.Solutions.{IsCrossed, ProvesUnbounded, IsInfeasible, IsUnbounded}
-use Rattle.method_definitions.specs.Chain.{Part, ChainEnd as PastBreak, AtMax, UnboundedPast as PastUnbounded, InfeasiblePast as PastInfeasible}
+use Rattle.simplex_definitions.specs.Chain.{Part, ChainEnd as PastBreak, AtMax, UnboundedPast as PastUnbounded, InfeasiblePast as PastInfeasible}
 use Rattle.listing_definitions.specs.Report.{Line, PathVerdict, OptimalAt, CrossedAt, InfeasibleBy, UnboundedBy, Interval, ChainEnd, EndsAt, UnboundedPast, InfeasiblePast}
 use Rattle.question_definitions.specs.Answers.{Sheet, Changing, Row, Set}
 use Rattle.answer_definitions.specs.Lines.{pair_lines}
 use Rattle.answer_definitions.specs.Sweeps.{row_of}
-use Rattle.run_laws.specs.Truth.{AreLinesOfRay}
+use Rattle.soundness_laws.specs.Truth.{AreLinesOfRay}
 use Rattle.walk_definitions.specs.Tables.{column_of, multipliers}
 
 abbrev pub part_of : Interval → Part

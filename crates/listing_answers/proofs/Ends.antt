@@ -11,7 +11,7 @@ use Rattle.lp_laws.proofs.Opening.{length-numbers_from, numbers_from-at}
 use Rattle.check_definitions.specs.declared.Verdict.TheVariants.{Checked}
 use Rattle.check_definitions.specs.Steps.{Step, verdict_of}
 use Rattle.check_definitions.specs.Checks.{optimal_check}
-use Rattle.method_definitions.specs.Chain.{along}
+use Rattle.simplex_definitions.specs.Chain.{along}
 use Rattle.listing_definitions.specs.Report.{Interval}
 use Rattle.question_definitions.specs.Answers.{Sheet, Changing}
 use Rattle.answer_definitions.specs.Sweeps.{family_of}

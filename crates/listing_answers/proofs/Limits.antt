@@ -9,7 +9,7 @@ use Rattle.lp_definitions.specs.LinearProgram.{LinearProgram, Matrix, numbers_fr
 use Rattle.lp_laws.proofs.Opening.{numbers_from-append}
 use Rattle.check_definitions.specs.Steps.{Step, verdict_of, sum_steps}
 use Rattle.check_definitions.specs.declared.Verdict.TheVariants.{Checked}
-use Rattle.method_definitions.specs.RhsRun.{shift_of}
+use Rattle.simplex_definitions.specs.RhsRun.{shift_of}
 use Rattle.question_definitions.specs.Answers.{Sheet}
 use Rattle.walk_definitions.specs.Tests.{moving_steps}
 use Rattle.listing_answers.specs.declared.answer.Stop.{Stop}

@@ -11,7 +11,7 @@ use Rattle.exact_values.specs.Rational.{ℚ}
 use Rattle.lp_definitions.specs.LinearProgram.{LinearProgram, IsVariable, size, variables, value_at}
 use Rattle.check_definitions.specs.declared.Verdict.{Verdict}
 use Rattle.check_definitions.specs.Steps.{Step}
-use Rattle.method_definitions.specs.Chain.{along}
+use Rattle.simplex_definitions.specs.Chain.{along}
 use Rattle.listing_definitions.specs.Numbers.{digits, rational_text}
 use Rattle.listing_definitions.specs.Report.{Line, Interval}
 use Rattle.question_definitions.specs.Answers.{Sheet, Changing}

@@ -10,8 +10,8 @@ use Rattle.lp_definitions.specs.LinearProgram.{LinearProgram, value_at, variable
 use Rattle.check_definitions.specs.declared.Verdict.{Verdict}
 use Rattle.check_definitions.specs.declared.Verdict.TheVariants.{Checked}
 use Rattle.check_definitions.specs.Steps.{Step}
-use Rattle.method_definitions.specs.Chain.{along}
-use Rattle.method_definitions.specs.RhsRun.{shift_of}
+use Rattle.simplex_definitions.specs.Chain.{along}
+use Rattle.simplex_definitions.specs.RhsRun.{shift_of}
 use Rattle.question_definitions.specs.Answers.{Sheet}
 use Rattle.answer_definitions.specs.Lines.{row_numbers}
 use Rattle.walk_definitions.specs.Tests.{moving_steps}

@@ -10,7 +10,7 @@ use Rattle.lp_definitions.specs.LinearProgram.{LinearProgram, Vector, value_at, 
 use Rattle.lp_definitions.specs.Basis.{is_basic, status_of}
 use Rattle.lp_definitions.specs.declared.Status.{Status}
 use Rattle.lp_definitions.specs.declared.Status.TheVariants.{Bs, Ll, Ul, Fr}
-use Rattle.method_definitions.specs.Moves.{is_fixed, is_outside}
+use Rattle.simplex_definitions.specs.Moves.{is_fixed, is_outside}
 use Rattle.problem_definitions.specs.Names.{Name, name_at}
 use Rattle.problem_definitions.specs.Problem.{Problem, row_names, group_names}
 use Rattle.listing_definitions.specs.declared.At.{At}

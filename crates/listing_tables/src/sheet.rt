@@ -2,7 +2,7 @@
 ghost use Rattle.std.specs.Prelude.{◌≡◌, ◌≤◌, ◌-◌, None, false, not, length};
 ghost use Rattle.lp_definitions.specs.LinearProgram.{IsVariable, IsColumn, size, value_at, on_row, cost};
 ghost use Rattle.lp_definitions.specs.Basis.{is_basic, status_of};
-ghost use Rattle.method_definitions.specs.Moves.{is_fixed, is_below, is_above, is_outside};
+ghost use Rattle.simplex_definitions.specs.Moves.{is_fixed, is_below, is_above, is_outside};
 ghost use Rattle.exact_values.specs.Tests.{lt_ℚ};
 ghost use Rattle.listing_tables.specs.Lines.{name_of, at_by, at_of, stands_between};
 ghost use Rattle.listing_tables.specs.Sheets.{IsSheet};

@@ -6,12 +6,12 @@ use Rattle.job_devices.specs.Causes.{Rose}
 use Rattle.answer_definitions.specs.Real.{linear_programming}
 use Rattle.deck_definitions.specs.Transport.{made_job}
 use Rattle.run_definitions.specs.Answer.{Job, WithoutBytes, Read, Made, Failures, words_refused, memory_at_start, IsAnswered}
-use Rattle.run_laws.specs.Headline.{IsTrueAnswer}
-use Rattle.run_laws.proofs.Runs.{knows_linear_programming, answer_holds}
-use Rattle.run_functions.specs.Laws.{IsFunction}
-use Rattle.run_functions.specs.Complete.{IsComplete, IsDecided}
-use Rattle.run_functions.proofs.Runs.{is_function, answers_once}
-use Rattle.run_functions.proofs.Complete.{answer_is_complete, answer_is_decided}
+use Rattle.soundness_laws.specs.Headline.{IsTrueAnswer}
+use Rattle.soundness_laws.proofs.Runs.{knows_linear_programming, answer_holds}
+use Rattle.determinism_laws.specs.Laws.{IsFunction}
+use Rattle.determinism_laws.specs.Complete.{IsComplete, IsDecided}
+use Rattle.determinism_laws.proofs.Runs.{is_function, answers_once}
+use Rattle.determinism_laws.proofs.Complete.{answer_is_complete, answer_is_decided}
 use Rattle.command_line.specs.declared.request.Request.{Request}
 use Rattle.command_line.specs.declared.request.Request.TheVariants as request
 use Rattle.control_run.specs.declared.status.Status.{Status}

@@ -22,7 +22,7 @@ use Rattle.question_definitions.specs.Solving.{Solving, IsRight}
 use Rattle.run_definitions.specs.State.{Present, State}
 use Rattle.run_definitions.specs.Moves.{Gain, Prints, printed_by, Outcome, Goes, Ends, gain_of, stops, Refusals, Move, Does, MayStop, Asks, Gives, or_fault}
 use Rattle.run_definitions.specs.Verbs.{or_deck_fault, or_selection_fault, selects, demanded, by_verdict}
-use Rattle.run_functions.specs.Laws.{IsOverflowStop}
+use Rattle.determinism_laws.specs.Laws.{IsOverflowStop}
 use Rattle.walk_laws.specs.Proved.{attested, Says}
 use Rattle.one_story_laws.specs.Story.{TellsSame, TellSame}
 

@@ -19,11 +19,11 @@ use Rattle.run_definitions.specs.Moves.{Gain, printed_by, punched_by, Outcome, E
 use Rattle.run_definitions.specs.Verbs.{verb_move}
 use Rattle.run_definitions.specs.Run.{max_executed, counted, Step, IsOver, at_end, at_limit, Reaches, begun, stepped, is_over, is_ended}
 use Rattle.run_definitions.specs.Answer.{job_decks, IsProgramOf, card_fault, control_fault, run}
-use Rattle.run_laws.specs.Headline.{HoldSoFar}
-use Rattle.run_laws.proofs.Moves.{HasProblem}
-use Rattle.run_laws.proofs.Filed.{job_reaching}
-use Rattle.run_functions.specs.Laws.{IsOverflow, HasEvidence}
-use Rattle.run_functions.proofs.Stops.{statement_evidence}
+use Rattle.soundness_laws.specs.Headline.{HoldSoFar}
+use Rattle.soundness_laws.proofs.Moves.{HasProblem}
+use Rattle.soundness_laws.proofs.Filed.{job_reaching}
+use Rattle.determinism_laws.specs.Laws.{IsOverflow, HasEvidence}
+use Rattle.determinism_laws.proofs.Stops.{statement_evidence}
 use Rattle.walk_definitions.specs.Forms.{is_ranges, is_punched}
 use Rattle.walk_definitions.specs.Walker.{Walker, Found, Attested, Unchecked, Turn, Finds, open_if, open_stop, open_pending, is_inserted_by, open_question, opened, refuses_selection, unless_found, closes, due, walk_move, walk_statement, turn}
 use Rattle.walk_definitions.specs.Found.{Comes, first_walker, of_cards, of_control, of_walk}

@@ -10,8 +10,8 @@ use Rattle.std.proofs.lemmas.List.Elements.{All-head, All-tail, All-contains}
 use Rattle.exact_values.specs.Rational.{ℚ, ◌≤ℚ◌, ◌<ℚ◌}
 use Rattle.exact_values.proofs.Order.{le_refl, le_trans, le_of_eq, le_antisymm, lt_not_le, lt_or_le}
 use Rattle.lp_definitions.specs.LinearProgram.{LinearProgram}
-use Rattle.method_definitions.specs.Chain.{Part, ChainEnd as PastBreak, AtMax, UnboundedPast as PastUnbounded, InfeasiblePast as PastInfeasible, along}
-use Rattle.sweep_laws.specs.Truth.{IsTruePart, AreJoined, last_end, IsProvedPast, IsTrueEnd, IsTrueRun}
+use Rattle.simplex_definitions.specs.Chain.{Part, ChainEnd as PastBreak, AtMax, UnboundedPast as PastUnbounded, InfeasiblePast as PastInfeasible, along}
+use Rattle.parametric_laws.specs.Truth.{IsTruePart, AreJoined, last_end, IsProvedPast, IsTrueEnd, IsTrueRun}
 use Rattle.listing_definitions.specs.declared.Mark.{Mark}
 use Rattle.listing_definitions.specs.declared.Mark.TheVariants.{Optimal, Infeasible, Unbounded}
 use Rattle.listing_definitions.specs.Report.{ChainEnd, EndsAt, UnboundedPast, InfeasiblePast}

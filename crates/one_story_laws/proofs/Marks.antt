@@ -9,14 +9,14 @@ use Rattle.lp_definitions.specs.declared.Sense.{Sense}
 use Rattle.lp_definitions.specs.declared.Sense.TheVariants.{Min, Max}
 use Rattle.lp_definitions.specs.LinearProgram.{LinearProgram, Vector, value_at, objective_value, for_min}
 use Rattle.lp_definitions.specs.Solutions.{IsBest, IsInfeasible, IsUnbounded}
-use Rattle.method_definitions.specs.Path.{PathEnding, EndsOptimal, EndsCrossed, EndsInfeasible, EndsUnbounded}
+use Rattle.simplex_definitions.specs.Path.{PathEnding, EndsOptimal, EndsCrossed, EndsInfeasible, EndsUnbounded}
 use Rattle.listing_definitions.specs.declared.Mark.{Mark}
 use Rattle.listing_definitions.specs.declared.Mark.TheVariants.{Optimal, Infeasible, Unbounded}
 use Rattle.listing_definitions.specs.Report.{PathVerdict, OptimalAt, CrossedAt, InfeasibleBy, UnboundedBy}
 use Rattle.question_definitions.specs.Answers.{Sheet}
 use Rattle.run_definitions.specs.Verbs.{mark_of}
-use Rattle.run_laws.specs.Truth.{IsBestObjective, IsTrueOf}
-use Rattle.sweep_laws.specs.Truth.{IsTrueFailure}
+use Rattle.soundness_laws.specs.Truth.{IsBestObjective, IsTrueOf}
+use Rattle.parametric_laws.specs.Truth.{IsTrueFailure}
 use Rattle.answer_definitions.specs.Verdicts.{verdict_of}
 use Rattle.judged_laws.specs.Shown.{IsTrueAtFirst}
 use Rattle.one_story_laws.specs.Story.{SameObjective, SameVerdict}

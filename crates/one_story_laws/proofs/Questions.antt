@@ -21,7 +21,7 @@ use Rattle.run_definitions.specs.State.{Present, present_basis, gone_through, St
 use Rattle.run_definitions.specs.Moves.{Prints, printed_by, Outcome, gain_of, next}
 use Rattle.run_definitions.specs.Verbs.{mark_of, by_verdict, last_value, asks, after_path, after_sweep}
 use Rattle.run_definitions.specs.Run.{counted}
-use Rattle.run_laws.specs.Truth.{PresentProgram, sheet_of, IsTrueOf, named_by, TellsOfRun}
+use Rattle.soundness_laws.specs.Truth.{PresentProgram, sheet_of, IsTrueOf, named_by, TellsOfRun}
 use Rattle.walk_laws.specs.Proved.{attested, Says}
 use Rattle.walk_laws.proofs.Answered.{printed_verdict, IsPathSolver}
 use Rattle.one_story_laws.specs.Story.{SameVerdict, SameClose}

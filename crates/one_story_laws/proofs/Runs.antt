@@ -21,8 +21,8 @@ use Rattle.run_definitions.specs.State.{State, start}
 use Rattle.run_definitions.specs.Moves.{Gain, Nothing, printed_by, Outcome, Goes, Ends, gain_of, Gives}
 use Rattle.run_definitions.specs.Verbs.{verb_move}
 use Rattle.run_definitions.specs.Run.{counted, Step, IsOver, at_end, at_limit, Reaches, begun, stepped, IsRun, is_over, is_ended}
-use Rattle.run_laws.specs.Headline.{HoldSoFar, HoldInRun}
-use Rattle.run_functions.specs.Laws.{IsOverflow, IsOverflowStop}
+use Rattle.soundness_laws.specs.Headline.{HoldSoFar, HoldInRun}
+use Rattle.determinism_laws.specs.Laws.{IsOverflow, IsOverflowStop}
 use Rattle.walk_laws.specs.Proved.{attested, Says}
 use Rattle.one_story_laws.specs.Story.{TellsSame, TellSame}
 use Rattle.one_story_laws.specs.Shown.{made_by, made_so_far, made_in_run, AreBeside}

@@ -5,7 +5,7 @@ use Rattle.std.proofs.lemmas.Option.{same_Some}
 use Rattle.exact_values.specs.Rational.{ℚ}
 use Rattle.lp_definitions.specs.LinearProgram.{LinearProgram, objective_value}
 use Rattle.control_definitions.specs.Cells.{Cells}
-use Rattle.method_definitions.specs.Chain.{along}
+use Rattle.simplex_definitions.specs.Chain.{along}
 use Rattle.selection_definitions.specs.Selection.{selected}
 use Rattle.listing_definitions.specs.declared.Mark.{Mark}
 use Rattle.listing_definitions.specs.declared.Mark.TheVariants.{Optimal, Infeasible, Unbounded}
@@ -14,7 +14,7 @@ use Rattle.listing_definitions.specs.Report.{SolutionLines, Interval, Chain, Rep
 use Rattle.question_definitions.specs.Answers.{Sheet, Changing, Sweep}
 use Rattle.answer_definitions.specs.Sweeps.{family_of}
 use Rattle.run_definitions.specs.State.{Present, State, choice_of}
-use Rattle.run_laws.specs.Truth.{PresentProgram, sheet_of, TellsOfRun}
+use Rattle.soundness_laws.specs.Truth.{PresentProgram, sheet_of, TellsOfRun}
 use Rattle.walk_definitions.specs.Tests.{point_of}
 use Rattle.judged_laws.specs.Shown.{part_of}
 use Rattle.walk_laws.specs.Proved.{Says}

@@ -13,10 +13,10 @@ use Rattle.run_definitions.specs.State.{State}
 use Rattle.run_definitions.specs.Moves.{Gain, printed_by}
 use Rattle.run_definitions.specs.Run.{Reaches, begun, stepped, IsRun, is_over, is_ended}
 use Rattle.run_definitions.specs.Answer.{job_decks, IsProgramOf, IsJobRun, card_fault, control_fault, run}
-use Rattle.run_laws.specs.Truth.{Holds, HoldsAtEnd}
-use Rattle.run_laws.specs.Headline.{HoldInRun, HoldInJob}
-use Rattle.run_laws.specs.Laws.{RunLaws}
-use Rattle.run_functions.specs.Laws.{IsOverflow}
+use Rattle.soundness_laws.specs.Truth.{Holds, HoldsAtEnd}
+use Rattle.soundness_laws.specs.Headline.{HoldInRun, HoldInJob}
+use Rattle.soundness_laws.specs.Laws.{RunLaws}
+use Rattle.determinism_laws.specs.Laws.{IsOverflow}
 use Rattle.reading_laws.specs.Laws.{ReadingLaw}
 use Rattle.judged_laws.specs.Laws.{JudgedLaws}
 use Rattle.walk_laws.specs.Proved.{attested, Says, SaysAtEnd, IsTrueListing}

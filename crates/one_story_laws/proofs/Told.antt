@@ -4,7 +4,7 @@
 use Rattle.std.proofs.Common.{ℕ, List, refl, sym, subst, map, length, Option}
 use Rattle.exact_values.specs.Rational.{ℚ}
 use Rattle.control_definitions.specs.Cells.{Cells}
-use Rattle.method_definitions.specs.Chain.{ChainEnd as PastBreak, AtMax, UnboundedPast as PastUnbounded, InfeasiblePast as PastInfeasible}
+use Rattle.simplex_definitions.specs.Chain.{ChainEnd as PastBreak, AtMax, UnboundedPast as PastUnbounded, InfeasiblePast as PastInfeasible}
 use Rattle.listing_definitions.specs.declared.Solver.{Solver}
 use Rattle.listing_definitions.specs.declared.Solver.TheVariants.{Primal as ByPrimal, Dual as ByDual, Paraobj as ByParaobj, Pararhs as ByPararhs}
 use Rattle.listing_definitions.specs.Report.{PathVerdict, Check, Interval, ChainEnd, Chain, Report, Solved, Parametric}
@@ -13,8 +13,8 @@ use Rattle.question_definitions.specs.Solving.{Solving}
 use Rattle.answer_definitions.specs.Sweeps.{family_of, sheet_at, end_of}
 use Rattle.answer_definitions.specs.Real.{linear_programming}
 use Rattle.run_definitions.specs.State.{Present, State}
-use Rattle.run_laws.specs.Truth.{PresentProgram, sheet_of, IsTrueOf, TellsOfRun, ShowsOpening, ShowsChain, Holds}
-use Rattle.run_laws.proofs.Runs.{knows_linear_programming}
+use Rattle.soundness_laws.specs.Truth.{PresentProgram, sheet_of, IsTrueOf, TellsOfRun, ShowsOpening, ShowsChain, Holds}
+use Rattle.soundness_laws.proofs.Runs.{knows_linear_programming}
 use Rattle.judged_laws.specs.Shown.{part_of, IsTrueAtFirst}
 use Rattle.walk_laws.specs.Proved.{attested, ShowsProvedChain, Says}
 use Rattle.walk_laws.proofs.Answered.{IsPathSolver}

@@ -24,8 +24,8 @@ use Rattle.run_definitions.specs.State.{Present, State, problem_of, choice_of}
 use Rattle.run_definitions.specs.Moves.{Gain, Nothing, Prints, printed_by, Goes, Move, Does}
 use Rattle.run_definitions.specs.Verbs.{size_of, files, not_less, change_row, change_set, mark_after, if_optimal, solves, shows, ranges, sweeps, converts, revises, sets_up, punches, punches_basis, inserts, verb_move}
 use Rattle.run_definitions.specs.Run.{counted}
-use Rattle.run_laws.specs.Truth.{IsOfProblem, named_by}
-use Rattle.run_laws.proofs.ChangeRow.{row_named, set_named, last_is}
+use Rattle.soundness_laws.specs.Truth.{IsOfProblem, named_by}
+use Rattle.soundness_laws.proofs.ChangeRow.{row_named, set_named, last_is}
 use Rattle.walk_laws.proofs.Answered.{IsPathSolver}
 use Rattle.one_story_laws.specs.Story.{TellsSame, TellSame}
 use Rattle.one_story_laws.proofs.Told.{SaysEnough}

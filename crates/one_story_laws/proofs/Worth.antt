@@ -11,10 +11,10 @@ use Rattle.lp_definitions.specs.declared.Change.{Change}
 use Rattle.lp_definitions.specs.LinearProgram.{LinearProgram, Vector, Matrix, IsRow, IsVariable, numbers_from, variables, value_at, with_change_row, ChangeIsFree, objective_value, IsLinearProgram}
 use Rattle.lp_definitions.specs.Solutions.{IsBest}
 use Rattle.lp_definitions.specs.Basis.{Tableau}
-use Rattle.path_laws.proofs.Ends.{value_at-listed}
+use Rattle.simplex_laws.proofs.Ends.{value_at-listed}
 use Rattle.control_definitions.specs.Cells.{Cells}
-use Rattle.method_definitions.specs.Chain.{Part, along}
-use Rattle.sweep_laws.specs.Truth.{IsTruePart}
+use Rattle.simplex_definitions.specs.Chain.{Part, along}
+use Rattle.parametric_laws.specs.Truth.{IsTruePart}
 use Rattle.listing_definitions.specs.declared.Mark.TheVariants.{Optimal}
 use Rattle.listing_definitions.specs.declared.Solver.{Solver}
 use Rattle.listing_definitions.specs.Report.{Value, Line, SolutionLines, Interval, Chain, Report, Solution, Parametric}
@@ -23,10 +23,10 @@ use Rattle.answer_definitions.specs.Lines.{lines_of, column_numbers}
 use Rattle.answer_definitions.specs.Sections.{solution_row, solution_column, solution_lines}
 use Rattle.answer_definitions.specs.Sweeps.{family_of, sheet_at, part_values, interval_of}
 use Rattle.run_definitions.specs.State.{Present, present_basis, State, choice_of}
-use Rattle.run_laws.specs.Sweeps.{ChangesFreely}
-use Rattle.run_laws.specs.Truth.{PresentProgram, sheet_of, TellsOfRun, ShowsChain, Holds}
-use Rattle.run_laws.proofs.ChangeRow.{changes_freely}
-use Rattle.run_laws.proofs.Selected.{selected_has_no_change}
+use Rattle.soundness_laws.specs.Sweeps.{ChangesFreely}
+use Rattle.soundness_laws.specs.Truth.{PresentProgram, sheet_of, TellsOfRun, ShowsChain, Holds}
+use Rattle.soundness_laws.proofs.ChangeRow.{changes_freely}
+use Rattle.soundness_laws.proofs.Selected.{selected_has_no_change}
 use Rattle.walk_definitions.specs.Tables.{number_of, column_of}
 use Rattle.walk_definitions.specs.Tests.{point_of}
 use Rattle.judged_laws.specs.Shown.{part_of}

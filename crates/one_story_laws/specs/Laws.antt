@@ -9,7 +9,7 @@ use Rattle.listing_definitions.specs.Ending.{Ending}
 use Rattle.answer_definitions.specs.Real.{linear_programming}
 use Rattle.run_definitions.specs.State.{State}
 use Rattle.run_definitions.specs.Answer.{IsJobRun}
-use Rattle.run_functions.specs.Laws.{IsOverflow}
+use Rattle.determinism_laws.specs.Laws.{IsOverflow}
 use Rattle.walk_definitions.specs.Walker.{Attested}
 use Rattle.walk_definitions.specs.Found.{Comes}
 use Rattle.walk_laws.specs.Proved.{attested, IsTrueListing}

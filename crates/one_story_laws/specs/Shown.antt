@@ -10,7 +10,7 @@ use Rattle.lp_definitions.specs.LinearProgram.{objective_value}
 use Rattle.card_definitions.specs.Cards.{Card}
 use Rattle.control_definitions.specs.Cells.{Cells}
 use Rattle.control_definitions.specs.Program.{Program}
-use Rattle.method_definitions.specs.Chain.{along}
+use Rattle.simplex_definitions.specs.Chain.{along}
 use Rattle.listing_definitions.specs.declared.Mark.TheVariants.{Optimal}
 use Rattle.listing_definitions.specs.Report.{SolutionLines, Interval, Report, Solution, Parametric}
 use Rattle.listing_definitions.specs.Ending.{Ending}
@@ -21,7 +21,7 @@ use Rattle.run_definitions.specs.State.{Present, State}
 use Rattle.run_definitions.specs.Moves.{Gain, printed_by}
 use Rattle.run_definitions.specs.Run.{Reaches, begun, stepped, IsRun, is_over, is_ended}
 use Rattle.run_definitions.specs.Answer.{IsJobRun, run}
-use Rattle.run_laws.specs.Truth.{PresentProgram, sheet_of, TellsOfRun}
+use Rattle.soundness_laws.specs.Truth.{PresentProgram, sheet_of, TellsOfRun}
 use Rattle.walk_definitions.specs.Tests.{point_of}
 use Rattle.judged_laws.specs.Shown.{part_of}
 

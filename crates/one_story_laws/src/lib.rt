@@ -6,7 +6,7 @@ ghost use Rattle.one_story_laws.specs.Laws.{OneStoryLaws};
 
 use judged_laws::judged_laws;
 use reading_laws::reading_law;
-use run_laws::run_laws;
+use soundness_laws::soundness_laws;
 
 /// No attested listing of a job contradicts another, nor the run of the job.
 pub fn one_story_laws()
@@ -14,5 +14,5 @@ pub fn one_story_laws()
 {
     reading_law();
     judged_laws();
-    run_laws();
+    soundness_laws();
 }

@@ -14,8 +14,8 @@ use Rattle.lp_definitions.specs.Solutions.{IsBest}
 use Rattle.lp_definitions.specs.declared.Status.{Status}
 use Rattle.check_definitions.specs.declared.Verdict.{Verdict}
 use Rattle.check_definitions.specs.declared.Verdict.TheVariants.{Checked, Failed, Unchecked}
-use Rattle.method_definitions.specs.Path.{last_of}
-use Rattle.method_definitions.specs.Chain.{Part, ChainEnd as PastBreak, AtMax, UnboundedPast as PastUnbounded, InfeasiblePast as PastInfeasible, IsPart, IsChain, at_max, past_break, goes_on, Chain}
+use Rattle.simplex_definitions.specs.Path.{last_of}
+use Rattle.simplex_definitions.specs.Chain.{Part, ChainEnd as PastBreak, AtMax, UnboundedPast as PastUnbounded, InfeasiblePast as PastInfeasible, IsPart, IsChain, at_max, past_break, goes_on, Chain}
 use Rattle.problem_definitions.specs.Problem.{Problem}
 use Rattle.listing_definitions.specs.declared.Solver.{Solver}
 use Rattle.listing_definitions.specs.Numbers.{rational_text}
@@ -23,15 +23,15 @@ use Rattle.listing_definitions.specs.Report.{Interval, ChainEnd, EndsAt, Unbound
 use Rattle.listing_definitions.specs.Text.{solver_text, interval_text, chain_end_text, chain_text}
 use Rattle.question_definitions.specs.Answers.{Basis, Sheet, Changing, Row, Set, changing_name, sweeper, Sweep, OfSweep, SweepEnd, Chained}
 use Rattle.answer_definitions.specs.Sweeps.{row_of, shifts_of, family_of, IsFace, sheet_at, interval_of, end_of, IsChained}
-use Rattle.run_laws.specs.Sweeps.{ChangesFreely}
-use Rattle.path_laws.specs.Laws.{IsNonsingularBasis}
+use Rattle.soundness_laws.specs.Sweeps.{ChangesFreely}
+use Rattle.simplex_laws.specs.Laws.{IsNonsingularBasis}
 use Rattle.run_definitions.specs.State.{Present, present_basis, State}
 use Rattle.run_definitions.specs.Moves.{Outcome}
 use Rattle.run_definitions.specs.Verbs.{after_sweep}
 use Rattle.run_definitions.specs.Run.{counted}
-use Rattle.sweep_laws.specs.Laws.{HasTrueRuns}
-use Rattle.sweep_laws.specs.Truth.{IsTruePart, AreLongPast, last_end, IsTrueEnd, IsTrueRun}
-use Rattle.sweep_laws.proofs.TrueRuns.{objective_runs, rhs_runs}
+use Rattle.parametric_laws.specs.Laws.{HasTrueRuns}
+use Rattle.parametric_laws.specs.Truth.{IsTruePart, AreLongPast, last_end, IsTrueEnd, IsTrueRun}
+use Rattle.parametric_laws.proofs.TrueRuns.{objective_runs, rhs_runs}
 use Rattle.control_definitions.specs.Cells.{steps_allowed}
 use Rattle.walk_definitions.specs.Words.{Parsed, left_after, max_count}
 use Rattle.walk_definitions.specs.Tables.{begins_table_line}

@@ -18,9 +18,9 @@ use Rattle.listing_definitions.specs.Report.{Number, Line, PathVerdict, OptimalA
 use Rattle.listing_definitions.specs.Text.{check_text, table_text, solver_text, verdict_head, verdict_lines, verdict_text}
 use Rattle.question_definitions.specs.Answers.{Sheet}
 use Rattle.answer_definitions.specs.Lines.{pair_lines, ray_lines}
-use Rattle.text_laws.proofs.Cutting.{weaker, cut}
-use Rattle.text_laws.proofs.Digits.{digits_are}
-use Rattle.text_laws.proofs.Words.{begin_otherwise}
+use Rattle.listing_laws.proofs.Cutting.{weaker, cut}
+use Rattle.listing_laws.proofs.Digits.{digits_are}
+use Rattle.listing_laws.proofs.Words.{begin_otherwise}
 use Rattle.walk_definitions.specs.Words.{Parsed, left_after, with_text, with_word, fraction_in, count_in, max_count}
 use Rattle.walk_definitions.specs.Tables.{begins_table_line, pair_slots, table_in, ray_in}
 use Rattle.walk_definitions.specs.Reading.{with_check, Claim, optimal_in, crossed_in, infeasible_in, unbounded_in, claim_in, verdict_in}

@@ -22,14 +22,14 @@ use Rattle.check_definitions.specs.Checks.{feasible_point, equations, free_direc
 use Rattle.certificate_check.proofs.True_claims.{never_point, never_equations, never_free, never_columns, never_limits_met}
 use Rattle.certificate_check.proofs.Meaning.{sum_of_met}
 use Rattle.certificate_check.proofs.Products.{sum_of-all}
-use Rattle.changed_programs.proofs.MovedLimits.{moved, lower_is, upper_is}
-use Rattle.changed_programs.proofs.Signs.{for_min-add}
-use Rattle.method_definitions.specs.Path.{listed}
-use Rattle.method_definitions.specs.ObjectiveRun.{objective_family}
-use Rattle.method_definitions.specs.RhsRun.{shift_of, rhs_family}
-use Rattle.path_laws.proofs.Ends.{value_at-listed, IsFeasible-same}
-use Rattle.path_laws.proofs.Rays.{IsRay-same}
-use Rattle.sweep_laws.specs.Truth.{IsEndlessBy, IsRefutedBy}
+use Rattle.sensitivity_laws.proofs.MovedLimits.{moved, lower_is, upper_is}
+use Rattle.sensitivity_laws.proofs.Signs.{for_min-add}
+use Rattle.simplex_definitions.specs.Path.{listed}
+use Rattle.simplex_definitions.specs.ObjectiveRun.{objective_family}
+use Rattle.simplex_definitions.specs.RhsRun.{shift_of, rhs_family}
+use Rattle.simplex_laws.proofs.Ends.{value_at-listed, IsFeasible-same}
+use Rattle.simplex_laws.proofs.Rays.{IsRay-same}
+use Rattle.parametric_laws.specs.Truth.{IsEndlessBy, IsRefutedBy}
 use Rattle.problem_definitions.specs.Names.{Name}
 use Rattle.problem_definitions.specs.Problem.{Problem}
 use Rattle.question_definitions.specs.Answers.{Sheet, Changing, Set}

@@ -9,8 +9,8 @@ use Rattle.exact_values.proofs.Tests_laws.{same_from_test}
 use Rattle.lp_definitions.specs.LinearProgram.{Matrix, Vector, value_at, variables, numbers_from, size, IsVariable}
 use Rattle.lp_definitions.specs.Basis.{Tableau, basics_of, price_at}
 use Rattle.lp_laws.proofs.Opening.{numbers_from-append}
-use Rattle.method_definitions.specs.Path.{listed}
-use Rattle.path_laws.proofs.Numbered.{map_same, get_or-listed}
+use Rattle.simplex_definitions.specs.Path.{listed}
+use Rattle.simplex_laws.proofs.Numbered.{map_same, get_or-listed}
 use Rattle.listing_definitions.specs.Report.{Value, Number, Line}
 use Rattle.question_definitions.specs.Answers.{Basis, Sheet}
 use Rattle.answer_definitions.specs.Lines.{row_numbers, column_numbers, name_of, lines_of, pair_lines, ray_lines}

@@ -22,7 +22,7 @@ use Rattle.control_definitions.specs.Compiled.{is_pend, positioned, statement_on
 use Rattle.selection_definitions.specs.Choice.{Choice}
 use Rattle.selection_definitions.specs.Selection.{selected}
 use Rattle.run_definitions.specs.Answer.{IsProgramOf}
-use Rattle.run_laws.proofs.Selected.{selected_has_names}
+use Rattle.soundness_laws.proofs.Selected.{selected_has_names}
 use Rattle.walk_definitions.specs.Words.{max_count}
 
 -- ---- limits on steps

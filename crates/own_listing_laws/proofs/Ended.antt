@@ -4,11 +4,11 @@ use Rattle.exact_values.specs.Rational.{ℚ}
 use Rattle.lp_definitions.specs.LinearProgram.{LinearProgram, Vector, size, IsVariable}
 use Rattle.lp_definitions.specs.declared.Status.{Status}
 use Rattle.lp_definitions.specs.Basis.{basics_of, Tableau, price_at}
-use Rattle.method_definitions.specs.Moves.{is_crossed, goes_up, stopper, is_below}
-use Rattle.method_definitions.specs.Path.{PathEnding, EndsOptimal, EndsCrossed, EndsInfeasible, EndsUnbounded, Turn, Moves, Ends, listed, speeds, crossed, outside, worth_rate, mover, bring_back, run_until, better, turn_for, turn}
-use Rattle.method_definitions.specs.DualPath.{dual_for, dual_turn}
-use Rattle.method_definitions.specs.DualRatio.{cheapest}
-use Rattle.path_laws.proofs.Numbered.{find_some}
+use Rattle.simplex_definitions.specs.Moves.{is_crossed, goes_up, stopper, is_below}
+use Rattle.simplex_definitions.specs.Path.{PathEnding, EndsOptimal, EndsCrossed, EndsInfeasible, EndsUnbounded, Turn, Moves, Ends, listed, speeds, crossed, outside, worth_rate, mover, bring_back, run_until, better, turn_for, turn}
+use Rattle.simplex_definitions.specs.DualPath.{dual_for, dual_turn}
+use Rattle.simplex_definitions.specs.DualRatio.{cheapest}
+use Rattle.simplex_laws.proofs.Numbered.{find_some}
 use Rattle.own_listing_laws.proofs.Columns.{sized}
 
 module _ (p : LinearProgram) (s : List Status) (t : Tableau) where

@@ -19,8 +19,8 @@ use Rattle.lp_laws.proofs.Uniqueness.{is_in-basics_of}
 use Rattle.check_definitions.specs.Steps.{Step}
 use Rattle.check_definitions.specs.Checks.{is_at, by_sign}
 use Rattle.certificate_check.proofs.True_claims.{NeverFails}
-use Rattle.method_definitions.specs.Chain.{Part, along, IsPart}
-use Rattle.sweep_laws.specs.Truth.{IsTruePart}
+use Rattle.simplex_definitions.specs.Chain.{Part, along, IsPart}
+use Rattle.parametric_laws.specs.Truth.{IsTruePart}
 use Rattle.walk_definitions.specs.Tests.{keeps_limit}
 use Rattle.own_listing_laws.proofs.Tests.{never-append, never_comparison, never_each}
 

@@ -7,12 +7,12 @@ use Rattle.lp_definitions.specs.LinearProgram.{LinearProgram, lower_of, upper_of
 use Rattle.check_definitions.specs.declared.Verdict.{Verdict}
 use Rattle.check_definitions.specs.Steps.{Step, verdict_of, in_turn}
 use Rattle.certificate_check.proofs.True_claims.{NeverFails}
-use Rattle.method_definitions.specs.Path.{PathEnding, EndsOptimal, EndsCrossed, EndsInfeasible, EndsUnbounded, last_of}
-use Rattle.method_definitions.specs.Chain.{IsFailure}
+use Rattle.simplex_definitions.specs.Path.{PathEnding, EndsOptimal, EndsCrossed, EndsInfeasible, EndsUnbounded, last_of}
+use Rattle.simplex_definitions.specs.Chain.{IsFailure}
 use Rattle.listing_definitions.specs.Numbers.{rational_text}
 use Rattle.listing_definitions.specs.Report.{PathVerdict, OptimalAt, CrossedAt, InfeasibleBy, UnboundedBy, Check, Interval, ChainEnd, Solved}
 use Rattle.listing_definitions.specs.Text.{check_text, table_text, solver_text, verdict_head, verdict_lines, verdict_text}
-use Rattle.text_laws.proofs.Words.{begin_otherwise}
+use Rattle.listing_laws.proofs.Words.{begin_otherwise}
 use Rattle.question_definitions.specs.Answers.{Basis, Sheet, Changing, Row, Set, changing_name, sweeper, Sweep, Question, OfSweep, SweepEnd, Opening, Chained, SweepLimit}
 use Rattle.question_definitions.specs.Solving.{IsRight}
 use Rattle.answer_definitions.specs.Verdicts as verdicts
@@ -22,7 +22,7 @@ use Rattle.run_definitions.specs.State.{Present, present_basis, path_of, gone_th
 use Rattle.run_definitions.specs.Moves.{Gain, Prints, gain_of, gain_text, Outcome, InAnswer, Asks}
 use Rattle.run_definitions.specs.Verbs.{asks, mark_of, after_sweep}
 use Rattle.run_definitions.specs.Run.{counted}
-use Rattle.run_laws.proofs.Runs.{knows_linear_programming}
+use Rattle.soundness_laws.proofs.Runs.{knows_linear_programming}
 use Rattle.control_definitions.specs.Cells.{steps_allowed}
 use Rattle.walk_definitions.specs.Words.{Parsed, left_after, max_count}
 use Rattle.walk_definitions.specs.Forms.{is_open_stop}

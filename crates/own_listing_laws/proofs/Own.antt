@@ -19,8 +19,8 @@ use Rattle.run_definitions.specs.Moves.{Gain, Nothing, Prints, Punches, printed_
 use Rattle.run_definitions.specs.Verbs.{verb_move}
 use Rattle.run_definitions.specs.Run.{max_executed, counted, Step, IsOver, at_end, at_limit, Reaches, begun, stepped, IsRun, is_over, is_ended}
 use Rattle.run_definitions.specs.Answer.{job_decks, IsProgramOf, card_fault, control_fault, run}
-use Rattle.run_laws.proofs.Moves.{HasProblem, Knows}
-use Rattle.run_laws.proofs.Runs.{has_problem, known, knows_linear_programming}
+use Rattle.soundness_laws.proofs.Moves.{HasProblem, Knows}
+use Rattle.soundness_laws.proofs.Runs.{has_problem, known, knows_linear_programming}
 use Rattle.walk_definitions.specs.Tables.{begins_table_line}
 use Rattle.walk_definitions.specs.Walker.{Walker, Found, Turn, Walks, Finds, closes, walk_move, walk_statement, turn}
 use Rattle.walk_definitions.specs.Found.{first_walker, Reaches as Walked, begun as not_begun, walked, of_cards, of_control, of_walk}

@@ -10,7 +10,7 @@ use Rattle.std.specs.Prelude.{is_none}
 use Rattle.std.specs.Option.{option_or}
 use Rattle.lp_definitions.specs.LinearProgram.{LinearProgram, value_at}
 use Rattle.lp_definitions.specs.Basis.{Tableau, IsTableau, basics_of, price_at}
-use Rattle.method_definitions.specs.Path.{listed}
+use Rattle.simplex_definitions.specs.Path.{listed}
 use Rattle.check_definitions.specs.Checks.{optimal_check}
 use Rattle.problem_definitions.specs.Names.{Name}
 use Rattle.problem_definitions.specs.Problem.{Problem}

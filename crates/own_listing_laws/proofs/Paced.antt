@@ -4,7 +4,7 @@ use Rattle.std.specs.Prelude.{is_none, option_and_then}
 use Rattle.exact_values.specs.Rational.{ℚ}
 use Rattle.lp_definitions.specs.LinearProgram.{LinearProgram, size}
 use Rattle.lp_definitions.specs.Basis.{Tableau, IsTableau, opening_statuses}
-use Rattle.method_definitions.specs.Path.{EndsOptimal, EndsAt}
+use Rattle.simplex_definitions.specs.Path.{EndsOptimal, EndsAt}
 use Rattle.card_definitions.specs.Cards.{Card}
 use Rattle.deck_definitions.specs.Conversion.{conversion}
 use Rattle.deck_definitions.specs.Decks.{deck_taken}
@@ -34,11 +34,11 @@ use Rattle.run_definitions.specs.State.{Present, present_basis, State, problem_o
 use Rattle.run_definitions.specs.Moves.{Gain, Nothing, Prints, Punches, Goes, Does}
 use Rattle.run_definitions.specs.Verbs.{size_of, files, not_less, change_row, change_set, mark_after, if_optimal, solves, shows, ranges, sweeps, converts, revises, sets_up, punches, punches_basis, inserts, verb_move}
 use Rattle.run_definitions.specs.Run.{counted}
-use Rattle.run_laws.specs.Truth.{IsOfProblem, named_by}
-use Rattle.run_laws.proofs.ChangeRow.{changes_freely, row_named, set_named}
-use Rattle.run_laws.proofs.Moves.{HasProblem, EndsOptimally, Knows}
-use Rattle.run_laws.proofs.Ends.{IsProvedBest, shown_is_best}
-use Rattle.run_laws.proofs.Selected.{selected_is_lawful}
+use Rattle.soundness_laws.specs.Truth.{IsOfProblem, named_by}
+use Rattle.soundness_laws.proofs.ChangeRow.{changes_freely, row_named, set_named}
+use Rattle.soundness_laws.proofs.Moves.{HasProblem, EndsOptimally, Knows}
+use Rattle.soundness_laws.proofs.Ends.{IsProvedBest, shown_is_best}
+use Rattle.soundness_laws.proofs.Selected.{selected_is_lawful}
 use Rattle.walk_definitions.specs.Walker.{Pending, Walker}
 use Rattle.own_listing_laws.proofs.Pace.{rebased, IsLike, WaitsFor, WaitsAt, IsMatched, IsFollowed, does, does_stop, prints_looks, punches_looks, waits_on, unless_fault, unless_no_setup, unless_deck_fault, unless_selection_fault, selecting}
 use Rattle.own_listing_laws.proofs.Paths.{IsPathSolver, path_followed}

@@ -13,22 +13,22 @@ use Rattle.check_definitions.specs.declared.Verdict.{Verdict}
 use Rattle.check_definitions.specs.Steps.{Step, verdict_of, sum_steps}
 use Rattle.check_definitions.specs.Checks.{optimal_check}
 use Rattle.certificate_check.proofs.True_claims.{NeverFails, never_optimal}
-use Rattle.changed_programs.proofs.MovedLimits.{fixed_at}
-use Rattle.method_definitions.specs.Moves.{stopper}
-use Rattle.method_definitions.specs.Path.{listed}
-use Rattle.method_definitions.specs.DualRatio.{cheapest}
-use Rattle.method_definitions.specs.Chain.{Part, along, ChainEnd as PastBreak, AtMax, UnboundedPast as PastUnbounded, InfeasiblePast as PastInfeasible, FaceTurn, FaceEnds, IsPart}
-use Rattle.method_definitions.specs.ObjectiveRun.{face_mover, face_until, face_by, objective_face}
-use Rattle.method_definitions.specs.RhsRun.{leaves_below, leaving, face_exchange, face_at, rhs_face}
+use Rattle.sensitivity_laws.proofs.MovedLimits.{fixed_at}
+use Rattle.simplex_definitions.specs.Moves.{stopper}
+use Rattle.simplex_definitions.specs.Path.{listed}
+use Rattle.simplex_definitions.specs.DualRatio.{cheapest}
+use Rattle.simplex_definitions.specs.Chain.{Part, along, ChainEnd as PastBreak, AtMax, UnboundedPast as PastUnbounded, InfeasiblePast as PastInfeasible, FaceTurn, FaceEnds, IsPart}
+use Rattle.simplex_definitions.specs.ObjectiveRun.{face_mover, face_until, face_by, objective_face}
+use Rattle.simplex_definitions.specs.RhsRun.{leaves_below, leaving, face_exchange, face_at, rhs_face}
 use Rattle.problem_definitions.specs.Problem.{Problem}
 use Rattle.listing_definitions.specs.Report.{Value, Line}
 use Rattle.question_definitions.specs.Answers.{Sheet, Changing, Row, Set}
 use Rattle.answer_definitions.specs.Lines.{pair_lines, ray_lines}
 use Rattle.answer_definitions.specs.Sweeps.{row_of, shifts_of, family_of, IsFace, sheet_at, part_values, interval_of, end_of}
-use Rattle.run_laws.specs.Sweeps.{ChangesFreely}
-use Rattle.sweep_laws.specs.Truth.{IsTruePart, IsTrueEnd}
-use Rattle.sweep_laws.proofs.OneObjective.{lawful_objective}
-use Rattle.sweep_laws.proofs.OneRhs.{lawful_rhs}
+use Rattle.soundness_laws.specs.Sweeps.{ChangesFreely}
+use Rattle.parametric_laws.specs.Truth.{IsTruePart, IsTrueEnd}
+use Rattle.parametric_laws.proofs.OneObjective.{lawful_objective}
+use Rattle.parametric_laws.proofs.OneRhs.{lawful_rhs}
 use Rattle.walk_definitions.specs.Tables.{column_of, multipliers}
 use Rattle.walk_definitions.specs.Tests.{asked, making_steps, along_steps, end_test, part_test, interval_test, unbounded_past, infeasible_past, past_test, close_test}
 use Rattle.own_listing_laws.proofs.Columns.{column_is, listed_again, numbers_of_ray}

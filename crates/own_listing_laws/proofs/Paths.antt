@@ -7,10 +7,10 @@ use Rattle.lp_definitions.specs.Basis.{Tableau, IsTableau}
 use Rattle.check_definitions.specs.declared.Verdict.{Verdict}
 use Rattle.check_definitions.specs.declared.Verdict.TheVariants.{Checked, Failed, Unchecked}
 use Rattle.check_definitions.specs.Checks.{optimal_check}
-use Rattle.method_definitions.specs.Path.{PathEnding, EndsOptimal, EndsCrossed, EndsInfeasible, EndsUnbounded, Ends as TurnEnds, last_of, worth_rate}
-use Rattle.method_definitions.specs.Moves.{lowers}
+use Rattle.simplex_definitions.specs.Path.{PathEnding, EndsOptimal, EndsCrossed, EndsInfeasible, EndsUnbounded, Ends as TurnEnds, last_of, worth_rate}
+use Rattle.simplex_definitions.specs.Moves.{lowers}
 use Rattle.control_definitions.specs.Cells.{steps_allowed}
-use Rattle.path_laws.proofs.Numbered.{find_some}
+use Rattle.simplex_laws.proofs.Numbered.{find_some}
 use Rattle.problem_definitions.specs.Names.{Name}
 use Rattle.selection_definitions.specs.Selection.{selected}
 use Rattle.listing_definitions.specs.declared.Mark.{Mark}
@@ -27,8 +27,8 @@ use Rattle.run_definitions.specs.State.{Present, present_basis, path_of, gone_th
 use Rattle.run_definitions.specs.Moves.{Gain, Prints, gain_of, gain_text, Outcome, InAnswer, Asks}
 use Rattle.run_definitions.specs.Verbs.{asks, mark_of, demanded, by_verdict, after_path}
 use Rattle.run_definitions.specs.Run.{counted}
-use Rattle.run_laws.proofs.Runs.{knows_linear_programming}
-use Rattle.sweep_laws.proofs.Runs.{last_of-append}
+use Rattle.soundness_laws.proofs.Runs.{knows_linear_programming}
+use Rattle.parametric_laws.proofs.Runs.{last_of-append}
 use Rattle.walk_definitions.specs.Forms.{is_open_stop}
 use Rattle.walk_definitions.specs.Words.{Parsed, max_count}
 use Rattle.walk_definitions.specs.Tests.{verdict_test}

@@ -5,7 +5,7 @@ use Rattle.exact_values.specs.Rational.{ℚ}
 use Rattle.frac128.specs.Operations.{TermsFit}
 use Rattle.lp_definitions.specs.LinearProgram.{variables}
 use Rattle.lp_definitions.specs.Basis.{Tableau}
-use Rattle.method_definitions.specs.Chain.{Part}
+use Rattle.simplex_definitions.specs.Chain.{Part}
 use Rattle.listing_definitions.specs.declared.Mark.{Mark}
 use Rattle.listing_definitions.specs.declared.Solver.{Solver}
 use Rattle.listing_definitions.specs.declared.Solver.TheVariants.{Primal, Dual, Paraobj, Pararhs}

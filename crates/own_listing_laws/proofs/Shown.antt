@@ -11,9 +11,9 @@ use Rattle.check_definitions.specs.declared.Verdict.TheVariants.{Checked}
 use Rattle.check_definitions.specs.Steps.{verdict_of, in_turn}
 use Rattle.check_definitions.specs.Checks.{equations, reduced_costs, optimal_check}
 use Rattle.check_definitions.proofs.Passing.{both_checked}
-use Rattle.method_definitions.specs.Path.{listed}
-use Rattle.path_laws.specs.Laws.{IsNonsingularBasis}
-use Rattle.path_laws.proofs.Endless.{objective_value-same}
+use Rattle.simplex_definitions.specs.Path.{listed}
+use Rattle.simplex_laws.specs.Laws.{IsNonsingularBasis}
+use Rattle.simplex_laws.proofs.Endless.{objective_value-same}
 use Rattle.problem_definitions.specs.Names.{Name}
 use Rattle.selection_definitions.specs.Selection.{selected}
 use Rattle.listing_definitions.specs.declared.Mark.{Mark}
@@ -30,8 +30,8 @@ use Rattle.run_definitions.specs.State.{Present, present_basis, path_of, State, 
 use Rattle.run_definitions.specs.Moves.{Prints, Outcome, InAnswer, Asks, next}
 use Rattle.run_definitions.specs.Verbs.{asks}
 use Rattle.run_definitions.specs.Run.{counted}
-use Rattle.run_laws.proofs.Runs.{knows_linear_programming}
-use Rattle.run_laws.proofs.Ends.{IsProvedBest}
+use Rattle.soundness_laws.proofs.Runs.{knows_linear_programming}
+use Rattle.soundness_laws.proofs.Ends.{IsProvedBest}
 use Rattle.control_definitions.specs.Cells.{steps_allowed}
 use Rattle.walk_definitions.specs.Words.{Parsed, max_count}
 use Rattle.walk_definitions.specs.Tables.{column_of}

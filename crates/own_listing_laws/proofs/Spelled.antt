@@ -14,8 +14,8 @@ use Rattle.card_definitions.specs.Numbers.{is_digit}
 use Rattle.listing_definitions.specs.Numbers.{digits, rational_text}
 use Rattle.listing_definitions.specs.Report.{Check, Checked, Unchecked}
 use Rattle.listing_definitions.specs.Text.{operation_text, check_text}
-use Rattle.text_laws.proofs.Cutting.{weaker}
-use Rattle.text_laws.proofs.Digits.{is_of_number, digits_are, rational_of_number}
+use Rattle.listing_laws.proofs.Cutting.{weaker}
+use Rattle.listing_laws.proofs.Digits.{is_of_number, digits_are, rational_of_number}
 use Rattle.walk_definitions.specs.Words.{left_after, with_text, ends_word, word_in, with_word, fraction_in, count_in}
 use Rattle.walk_definitions.specs.Forms.{all_operations}
 use Rattle.walk_definitions.specs.Reading.{with_check}

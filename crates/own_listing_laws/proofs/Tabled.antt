@@ -21,8 +21,8 @@ use Rattle.listing_definitions.specs.Report.{Value, Code, Number, Absent, Dash, 
 use Rattle.listing_definitions.specs.Text.{at_text, value_text, number5, name8, values_text, line_text, table_text}
 use Rattle.question_definitions.specs.Answers.{Sheet}
 use Rattle.answer_definitions.specs.Lines.{name_of, lines_of}
-use Rattle.text_laws.proofs.Cutting.{weaker, heads, cut}
-use Rattle.text_laws.proofs.Digits.{digits_are, digit_there, digits_tell}
+use Rattle.listing_laws.proofs.Cutting.{weaker, heads, cut}
+use Rattle.listing_laws.proofs.Digits.{digits_are, digit_there, digits_tell}
 use Rattle.walk_definitions.specs.Words.{left_after, ends_word, with_word}
 use Rattle.walk_definitions.specs.Tables.{Slot, AnyCode, AnyNumber, Known, all_codes, value_in, slot_in, then_more, values_in, begins, begins_table_line, line_head, line_of, line_in, table_in, multiplier_in, ray_in}
 use Rattle.walk_definitions.proofs.Texts.{stands, is_text}

@@ -25,10 +25,10 @@ use Rattle.check_definitions.specs.Checks.{equations, reduced_costs, optimal_che
 use Rattle.check_definitions.proofs.Passing.{verdict-append}
 use Rattle.certificate_check.specs.Parts.{AreReducedCosts}
 use Rattle.certificate_check.proofs.True_claims.{NeverFails, never_equations, never_costs, never_optimal}
-use Rattle.method_definitions.specs.Path.{PathEnding, EndsOptimal, EndsCrossed, EndsInfeasible, EndsUnbounded, listed}
-use Rattle.path_laws.specs.Laws.{IsNonsingularBasis}
-use Rattle.path_laws.proofs.Ends.{value_at-listed, IsFeasible-same}
-use Rattle.path_laws.proofs.Numbered.{get_or-listed}
+use Rattle.simplex_definitions.specs.Path.{PathEnding, EndsOptimal, EndsCrossed, EndsInfeasible, EndsUnbounded, listed}
+use Rattle.simplex_laws.specs.Laws.{IsNonsingularBasis}
+use Rattle.simplex_laws.proofs.Ends.{value_at-listed, IsFeasible-same}
+use Rattle.simplex_laws.proofs.Numbered.{get_or-listed}
 use Rattle.listing_definitions.specs.declared.Mark.{Mark}
 use Rattle.listing_definitions.specs.Report.{PathVerdict, OptimalAt, CrossedAt, InfeasibleBy, UnboundedBy, Check, SolutionLines}
 use Rattle.listing_definitions.specs.Report as reports

@@ -8,9 +8,9 @@ use Rattle.exact_values.specs.Rational.{ℚ}
 use Rattle.frac128.specs.Operations.{TermsFit}
 use Rattle.lp_definitions.specs.LinearProgram.{LinearProgram, IsLinearProgram}
 use Rattle.lp_definitions.specs.Basis.{Tableau}
-use Rattle.method_definitions.specs.Path.{EndsOptimal, EndsAt}
-use Rattle.method_definitions.specs.Chain.{Part}
-use Rattle.path_laws.specs.Laws.{IsNonsingularBasis}
+use Rattle.simplex_definitions.specs.Path.{EndsOptimal, EndsAt}
+use Rattle.simplex_definitions.specs.Chain.{Part}
+use Rattle.simplex_laws.specs.Laws.{IsNonsingularBasis}
 use Rattle.certificate_check.specs.Results.{IsNotFailed}
 use Rattle.listing_definitions.specs.declared.Mark.TheVariants.{Optimal}
 use Rattle.listing_definitions.specs.declared.Mark.{Mark}
@@ -23,7 +23,7 @@ use Rattle.question_definitions.specs.Answers.{Basis, Sheet, changing_name, swee
 use Rattle.answer_definitions.specs.Verdicts.{IsSolvedBy}
 use Rattle.answer_definitions.specs.Sections.{IsShown, solution_lines}
 use Rattle.answer_definitions.specs.Sweeps.{interval_of, IsChained}
-use Rattle.run_laws.specs.Sweeps.{ChangesFreely}
+use Rattle.soundness_laws.specs.Sweeps.{ChangesFreely}
 use Rattle.answer_definitions.specs.Real.{linear_programming}
 use Rattle.run_definitions.specs.Answer.{IsJobRun}
 use Rattle.walk_definitions.specs.Tests.{verdict_test, solution_test}

@@ -13,20 +13,20 @@ use Rattle.lp_model.specs.declared.Stop.TheVariants as stop
 use Rattle.lp_model.specs.declared.reports.ParaEnd.{ParaEnd}
 use Rattle.lp_model.specs.declared.reports.ParaEnd.TheVariants as end
 use Rattle.lp_model.specs.declared.reports.ParaPart.{ParaPart}
-use Rattle.method_definitions.specs.Path.{last_of}
-use Rattle.path_laws.specs.Laws.{IsNonsingularBasis}
-use Rattle.method_definitions.specs.Chain.{Part, AtBreak, FaceDone, FaceEnds, IsPart, IsChain, at_max, past_break}
-use Rattle.method_definitions.specs.ObjectiveRun.{objective_family}
+use Rattle.simplex_definitions.specs.Path.{last_of}
+use Rattle.simplex_laws.specs.Laws.{IsNonsingularBasis}
+use Rattle.simplex_definitions.specs.Chain.{Part, AtBreak, FaceDone, FaceEnds, IsPart, IsChain, at_max, past_break}
+use Rattle.simplex_definitions.specs.ObjectiveRun.{objective_family}
 use Rattle.basis_values.specs.Calls.{PointRefused}
 use Rattle.bounded_primal.specs.Stops.{primal_stop_of}
 use Rattle.bounded_primal.specs.declared.moves.PrimalStop.{PrimalStop}
-use Rattle.run_calls.specs.Begun.{IsBegun, nothing, then}
-use Rattle.run_calls.specs.Calls.{part_of, end_of}
-use Rattle.run_calls.specs.Walks.{MayOpen, IntervalStops}
-use Rattle.run_calls.proofs.Chains.{closes, begun_last, before_max}
-use Rattle.run_calls.proofs.Walks.{opens_later, opens_next, run_breaks, opening_follows, interval_stops}
-use Rattle.sweep_laws.proofs.ObjectiveGrowth.{objective_grows}
-use Rattle.sweep_laws.proofs.Runs.{last_of-append}
+use Rattle.parametric_run.specs.Begun.{IsBegun, nothing, then}
+use Rattle.parametric_run.specs.Calls.{part_of, end_of}
+use Rattle.parametric_run.specs.Walks.{MayOpen, IntervalStops}
+use Rattle.parametric_run.proofs.Chains.{closes, begun_last, before_max}
+use Rattle.parametric_run.proofs.Walks.{opens_later, opens_next, run_breaks, opening_follows, interval_stops}
+use Rattle.parametric_laws.proofs.ObjectiveGrowth.{objective_grows}
+use Rattle.parametric_laws.proofs.Runs.{last_of-append}
 use Rattle.para_objective.specs.Faces.{family, Face, statement, FacesReach, AnyRun, FacesStop, FacesFollow}
 use Rattle.para_objective.specs.Parts.{IsIntervalOf}
 use Rattle.para_objective.specs.Reach.{EndRefused}

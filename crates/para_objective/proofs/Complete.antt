@@ -5,13 +5,13 @@ use Rattle.lp_definitions.specs.LinearProgram.{LinearProgram, IsRow, HasNoLimits
 use Rattle.lp_definitions.specs.Basis.{Basics}
 use Rattle.lp_definitions.specs.declared.Status.{Status}
 use Rattle.lp_model.specs.declared.reports.ParaReport.{ParaReport}
-use Rattle.path_laws.specs.Laws.{IsNonsingularBasis}
-use Rattle.method_definitions.specs.Chain.{RunReport}
+use Rattle.simplex_laws.specs.Laws.{IsNonsingularBasis}
+use Rattle.simplex_definitions.specs.Chain.{RunReport}
 use Rattle.bounded_primal.specs.declared.moves.PrimalStop.{PrimalStop}
-use Rattle.run_calls.specs.Calls.{RunOverflows}
-use Rattle.run_calls.specs.Complete.{IsRunOrMemory}
-use Rattle.run_calls.proofs.Complete.{run_answers}
-use Rattle.sweep_laws.proofs.OneRun.{objective_faces}
+use Rattle.parametric_run.specs.Calls.{RunOverflows}
+use Rattle.parametric_run.specs.Complete.{IsRunOrMemory}
+use Rattle.parametric_run.proofs.Complete.{run_answers}
+use Rattle.parametric_laws.proofs.OneRun.{objective_faces}
 use Rattle.para_objective.specs.Faces.{family, Face, statement}
 use Rattle.para_objective.specs.Runs.{ObjectiveEnds, ObjectiveStops, ObjectiveUnhindered}
 use Rattle.para_objective.specs.declared.parts.ParaObj.{ParaObj}

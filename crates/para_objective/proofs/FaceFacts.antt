@@ -13,23 +13,23 @@ use Rattle.lp_definitions.specs.declared.Status.TheVariants.{Ul, Ll}
 use Rattle.lp_laws.proofs.Uniqueness.{one_direction}
 use Rattle.lp_model.specs.RatesCalls.{IsRowOf}
 use Rattle.lp_model.specs.declared.reports.ParaEnd.{ParaEnd}
-use Rattle.method_definitions.specs.Moves.{may_rise, may_fall, lowers, goes_up, signed, stopper}
-use Rattle.method_definitions.specs.Path.{after, speeds, stopped_by}
-use Rattle.path_laws.specs.Laws.{IsNonsingularBasis}
-use Rattle.path_laws.proofs.Searches.{found_passes}
-use Rattle.path_laws.proofs.Stoppers.{stopper_some}
-use Rattle.method_definitions.specs.Chain.{FaceMoves, FaceDone, FaceEnds, UnboundedPast}
-use Rattle.method_definitions.specs.ObjectiveRun.{objective_family, change_rate, face_mover, face_until, face_by, objective_face, IsObjectiveFace}
+use Rattle.simplex_definitions.specs.Moves.{may_rise, may_fall, lowers, goes_up, signed, stopper}
+use Rattle.simplex_definitions.specs.Path.{after, speeds, stopped_by}
+use Rattle.simplex_laws.specs.Laws.{IsNonsingularBasis}
+use Rattle.simplex_laws.proofs.Searches.{found_passes}
+use Rattle.simplex_laws.proofs.Stoppers.{stopper_some}
+use Rattle.simplex_definitions.specs.Chain.{FaceMoves, FaceDone, FaceEnds, UnboundedPast}
+use Rattle.simplex_definitions.specs.ObjectiveRun.{objective_family, change_rate, face_mover, face_until, face_by, objective_face, IsObjectiveFace}
 use Rattle.basis_values.specs.Motions.{may_move, motion}
 use Rattle.bounded_primal.specs.Moves.{stop_at, stopper_of, IsStepBy, is_stopper, move_by}
 use Rattle.bounded_primal.specs.declared.moves.Stopper.{Stopper}
 use Rattle.bounded_primal.proofs.SameChoices.{stopper_same, listed_is}
-use Rattle.run_calls.specs.Calls.{end_of}
+use Rattle.parametric_run.specs.Calls.{end_of}
 use Rattle.std.proofs.lemmas.Bool.{and_parts}
-use Rattle.sweep_laws.proofs.Objective.{to_objective}
-use Rattle.sweep_laws.proofs.OneObjective.{lawful_objective}
-use Rattle.sweep_laws.proofs.Intervals.{point_feasible}
-use Rattle.sweep_laws.proofs.ObjectiveEnds.{face_mover_is}
+use Rattle.parametric_laws.proofs.Objective.{to_objective}
+use Rattle.parametric_laws.proofs.OneObjective.{lawful_objective}
+use Rattle.parametric_laws.proofs.Intervals.{point_feasible}
+use Rattle.parametric_laws.proofs.ObjectiveEnds.{face_mover_is}
 use Rattle.para_objective.specs.Breaks.{IsFaceMover}
 use Rattle.para_objective.specs.Faces.{face_up, IsEndlessPast}
 use Rattle.para_objective.proofs.Kept.{kept_optimal, pivot}

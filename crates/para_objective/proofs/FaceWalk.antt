@@ -11,9 +11,9 @@ use Rattle.lp_laws.proofs.WaypointLaws.{keeps_then}
 use Rattle.lp_model.specs.RatesCalls.{IfOverflow}
 use Rattle.lp_model.specs.declared.Stop.{Stop}
 use Rattle.lp_model.specs.declared.Stop.TheVariants as stop
-use Rattle.method_definitions.specs.Path.{Move, after}
-use Rattle.method_definitions.specs.Chain.{FaceMoves, IsFaceStep, AtBreak}
-use Rattle.method_definitions.specs.Statements.{EntersAt}
+use Rattle.simplex_definitions.specs.Path.{Move, after}
+use Rattle.simplex_definitions.specs.Chain.{FaceMoves, IsFaceStep, AtBreak}
+use Rattle.simplex_definitions.specs.Statements.{EntersAt}
 use Rattle.basis_values.specs.Calls.{PointRefused}
 use Rattle.bounded_primal.specs.Moves.{StepRefused}
 use Rattle.bounded_primal.specs.Stops.{primal_stop_of}
@@ -21,12 +21,12 @@ use Rattle.bounded_primal.specs.Turns.{RunStops, by_direction, by_stopper}
 use Rattle.bounded_primal.specs.declared.moves.PrimalStop.{PrimalStop}
 use Rattle.bounded_primal.specs.declared.moves.Stopper.{Stopper}
 use Rattle.bounded_primal.proofs.StepFacts.{step_reaches, limit_apart}
-use Rattle.run_calls.specs.Walks.{FaceStops}
-use Rattle.run_calls.proofs.Walks.{face_path_more, run_later, run_more, run_stops, follows}
+use Rattle.parametric_run.specs.Walks.{FaceStops}
+use Rattle.parametric_run.proofs.Walks.{face_path_more, run_later, run_more, run_stops, follows}
 use Rattle.para_objective.specs.Faces.{family, Face, statement, FaceMovesOn, FacesReach, AnyRun, FacesStop, FacesFollow}
 use Rattle.para_objective.specs.declared.parts.ParaObj.{ParaObj}
 use Rattle.para_objective.proofs.RunEvidence.{of_point, of_stopper, of_step}
-use Rattle.sweep_laws.proofs.Runs.{last_of-append}
+use Rattle.parametric_laws.proofs.Runs.{last_of-append}
 
 module _ (p : LinearProgram) (run : ParaObj) (no_change : p.change ≡ None) (theta : ℚ) (s : List Status) (left : ℕ) (ways now : List Basics) where
   -- the direction of q, or what stops it

@@ -7,12 +7,12 @@ use Rattle.lp_definitions.specs.LinearProgram.{LinearProgram, size, value_at, Is
 use Rattle.lp_definitions.specs.Basis.{basics_of, is_in, ArePricesOf, IsPointOf, objective_rate}
 use Rattle.lp_definitions.specs.declared.Status.{Status}
 use Rattle.lp_model.specs.RatesCalls.{IsRowOf}
-use Rattle.path_laws.specs.Laws.{IsNonsingularBasis}
-use Rattle.method_definitions.specs.Chain.{along, ReachesTo, IsPart}
-use Rattle.method_definitions.specs.ObjectiveRun.{objective_family}
+use Rattle.simplex_laws.specs.Laws.{IsNonsingularBasis}
+use Rattle.simplex_definitions.specs.Chain.{along, ReachesTo, IsPart}
+use Rattle.simplex_definitions.specs.ObjectiveRun.{objective_family}
 use Rattle.bounded_primal.proofs.StepFacts.{point_same}
 use Rattle.para_objective.proofs.Reaches.{price_is, rate_is}
-use Rattle.run_calls.proofs.Chains.{zero_in}
+use Rattle.parametric_run.proofs.Chains.{zero_in}
 
 module _ (p : LinearProgram) (s : List Status) (h : ℕ) (lawful : IsLinearProgram p) (no_change : p.change ≡ None) (row : IsRow p.matrix h) (basis : IsNonsingularBasis p s)
     (prices change : List ℚ) (priced : ArePricesOf p s (value_at prices)) (changed : IsRowOf p.matrix (basics_of s) h (value_at change)) where

@@ -17,18 +17,18 @@ use Rattle.lp_laws.proofs.Values.{clash, sub-zero}
 use Rattle.lp_laws.proofs.Exchange.{AreRates-exchanged, was_nonbasic}
 use Rattle.lp_laws.proofs.Statuses.{basics_of-replaced, basics_of-flipped, changed_other, status_of_nonbasic}
 use Rattle.lp_laws.proofs.Optimal.{for_min-zero}
-use Rattle.method_definitions.specs.Moves.{rises_from, falls_from, is_fixed, lowers, signed, room, reached, stopper}
-use Rattle.method_definitions.specs.Path.{after, speeds, stopped_by}
-use Rattle.path_laws.specs.Laws.{IsNonsingularBasis}
-use Rattle.path_laws.proofs.Stoppers.{stopper_some, reaches_limit}
-use Rattle.method_definitions.specs.ObjectiveRun.{objective_family}
-use Rattle.changed_programs.specs.Changes.{HasRows, IsRightTableau}
-use Rattle.changed_programs.proofs.Tableaus.{by_tableau}
-use Rattle.path_laws.proofs.OneTurn.{lowers_idle}
-use Rattle.path_laws.proofs.Steps.{signed_zero}
-use Rattle.sweep_laws.proofs.Leads.{stopped_leads}
-use Rattle.sweep_laws.proofs.Objective.{to_objective}
-use Rattle.sweep_laws.proofs.Motions.{HasFeasiblePoint, stopped_feasible}
+use Rattle.simplex_definitions.specs.Moves.{rises_from, falls_from, is_fixed, lowers, signed, room, reached, stopper}
+use Rattle.simplex_definitions.specs.Path.{after, speeds, stopped_by}
+use Rattle.simplex_laws.specs.Laws.{IsNonsingularBasis}
+use Rattle.simplex_laws.proofs.Stoppers.{stopper_some, reaches_limit}
+use Rattle.simplex_definitions.specs.ObjectiveRun.{objective_family}
+use Rattle.sensitivity_laws.specs.Changes.{HasRows, IsRightTableau}
+use Rattle.sensitivity_laws.proofs.Tableaus.{by_tableau}
+use Rattle.simplex_laws.proofs.OneTurn.{lowers_idle}
+use Rattle.simplex_laws.proofs.Steps.{signed_zero}
+use Rattle.parametric_laws.proofs.Leads.{stopped_leads}
+use Rattle.parametric_laws.proofs.Objective.{to_objective}
+use Rattle.parametric_laws.proofs.Motions.{HasFeasiblePoint, stopped_feasible}
 
 -- ---- a rate of 0
 

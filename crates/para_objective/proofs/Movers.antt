@@ -9,10 +9,10 @@ use Rattle.lp_definitions.specs.LinearProgram.{LinearProgram, Vector, size, valu
 use Rattle.lp_definitions.specs.Basis.{basics_of, is_in, ArePricesOf, Tableau, IsTableau}
 use Rattle.lp_definitions.specs.declared.Status.{Status}
 use Rattle.lp_model.specs.RatesCalls.{IsRowOf}
-use Rattle.method_definitions.specs.Moves.{least, may_rise, may_fall}
-use Rattle.path_laws.proofs.Numbered.{find_same}
-use Rattle.path_laws.specs.Laws.{IsNonsingularBasis}
-use Rattle.method_definitions.specs.ObjectiveRun.{objective_family, face_mover}
+use Rattle.simplex_definitions.specs.Moves.{least, may_rise, may_fall}
+use Rattle.simplex_laws.proofs.Numbered.{find_same}
+use Rattle.simplex_laws.specs.Laws.{IsNonsingularBasis}
+use Rattle.simplex_definitions.specs.ObjectiveRun.{objective_family, face_mover}
 use Rattle.para_objective.specs.Breaks.{is_mover}
 use Rattle.para_objective.proofs.Reaches.{still, price_is, rate_is}
 use Rattle.lp_laws.proofs.Places.{value_next}

@@ -12,30 +12,30 @@ use Rattle.lp_model.specs.declared.reports.Outcome.{Outcome}
 use Rattle.lp_model.specs.declared.reports.Outcome.TheVariants.{Optimal}
 use Rattle.lp_model.specs.declared.reports.ParaReport.TheVariants.{Opening, Run}
 use Rattle.lp_model.specs.declared.reports.ParaRun.{ParaRun}
-use Rattle.method_definitions.specs.Counts.{last_count, counted_steps}
-use Rattle.method_definitions.specs.Path.{PathEnding, EndsOptimal, EndsCrossed, EndsInfeasible, EndsUnbounded, EndsAt, last_of}
-use Rattle.path_laws.specs.Laws.{IsNonsingularBasis}
-use Rattle.path_laws.proofs.Ends.{optimal_end}
-use Rattle.path_laws.proofs.OnePath.{one_path, path_leads}
-use Rattle.method_definitions.specs.Chain.{InOpening, IsFailure, IsChain, IsRun, Chain as ChainReport}
-use Rattle.method_definitions.specs.ObjectiveRun.{objective_family}
-use Rattle.method_definitions.specs.Statements.{Paraobj}
-use Rattle.method_definitions.specs.Evidence.{Formula, by_exchange, by_entry, by_carried, by_point, by_slack, by_move, by_ratio, by_range, by_objective, by_slope, ShowsRefusal, GoesTo, IsAhead, with_ahead, EvidenceHolds}
+use Rattle.simplex_definitions.specs.Counts.{last_count, counted_steps}
+use Rattle.simplex_definitions.specs.Path.{PathEnding, EndsOptimal, EndsCrossed, EndsInfeasible, EndsUnbounded, EndsAt, last_of}
+use Rattle.simplex_laws.specs.Laws.{IsNonsingularBasis}
+use Rattle.simplex_laws.proofs.Ends.{optimal_end}
+use Rattle.simplex_laws.proofs.OnePath.{one_path, path_leads}
+use Rattle.simplex_definitions.specs.Chain.{InOpening, IsFailure, IsChain, IsRun, Chain as ChainReport}
+use Rattle.simplex_definitions.specs.ObjectiveRun.{objective_family}
+use Rattle.simplex_definitions.specs.Statements.{Paraobj}
+use Rattle.simplex_definitions.specs.Evidence.{Formula, by_exchange, by_entry, by_carried, by_point, by_slack, by_move, by_ratio, by_range, by_objective, by_slope, ShowsRefusal, GoesTo, IsAhead, with_ahead, EvidenceHolds}
 use Rattle.basis_values.specs.Calls.{LieIn}
 use Rattle.bounded_primal.specs.Calls.{CallEnds, WaypointsFollow, outcome_of}
 use Rattle.bounded_primal.specs.Stops.{PrimalStops}
 use Rattle.bounded_primal.specs.declared.moves.PrimalStop.{PrimalStop}
 use Rattle.bounded_primal.specs.declared.moves.PrimalStop.TheVariants.{Limit, Overflow, NoMemory}
-use Rattle.run_calls.specs.Calls.{part_of, end_of}
-use Rattle.run_calls.specs.Walks.{HasRun}
-use Rattle.run_calls.proofs.Walks.{opening_reaches, opening_run, opens_first}
-use Rattle.run_calls.proofs.Openings.{IsFailed, failure_by}
-use Rattle.sweep_laws.proofs.NotBoth.{same_path}
-use Rattle.sweep_laws.proofs.OneRun.{objective_faces}
-use Rattle.sweep_laws.proofs.Objective.{to_objective}
-use Rattle.sweep_laws.proofs.OneObjective.{lawful_objective}
-use Rattle.sweep_laws.proofs.TrueRuns.{objective_runs}
-use Rattle.sweep_laws.proofs.Runs.{last_of-append}
+use Rattle.parametric_run.specs.Calls.{part_of, end_of}
+use Rattle.parametric_run.specs.Walks.{HasRun}
+use Rattle.parametric_run.proofs.Walks.{opening_reaches, opening_run, opens_first}
+use Rattle.parametric_run.proofs.Openings.{IsFailed, failure_by}
+use Rattle.parametric_laws.proofs.NotBoth.{same_path}
+use Rattle.parametric_laws.proofs.OneRun.{objective_faces}
+use Rattle.parametric_laws.proofs.Objective.{to_objective}
+use Rattle.parametric_laws.proofs.OneObjective.{lawful_objective}
+use Rattle.parametric_laws.proofs.TrueRuns.{objective_runs}
+use Rattle.parametric_laws.proofs.Runs.{last_of-append}
 use Rattle.para_objective.specs.Faces.{family, Face}
 use Rattle.para_objective.specs.Runs.{StandsAt, ChainEnds, OpensFrom, ObjectiveEnds, ObjectiveStops, ObjectiveFollows, IsTrueObjective}
 use Rattle.para_objective.specs.declared.parts.ParaObj.{ParaObj}

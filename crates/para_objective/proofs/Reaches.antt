@@ -3,9 +3,9 @@ use Rattle.std.proofs.Common.{◌≡◌, ℕ, List, Option, arith, cond, refl, a
 use Rattle.std.specs.Prelude.{◌↔◌, ◌&&◌, not}
 use Rattle.exact_values.specs.Rational.{ℚ, zero_ℚ, ◌≤ℚ◌, ◌<ℚ◌}
 use Rattle.exact_values.proofs.Order.{le_refl, le_trans, le_of_lt, lt_or_le}
-use Rattle.changed_programs.specs.Changes.{SidesHold, rate_sides, worths, slopes}
-use Rattle.changed_programs.specs.Laws.{IsFeasibleBasis}
-use Rattle.changed_programs.proofs.Rows.{objective}
+use Rattle.sensitivity_laws.specs.Changes.{SidesHold, rate_sides, worths, slopes}
+use Rattle.sensitivity_laws.specs.Laws.{IsFeasibleBasis}
+use Rattle.sensitivity_laws.proofs.Rows.{objective}
 use Rattle.lp_definitions.specs.LinearProgram.{LinearProgram, Vector, size, IsRow, IsVariable, IsLinearProgram, with_change_row}
 use Rattle.lp_definitions.specs.Basis.{basics_of, is_in, status_of, IsNonbasic, AreRates, ArePricesOf, IsOptimalBasis, Tableau, objective_rate}
 use Rattle.lp_definitions.specs.declared.Change.{Change}
@@ -14,10 +14,10 @@ use Rattle.lp_definitions.specs.declared.Status.TheVariants.{Bs}
 use Rattle.lp_laws.proofs.Statuses.{status_of_basic}
 use Rattle.lp_laws.proofs.Uniqueness.{one_table}
 use Rattle.lp_model.specs.RatesCalls.{IsRowOf}
-use Rattle.method_definitions.specs.Moves.{is_fixed, may_rise, may_fall, rises_from, falls_from}
-use Rattle.path_laws.specs.Laws.{IsNonsingularBasis}
-use Rattle.method_definitions.specs.Chain.{ReachesTo}
-use Rattle.method_definitions.specs.ObjectiveRun.{objective_family}
+use Rattle.simplex_definitions.specs.Moves.{is_fixed, may_rise, may_fall, rises_from, falls_from}
+use Rattle.simplex_laws.specs.Laws.{IsNonsingularBasis}
+use Rattle.simplex_definitions.specs.Chain.{ReachesTo}
+use Rattle.simplex_definitions.specs.ObjectiveRun.{objective_family}
 use Rattle.ranging.specs.RowEnds.{sides_of, RatesStayTo}
 use Rattle.ranging.proofs.AtBasis.{no_sides}
 use Rattle.para_objective.specs.Reach.{IsReachOf}

@@ -1,8 +1,8 @@
 -- From a refused quotient to evidence of a run of the objective.
 use Rattle.std.proofs.Common.{◌≡◌, ◌≢◌, ℕ, List, inl, refl, sym, ap, subst₂, ◌∙◌, Bool, true, false, None, cond}
 use Rattle.exact_values.specs.Rational.{zero_ℚ}
-use Rattle.method_definitions.specs.Evidence.{by_objective, names_waypoint}
-use Rattle.method_definitions.specs.Formulas.{f16}
+use Rattle.simplex_definitions.specs.Evidence.{by_objective, names_waypoint}
+use Rattle.simplex_definitions.specs.Formulas.{f16}
 use Rattle.frac128.specs.declared.Op.TheVariants.{Div}
 use Rattle.lp_definitions.specs.LinearProgram.{LinearProgram, Vector, size, IsRow, IsVariable, IsLinearProgram}
 use Rattle.lp_definitions.specs.Basis.{basics_of, is_in, IsNonbasic, ArePricesOf, IsPointOf}
@@ -15,7 +15,7 @@ use Rattle.lp_laws.proofs.Points.{IsPointOf-combination}
 use Rattle.lp_laws.proofs.Values.{clash}
 use Rattle.lp_laws.proofs.WaypointLaws.{within_itself}
 use Rattle.lp_model.specs.RatesCalls.{IsRowOf}
-use Rattle.path_laws.specs.Laws.{IsNonsingularBasis}
+use Rattle.simplex_laws.specs.Laws.{IsNonsingularBasis}
 use Rattle.para_objective.specs.Reach.{RateRefused, EndRefused}
 use Rattle.para_objective.proofs.Reaches.{price_is, rate_is}
 

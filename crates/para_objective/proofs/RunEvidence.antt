@@ -12,8 +12,8 @@ use Rattle.lp_definitions.specs.declared.Status.TheVariants.{Bs}
 use Rattle.lp_laws.proofs.Values.{clash}
 use Rattle.lp_laws.proofs.Statuses.{basics_of-replaced}
 use Rattle.lp_laws.proofs.WaypointLaws.{within_itself}
-use Rattle.method_definitions.specs.Statements.{Paraobj, is_between, thetas_of, EntersAt, MovesAt}
-use Rattle.method_definitions.specs.Evidence.{ShowsRefusal}
+use Rattle.simplex_definitions.specs.Statements.{Paraobj, is_between, thetas_of, EntersAt, MovesAt}
+use Rattle.simplex_definitions.specs.Evidence.{ShowsRefusal}
 use Rattle.basis_values.specs.Calls.{StopsAt, job_of, is_of_point, PointRefused}
 use Rattle.bounded_primal.specs.Moves.{StopperRefused, StepRefused, move_by}
 use Rattle.bounded_primal.specs.declared.moves.Stopper.{Stopper}

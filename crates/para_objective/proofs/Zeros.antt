@@ -9,15 +9,15 @@ use Rattle.exact_values.proofs.Order.{le_by_one, le_of_lt, le_trans, le_refl, lt
 use Rattle.exact_values.proofs.Ring.{by_ring3, same_by_one, number, opposite, ◌⊕◌, ◌⊖◌, ◌⊗◌, ◌≐◌}
 use Rattle.exact_values.proofs.Tests_laws.{lt_from_test, test_from_lt, le_from_lt_fails, lt_fails_from_le}
 use Rattle.exact_values.proofs.Signs.{neg_below, neg_not_below}
-use Rattle.affine_conditions.specs.Conditions.{Holds}
-use Rattle.affine_conditions.proofs.Single.{before_zero, holds_before, holds_on, zero_is}
-use Rattle.changed_programs.specs.Changes.{SidesHold, condition, condition_if, sign_sides}
+use Rattle.affine_laws.specs.Conditions.{Holds}
+use Rattle.affine_laws.proofs.Single.{before_zero, holds_before, holds_on, zero_is}
+use Rattle.sensitivity_laws.specs.Changes.{SidesHold, condition, condition_if, sign_sides}
 use Rattle.lp_definitions.specs.LinearProgram.{LinearProgram, Vector, for_min}
 use Rattle.lp_definitions.specs.declared.Sense.{Sense}
 use Rattle.lp_definitions.specs.declared.Sense.TheVariants.{Min, Max}
 use Rattle.lp_definitions.specs.declared.Status.{Status}
 use Rattle.lp_laws.proofs.Values.{clash}
-use Rattle.method_definitions.specs.Moves.{may_rise, may_fall}
+use Rattle.simplex_definitions.specs.Moves.{may_rise, may_fall}
 use Rattle.ranging.specs.RowEnds.{sides_of, RatesStayTo}
 use Rattle.ranging.proofs.RateBounds.{for_min_zero}
 use Rattle.para_objective.specs.Reach.{zero_at, meets, IsLeast, IsWithRate, IsReachOf, IsReachAbove}

@@ -7,8 +7,8 @@ use Rattle.exact_values.specs.Tests.{eq_ℚ}
 use Rattle.lp_definitions.specs.LinearProgram.{LinearProgram, Vector, for_min}
 use Rattle.lp_definitions.specs.Basis.{Tableau, IsTableau}
 use Rattle.lp_definitions.specs.declared.Status.{Status}
-use Rattle.method_definitions.specs.Moves.{lowers}
-use Rattle.method_definitions.specs.ObjectiveRun.{objective_family, face_mover}
+use Rattle.simplex_definitions.specs.Moves.{lowers}
+use Rattle.simplex_definitions.specs.ObjectiveRun.{objective_family, face_mover}
 
 abbrev pub is_mover : LinearProgram → List Status → ℚ → Vector → Vector → ℕ → Bool
 is_mover p s theta prices change k = eq_ℚ (prices k +ℚ theta *ℚ change k) zero_ℚ && lowers p s (λ q. for_min p.sense (change q)) k

@@ -15,17 +15,17 @@ use Rattle.lp_definitions.specs.declared.Status.{Status}
 use Rattle.lp_model.specs.RatesCalls.{IsRowOf}
 use Rattle.lp_model.specs.declared.reports.ParaEnd.{ParaEnd}
 use Rattle.lp_model.specs.declared.reports.ParaEnd.TheVariants.{Unbounded}
-use Rattle.method_definitions.specs.Moves.{goes_up}
-use Rattle.method_definitions.specs.Path.{after, last_of}
-use Rattle.method_definitions.specs.Chain.{FaceTurn, FaceMoves, FaceDone, FaceEnds, IsFacePath, AtBreak}
-use Rattle.method_definitions.specs.ObjectiveRun.{objective_family, IsObjectiveFace}
-use Rattle.method_definitions.specs.Statements.{SolvingStatement, Paraobj, EntersAt}
+use Rattle.simplex_definitions.specs.Moves.{goes_up}
+use Rattle.simplex_definitions.specs.Path.{after, last_of}
+use Rattle.simplex_definitions.specs.Chain.{FaceTurn, FaceMoves, FaceDone, FaceEnds, IsFacePath, AtBreak}
+use Rattle.simplex_definitions.specs.ObjectiveRun.{objective_family, IsObjectiveFace}
+use Rattle.simplex_definitions.specs.Statements.{SolvingStatement, Paraobj, EntersAt}
 use Rattle.basis_values.specs.Motions.{motion}
 use Rattle.bounded_primal.specs.Moves.{IsStepBy, move_by}
 use Rattle.bounded_primal.specs.declared.moves.PrimalStop.{PrimalStop}
 use Rattle.bounded_primal.specs.declared.moves.Stopper.{Stopper}
-use Rattle.run_calls.specs.Calls.{end_of, WaypointsFollowRun, RunOverflows, RunStops}
-use Rattle.run_calls.specs.Walks.{HasRun, FaceStops}
+use Rattle.parametric_run.specs.Calls.{end_of, WaypointsFollowRun, RunOverflows, RunStops}
+use Rattle.parametric_run.specs.Walks.{HasRun, FaceStops}
 use Rattle.para_objective.specs.declared.faces.AfterFaces.{AfterFaces}
 use Rattle.para_objective.specs.declared.faces.AfterFaces.TheVariants as faces
 use Rattle.para_objective.specs.declared.faces.FaceStep.{FaceStep}

@@ -5,9 +5,9 @@ use Rattle.exact_values.specs.Rational.{ℚ}
 use Rattle.lp_definitions.specs.LinearProgram.{LinearProgram}
 use Rattle.lp_definitions.specs.declared.Status.{Status}
 use Rattle.lp_model.specs.declared.reports.ParaPart.{ParaPart}
-use Rattle.method_definitions.specs.Chain.{IsPart}
-use Rattle.method_definitions.specs.ObjectiveRun.{objective_family}
-use Rattle.run_calls.specs.Calls.{part_of}
+use Rattle.simplex_definitions.specs.Chain.{IsPart}
+use Rattle.simplex_definitions.specs.ObjectiveRun.{objective_family}
+use Rattle.parametric_run.specs.Calls.{part_of}
 use Rattle.para_objective.specs.declared.parts.ParaObj.{ParaObj}
 
 abbrev pub IsIntervalOf : LinearProgram → ParaObj → ℚ → List Status → ParaPart → Type 0

@@ -11,16 +11,16 @@
 use Rattle.std.specs.Prelude.{◌≡◌, ◌≢◌, ◌↔◌, ℕ, ◌≤◌, Bool, not, List, if◌then◌else◌, [], ◌∷◌, IsTrue}
 use Rattle.exact_values.specs.Rational.{ℚ, zero_ℚ, neg_ℚ, ◌/ℚ◌, ◌≤ℚ◌}
 use Rattle.exact_values.specs.Tests.{lt_ℚ}
-use Rattle.changed_programs.specs.Changes.{SidesHold}
-use Rattle.method_definitions.specs.Evidence.{ShowsRefusal}
-use Rattle.method_definitions.specs.Statements.{Paraobj, belongs}
+use Rattle.sensitivity_laws.specs.Changes.{SidesHold}
+use Rattle.simplex_definitions.specs.Evidence.{ShowsRefusal}
+use Rattle.simplex_definitions.specs.Statements.{Paraobj, belongs}
 use Rattle.frac128.specs.declared.Op.TheVariants.{Div}
 use Rattle.lp_definitions.specs.Basis.{basics_of, IsOptimalBasis}
 use Rattle.lp_definitions.specs.LinearProgram.{LinearProgram, Vector}
 use Rattle.lp_definitions.specs.declared.Evidence.{Evidence}
 use Rattle.lp_definitions.specs.declared.Status.{Status}
-use Rattle.method_definitions.specs.Chain.{ReachesTo}
-use Rattle.method_definitions.specs.ObjectiveRun.{objective_family}
+use Rattle.simplex_definitions.specs.Chain.{ReachesTo}
+use Rattle.simplex_definitions.specs.ObjectiveRun.{objective_family}
 use Rattle.ranging.specs.Refusals.{IsRefusal}
 use Rattle.ranging.specs.RowEnds.{sides_of, RatesStayTo}
 

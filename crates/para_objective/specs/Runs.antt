@@ -12,13 +12,13 @@ use Rattle.lp_definitions.specs.Basis.{Basics}
 use Rattle.lp_definitions.specs.declared.Status.{Status}
 use Rattle.lp_model.specs.declared.reports.ParaReport.{ParaReport}
 use Rattle.lp_model.specs.declared.reports.ParaRun.{ParaRun}
-use Rattle.method_definitions.specs.Path.{last_of}
-use Rattle.method_definitions.specs.Chain.{RunReport, IsChain, RunPlace, basis_of}
+use Rattle.simplex_definitions.specs.Path.{last_of}
+use Rattle.simplex_definitions.specs.Chain.{RunReport, IsChain, RunPlace, basis_of}
 use Rattle.bounded_primal.specs.declared.moves.PrimalStop.{PrimalStop}
-use Rattle.run_calls.specs.Calls.{part_of, end_of, RunEnds, WaypointsFollowRun, RunOverflows, RunStops}
-use Rattle.run_calls.specs.Complete.{RunEndsUnhindered}
-use Rattle.run_calls.specs.Truth.{IsTrueReported}
-use Rattle.run_calls.specs.Walks.{HasRun, MayOpen}
+use Rattle.parametric_run.specs.Calls.{part_of, end_of, RunEnds, WaypointsFollowRun, RunOverflows, RunStops}
+use Rattle.parametric_run.specs.Complete.{RunEndsUnhindered}
+use Rattle.parametric_run.specs.Truth.{IsTrueReported}
+use Rattle.parametric_run.specs.Walks.{HasRun, MayOpen}
 use Rattle.para_objective.specs.Faces.{family, Face, statement}
 use Rattle.para_objective.specs.declared.parts.ParaObj.{ParaObj}
 

@@ -6,8 +6,8 @@ ghost use Rattle.exact_values.specs.Tests.{eq_ℚ};
 ghost use Rattle.lp_definitions.specs.LinearProgram.{size, value_at, IsRow, IsVariable, IsLinearProgram};
 ghost use Rattle.lp_definitions.specs.Basis.{basics_of, ArePricesOf};
 ghost use Rattle.lp_model.specs.RatesCalls.{IsRowOf};
-ghost use Rattle.method_definitions.specs.Moves.{least};
-ghost use Rattle.path_laws.specs.Laws.{IsNonsingularBasis};
+ghost use Rattle.simplex_definitions.specs.Moves.{least};
+ghost use Rattle.simplex_laws.specs.Laws.{IsNonsingularBasis};
 ghost use Rattle.para_objective.specs.Breaks.{is_mover, IsFaceMover};
 
 use crate::choices::{may_lower, worth};

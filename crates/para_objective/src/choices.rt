@@ -2,7 +2,7 @@
 
 ghost use Rattle.std.specs.Prelude.{◌≡◌, length};
 ghost use Rattle.lp_definitions.specs.LinearProgram.{size, for_min, IsVariable};
-ghost use Rattle.method_definitions.specs.Moves.{is_fixed, lowers};
+ghost use Rattle.simplex_definitions.specs.Moves.{is_fixed, lowers};
 
 use frac128::Frac;
 use lp_model::{Basis, Lp, Sense, Status};

@@ -5,8 +5,8 @@ ghost use Rattle.exact_values.specs.Rational.{zero_ℚ, ◌≤ℚ◌};
 ghost use Rattle.lp_definitions.specs.LinearProgram.{size, value_at, IsRow, IsLinearProgram};
 ghost use Rattle.lp_definitions.specs.Basis.{basics_of, ArePricesOf, IsOptimalBasis, IsPointOf};
 ghost use Rattle.lp_model.specs.RatesCalls.{IsRowOf, IfOverflow};
-ghost use Rattle.path_laws.specs.Laws.{IsNonsingularBasis};
-ghost use Rattle.method_definitions.specs.ObjectiveRun.{objective_family};
+ghost use Rattle.simplex_laws.specs.Laws.{IsNonsingularBasis};
+ghost use Rattle.simplex_definitions.specs.ObjectiveRun.{objective_family};
 ghost use Rattle.para_objective.specs.Reach.{EndRefused};
 ghost use Rattle.para_objective.specs.Parts.{IsIntervalOf};
 

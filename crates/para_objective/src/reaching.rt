@@ -8,7 +8,7 @@ ghost use Rattle.lp_definitions.specs.LinearProgram.{size, value_at, IsRow, IsVa
 ghost use Rattle.lp_definitions.specs.Basis.{basics_of, ArePricesOf};
 ghost use Rattle.lp_definitions.specs.RatesEvidence.{Names};
 ghost use Rattle.lp_model.specs.RatesCalls.{IsRowOf};
-ghost use Rattle.path_laws.specs.Laws.{IsNonsingularBasis};
+ghost use Rattle.simplex_laws.specs.Laws.{IsNonsingularBasis};
 ghost use Rattle.ranging.specs.Refusals.{IsRefusal};
 ghost use Rattle.para_objective.specs.Reach.{zero_at, meets, IsLeast, IsWithRate, IsReachOf, IsReachAbove, IsReachFromAny, RateRefused, EndRefused};
 

@@ -2,7 +2,7 @@
 use Rattle.std.proofs.Common.{◌≡◌, ◌≢◌, ℕ, ◌≤◌, List, true, refl, sym, arith}
 use Rattle.std.specs.Prelude.{Some, None, IsTrue, not, ◌&&◌, ◌||◌, nat_eq}
 use Rattle.exact_values.specs.Rational.{ℚ, zero_ℚ}
-use Rattle.method_definitions.specs.Statements.{Pararhs, is_between, belongs}
+use Rattle.simplex_definitions.specs.Statements.{Pararhs, is_between, belongs}
 use Rattle.lp_definitions.specs.Basis.{Basics, basics_of, IsBasic, IsNonbasic, IsDirectionOf, ArePricesOf, IsPointOf}
 use Rattle.lp_definitions.specs.LinearProgram.{LinearProgram, Vector, IsLinearProgram}
 use Rattle.lp_definitions.specs.Waypoints.{KeepsWaypoints}
@@ -12,9 +12,9 @@ use Rattle.lp_definitions.specs.declared.Status.TheVariants.{Bs}
 use Rattle.lp_model.specs.RatesCalls.{IsRowOf, IfOverflow}
 use Rattle.lp_model.specs.declared.Stop.{Stop}
 use Rattle.lp_model.specs.declared.Stop.TheVariants as stop
-use Rattle.path_laws.specs.Laws.{IsNonsingularBasis}
-use Rattle.method_definitions.specs.Chain.{FaceMoves}
-use Rattle.method_definitions.specs.RhsRun.{rhs_family, IsSlope, IsRhsFace}
+use Rattle.simplex_laws.specs.Laws.{IsNonsingularBasis}
+use Rattle.simplex_definitions.specs.Chain.{FaceMoves}
+use Rattle.simplex_definitions.specs.RhsRun.{rhs_family, IsSlope, IsRhsFace}
 use Rattle.basis_values.specs.Calls.{PointRefused}
 use Rattle.basis_values.proofs.Covered.{point_refused_later}
 use Rattle.bounded_primal.specs.Moves.{StepRefused, move_by}
@@ -22,7 +22,7 @@ use Rattle.bounded_primal.specs.Stops.{primal_stop_of}
 use Rattle.bounded_primal.specs.Turns.{ReturnStops, by_column, by_return}
 use Rattle.bounded_primal.specs.declared.moves.Stopper.{Stopper}
 use Rattle.bounded_primal.specs.Calls.{EvidenceHere}
-use Rattle.run_calls.specs.Walks.{FaceStops}
+use Rattle.parametric_run.specs.Walks.{FaceStops}
 use Rattle.dual_step.specs.Cheapest.{SomeRatioRefused}
 use Rattle.dual_step.proofs.StepEvidence.{IsOwn}
 use Rattle.dual_step.proofs.StepEvidence as own

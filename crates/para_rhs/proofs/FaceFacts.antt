@@ -5,9 +5,9 @@ use Rattle.exact_values.specs.Rational.{ℚ, zero_ℚ, one_ℚ, neg_ℚ, ◌-ℚ
 use Rattle.exact_values.specs.Tests.{eq_ℚ, le_ℚ}
 use Rattle.exact_values.proofs.Ring.{by_ring2, ◌⊕◌, ◌⊗◌, ◌≐◌, number}
 use Rattle.exact_values.proofs.Tests_laws.{same_from_test, le_from_test}
-use Rattle.changed_programs.specs.Changes.{ChangeIsRow, HasRows, IsRightTableau}
-use Rattle.changed_programs.proofs.Tableaus.{by_tableau}
-use Rattle.method_definitions.specs.Formulas.{limit_numbered, number_of_limit}
+use Rattle.sensitivity_laws.specs.Changes.{ChangeIsRow, HasRows, IsRightTableau}
+use Rattle.sensitivity_laws.proofs.Tableaus.{by_tableau}
+use Rattle.simplex_definitions.specs.Formulas.{limit_numbered, number_of_limit}
 use Rattle.lp_definitions.specs.Basis.{is_in, basics_of, IsBasic, IsNonbasic, IsDirectionOf, ArePricesOf, StandsAt, IsOptimalBasis, IsPointOf, Tableau, IsTableau}
 use Rattle.lp_definitions.specs.LinearProgram.{LinearProgram, Vector, size, value_at, IsVariable, IsLinearProgram, lower_of, upper_of}
 use Rattle.lp_definitions.specs.declared.Change.{Change}
@@ -18,23 +18,23 @@ use Rattle.lp_laws.proofs.Uniqueness.{one_direction}
 use Rattle.lp_laws.specs.Vectors.{along}
 use Rattle.lp_laws.specs.Rates.{exchanged_rate}
 use Rattle.lp_model.specs.RatesCalls.{IsRowOf}
-use Rattle.method_definitions.specs.DualRatio.{brings_back, ratio, is_cheapest, cheapest}
-use Rattle.method_definitions.specs.Moves.{on_limit, signed}
-use Rattle.method_definitions.specs.Path.{Move, after, ray_of}
-use Rattle.path_laws.specs.Laws.{IsNonsingularBasis}
-use Rattle.path_laws.proofs.Numbered.{list_all_true}
-use Rattle.path_laws.proofs.Searches.{found_passes}
-use Rattle.method_definitions.specs.Chain.{FaceMoves, FaceDone, FaceEnds, InfeasiblePast}
-use Rattle.method_definitions.specs.RhsRun.{rhs_family, IsSlope, leaving, leaves_below, leaves_above, face_exchange, face_at, rhs_face, IsRhsFace}
+use Rattle.simplex_definitions.specs.DualRatio.{brings_back, ratio, is_cheapest, cheapest}
+use Rattle.simplex_definitions.specs.Moves.{on_limit, signed}
+use Rattle.simplex_definitions.specs.Path.{Move, after, ray_of}
+use Rattle.simplex_laws.specs.Laws.{IsNonsingularBasis}
+use Rattle.simplex_laws.proofs.Numbered.{list_all_true}
+use Rattle.simplex_laws.proofs.Searches.{found_passes}
+use Rattle.simplex_definitions.specs.Chain.{FaceMoves, FaceDone, FaceEnds, InfeasiblePast}
+use Rattle.simplex_definitions.specs.RhsRun.{rhs_family, IsSlope, leaving, leaves_below, leaves_above, face_exchange, face_at, rhs_face, IsRhsFace}
 use Rattle.bounded_primal.specs.Moves.{return_by, IsStepBy, brings}
 use Rattle.bounded_primal.specs.Turns.{ray_from}
 use Rattle.basis_values.proofs.Existence.{rates_exist}
 use Rattle.bounded_primal.proofs.SameChoices.{listed_is, row_ray}
-use Rattle.changed_programs.proofs.MovedLimits.{lower_is, upper_is}
-use Rattle.changed_programs.proofs.RightHandSides.{points}
+use Rattle.sensitivity_laws.proofs.MovedLimits.{lower_is, upper_is}
+use Rattle.sensitivity_laws.proofs.RightHandSides.{points}
 use Rattle.std.proofs.lemmas.Bool.{and_parts}
-use Rattle.path_laws.proofs.Steps.{signed_zero}
-use Rattle.sweep_laws.proofs.Rhs.{to_rhs, rhs_leads}
+use Rattle.simplex_laws.proofs.Steps.{signed_zero}
+use Rattle.parametric_laws.proofs.Rhs.{to_rhs, rhs_leads}
 use Rattle.para_rhs.specs.Breaks.{IsFaceLeaver}
 use Rattle.dual_step.specs.Cheapest.{brings as may_bring, cheapest_by}
 use Rattle.para_rhs.specs.Limits.{is_upper}

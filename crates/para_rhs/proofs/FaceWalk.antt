@@ -7,14 +7,14 @@ use Rattle.lp_definitions.specs.Basis.{Basics, basics_of}
 use Rattle.lp_definitions.specs.Waypoints.{KeepsWaypoints}
 use Rattle.lp_definitions.specs.declared.Status.{Status}
 use Rattle.lp_laws.proofs.WaypointLaws.{keeps_then}
-use Rattle.method_definitions.specs.Path.{Move, after}
-use Rattle.method_definitions.specs.Chain.{FaceMoves, IsFaceStep, AtBreak}
+use Rattle.simplex_definitions.specs.Path.{Move, after}
+use Rattle.simplex_definitions.specs.Chain.{FaceMoves, IsFaceStep, AtBreak}
 use Rattle.bounded_primal.specs.declared.moves.PrimalStop.{PrimalStop}
-use Rattle.run_calls.specs.Walks.{FaceStops}
-use Rattle.run_calls.proofs.Walks.{face_path_more, run_later, run_more, run_stops, follows}
+use Rattle.parametric_run.specs.Walks.{FaceStops}
+use Rattle.parametric_run.proofs.Walks.{face_path_more, run_later, run_more, run_stops, follows}
 use Rattle.para_rhs.specs.Faces.{family, Face, statement, FacesReach, AnyRun, FacesStop, FacesFollow}
 use Rattle.para_rhs.specs.declared.parts.ParaRhs.{ParaRhs}
-use Rattle.sweep_laws.proofs.Runs.{last_of-append}
+use Rattle.parametric_laws.proofs.Runs.{last_of-append}
 
 module _ (p : LinearProgram) (run : ParaRhs) (theta : ℚ) (s : List Status) (begun : ℕ) where
   pub faces_begin : begun ≤ run.limit → FacesReach p run theta s s begun begun

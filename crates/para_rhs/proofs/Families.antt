@@ -5,9 +5,9 @@ use Rattle.std.proofs.lemmas.List.{ext_get_or, length-map}
 use Rattle.exact_values.specs.Rational.{ℚ, zero_ℚ, ◌+ℚ◌, ◌*ℚ◌}
 use Rattle.lp_definitions.specs.LinearProgram.{Matrix, LinearProgram, size, IsLinearProgram, with_limits}
 use Rattle.lp_laws.proofs.Opening.{length-numbers_from}
-use Rattle.path_laws.proofs.Numbered.{get_or-listed}
-use Rattle.changed_programs.proofs.MovedLimits.{unmoved}
-use Rattle.method_definitions.specs.RhsRun.{shift_of, shifted, rhs_family}
+use Rattle.simplex_laws.proofs.Numbered.{get_or-listed}
+use Rattle.sensitivity_laws.proofs.MovedLimits.{unmoved}
+use Rattle.simplex_definitions.specs.RhsRun.{shift_of, shifted, rhs_family}
 
 -- limits that are moved by 0 times their shifts are the limits
 module _ (a : Matrix) (shift : List ℚ) (limits : List (Option ℚ)) (counted : length limits ≡ size a) where

@@ -6,11 +6,11 @@ use Rattle.exact_values.proofs.Ring.{by_ring2, ◌⊕◌, ◌⊗◌, ◌≐◌, 
 use Rattle.lp_definitions.specs.LinearProgram.{LinearProgram, size, value_at}
 use Rattle.lp_definitions.specs.Basis.{ArePricesOf, IsPointOf}
 use Rattle.lp_definitions.specs.declared.Status.{Status}
-use Rattle.path_laws.specs.Laws.{IsNonsingularBasis}
-use Rattle.changed_programs.proofs.RightHandSides.{points}
-use Rattle.method_definitions.specs.Chain.{along, ReachesTo, IsPart}
-use Rattle.method_definitions.specs.RhsRun.{rhs_family, IsSlope}
-use Rattle.run_calls.proofs.Chains.{zero_in}
+use Rattle.simplex_laws.specs.Laws.{IsNonsingularBasis}
+use Rattle.sensitivity_laws.proofs.RightHandSides.{points}
+use Rattle.simplex_definitions.specs.Chain.{along, ReachesTo, IsPart}
+use Rattle.simplex_definitions.specs.RhsRun.{rhs_family, IsSlope}
+use Rattle.parametric_run.proofs.Chains.{zero_in}
 
 module _ (p : LinearProgram) (shift : List ℚ) (s : List Status) (at : IsNonsingularBasis p s) (value slope prices : List ℚ)
     (point : IsPointOf p s (value_at value)) (sloped : IsSlope p s shift (value_at slope)) (priced : ArePricesOf p s (value_at prices)) where

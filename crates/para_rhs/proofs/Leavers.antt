@@ -12,14 +12,14 @@ use Rattle.lp_definitions.specs.LinearProgram.{LinearProgram, Vector, size, IsVa
 use Rattle.lp_definitions.specs.declared.Status.{Status}
 use Rattle.lp_laws.proofs.Uniqueness.{one_point, same_from_nonbasics}
 use Rattle.lp_laws.specs.Vectors.{along}
-use Rattle.method_definitions.specs.Moves.{least, on_limit}
-use Rattle.path_laws.proofs.Numbered.{find_same}
-use Rattle.path_laws.proofs.Searches.{found_passes}
-use Rattle.path_laws.specs.Laws.{IsNonsingularBasis}
-use Rattle.method_definitions.specs.RhsRun.{shift_of, rhs_family, IsSlope, leaves_below, leaves_above, leaving}
-use Rattle.changed_programs.proofs.MovedLimits.{moved, lower_is, upper_is}
-use Rattle.changed_programs.proofs.RightHandSides.{points}
-use Rattle.sweep_laws.proofs.Rhs.{to_rhs}
+use Rattle.simplex_definitions.specs.Moves.{least, on_limit}
+use Rattle.simplex_laws.proofs.Numbered.{find_same}
+use Rattle.simplex_laws.proofs.Searches.{found_passes}
+use Rattle.simplex_laws.specs.Laws.{IsNonsingularBasis}
+use Rattle.simplex_definitions.specs.RhsRun.{shift_of, rhs_family, IsSlope, leaves_below, leaves_above, leaving}
+use Rattle.sensitivity_laws.proofs.MovedLimits.{moved, lower_is, upper_is}
+use Rattle.sensitivity_laws.proofs.RightHandSides.{points}
+use Rattle.parametric_laws.proofs.Rhs.{to_rhs}
 use Rattle.para_rhs.specs.Breaks.{stands_at, leaving_on, leaving_side, is_there, leaves, IsLeaverOf, IsLeaverAt}
 use Rattle.para_rhs.specs.Limits.{is_upper}
 use Rattle.para_rhs.specs.Reach.{side_ahead}

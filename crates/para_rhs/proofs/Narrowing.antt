@@ -8,16 +8,16 @@ use Rattle.exact_values.proofs.Order.{le_by_one, lt_by_one, le_of_lt, le_refl, l
 use Rattle.exact_values.proofs.Ring.{by_ring1, by_ring2, by_ring4, number, opposite, ◌⊕◌, ◌⊖◌, ◌⊗◌, ◌≐◌}
 use Rattle.exact_values.proofs.Tests_laws.{lt_from_test, le_from_lt_fails}
 use Rattle.exact_values.proofs.Signs.{neg_not_below}
-use Rattle.affine_conditions.specs.Conditions.{Condition, Holds}
-use Rattle.affine_conditions.specs.Ends.{IsTightened}
-use Rattle.affine_conditions.specs.declared.tightening.Ends.{Ends}
-use Rattle.affine_conditions.proofs.Single.{holds_on}
-use Rattle.changed_programs.specs.Changes.{SidesHold, condition}
+use Rattle.affine_laws.specs.Conditions.{Condition, Holds}
+use Rattle.affine_laws.specs.Ends.{IsTightened}
+use Rattle.affine_laws.specs.declared.tightening.Ends.{Ends}
+use Rattle.affine_laws.proofs.Single.{holds_on}
+use Rattle.sensitivity_laws.specs.Changes.{SidesHold, condition}
 use Rattle.lp_definitions.specs.LinearProgram.{LinearProgram, Vector, size, lower_of, upper_of}
 use Rattle.lp_definitions.specs.declared.Evidence.{Evidence}
 use Rattle.basis_values.specs.Formulas.{IsRefusal}
 use Rattle.frac128.specs.declared.Op.TheVariants.{Sub, Div}
-use Rattle.method_definitions.specs.RhsRun.{shift_of}
+use Rattle.simplex_definitions.specs.RhsRun.{shift_of}
 use Rattle.para_rhs.specs.Limits.{limit_on, number_of}
 use Rattle.para_rhs.specs.Reach.{side_ahead, bound_of, limit_sides, StaysTo, IsNarrowed, IsReachOf, basic_formula, VariableRefused, of_closing, of_distance, of_quotient, SomeVariableRefused}
 use Rattle.para_rhs.specs.declared.limits.Side.{Side}

@@ -3,7 +3,7 @@ use Rattle.std.proofs.Common.{◌≡◌, ℕ, zero, suc, ◌+◌, ◌<◌, ◌�
 use Rattle.std.specs.Prelude.{Some, not, filter, slice_get}
 use Rattle.std.proofs.lemmas.Bool.{not-true}
 use Rattle.exact_values.specs.Rational.{ℚ, zero_ℚ}
-use Rattle.method_definitions.specs.Formulas.{nonbasics}
+use Rattle.simplex_definitions.specs.Formulas.{nonbasics}
 use Rattle.lp_definitions.specs.Basis.{Basics, is_in, IsNonbasic}
 use Rattle.lp_definitions.specs.LinearProgram.{Matrix, size, numbers_from}
 use Rattle.lp_definitions.specs.RatesEvidence.{sum_from}

@@ -19,33 +19,33 @@ use Rattle.lp_model.specs.declared.reports.Outcome.TheVariants.{Optimal}
 use Rattle.lp_model.specs.declared.reports.ParaReport.TheVariants.{Opening, Run}
 use Rattle.lp_model.specs.declared.reports.ParaRun.{ParaRun}
 use Rattle.lp_laws.proofs.Values.{clash}
-use Rattle.method_definitions.specs.Counts.{last_count, counted_steps}
-use Rattle.method_definitions.specs.Path.{PathEnding, EndsOptimal, EndsCrossed, EndsInfeasible, EndsUnbounded, EndsAt, last_of}
-use Rattle.path_laws.specs.Laws.{IsNonsingularBasis}
-use Rattle.path_laws.proofs.Ends.{optimal_end}
-use Rattle.path_laws.proofs.OnePath.{one_path, path_leads}
-use Rattle.method_definitions.specs.Chain.{InOpening, begins, IsFailure, IsChain, IsRun, Chain as ChainReport}
-use Rattle.method_definitions.specs.RhsRun.{rhs_family}
-use Rattle.method_definitions.specs.Statements.{Primal, Pararhs, is_between, shift_at}
-use Rattle.method_definitions.specs.Formulas.{PointFormula, f6, f7, f10_product, f10_sum, SlackFormula, f6_slack, MoveFormula, f8, f9, RatioFormula, f14, RangeFormula, f15_limit, f15_nonbasic, f15_basic, ObjectiveFormula, f16, f17_product, f17_sum, SlopeFormula, f18_product, f18_sum, f18_difference, f18_quotient}
-use Rattle.method_definitions.specs.Evidence.{Formula, by_exchange, by_entry, by_carried, by_point, by_slack, by_move, by_ratio, by_range, by_objective, by_slope, ShowsRefusal, GoesTo, IsAhead, with_ahead, EvidenceHolds, ShiftHolds}
+use Rattle.simplex_definitions.specs.Counts.{last_count, counted_steps}
+use Rattle.simplex_definitions.specs.Path.{PathEnding, EndsOptimal, EndsCrossed, EndsInfeasible, EndsUnbounded, EndsAt, last_of}
+use Rattle.simplex_laws.specs.Laws.{IsNonsingularBasis}
+use Rattle.simplex_laws.proofs.Ends.{optimal_end}
+use Rattle.simplex_laws.proofs.OnePath.{one_path, path_leads}
+use Rattle.simplex_definitions.specs.Chain.{InOpening, begins, IsFailure, IsChain, IsRun, Chain as ChainReport}
+use Rattle.simplex_definitions.specs.RhsRun.{rhs_family}
+use Rattle.simplex_definitions.specs.Statements.{Primal, Pararhs, is_between, shift_at}
+use Rattle.simplex_definitions.specs.Formulas.{PointFormula, f6, f7, f10_product, f10_sum, SlackFormula, f6_slack, MoveFormula, f8, f9, RatioFormula, f14, RangeFormula, f15_limit, f15_nonbasic, f15_basic, ObjectiveFormula, f16, f17_product, f17_sum, SlopeFormula, f18_product, f18_sum, f18_difference, f18_quotient}
+use Rattle.simplex_definitions.specs.Evidence.{Formula, by_exchange, by_entry, by_carried, by_point, by_slack, by_move, by_ratio, by_range, by_objective, by_slope, ShowsRefusal, GoesTo, IsAhead, with_ahead, EvidenceHolds, ShiftHolds}
 use Rattle.basis_values.specs.Calls.{HasRates, LieIn, job_of}
 use Rattle.bounded_primal.specs.Calls.{CallEnds, WaypointsFollow, outcome_of}
 use Rattle.bounded_primal.specs.Stops.{PrimalStops, primal_stop_of}
 use Rattle.bounded_primal.specs.declared.moves.PrimalStop.{PrimalStop}
 use Rattle.bounded_primal.specs.declared.moves.PrimalStop.TheVariants.{Limit, Overflow, NoMemory}
 use Rattle.bounded_primal.proofs.TurnEvidence.{step_brings_not}
-use Rattle.run_calls.specs.Calls.{RunStops, RunOverflows, part_of, end_of}
-use Rattle.run_calls.specs.Walks.{HasRun}
-use Rattle.run_calls.proofs.Walks.{opening_reaches, opening_run, opens_first}
-use Rattle.run_calls.proofs.Openings.{IsFailed, failure_by}
+use Rattle.parametric_run.specs.Calls.{RunStops, RunOverflows, part_of, end_of}
+use Rattle.parametric_run.specs.Walks.{HasRun}
+use Rattle.parametric_run.proofs.Walks.{opening_reaches, opening_run, opens_first}
+use Rattle.parametric_run.proofs.Openings.{IsFailed, failure_by}
 use Rattle.bounded_primal.proofs.StatementEvidence.{step_number}
-use Rattle.sweep_laws.proofs.NotBoth.{same_path}
-use Rattle.sweep_laws.proofs.OneRun.{rhs_faces}
-use Rattle.sweep_laws.proofs.Rhs.{to_rhs, from_rhs}
-use Rattle.sweep_laws.proofs.OneRhs.{lawful_rhs}
-use Rattle.sweep_laws.proofs.TrueRuns.{rhs_runs}
-use Rattle.sweep_laws.proofs.Runs.{last_of-append}
+use Rattle.parametric_laws.proofs.NotBoth.{same_path}
+use Rattle.parametric_laws.proofs.OneRun.{rhs_faces}
+use Rattle.parametric_laws.proofs.Rhs.{to_rhs, from_rhs}
+use Rattle.parametric_laws.proofs.OneRhs.{lawful_rhs}
+use Rattle.parametric_laws.proofs.TrueRuns.{rhs_runs}
+use Rattle.parametric_laws.proofs.Runs.{last_of-append}
 use Rattle.para_rhs.specs.Faces.{family, Face, statement}
 use Rattle.para_rhs.specs.Runs.{told_at, StandsAt, ChainEnds, OpensFrom, RhsEnds, RhsStops, RhsFollows, IsTrueRhs}
 use Rattle.para_rhs.specs.declared.parts.ParaRhs.{ParaRhs}

@@ -7,12 +7,12 @@ use Rattle.lp_definitions.specs.Basis.{basics_of, status_of, ArePricesOf, Tablea
 use Rattle.lp_definitions.specs.LinearProgram.{LinearProgram, Vector, size, IsVariable, IsLinearProgram, lower_of, upper_of}
 use Rattle.lp_definitions.specs.declared.Status.{Status}
 use Rattle.lp_model.specs.RatesCalls.{IsRowOf}
-use Rattle.method_definitions.specs.DualRatio.{brings_back, ratio, is_cheapest, cheapest}
-use Rattle.method_definitions.specs.Moves.{on_limits, rises_from, falls_from, lowers, signed}
-use Rattle.path_laws.proofs.Numbered.{find_same, list_all_same}
-use Rattle.path_laws.specs.Laws.{IsNonsingularBasis}
-use Rattle.method_definitions.specs.RhsRun.{shift_of, rhs_family}
-use Rattle.changed_programs.proofs.MovedLimits.{lower_is, upper_is, moved_tests}
+use Rattle.simplex_definitions.specs.DualRatio.{brings_back, ratio, is_cheapest, cheapest}
+use Rattle.simplex_definitions.specs.Moves.{on_limits, rises_from, falls_from, lowers, signed}
+use Rattle.simplex_laws.proofs.Numbered.{find_same, list_all_same}
+use Rattle.simplex_laws.specs.Laws.{IsNonsingularBasis}
+use Rattle.simplex_definitions.specs.RhsRun.{shift_of, rhs_family}
+use Rattle.sensitivity_laws.proofs.MovedLimits.{lower_is, upper_is, moved_tests}
 use Rattle.dual_step.specs.Cheapest.{brings, cheapest_by}
 use Rattle.dual_step.proofs.RatioChoice.{brings_is, cheapest_is}
 

@@ -3,9 +3,9 @@ use Rattle.std.proofs.Common.{◌≡◌, ◌≢◌, ℕ, List, map, length, Bool
 use Rattle.std.specs.Prelude.{IsTrue, nat_eq}
 use Rattle.std.proofs.lemmas.List.{take_all}
 use Rattle.exact_values.specs.Rational.{ℚ, zero_ℚ, ◌-ℚ◌, ◌*ℚ◌}
-use Rattle.method_definitions.specs.Evidence.{Formula, by_point, by_slope, ShowsRefusal, names_waypoint}
-use Rattle.method_definitions.specs.Formulas.{nonbasics, nonbasic_sum, PointFormula, f6, SlopeFormula, f18_difference, f18_quotient}
-use Rattle.method_definitions.specs.Statements.{Pararhs, belongs}
+use Rattle.simplex_definitions.specs.Evidence.{Formula, by_point, by_slope, ShowsRefusal, names_waypoint}
+use Rattle.simplex_definitions.specs.Formulas.{nonbasics, nonbasic_sum, PointFormula, f6, SlopeFormula, f18_difference, f18_quotient}
+use Rattle.simplex_definitions.specs.Statements.{Pararhs, belongs}
 use Rattle.frac128.specs.declared.Op.TheVariants.{Sub, Div}
 use Rattle.lp_definitions.specs.Basis.{Basics, basics_of, is_in, IsBasic, AreRates, IsPointOf, Tableau, IsTableau}
 use Rattle.lp_definitions.specs.LinearProgram.{LinearProgram, Vector, IsVariable, IsLinearProgram}
@@ -16,8 +16,8 @@ use Rattle.lp_definitions.specs.declared.Status.{Status}
 use Rattle.lp_laws.proofs.Combination.{by_nonbasics}
 use Rattle.lp_laws.proofs.Ordered.{combination_in_order}
 use Rattle.lp_laws.proofs.Values.{clash}
-use Rattle.path_laws.specs.Laws.{IsNonsingularBasis}
-use Rattle.method_definitions.specs.RhsRun.{shift_of, IsSlope}
+use Rattle.simplex_laws.specs.Laws.{IsNonsingularBasis}
+use Rattle.simplex_definitions.specs.RhsRun.{shift_of, IsSlope}
 use Rattle.basis_values.proofs.Existence.{rates_exist}
 use Rattle.para_rhs.specs.Limits.{number_of}
 use Rattle.para_rhs.specs.Reach.{VariableRefused, of_closing, of_distance, of_quotient, SomeVariableRefused}

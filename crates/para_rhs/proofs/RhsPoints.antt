@@ -3,19 +3,19 @@ use Rattle.std.proofs.Common.{List, ◌⊎◌, inl, inr, true, false}
 use Rattle.std.specs.Prelude.{◌↔◌, Option, Some, None, IsSome, unwrap_or, option_map}
 use Rattle.exact_values.specs.Rational.{ℚ, ◌≤ℚ◌, ◌<ℚ◌}
 use Rattle.exact_values.proofs.Order.{le_refl, le_trans, le_of_lt, lt_or_le}
-use Rattle.affine_conditions.specs.Ends.{IsBefore, IsBetweenEnds}
-use Rattle.affine_conditions.specs.declared.tightening.End.{End}
-use Rattle.affine_conditions.specs.declared.tightening.Ends.{Ends}
+use Rattle.affine_laws.specs.Ends.{IsBefore, IsBetweenEnds}
+use Rattle.affine_laws.specs.declared.tightening.End.{End}
+use Rattle.affine_laws.specs.declared.tightening.Ends.{Ends}
 use Rattle.lp_definitions.specs.LinearProgram.{LinearProgram, Vector, size, IsLinearProgram}
 use Rattle.lp_definitions.specs.Basis.{IsPointOf, IsOptimalBasis}
 use Rattle.lp_definitions.specs.declared.Status.{Status}
-use Rattle.path_laws.specs.Laws.{IsNonsingularBasis}
-use Rattle.method_definitions.specs.Chain.{ReachesTo}
-use Rattle.method_definitions.specs.RhsRun.{rhs_family, IsSlope}
-use Rattle.changed_programs.specs.Changes.{ValuesStay}
-use Rattle.changed_programs.specs.Laws.{IsDualFeasibleBasis}
-use Rattle.changed_programs.proofs.RightHandSides.{right_hand_sides, dual_feasible}
-use Rattle.changed_programs.proofs.Rows.{lawful_rows}
+use Rattle.simplex_laws.specs.Laws.{IsNonsingularBasis}
+use Rattle.simplex_definitions.specs.Chain.{ReachesTo}
+use Rattle.simplex_definitions.specs.RhsRun.{rhs_family, IsSlope}
+use Rattle.sensitivity_laws.specs.Changes.{ValuesStay}
+use Rattle.sensitivity_laws.specs.Laws.{IsDualFeasibleBasis}
+use Rattle.sensitivity_laws.proofs.RightHandSides.{right_hand_sides, dual_feasible}
+use Rattle.sensitivity_laws.proofs.Rows.{lawful_rows}
 use Rattle.para_rhs.specs.Reach.{StaysTo, IsReachOf}
 
 module _ (p : LinearProgram) (shift : List ℚ) (lawful : IsLinearProgram p) (s : List Status) (at : IsNonsingularBasis p s) (z v : Vector) (point : IsPointOf p s z) (slope : IsSlope p s shift v) where

@@ -2,8 +2,8 @@
 use Rattle.std.proofs.Common.{◌≡◌, ℕ, zero, suc, ◌<◌, ◌≤◌, inl, inr, List, [], ◌∷◌, ◌++◌, map, length, true, false, refl, sym, ◌∙◌, ap, subst, arith}
 use Rattle.std.specs.Prelude.{Option, None, IsTrue, Contains, slice_index_or, not, ◌&&◌, ◌||◌, nat_eq}
 use Rattle.exact_values.specs.Rational.{ℚ, zero_ℚ}
-use Rattle.method_definitions.specs.Evidence.{ShowsRefusal, IsOfMove, GoesTo}
-use Rattle.method_definitions.specs.Statements.{Pararhs, is_between, belongs, thetas_of, program_at}
+use Rattle.simplex_definitions.specs.Evidence.{ShowsRefusal, IsOfMove, GoesTo}
+use Rattle.simplex_definitions.specs.Statements.{Pararhs, is_between, belongs, thetas_of, program_at}
 use Rattle.lp_definitions.specs.Basis.{Basics, basics_of}
 use Rattle.lp_definitions.specs.LinearProgram.{LinearProgram, IsLinearProgram}
 use Rattle.lp_definitions.specs.Waypoints.{IsWithinOne, waypoint}

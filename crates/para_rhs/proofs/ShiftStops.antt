@@ -2,14 +2,14 @@
 use Rattle.std.proofs.Common.{◌≡◌, ◌≢◌, ℕ, ◌≤◌, List, [], Bool, true, false, refl, sym, subst, ap, ◌∙◌, arith}
 use Rattle.std.specs.Prelude.{Some, None, nat_le, if◌then◌else◌}
 use Rattle.exact_values.specs.Rational.{ℚ, zero_ℚ, ◌*ℚ◌}
-use Rattle.method_definitions.specs.Formulas.{ShiftFormula, f13_product, f13_limit, limit_numbered}
-use Rattle.method_definitions.specs.Evidence.{ShiftHolds}
-use Rattle.method_definitions.specs.Statements.{Pararhs}
+use Rattle.simplex_definitions.specs.Formulas.{ShiftFormula, f13_product, f13_limit, limit_numbered}
+use Rattle.simplex_definitions.specs.Evidence.{ShiftHolds}
+use Rattle.simplex_definitions.specs.Statements.{Pararhs}
 use Rattle.frac128.specs.declared.Op.TheVariants.{Add, Mul}
 use Rattle.lp_definitions.specs.LinearProgram.{LinearProgram, Matrix, IsRow, IsVariable, IsLinearProgram, HasNoLimits, value_at}
 use Rattle.lp_definitions.specs.RatesEvidence.{Refuses}
 use Rattle.lp_definitions.specs.declared.Evidence.{Evidence}
-use Rattle.method_definitions.specs.RhsRun.{shift_of}
+use Rattle.simplex_definitions.specs.RhsRun.{shift_of}
 use Rattle.para_rhs.specs.Limits.{limit_on, number_of, MoveRefused, of_product, of_sum, SomeLimitRefused}
 use Rattle.para_rhs.specs.declared.limits.Side.{Side}
 use Rattle.para_rhs.specs.declared.limits.Side.TheVariants.{Lower, Upper}

@@ -11,11 +11,11 @@ use Rattle.lp_definitions.specs.declared.Status.TheVariants.{Bs, Ll, Ul, Fr}
 use Rattle.lp_laws.proofs.Opening.{length-numbers_from}
 use Rattle.lp_laws.proofs.Statuses.{status_of_nonbasic}
 use Rattle.basis_values.specs.Calls.{HasRates, KeepsRates}
-use Rattle.path_laws.specs.Laws.{IsNonsingularBasis}
-use Rattle.path_laws.proofs.Numbered.{get_or-listed}
-use Rattle.method_definitions.specs.RhsRun.{shift_of, IsSlope}
+use Rattle.simplex_laws.specs.Laws.{IsNonsingularBasis}
+use Rattle.simplex_laws.proofs.Numbered.{get_or-listed}
+use Rattle.simplex_definitions.specs.RhsRun.{shift_of, IsSlope}
 use Rattle.para_rhs.specs.Slopes.{shifts_of, slope_program}
-use Rattle.changed_programs.proofs.MovedLimits.{none_to, none_from, allowed_to, free_unshifted}
+use Rattle.sensitivity_laws.proofs.MovedLimits.{none_to, none_from, allowed_to, free_unshifted}
 
 module _ (p : LinearProgram) (shift : List ℚ) where
   abbrev put : ℕ → ℚ → ℚ

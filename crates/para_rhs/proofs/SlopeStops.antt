@@ -2,9 +2,9 @@
 use Rattle.std.proofs.Common.{◌≡◌, ℕ, List, [], ◌∷◌, Bool, true, false, cond, refl, sym, ap, subst, subst₂, ◌∙◌, arith}
 use Rattle.std.specs.Prelude.{Option, None, IsTrue, not, ◌||◌, ◌&&◌, nat_eq, Contains}
 use Rattle.exact_values.specs.Rational.{ℚ, zero_ℚ, ◌*ℚ◌}
-use Rattle.method_definitions.specs.Evidence.{Formula, by_exchange, by_entry, by_carried, by_point, by_slack, by_move, by_ratio, by_range, by_objective, by_slope, ShowsRefusal}
-use Rattle.method_definitions.specs.Formulas.{nonbasic_sum, PointFormula, f6, f7, f10_product, f10_sum, SlackFormula, f6_slack, RatioFormula, f14, RangeFormula, f15_limit, f15_nonbasic, f15_basic, ObjectiveFormula, f16, f17_product, f17_sum, SlopeFormula, f18_product, f18_sum, f18_difference, f18_quotient}
-use Rattle.method_definitions.specs.Statements.{Primal, Pararhs, is_between, thetas_of, change_row, shift_at}
+use Rattle.simplex_definitions.specs.Evidence.{Formula, by_exchange, by_entry, by_carried, by_point, by_slack, by_move, by_ratio, by_range, by_objective, by_slope, ShowsRefusal}
+use Rattle.simplex_definitions.specs.Formulas.{nonbasic_sum, PointFormula, f6, f7, f10_product, f10_sum, SlackFormula, f6_slack, RatioFormula, f14, RangeFormula, f15_limit, f15_nonbasic, f15_basic, ObjectiveFormula, f16, f17_product, f17_sum, SlopeFormula, f18_product, f18_sum, f18_difference, f18_quotient}
+use Rattle.simplex_definitions.specs.Statements.{Primal, Pararhs, is_between, thetas_of, change_row, shift_at}
 use Rattle.frac128.specs.declared.Op.{Op}
 use Rattle.frac128.specs.Operations.{refuses}
 use Rattle.lp_definitions.specs.Basis.{Basics, basics_of, exchanged, Tableau, IsTableau, IsNonbasic}
@@ -16,8 +16,8 @@ use Rattle.lp_definitions.specs.declared.Evidence.{Evidence}
 use Rattle.lp_definitions.specs.declared.Status.{Status}
 use Rattle.lp_laws.proofs.Values.{clash}
 use Rattle.lp_laws.proofs.WaypointLaws.{Covers, covered}
-use Rattle.path_laws.specs.Laws.{IsNonsingularBasis}
-use Rattle.method_definitions.specs.RhsRun.{shift_of}
+use Rattle.simplex_laws.specs.Laws.{IsNonsingularBasis}
+use Rattle.simplex_definitions.specs.RhsRun.{shift_of}
 use Rattle.basis_values.specs.Calls.{job_of, is_of_point, PointRefused}
 use Rattle.basis_values.proofs.RatesStops.{tableau_of, IsTableau-of}
 use Rattle.para_rhs.specs.Refusals.{RunRefused}

@@ -9,8 +9,8 @@ use Rattle.exact_values.specs.Tests.{eq_ℚ}
 use Rattle.lp_definitions.specs.Basis.{Tableau, IsTableau}
 use Rattle.lp_definitions.specs.LinearProgram.{LinearProgram, Vector}
 use Rattle.lp_definitions.specs.declared.Status.{Status}
-use Rattle.method_definitions.specs.Moves.{least, on_limit}
-use Rattle.method_definitions.specs.RhsRun.{shift_of, rhs_family, IsSlope, leaving, leaves_below}
+use Rattle.simplex_definitions.specs.Moves.{least, on_limit}
+use Rattle.simplex_definitions.specs.RhsRun.{shift_of, rhs_family, IsSlope, leaving, leaves_below}
 use Rattle.para_rhs.specs.Limits.{limit_on, is_upper}
 use Rattle.para_rhs.specs.Reach.{side_ahead}
 use Rattle.para_rhs.specs.declared.breaks.Leaver.{Leaver}

@@ -13,15 +13,15 @@ use Rattle.lp_definitions.specs.Basis.{Basics, basics_of, IsNonbasic, IsDirectio
 use Rattle.lp_definitions.specs.declared.Status.{Status}
 use Rattle.lp_model.specs.declared.reports.ParaEnd.{ParaEnd}
 use Rattle.lp_model.specs.declared.reports.ParaEnd.TheVariants.{Infeasible}
-use Rattle.method_definitions.specs.Path.{after, last_of}
-use Rattle.method_definitions.specs.Chain.{FaceTurn, FaceMoves, FaceDone, FaceEnds, IsFacePath, AtBreak}
-use Rattle.method_definitions.specs.RhsRun.{rhs_family, IsSlope, IsRhsFace}
-use Rattle.method_definitions.specs.Statements.{SolvingStatement, Pararhs}
+use Rattle.simplex_definitions.specs.Path.{after, last_of}
+use Rattle.simplex_definitions.specs.Chain.{FaceTurn, FaceMoves, FaceDone, FaceEnds, IsFacePath, AtBreak}
+use Rattle.simplex_definitions.specs.RhsRun.{rhs_family, IsSlope, IsRhsFace}
+use Rattle.simplex_definitions.specs.Statements.{SolvingStatement, Pararhs}
 use Rattle.bounded_primal.specs.Moves.{IsStepBy, move_by}
 use Rattle.bounded_primal.specs.declared.moves.PrimalStop.{PrimalStop}
 use Rattle.bounded_primal.specs.declared.moves.Stopper.{Stopper}
-use Rattle.run_calls.specs.Calls.{end_of, WaypointsFollowRun, RunOverflows, RunStops}
-use Rattle.run_calls.specs.Walks.{HasRun, FaceStops}
+use Rattle.parametric_run.specs.Calls.{end_of, WaypointsFollowRun, RunOverflows, RunStops}
+use Rattle.parametric_run.specs.Walks.{HasRun, FaceStops}
 use Rattle.para_rhs.specs.declared.faces.AfterFaces.{AfterFaces}
 use Rattle.para_rhs.specs.declared.faces.AfterFaces.TheVariants as faces
 use Rattle.para_rhs.specs.declared.faces.FaceStep.{FaceStep}

@@ -6,9 +6,9 @@ use Rattle.exact_values.specs.Rational.{ℚ, zero_ℚ}
 use Rattle.lp_definitions.specs.LinearProgram.{LinearProgram, size}
 use Rattle.lp_definitions.specs.declared.Status.{Status}
 use Rattle.lp_model.specs.declared.reports.ParaPart.{ParaPart}
-use Rattle.method_definitions.specs.Chain.{IsPart}
-use Rattle.method_definitions.specs.RhsRun.{rhs_family}
-use Rattle.run_calls.specs.Calls.{part_of}
+use Rattle.simplex_definitions.specs.Chain.{IsPart}
+use Rattle.simplex_definitions.specs.RhsRun.{rhs_family}
+use Rattle.parametric_run.specs.Calls.{part_of}
 use Rattle.para_rhs.specs.declared.parts.ParaRhs.{ParaRhs}
 
 abbrev pub zeros : LinearProgram → List ℚ

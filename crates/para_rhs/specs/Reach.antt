@@ -13,17 +13,17 @@
 use Rattle.std.specs.Prelude.{◌≡◌, ◌≢◌, ◌↔◌, ℕ, ◌≤◌, List, Option, Some, None, option_map, unwrap_or, if◌then◌else◌}
 use Rattle.exact_values.specs.Rational.{ℚ, zero_ℚ, ◌-ℚ◌, ◌≤ℚ◌}
 use Rattle.exact_values.specs.Tests.{lt_ℚ}
-use Rattle.affine_conditions.specs.Ends.{IsBetweenEnds}
-use Rattle.affine_conditions.specs.declared.tightening.Bound.{Bound}
-use Rattle.affine_conditions.specs.declared.tightening.Ends.{Ends}
-use Rattle.changed_programs.specs.Changes.{Sides, SidesHold, value_sides}
+use Rattle.affine_laws.specs.Ends.{IsBetweenEnds}
+use Rattle.affine_laws.specs.declared.tightening.Bound.{Bound}
+use Rattle.affine_laws.specs.declared.tightening.Ends.{Ends}
+use Rattle.sensitivity_laws.specs.Changes.{Sides, SidesHold, value_sides}
 use Rattle.frac128.specs.declared.Op.TheVariants.{Sub, Div}
 use Rattle.lp_definitions.specs.Basis.{IsOptimalBasis}
 use Rattle.lp_definitions.specs.LinearProgram.{LinearProgram, Vector, IsVariable, lower_of, upper_of}
 use Rattle.lp_definitions.specs.declared.Evidence.{Evidence}
 use Rattle.lp_definitions.specs.declared.Status.{Status}
-use Rattle.method_definitions.specs.Chain.{ReachesTo}
-use Rattle.method_definitions.specs.RhsRun.{shift_of, rhs_family}
+use Rattle.simplex_definitions.specs.Chain.{ReachesTo}
+use Rattle.simplex_definitions.specs.RhsRun.{shift_of, rhs_family}
 use Rattle.basis_values.specs.Formulas.{IsRefusal}
 use Rattle.basis_values.specs.declared.formula.Formula.{Formula}
 use Rattle.para_rhs.specs.Limits.{limit_on, number_of, is_upper}

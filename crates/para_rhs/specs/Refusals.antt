@@ -2,7 +2,7 @@
 --     RunRefused .. e      e is evidence at the basis s, for a run from any value, whatever bases led there
 use Rattle.std.specs.Prelude.{ℕ, List, Option}
 use Rattle.exact_values.specs.Rational.{ℚ}
-use Rattle.method_definitions.specs.Statements.{Pararhs}
+use Rattle.simplex_definitions.specs.Statements.{Pararhs}
 use Rattle.lp_definitions.specs.Basis.{Basics}
 use Rattle.lp_definitions.specs.LinearProgram.{LinearProgram}
 use Rattle.lp_definitions.specs.declared.Evidence.{Evidence}

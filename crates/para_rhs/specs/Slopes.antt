@@ -6,7 +6,7 @@ use Rattle.std.specs.Prelude.{ℕ, List, map, Option, option_map, nat_eq, if◌t
 use Rattle.exact_values.specs.Rational.{ℚ}
 use Rattle.lp_definitions.specs.LinearProgram.{LinearProgram, variables, lower_of, upper_of, with_limits}
 use Rattle.lp_definitions.specs.declared.Evidence.{Evidence}
-use Rattle.method_definitions.specs.RhsRun.{shift_of}
+use Rattle.simplex_definitions.specs.RhsRun.{shift_of}
 
 abbrev pub shifts_of : LinearProgram → List ℚ → (ℕ → Option ℚ) → List (Option ℚ)
 shifts_of p shift limit = map (λ k. option_map (λ l. shift_of p.matrix shift k) (limit k)) (variables p.matrix)

@@ -4,7 +4,7 @@ ghost use Rattle.std.specs.Prelude.{◌≡◌, ◌≤◌, ℕ, None, Some, not, 
 ghost use Rattle.lp_definitions.specs.LinearProgram.{size, value_at, IsLinearProgram};
 ghost use Rattle.lp_definitions.specs.Basis.{basics_of, ArePricesOf, IsOptimalBasis, IsPointOf};
 ghost use Rattle.lp_model.specs.RatesCalls.{IfOverflow};
-ghost use Rattle.method_definitions.specs.RhsRun.{IsSlope};
+ghost use Rattle.simplex_definitions.specs.RhsRun.{IsSlope};
 ghost use Rattle.basis_values.specs.Calls.{HasRates, KeepsRates};
 ghost use Rattle.bounded_primal.specs.Turns.{ray_from};
 ghost use Rattle.para_rhs.specs.Faces.{family, IsStuckPast, FaceFound, FacesFound, FacesFollow};

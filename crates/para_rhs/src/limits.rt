@@ -2,11 +2,11 @@
 
 ghost use Rattle.std.specs.Prelude.{◌≡◌, [], not, length, IfOk, IfErr};
 ghost use Rattle.exact_values.specs.Rational.{zero_ℚ, ◌+ℚ◌, ◌*ℚ◌};
-ghost use Rattle.method_definitions.specs.Evidence.{ShiftHolds};
-ghost use Rattle.method_definitions.specs.Statements.{Pararhs};
+ghost use Rattle.simplex_definitions.specs.Evidence.{ShiftHolds};
+ghost use Rattle.simplex_definitions.specs.Statements.{Pararhs};
 ghost use Rattle.lp_definitions.specs.LinearProgram.{size, value_at, IsVariable, IsLinearProgram};
 ghost use Rattle.lp_model.specs.RatesCalls.{IfOverflow};
-ghost use Rattle.method_definitions.specs.RhsRun.{shift_of, shifted, rhs_family};
+ghost use Rattle.simplex_definitions.specs.RhsRun.{shift_of, shifted, rhs_family};
 ghost use Rattle.para_rhs.specs.Limits.{limit_on, number_of, is_upper, moved_by, shift_formula, MoveRefused, LimitRefused, SomeLimitRefused};
 
 use bounded_primal::{Formula, plus_product};

@@ -5,8 +5,8 @@ ghost use Rattle.exact_values.specs.Rational.{◌≤ℚ◌};
 ghost use Rattle.lp_definitions.specs.LinearProgram.{size, value_at, IsLinearProgram};
 ghost use Rattle.lp_definitions.specs.Basis.{Basics, ArePricesOf, IsOptimalBasis, IsPointOf};
 ghost use Rattle.lp_model.specs.RatesCalls.{IfOverflow};
-ghost use Rattle.path_laws.specs.Laws.{IsNonsingularBasis};
-ghost use Rattle.method_definitions.specs.RhsRun.{rhs_family, IsSlope};
+ghost use Rattle.simplex_laws.specs.Laws.{IsNonsingularBasis};
+ghost use Rattle.simplex_definitions.specs.RhsRun.{rhs_family, IsSlope};
 ghost use Rattle.para_rhs.specs.Parts.{zeros, IsIntervalOf};
 ghost use Rattle.para_rhs.specs.Refusals.{RunRefused};
 

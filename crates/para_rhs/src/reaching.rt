@@ -2,20 +2,20 @@
 
 ghost use Rattle.std.specs.Prelude.{◌≡◌, ◌≢◌, None, Some, length, List, IsSome, IfOk, IfErr, OnErr};
 ghost use Rattle.exact_values.specs.Rational.{zero_ℚ, ◌-ℚ◌};
-ghost use Rattle.affine_conditions.specs.Ends.{IsTightened};
+ghost use Rattle.affine_laws.specs.Ends.{IsTightened};
 ghost use Rattle.frac128.specs.declared.Op.TheVariants.{Div};
 ghost use Rattle.lp_definitions.specs.LinearProgram.{size, value_at, IsVariable, IsLinearProgram};
 ghost use Rattle.lp_definitions.specs.RatesEvidence.{Names};
 ghost use Rattle.lp_definitions.specs.Basis.{Basics, IsPointOf};
-ghost use Rattle.path_laws.specs.Laws.{IsNonsingularBasis};
-ghost use Rattle.method_definitions.specs.RhsRun.{shift_of, IsSlope};
+ghost use Rattle.simplex_laws.specs.Laws.{IsNonsingularBasis};
+ghost use Rattle.simplex_definitions.specs.RhsRun.{shift_of, IsSlope};
 ghost use Rattle.basis_values.specs.Formulas.{IsRefusal};
 ghost use Rattle.para_rhs.specs.Limits.{limit_on, number_of};
 ghost use Rattle.para_rhs.specs.Reach.{side_ahead, bound_of, limit_sides, IsNarrowed, high_of, IsReachOf, IsReachFromAny, basic_formula, VariableRefused, SomeVariableRefused};
 ghost use Rattle.para_rhs.specs.Refusals.{RunRefused};
 
 use crate::limits::{Side, is_upper, limit_on, number_of, shift_of};
-use affine_conditions::{Bound, End, Ends, tightened};
+use affine_laws::{Bound, End, Ends, tightened};
 use bounded_primal::Formula;
 use frac128::{Frac, Refused};
 use lp_model::{Basis, Evidence, Lp};

@@ -10,9 +10,9 @@ ghost use Rattle.bounded_primal.specs.Calls.{CallEnds, WaypointsFollow};
 ghost use Rattle.bounded_primal.specs.Outcomes.{IsTrueOutcome};
 ghost use Rattle.basis_values.specs.Stops.{PointOverflow};
 ghost use Rattle.lp_definitions.specs.declared.Status.{Status};
-ghost use Rattle.method_definitions.specs.Counts.{last_count};
-ghost use Rattle.method_definitions.specs.Chain.{RunReport};
-ghost use Rattle.run_calls.specs.Complete.{IsRunOrMemory};
+ghost use Rattle.simplex_definitions.specs.Counts.{last_count};
+ghost use Rattle.simplex_definitions.specs.Chain.{RunReport};
+ghost use Rattle.parametric_run.specs.Complete.{IsRunOrMemory};
 ghost use Rattle.para_rhs.specs.Faces.{family};
 ghost use Rattle.para_rhs.specs.Runs.{told_at, ChainEnds, ChainStops, ChainFollows, RhsEnds, RhsStops, RhsFollows, RhsUnhindered, IsTrueRhs};
 

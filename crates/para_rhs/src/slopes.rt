@@ -4,7 +4,7 @@ ghost use Rattle.std.specs.Prelude.{◌≡◌, None, length, option_map, OnOk, I
 ghost use Rattle.lp_definitions.specs.LinearProgram.{size, value_at, IsVariable, IsLinearProgram};
 ghost use Rattle.lp_model.specs.RatesCalls.{IfOverflow};
 ghost use Rattle.basis_values.specs.Calls.{HasRates, KeepsRates};
-ghost use Rattle.method_definitions.specs.RhsRun.{shift_of, IsSlope};
+ghost use Rattle.simplex_definitions.specs.RhsRun.{shift_of, IsSlope};
 ghost use Rattle.para_rhs.specs.Limits.{limit_on};
 ghost use Rattle.para_rhs.specs.Refusals.{RunRefused};
 ghost use Rattle.para_rhs.specs.Slopes.{shifts_of, slope_program, slope_evidence};

@@ -4,16 +4,16 @@ use Rattle.std.specs.Prelude.{◌↔◌, IfSome, ◌&&◌, not, eqb, nat_eq}
 use Rattle.std.proofs.lemmas.Bool.Decides.{eqb_tells}
 use Rattle.exact_values.specs.Rational.{ℚ, zero_ℚ, neg_ℚ, ◌-ℚ◌, ◌/ℚ◌, ◌≤ℚ◌}
 use Rattle.exact_values.proofs.Ring.{by_ring2, number, ◌⊕◌, ◌⊗◌, ◌≐◌}
-use Rattle.affine_conditions.specs.Ends.{IsBetweenEnds}
-use Rattle.affine_conditions.specs.declared.tightening.End.{End}
-use Rattle.affine_conditions.specs.declared.tightening.Ends.{Ends}
-use Rattle.changed_programs.specs.Changes.{SidesHold, value_sides, limit_sides, rate_sides, sign_sides, RatesStay}
-use Rattle.changed_programs.specs.Laws.{IsPresent}
-use Rattle.changed_programs.proofs.Rows.{rows_of, feasible_now}
-use Rattle.changed_programs.proofs.Tableaus.{by_tableau}
-use Rattle.changed_programs.proofs.Signs.{sides_of_rate}
-use Rattle.changed_programs.proofs.Limits.{out_of_basis}
-use Rattle.method_definitions.specs.Formulas.{limit_numbered}
+use Rattle.affine_laws.specs.Ends.{IsBetweenEnds}
+use Rattle.affine_laws.specs.declared.tightening.End.{End}
+use Rattle.affine_laws.specs.declared.tightening.Ends.{Ends}
+use Rattle.sensitivity_laws.specs.Changes.{SidesHold, value_sides, limit_sides, rate_sides, sign_sides, RatesStay}
+use Rattle.sensitivity_laws.specs.Laws.{IsPresent}
+use Rattle.sensitivity_laws.proofs.Rows.{rows_of, feasible_now}
+use Rattle.sensitivity_laws.proofs.Tableaus.{by_tableau}
+use Rattle.sensitivity_laws.proofs.Signs.{sides_of_rate}
+use Rattle.sensitivity_laws.proofs.Limits.{out_of_basis}
+use Rattle.simplex_definitions.specs.Formulas.{limit_numbered}
 use Rattle.lp_definitions.specs.LinearProgram.{LinearProgram, Vector, size, IsRow, IsVariable, IsLinearProgram, lower_of, upper_of, for_min, with_change_row}
 use Rattle.lp_definitions.specs.Basis.{basics_of, is_in, is_basic, status_of, IsBasic, IsNonbasic, AreRates, IsPointOf, ArePricesOf, IsOptimalBasis, Tableau, IsTableau, objective_rate}
 use Rattle.lp_definitions.specs.declared.Change.{Change}
@@ -23,9 +23,9 @@ use Rattle.lp_laws.proofs.Values.{clash}
 use Rattle.lp_laws.proofs.Statuses.{status_of_basic}
 use Rattle.lp_laws.proofs.Uniqueness.{one_table, is_in-basics_of}
 use Rattle.lp_model.specs.RatesCalls.{IsRowOf}
-use Rattle.method_definitions.specs.Moves.{is_fixed, may_rise, may_fall, rises_from, falls_from}
-use Rattle.method_definitions.specs.Path.{worth_rate}
-use Rattle.method_definitions.specs.Ranges.{stands_at_limit}
+use Rattle.simplex_definitions.specs.Moves.{is_fixed, may_rise, may_fall, rises_from, falls_from}
+use Rattle.simplex_definitions.specs.Path.{worth_rate}
+use Rattle.simplex_definitions.specs.Ranges.{stands_at_limit}
 use Rattle.ranging.specs.RowEnds.{sides_of, RatesStayTo, IsRateEnd, AreEnds, AreRowEnds}
 use Rattle.ranging.specs.LimitEnds.{no_ends, ends_at, IsKeptOr, IsLimitEnd, IsMet, AreMet}
 use Rattle.ranging.specs.Tables.{IsBasicsEnd, AreLimitEnds, AllMet, IsRowEnd, AreEndsOfRow, AllFound}

@@ -8,7 +8,7 @@ use Rattle.lp_definitions.specs.declared.Status.{Status}
 use Rattle.lp_model.specs.declared.Stop.{Stop}
 use Rattle.lp_model.specs.declared.Stop.TheVariants.{Overflow, NoMemory}
 use Rattle.lp_model.specs.declared.reports.RangeReport.{RangeReport}
-use Rattle.method_definitions.specs.Ranges.{IsRangeReport}
+use Rattle.simplex_definitions.specs.Ranges.{IsRangeReport}
 use Rattle.ranging.specs.Lists.{report_of}
 use Rattle.ranging.specs.Complete.{HasNoEvidence, IsReportOrMemory}
 

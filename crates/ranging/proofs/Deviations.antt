@@ -6,9 +6,9 @@ use Rattle.exact_values.specs.Tests.{lt_ℚ}
 use Rattle.exact_values.proofs.Ring.{by_ring2, by_ring3, opposite as opp, ◌⊕◌, ◌⊖◌, ◌≐◌}
 use Rattle.exact_values.proofs.Order.{le_by_one, le_trans, le_of_lt}
 use Rattle.exact_values.proofs.Tests_laws.{lt_from_test, le_from_lt_fails}
-use Rattle.affine_conditions.specs.Ends.{IsBetweenEnds, IsBefore}
-use Rattle.affine_conditions.specs.declared.tightening.End.{End}
-use Rattle.affine_conditions.specs.declared.tightening.Ends.{Ends}
+use Rattle.affine_laws.specs.Ends.{IsBetweenEnds, IsBefore}
+use Rattle.affine_laws.specs.declared.tightening.End.{End}
+use Rattle.affine_laws.specs.declared.tightening.Ends.{Ends}
 use Rattle.frac128.specs.declared.Op.TheVariants.{Add, Sub}
 use Rattle.lp_definitions.specs.declared.Evidence.{Evidence}
 use Rattle.ranging.specs.Refusals.{IsRefusal}

@@ -7,13 +7,13 @@ use Rattle.exact_values.specs.Rational.{ℚ, zero_ℚ, ◌+ℚ◌, ◌-ℚ◌, �
 use Rattle.exact_values.proofs.Ring.{by_ring2, by_ring3, number, ◌⊕◌, ◌⊖◌, ◌⊗◌, ◌≐◌}
 use Rattle.exact_values.proofs.Order.{le_by_one}
 use Rattle.exact_values.proofs.Inverse.{zero_or_not}
-use Rattle.affine_conditions.specs.Ends.{MeetsBy, IsBetweenEnds, IsTightened, IsRefused}
-use Rattle.affine_conditions.specs.declared.tightening.Bound.{Bound}
-use Rattle.affine_conditions.specs.declared.tightening.End.{End}
-use Rattle.affine_conditions.specs.declared.tightening.Ends.{Ends}
-use Rattle.changed_programs.specs.Changes.{SidesHold, value_sides}
-use Rattle.changed_programs.proofs.Limits.{sides_of_value}
-use Rattle.method_definitions.specs.Formulas.{limit_numbered}
+use Rattle.affine_laws.specs.Ends.{MeetsBy, IsBetweenEnds, IsTightened, IsRefused}
+use Rattle.affine_laws.specs.declared.tightening.Bound.{Bound}
+use Rattle.affine_laws.specs.declared.tightening.End.{End}
+use Rattle.affine_laws.specs.declared.tightening.Ends.{Ends}
+use Rattle.sensitivity_laws.specs.Changes.{SidesHold, value_sides}
+use Rattle.sensitivity_laws.proofs.Limits.{sides_of_value}
+use Rattle.simplex_definitions.specs.Formulas.{limit_numbered}
 use Rattle.frac128.specs.declared.Refused.{Refused}
 use Rattle.frac128.specs.declared.Op.TheVariants.{Sub, Div}
 use Rattle.lp_definitions.specs.LinearProgram.{LinearProgram, Vector, lower_of, upper_of, IsVariable}
@@ -21,7 +21,7 @@ use Rattle.lp_definitions.specs.Basis.{status_of}
 use Rattle.lp_definitions.specs.RatesEvidence.{Names}
 use Rattle.lp_definitions.specs.declared.Evidence.{Evidence}
 use Rattle.lp_definitions.specs.declared.Status.{Status}
-use Rattle.method_definitions.specs.Ranges.{stands_at_limit}
+use Rattle.simplex_definitions.specs.Ranges.{stands_at_limit}
 use Rattle.ranging.specs.Refusals.{IsRefusal}
 use Rattle.ranging.specs.LimitEnds.{less_value, distances_of, distance_numbered, IsBasicEnd, IsKeptOr, IsQuotientOf, IsWithDistance, IsFarEnough, IsWithDistances, IsWithBasic, IsDistanceRefused, IsBasicRefused, no_ends, ends_at, IsLimitEnd, IsMet, IsLimitRefused, IsRateRefused, AreMet}
 use Rattle.ranging.specs.declared.limit_ends.Distances.{Distances}

@@ -6,16 +6,16 @@ use Rattle.exact_values.specs.Rational.{ℚ, one_ℚ, neg_ℚ, ◌+ℚ◌, ◌-�
 use Rattle.exact_values.proofs.Ring.{by_ring2, number, ◌⊕◌, ◌⊖◌, ◌⊗◌, ◌≐◌}
 use Rattle.exact_values.proofs.Ring_laws.{mul-one}
 use Rattle.exact_values.proofs.Inverse.{div_is, one_apart}
-use Rattle.affine_conditions.specs.Conditions.{Holds}
-use Rattle.affine_conditions.specs.Ends.{IsOnSide, IsBefore, IsBetweenEnds}
-use Rattle.affine_conditions.specs.declared.tightening.End.{End}
-use Rattle.affine_conditions.specs.declared.tightening.Ends.{Ends}
-use Rattle.changed_programs.specs.Changes.{SidesHold, sign_sides, rate_sides, sides_at, condition, condition_if, RatesStay}
-use Rattle.changed_programs.proofs.Limits.{limit, sides_of_value}
-use Rattle.changed_programs.proofs.Rows.{rows_of}
-use Rattle.changed_programs.proofs.Signs.{sides_of_rate}
-use Rattle.changed_programs.proofs.Tableaus.{by_tableau}
-use Rattle.method_definitions.specs.Formulas.{limit_numbered, number_of_limit}
+use Rattle.affine_laws.specs.Conditions.{Holds}
+use Rattle.affine_laws.specs.Ends.{IsOnSide, IsBefore, IsBetweenEnds}
+use Rattle.affine_laws.specs.declared.tightening.End.{End}
+use Rattle.affine_laws.specs.declared.tightening.Ends.{Ends}
+use Rattle.sensitivity_laws.specs.Changes.{SidesHold, sign_sides, rate_sides, sides_at, condition, condition_if, RatesStay}
+use Rattle.sensitivity_laws.proofs.Limits.{limit, sides_of_value}
+use Rattle.sensitivity_laws.proofs.Rows.{rows_of}
+use Rattle.sensitivity_laws.proofs.Signs.{sides_of_rate}
+use Rattle.sensitivity_laws.proofs.Tableaus.{by_tableau}
+use Rattle.simplex_definitions.specs.Formulas.{limit_numbered, number_of_limit}
 use Rattle.frac128.specs.declared.Op.TheVariants.{Add, Sub}
 use Rattle.lp_definitions.specs.LinearProgram.{LinearProgram, Vector, size, IsColumn, IsVariable, IsLinearProgram, lower_of, upper_of, cost, for_min, with_change_row}
 use Rattle.lp_definitions.specs.Basis.{basics_of, is_in, status_of, StandsAt, IsBasic, IsNonbasic, AreRates, IsPointOf, ArePricesOf, IsOptimalBasis, Tableau}
@@ -26,9 +26,9 @@ use Rattle.lp_definitions.specs.declared.Sense.TheVariants.{Min, Max}
 use Rattle.lp_definitions.specs.declared.Status.{Status}
 use Rattle.lp_definitions.specs.declared.Status.TheVariants.{Bs, Ll, Ul, Fr}
 use Rattle.lp_laws.proofs.Values.{clash}
-use Rattle.method_definitions.specs.Moves.{is_fixed, may_rise, may_fall}
-use Rattle.method_definitions.specs.Path.{worth_rate}
-use Rattle.method_definitions.specs.Ranges.{with_cost, with_limit, stands_at_limit}
+use Rattle.simplex_definitions.specs.Moves.{is_fixed, may_rise, may_fall}
+use Rattle.simplex_definitions.specs.Path.{worth_rate}
+use Rattle.simplex_definitions.specs.Ranges.{with_cost, with_limit, stands_at_limit}
 use Rattle.ranging.specs.Refusals.{IsRefusal}
 use Rattle.ranging.specs.RowEnds.{AreEnds}
 use Rattle.ranging.specs.Intervals.{IsIn, taken_from, IsOwnAt, IsOwn, IsOneOf, DifferenceRefused, SumRefused}

@@ -4,17 +4,17 @@ use Rattle.std.specs.Prelude.{◌↔◌, filter}
 use Rattle.std.proofs.lemmas.List.Elements.{All-push, All-nil, All-map}
 use Rattle.exact_values.specs.Rational.{ℚ, neg_ℚ, ◌+ℚ◌, ◌-ℚ◌}
 use Rattle.exact_values.proofs.Ring.{by_ring1, by_ring2, opposite as opp, ◌⊕◌, ◌⊖◌, ◌≐◌}
-use Rattle.affine_conditions.specs.declared.tightening.Ends.{Ends}
-use Rattle.changed_programs.specs.Changes.{RatesStay}
-use Rattle.changed_programs.specs.Laws.{IsPresent}
-use Rattle.changed_programs.proofs.Rows.{row}
-use Rattle.changed_programs.proofs.Costs.{cost_changes}
+use Rattle.affine_laws.specs.declared.tightening.Ends.{Ends}
+use Rattle.sensitivity_laws.specs.Changes.{RatesStay}
+use Rattle.sensitivity_laws.specs.Laws.{IsPresent}
+use Rattle.sensitivity_laws.proofs.Rows.{row}
+use Rattle.sensitivity_laws.proofs.Costs.{cost_changes}
 use Rattle.lp_definitions.specs.LinearProgram.{LinearProgram, IsRow, IsColumn, IsLinearProgram, numbers_from, cost, for_min}
 use Rattle.lp_definitions.specs.Basis.{IsOptimalBasis}
 use Rattle.lp_definitions.specs.declared.Status.{Status}
 use Rattle.lp_laws.proofs.Opening.{numbers_from-append}
 use Rattle.lp_model.specs.declared.reports.Interval as code
-use Rattle.method_definitions.specs.Ranges.{with_row, with_cost, AreIntervals, IsBetween}
+use Rattle.simplex_definitions.specs.Ranges.{with_row, with_cost, AreIntervals, IsBetween}
 use Rattle.ranging.specs.Intervals.{IsIn, opposite, taken_from}
 use Rattle.ranging.specs.Tables.{AreEndsOfRow}
 use Rattle.ranging.specs.Lists.{Item, ListsTo, interval_of}

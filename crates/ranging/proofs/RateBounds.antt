@@ -4,17 +4,17 @@ use Rattle.std.specs.Prelude.{◌↔◌, IfSome}
 use Rattle.exact_values.specs.Rational.{ℚ, zero_ℚ, neg_ℚ, ◌+ℚ◌, ◌*ℚ◌, ◌/ℚ◌, ◌≤ℚ◌}
 use Rattle.exact_values.proofs.Ring.{by_ring1, by_ring3, number, opposite, ◌⊕◌, ◌⊖◌, ◌⊗◌, ◌≐◌}
 use Rattle.exact_values.proofs.Order.{le_by_one}
-use Rattle.affine_conditions.specs.Conditions.{Holds}
-use Rattle.affine_conditions.specs.Ends.{Meets, IsBetweenEnds}
-use Rattle.affine_conditions.specs.declared.tightening.End.{End}
-use Rattle.affine_conditions.specs.declared.tightening.Ends.{Ends}
-use Rattle.changed_programs.specs.Changes.{SidesHold, condition, condition_if}
+use Rattle.affine_laws.specs.Conditions.{Holds}
+use Rattle.affine_laws.specs.Ends.{Meets, IsBetweenEnds}
+use Rattle.affine_laws.specs.declared.tightening.End.{End}
+use Rattle.affine_laws.specs.declared.tightening.Ends.{Ends}
+use Rattle.sensitivity_laws.specs.Changes.{SidesHold, condition, condition_if}
 use Rattle.lp_definitions.specs.LinearProgram.{LinearProgram, Vector, for_min}
 use Rattle.lp_definitions.specs.declared.Sense.{Sense}
 use Rattle.lp_definitions.specs.declared.Sense.TheVariants.{Min, Max}
 use Rattle.lp_definitions.specs.declared.Status.{Status}
 use Rattle.lp_laws.proofs.Values.{clash}
-use Rattle.method_definitions.specs.Moves.{may_rise, may_fall}
+use Rattle.simplex_definitions.specs.Moves.{may_rise, may_fall}
 use Rattle.ranging.specs.RowEnds.{rate_bound, sides_of, RatesStayTo, IsTightenedIf, IsEitherRate, IsWithRate, IsRateEnd, AreRowEnds}
 use Rattle.bounded_primal.proofs.Still.{and_next}
 

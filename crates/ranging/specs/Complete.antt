@@ -10,7 +10,7 @@ use Rattle.lp_definitions.specs.declared.Status.{Status}
 use Rattle.lp_model.specs.declared.Stop.{Stop}
 use Rattle.lp_model.specs.declared.Stop.TheVariants.{NoMemory}
 use Rattle.lp_model.specs.declared.reports.RangeReport.{RangeReport}
-use Rattle.method_definitions.specs.Ranges.{IsRangeReport}
+use Rattle.simplex_definitions.specs.Ranges.{IsRangeReport}
 use Rattle.ranging.specs.Lists.{report_of}
 
 -- whatever waypoints the rates have after the call

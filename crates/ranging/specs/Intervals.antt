@@ -6,8 +6,8 @@
 --     SumRefused, DifferenceRefused    the sum of a limit or the difference of a cost with an end is refused
 use Rattle.std.specs.Prelude.{◌≡◌, ◌⊎◌, ℕ, List, Option, Some, IfSome, option_map, Bool, true, false}
 use Rattle.exact_values.specs.Rational.{ℚ, neg_ℚ, ◌-ℚ◌, ◌≤ℚ◌}
-use Rattle.affine_conditions.specs.declared.tightening.End.{End}
-use Rattle.affine_conditions.specs.declared.tightening.Ends.{Ends}
+use Rattle.affine_laws.specs.declared.tightening.End.{End}
+use Rattle.affine_laws.specs.declared.tightening.Ends.{Ends}
 use Rattle.frac128.specs.declared.Op.TheVariants.{Add, Sub}
 use Rattle.lp_definitions.specs.LinearProgram.{LinearProgram, lower_of, upper_of}
 use Rattle.lp_definitions.specs.Basis.{status_of}
@@ -15,7 +15,7 @@ use Rattle.lp_definitions.specs.declared.Evidence.{Evidence}
 use Rattle.lp_definitions.specs.declared.Status.{Status}
 use Rattle.lp_definitions.specs.declared.Status.TheVariants.{Bs, Ll, Ul, Fr}
 use Rattle.lp_model.specs.declared.reports.Interval.{Interval}
-use Rattle.method_definitions.specs.Moves.{is_fixed}
+use Rattle.simplex_definitions.specs.Moves.{is_fixed}
 use Rattle.ranging.specs.Refusals.{IsRefusal}
 
 abbrev pub IsAtLeast : Option ℚ → ℚ → Type 0

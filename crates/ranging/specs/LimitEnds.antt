@@ -6,14 +6,14 @@
 --     IsLimitRefused, IsRateRefused    a distance of i is refused, or one over its rate
 use Rattle.std.specs.Prelude.{◌≡◌, ◌≢◌, ◌↔◌, ◌⊎◌, ℕ, ◌-◌, ◌≤◌, ◌<◌, Bool, true, List, Option, Some, None, IfSome, option_map, slice_index_or, nat_eq, if◌then◌else◌}
 use Rattle.exact_values.specs.Rational.{ℚ, zero_ℚ, ◌-ℚ◌, ◌*ℚ◌, ◌/ℚ◌, ◌≤ℚ◌}
-use Rattle.affine_conditions.specs.Ends.{MeetsBy, IsBetweenEnds}
-use Rattle.affine_conditions.specs.declared.tightening.End.{End}
-use Rattle.affine_conditions.specs.declared.tightening.Ends.{Ends}
-use Rattle.changed_programs.specs.Changes.{SidesHold, value_sides}
+use Rattle.affine_laws.specs.Ends.{MeetsBy, IsBetweenEnds}
+use Rattle.affine_laws.specs.declared.tightening.End.{End}
+use Rattle.affine_laws.specs.declared.tightening.Ends.{Ends}
+use Rattle.sensitivity_laws.specs.Changes.{SidesHold, value_sides}
 use Rattle.lp_definitions.specs.Basis.{status_of}
 use Rattle.lp_definitions.specs.declared.Status.{Status}
-use Rattle.method_definitions.specs.Ranges.{stands_at_limit}
-use Rattle.method_definitions.specs.Formulas.{limit_numbered}
+use Rattle.simplex_definitions.specs.Ranges.{stands_at_limit}
+use Rattle.simplex_definitions.specs.Formulas.{limit_numbered}
 use Rattle.frac128.specs.declared.Op.TheVariants.{Sub, Div}
 use Rattle.lp_definitions.specs.LinearProgram.{LinearProgram, Vector, IsVariable, lower_of, upper_of}
 use Rattle.lp_definitions.specs.declared.Evidence.{Evidence}

@@ -5,8 +5,8 @@
 --     interval_of, report_of               the items and the report as the definitions have them
 use Rattle.std.specs.Prelude.{◌≡◌, ◌↔◌, ℕ, Bool, List, map, All, Option, Some, None, if◌then◌else◌}
 use Rattle.exact_values.specs.Rational.{ℚ}
-use Rattle.affine_conditions.specs.declared.tightening.End.{End}
-use Rattle.affine_conditions.specs.declared.tightening.Ends.{Ends}
+use Rattle.affine_laws.specs.declared.tightening.End.{End}
+use Rattle.affine_laws.specs.declared.tightening.Ends.{Ends}
 use Rattle.basis_values.specs.Calls.{RangeRefused}
 use Rattle.lp_definitions.specs.LinearProgram.{LinearProgram}
 use Rattle.lp_definitions.specs.Basis.{Basics}
@@ -16,7 +16,7 @@ use Rattle.lp_definitions.specs.declared.Sense.TheVariants.{Min, Max}
 use Rattle.lp_definitions.specs.declared.Status.{Status}
 use Rattle.lp_model.specs.declared.reports.Interval as code
 use Rattle.lp_model.specs.declared.reports.RangeReport as report
-use Rattle.method_definitions.specs.Ranges.{Interval, RangeReport}
+use Rattle.simplex_definitions.specs.Ranges.{Interval, RangeReport}
 use Rattle.ranging.specs.Intervals.{IsIn}
 
 abbrev pub price_end : Bool → ℚ → ℕ → Option End

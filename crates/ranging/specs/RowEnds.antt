@@ -6,18 +6,18 @@
 --     AreOfBound, AreEnds P ends           each end is an earlier one or that of a bound; P of each end
 use Rattle.std.specs.Prelude.{◌≡◌, ◌≢◌, ◌↔◌, ◌⊎◌, ℕ, ◌≤◌, Bool, true, not, List, Option, Some, IfSome}
 use Rattle.exact_values.specs.Rational.{ℚ, zero_ℚ, neg_ℚ, ◌/ℚ◌}
-use Rattle.affine_conditions.specs.Ends.{Meets, IsBetweenEnds, IsEither}
-use Rattle.affine_conditions.specs.declared.tightening.Bound.{Bound}
-use Rattle.affine_conditions.specs.declared.tightening.End.{End}
-use Rattle.affine_conditions.specs.declared.tightening.Ends.{Ends}
-use Rattle.changed_programs.specs.Changes.{Sides, SidesHold, sign_sides}
+use Rattle.affine_laws.specs.Ends.{Meets, IsBetweenEnds, IsEither}
+use Rattle.affine_laws.specs.declared.tightening.Bound.{Bound}
+use Rattle.affine_laws.specs.declared.tightening.End.{End}
+use Rattle.affine_laws.specs.declared.tightening.Ends.{Ends}
+use Rattle.sensitivity_laws.specs.Changes.{Sides, SidesHold, sign_sides}
 use Rattle.frac128.specs.declared.Op.TheVariants.{Div}
 use Rattle.lp_definitions.specs.LinearProgram.{LinearProgram, Vector, for_min}
 use Rattle.lp_definitions.specs.declared.Evidence.{Evidence}
 use Rattle.lp_definitions.specs.declared.Sense.{Sense}
 use Rattle.lp_definitions.specs.declared.Sense.TheVariants.{Min, Max}
 use Rattle.lp_definitions.specs.declared.Status.{Status}
-use Rattle.method_definitions.specs.Moves.{may_rise, may_fall}
+use Rattle.simplex_definitions.specs.Moves.{may_rise, may_fall}
 use Rattle.ranging.specs.Refusals.{IsRefusal}
 
 -- for MIN a price that may not be negative keeps its multiples of the rate below it, and for MAX above it

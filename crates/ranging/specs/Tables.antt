@@ -6,15 +6,15 @@
 --     AreEndsOfRow p s i ends          the ends keep the multiples of the row of i that may be taken off the objective
 use Rattle.std.specs.Prelude.{◌≡◌, ◌≢◌, ◌↔◌, ℕ, ◌≤◌, true, List, Some}
 use Rattle.exact_values.specs.Rational.{ℚ, zero_ℚ, neg_ℚ, ◌-ℚ◌, ◌/ℚ◌}
-use Rattle.affine_conditions.specs.Ends.{IsBetweenEnds}
-use Rattle.affine_conditions.specs.declared.tightening.End.{End}
-use Rattle.affine_conditions.specs.declared.tightening.Ends.{Ends}
-use Rattle.changed_programs.specs.Changes.{SidesHold, limit_sides, RatesStay}
-use Rattle.method_definitions.specs.Formulas.{limit_numbered}
+use Rattle.affine_laws.specs.Ends.{IsBetweenEnds}
+use Rattle.affine_laws.specs.declared.tightening.End.{End}
+use Rattle.affine_laws.specs.declared.tightening.Ends.{Ends}
+use Rattle.sensitivity_laws.specs.Changes.{SidesHold, limit_sides, RatesStay}
+use Rattle.simplex_definitions.specs.Formulas.{limit_numbered}
 use Rattle.lp_definitions.specs.LinearProgram.{LinearProgram, Vector, IsVariable, for_min}
 use Rattle.lp_definitions.specs.Basis.{basics_of, is_in, status_of, IsBasic, IsNonbasic, AreRates}
 use Rattle.lp_definitions.specs.declared.Status.{Status}
-use Rattle.method_definitions.specs.Ranges.{stands_at_limit}
+use Rattle.simplex_definitions.specs.Ranges.{stands_at_limit}
 use Rattle.ranging.specs.LimitEnds.{ends_at}
 use Rattle.ranging.specs.RowEnds.{AreEnds}
 

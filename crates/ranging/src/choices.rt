@@ -3,8 +3,8 @@
 ghost use Rattle.std.specs.Prelude.{◌≡◌, ◌≤◌, None, length};
 ghost use Rattle.lp_definitions.specs.LinearProgram.{size, on_row, cost, IsColumn, IsVariable};
 ghost use Rattle.lp_definitions.specs.Basis.{basics_of, status_of, is_basic};
-ghost use Rattle.method_definitions.specs.Moves.{is_fixed, may_rise, may_fall};
-ghost use Rattle.method_definitions.specs.Ranges.{stands_at_limit};
+ghost use Rattle.simplex_definitions.specs.Moves.{is_fixed, may_rise, may_fall};
+ghost use Rattle.simplex_definitions.specs.Ranges.{stands_at_limit};
 
 use frac128::Frac;
 use lp_model::{Basis, Entry, Lp, Status};

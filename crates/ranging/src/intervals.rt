@@ -4,14 +4,14 @@ ghost use Rattle.std.specs.Prelude.{◌≡◌, ◌↔◌, IfSome, IsSome, length
 ghost use Rattle.exact_values.specs.Rational.{ℚ, ◌+ℚ◌, ◌-ℚ◌};
 ghost use Rattle.exact_values.specs.Tests.{lt_ℚ};
 ghost use Rattle.frac128.specs.declared.Op.TheVariants.{Add, Sub};
-ghost use Rattle.affine_conditions.specs.Ends.{IsBetweenEnds};
+ghost use Rattle.affine_laws.specs.Ends.{IsBetweenEnds};
 ghost use Rattle.lp_definitions.specs.LinearProgram.{size, IsVariable};
 ghost use Rattle.ranging.specs.Refusals.{IsRefusal};
 ghost use Rattle.ranging.specs.Intervals.{IsAtLeast, IsAtMost, IsIn, less_end, taken_from, opposite_end, opposite, IsOwn, DifferenceRefused, SumRefused};
 
 use crate::choices::stands_fixed;
 use crate::evidence::evidence;
-use affine_conditions::{End, Ends};
+use affine_laws::{End, Ends};
 use frac128::Frac;
 use lp_model::{Basis, Evidence, Interval, Lp, Status};
 

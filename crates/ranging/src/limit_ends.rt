@@ -5,13 +5,13 @@ ghost use Rattle.exact_values.specs.Rational.{zero_ℚ, ◌≤ℚ◌};
 ghost use Rattle.frac128.specs.declared.Op.TheVariants.{Sub};
 ghost use Rattle.lp_definitions.specs.LinearProgram.{size, value_at, lower_of, upper_of, IsVariable};
 ghost use Rattle.lp_definitions.specs.Basis.{status_of};
-ghost use Rattle.method_definitions.specs.Ranges.{stands_at_limit};
+ghost use Rattle.simplex_definitions.specs.Ranges.{stands_at_limit};
 ghost use Rattle.ranging.specs.Refusals.{IsRefusal};
 ghost use Rattle.ranging.specs.LimitEnds.{less_value, distances_of, IsWithDistance, IsWithDistances, IsWithBasic, IsDistanceRefused, IsBasicRefused, AreMet, IsLimitRefused, IsRateRefused};
 
 use crate::choices::at_limit;
 use crate::evidence::evidence;
-use affine_conditions::{Bound, Ends, tightened};
+use affine_laws::{Bound, Ends, tightened};
 use frac128::Frac;
 use lp_model::{Basis, Evidence, Lp};
 

@@ -6,14 +6,14 @@ ghost use Rattle.ranging.specs.Intervals.{IsIn, taken_from, DifferenceRefused};
 ghost use Rattle.lp_definitions.specs.LinearProgram.{size, value_at, cost, IsColumn, IsVariable, IsLinearProgram};
 ghost use Rattle.lp_definitions.specs.Basis.{is_basic, status_of, IsPointOf, ArePricesOf, IsOptimalBasis};
 ghost use Rattle.lp_model.specs.RatesCalls.{IfOverflow};
-ghost use Rattle.method_definitions.specs.Moves.{may_rise, may_fall};
-ghost use Rattle.method_definitions.specs.Ranges.{with_row, with_cost, with_limit, at_limits, columns_of, intermediate_rows};
+ghost use Rattle.simplex_definitions.specs.Moves.{may_rise, may_fall};
+ghost use Rattle.simplex_definitions.specs.Ranges.{with_row, with_cost, with_limit, at_limits, columns_of, intermediate_rows};
 ghost use Rattle.ranging.specs.Tables.{AllMet, AllFound};
 ghost use Rattle.ranging.specs.Lists.{price_end, own_ends_of, ListsTo, RefusedAnywhere};
 
 use crate::choices::{at_limit, cost, falls, rises, stands_basic};
 use crate::intervals::{cost_interval, limit_interval, row_interval};
-use affine_conditions::{End, Ends};
+use affine_laws::{End, Ends};
 use frac128::Frac;
 use lp_model::{Basis, Evidence, Interval, Lp, NoMemory, Sense, Stop};
 use std::alloc::Global;

@@ -10,7 +10,7 @@ ghost use Rattle.ranging.specs.Tables.{AreEndsOfRow, AllMet, AllFound};
 use crate::choices::stands_basic;
 use crate::limit_ends::meet_limits;
 use crate::row_ends::row_ends;
-use affine_conditions::Ends;
+use affine_laws::Ends;
 use frac128::Frac;
 use lp_model::{Basis, Lp, Rates, Stop};
 

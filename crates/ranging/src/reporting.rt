@@ -3,7 +3,7 @@
 ghost use Rattle.std.specs.Prelude.{◌≡◌, None, length, IfOk, IfErr};
 ghost use Rattle.lp_definitions.specs.LinearProgram.{size, value_at, IsLinearProgram};
 ghost use Rattle.lp_definitions.specs.Basis.{IsPointOf, ArePricesOf, IsOptimalBasis};
-ghost use Rattle.method_definitions.specs.Ranges.{IsRangeReport};
+ghost use Rattle.simplex_definitions.specs.Ranges.{IsRangeReport};
 ghost use Rattle.basis_values.specs.Calls.{HasRates, KeepsRates};
 ghost use Rattle.basis_values.specs.Stops.{RangeOverflow};
 ghost use Rattle.lp_model.specs.RatesCalls.{IfOverflow};
@@ -14,7 +14,7 @@ ghost use Rattle.ranging.specs.Complete.{HasNoEvidence, IsReportOrMemory};
 
 use crate::lists::{cost_list, limit_list, row_list};
 use crate::pass::pass;
-use affine_conditions::Ends;
+use affine_laws::Ends;
 use bounded_primal::{point_of, prices_of};
 use frac128::Frac;
 use lp_model::{Basis, Intervals, Lp, NoMemory, RangeReport, Rates, Stop};

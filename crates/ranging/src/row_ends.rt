@@ -3,14 +3,14 @@
 ghost use Rattle.std.specs.Prelude.{◌≡◌, ◌≢◌, length, IfOk, IfErr, OnErr};
 ghost use Rattle.exact_values.specs.Rational.{zero_ℚ};
 ghost use Rattle.frac128.specs.declared.Op.TheVariants.{Div};
-ghost use Rattle.changed_programs.specs.Changes.{SidesHold};
+ghost use Rattle.sensitivity_laws.specs.Changes.{SidesHold};
 ghost use Rattle.lp_definitions.specs.LinearProgram.{size, value_at, IsVariable};
 ghost use Rattle.ranging.specs.Refusals.{IsRefusal};
 ghost use Rattle.ranging.specs.RowEnds.{rate_bound, keeps_below, sides_of, RatesStayTo, IsTightenedIf, IsWithRate, AreRowEnds, RatioRefused};
 
 use crate::choices::{falls, rises};
 use crate::evidence::evidence;
-use affine_conditions::{Bound, Ends, tightened};
+use affine_laws::{Bound, Ends, tightened};
 use frac128::Frac;
 use lp_model::{Basis, Evidence, Lp, Sense};
 

@@ -9,7 +9,7 @@ use Rattle.problem_definitions.specs.Problem.{Problem}
 use Rattle.control_definitions.specs.Program.{SetupOptions}
 use Rattle.selection_definitions.specs.Choice.{Choice}
 use Rattle.listing_definitions.specs.declared.Mark.{Mark}
-use Rattle.method_definitions.specs.Path.{last_of}
+use Rattle.simplex_definitions.specs.Path.{last_of}
 use Rattle.question_definitions.specs.Answers.{Basis}
 use Rattle.control_definitions.specs.Cells.{Cells, default_cells}
 

@@ -2,7 +2,7 @@
 use Rattle.std.proofs.Common.{◌≡◌, ℕ, List, [], ◌∷◌, ◌++◌, Option, Some, None, IfSome, Ok, length, refl, sym, ap, subst, ◌∙◌}
 use Rattle.std.proofs.lemmas.Option.{same_Some}
 use Rattle.lp_definitions.specs.LinearProgram.{Matrix, LinearProgram}
-use Rattle.method_definitions.specs.Path.{last_of}
+use Rattle.simplex_definitions.specs.Path.{last_of}
 use Rattle.basis_values.specs.Calls.{HasRates, LieIn}
 use Rattle.problem_definitions.specs.Problem.{Problem}
 use Rattle.problem_file.specs.Filed.{Filed, filed_under}

@@ -8,7 +8,7 @@ use Rattle.lp_definitions.specs.Basis.{IsOptimalBasis}
 use Rattle.problem_definitions.specs.Names.{Name}
 use Rattle.problem_definitions.specs.Problem.{Problem}
 use Rattle.problem_file.specs.Filed.{Filed, filed_under}
-use Rattle.method_definitions.specs.Path.{last_of}
+use Rattle.simplex_definitions.specs.Path.{last_of}
 use Rattle.basis_values.specs.Calls.{HasRates, LieIn}
 use Rattle.listing_definitions.specs.declared.Mark.{Mark}
 use Rattle.listing_definitions.specs.declared.Mark.TheVariants.{Optimal}

@@ -22,16 +22,16 @@ use Rattle.lp_laws.specs.Rates.{exchanged_rate}
 use Rattle.lp_laws.proofs.Statuses.{status_of_nonbasic, nonbasic_from}
 use Rattle.lp_laws.proofs.Uniqueness.{one_point, is_in-basics_of}
 use Rattle.lp_laws.proofs.Values.{clash}
-use Rattle.method_definitions.specs.Moves.{is_below, is_fixed, lowers, signed}
-use Rattle.method_definitions.specs.DualRatio.{brings_back, ratio, is_cheapest}
-use Rattle.method_definitions.specs.Path.{after, mover, worth_rate, last_of}
-use Rattle.method_definitions.specs.DualPath.{dual_turn, HasRightPrices, IsDualStep, IsDualPath}
-use Rattle.path_laws.specs.Laws.{IsNonsingularBasis}
-use Rattle.path_laws.proofs.Ends.{right}
-use Rattle.path_laws.proofs.Numbered.{list_all_from}
-use Rattle.path_laws.proofs.OnePath.{same_tableau}
-use Rattle.path_laws.proofs.Rays.{broken_basic, broken_limit}
-use Rattle.path_laws.proofs.Steps.{signed_zero}
+use Rattle.simplex_definitions.specs.Moves.{is_below, is_fixed, lowers, signed}
+use Rattle.simplex_definitions.specs.DualRatio.{brings_back, ratio, is_cheapest}
+use Rattle.simplex_definitions.specs.Path.{after, mover, worth_rate, last_of}
+use Rattle.simplex_definitions.specs.DualPath.{dual_turn, HasRightPrices, IsDualStep, IsDualPath}
+use Rattle.simplex_laws.specs.Laws.{IsNonsingularBasis}
+use Rattle.simplex_laws.proofs.Ends.{right}
+use Rattle.simplex_laws.proofs.Numbered.{list_all_from}
+use Rattle.simplex_laws.proofs.OnePath.{same_tableau}
+use Rattle.simplex_laws.proofs.Rays.{broken_basic, broken_limit}
+use Rattle.simplex_laws.proofs.Steps.{signed_zero}
 use Rattle.dual_laws.proofs.DualStep.{own, some, enters, rates_after}
 use Rattle.dual_laws.proofs.DualTurns.{IsReturn, return_of, cheapest_passes, brings, least_ratio, right_at, wrong_same, dual_leads_to, keeps_right}
 use Rattle.dual_laws.proofs.Magnitudes.{zero_first}

@@ -20,10 +20,10 @@ use Rattle.lp_laws.proofs.Statuses.{changed_own, changed_other, status_of_nonbas
 use Rattle.lp_laws.proofs.Uniqueness.{one_place}
 use Rattle.lp_laws.proofs.Values.{clash, sub-self}
 use Rattle.std.proofs.lemmas.List.{length-set}
-use Rattle.method_definitions.specs.Moves.{signed}
-use Rattle.method_definitions.specs.Path.{after}
-use Rattle.path_laws.specs.Laws.{IsNonsingularBasis}
-use Rattle.path_laws.proofs.Rays.{Breaks, breaks_lower, breaks_upper}
+use Rattle.simplex_definitions.specs.Moves.{signed}
+use Rattle.simplex_definitions.specs.Path.{after}
+use Rattle.simplex_laws.specs.Laws.{IsNonsingularBasis}
+use Rattle.simplex_laws.proofs.Rays.{Breaks, breaks_lower, breaks_upper}
 use Rattle.dual_laws.proofs.DualStep.{for_min_times}
 
 -- a combination of the directions of which only that of q counts

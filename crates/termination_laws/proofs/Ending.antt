@@ -5,11 +5,11 @@ use Rattle.std.proofs.lemmas.Bool.Decides.{eqb_tells, leb_tells}
 use Rattle.lp_definitions.specs.LinearProgram.{LinearProgram, size, IsLinearProgram}
 use Rattle.lp_definitions.specs.Basis.{opening_statuses}
 use Rattle.lp_definitions.specs.declared.Status.{Status}
-use Rattle.method_definitions.specs.Path.{Rule, turn, RuleStep, RulePath, RuleGoesOn, IsPath, last_of, GoesOnFor}
-use Rattle.method_definitions.specs.DualPath.{dual_turn, HasRightPrices, IsDualPath, DualGoesOnFor}
-use Rattle.path_laws.specs.Laws.{IsNonsingularBasis, HasTableau, EndsWithin, RuleEndsWithin}
-use Rattle.path_laws.proofs.Steps.{step_leads, opening_is}
-use Rattle.path_laws.proofs.Goes.{opening_has, ends_or_goes_on}
+use Rattle.simplex_definitions.specs.Path.{Rule, turn, RuleStep, RulePath, RuleGoesOn, IsPath, last_of, GoesOnFor}
+use Rattle.simplex_definitions.specs.DualPath.{dual_turn, HasRightPrices, IsDualPath, DualGoesOnFor}
+use Rattle.simplex_laws.specs.Laws.{IsNonsingularBasis, HasTableau, EndsWithin, RuleEndsWithin}
+use Rattle.simplex_laws.proofs.Steps.{step_leads, opening_is}
+use Rattle.simplex_laws.proofs.Goes.{opening_has, ends_or_goes_on}
 use Rattle.termination_laws.specs.Laws.{lists_of, basis_at, NeverReturns}
 use Rattle.termination_laws.proofs.Walks.{IsWalk, visits, is_walk, are_visits}
 use Rattle.termination_laws.proofs.Phases.{no_cycle}

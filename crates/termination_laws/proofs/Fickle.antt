@@ -9,7 +9,7 @@ use Rattle.lp_definitions.specs.declared.Status.{Status}
 use Rattle.lp_definitions.specs.declared.Status.TheVariants.{Bs}
 use Rattle.lp_laws.proofs.Statuses.{basic_from, changed_own, changed_other}
 use Rattle.lp_laws.proofs.Values.{clash}
-use Rattle.method_definitions.specs.Path.{after}
+use Rattle.simplex_definitions.specs.Path.{after}
 use Rattle.termination_laws.proofs.Walks.{Visit, In, IsWalk, Turned, turn_to}
 
 abbrev Compared : ℕ → ℕ → Type 0

@@ -17,14 +17,14 @@ use Rattle.lp_laws.proofs.Equations.{KeepsEquations-sub}
 use Rattle.lp_laws.proofs.Uniqueness.{is_in-basics_of, one_place}
 use Rattle.lp_laws.proofs.Combination.{by_nonbasics}
 use Rattle.lp_laws.proofs.Statuses.{status_of_nonbasic}
-use Rattle.method_definitions.specs.Moves.{is_below, is_outside, is_crossed, is_fixed, lowers, signed}
-use Rattle.method_definitions.specs.Path.{excess_rate}
-use Rattle.path_laws.specs.Laws.{IsNonsingularBasis}
-use Rattle.path_laws.proofs.Numbered.{find_none}
-use Rattle.path_laws.proofs.Turns.{IsFirstPhase}
-use Rattle.path_laws.proofs.Ends.{right, inside, low_of, high_of, and_true}
-use Rattle.path_laws.proofs.Endless.{lowering_enters, IsEntering}
-use Rattle.path_laws.proofs.Rays.{Breaks, breaks_lower, breaks_upper, broken_basic, broken_limit}
+use Rattle.simplex_definitions.specs.Moves.{is_below, is_outside, is_crossed, is_fixed, lowers, signed}
+use Rattle.simplex_definitions.specs.Path.{excess_rate}
+use Rattle.simplex_laws.specs.Laws.{IsNonsingularBasis}
+use Rattle.simplex_laws.proofs.Numbered.{find_none}
+use Rattle.simplex_laws.proofs.Turns.{IsFirstPhase}
+use Rattle.simplex_laws.proofs.Ends.{right, inside, low_of, high_of, and_true}
+use Rattle.simplex_laws.proofs.Endless.{lowering_enters, IsEntering}
+use Rattle.simplex_laws.proofs.Rays.{Breaks, breaks_lower, breaks_upper, broken_basic, broken_limit}
 use Rattle.termination_laws.proofs.Numbers.{find_before, against_product, still_product, weighed, signed_sum}
 use Rattle.termination_laws.proofs.Resting.{StopsAt, idle_stops, moving, comes_back}
 

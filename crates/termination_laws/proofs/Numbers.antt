@@ -11,7 +11,7 @@ use Rattle.exact_values.proofs.Sums.{sum_to-same, sum_to-neg}
 use Rattle.lp_definitions.specs.LinearProgram.{numbers_from, for_min}
 use Rattle.lp_definitions.specs.declared.Sense.{Sense}
 use Rattle.lp_definitions.specs.declared.Sense.TheVariants.{Min, Max}
-use Rattle.method_definitions.specs.Moves.{signed}
+use Rattle.simplex_definitions.specs.Moves.{signed}
 
 module _ (test : ℕ → Bool) where
   -- no number before the one that is found passes

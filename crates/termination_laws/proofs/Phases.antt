@@ -11,16 +11,16 @@ use Rattle.lp_definitions.specs.declared.Status.{Status}
 use Rattle.lp_definitions.specs.declared.Status.TheVariants.{Bs}
 use Rattle.lp_laws.specs.Vectors.{along}
 use Rattle.lp_laws.proofs.Uniqueness.{one_point}
-use Rattle.method_definitions.specs.Moves.{is_below, lowers, room}
-use Rattle.method_definitions.specs.Path.{Moves, after, IsStep, stopped_by, excess_rate, turn}
-use Rattle.path_laws.specs.Laws.{IsNonsingularBasis, IsNoWorse}
-use Rattle.path_laws.proofs.Numbered.{find_some}
-use Rattle.path_laws.proofs.Turns.{IsBroughtTurn, IsStoppedTurn, MovingRule, brings, stops, bettering, moving_turn, rule_of}
-use Rattle.path_laws.proofs.Ends.{feasible, IsFeasible-same, low_of, high_of}
-use Rattle.path_laws.proofs.Endless.{objective_value-same}
-use Rattle.path_laws.proofs.Rays.{Breaks, breaks_lower, breaks_upper, broken_basic, broken_limit}
-use Rattle.path_laws.proofs.Steps.{step_leads}
-use Rattle.path_laws.proofs.Second.{feasible_step}
+use Rattle.simplex_definitions.specs.Moves.{is_below, lowers, room}
+use Rattle.simplex_definitions.specs.Path.{Moves, after, IsStep, stopped_by, excess_rate, turn}
+use Rattle.simplex_laws.specs.Laws.{IsNonsingularBasis, IsNoWorse}
+use Rattle.simplex_laws.proofs.Numbered.{find_some}
+use Rattle.simplex_laws.proofs.Turns.{IsBroughtTurn, IsStoppedTurn, MovingRule, brings, stops, bettering, moving_turn, rule_of}
+use Rattle.simplex_laws.proofs.Ends.{feasible, IsFeasible-same, low_of, high_of}
+use Rattle.simplex_laws.proofs.Endless.{objective_value-same}
+use Rattle.simplex_laws.proofs.Rays.{Breaks, breaks_lower, breaks_upper, broken_basic, broken_limit}
+use Rattle.simplex_laws.proofs.Steps.{step_leads}
+use Rattle.simplex_laws.proofs.Second.{feasible_step}
 use Rattle.termination_laws.proofs.Walks.{Visit, In, IsWalk, Turned, turn_to, IsVisitBy, visit_step}
 use Rattle.termination_laws.proofs.Fickle.{Exchanges, FicklePair, fickle_pair}
 use Rattle.termination_laws.proofs.Runs.{IsRun, run_of, move_is, entered, k_is, run_no_worse, no_length, stopped_leaves, mover_enters, reached_apart}

@@ -14,8 +14,8 @@ use Rattle.lp_definitions.specs.Basis.{is_basic, IsAllowed, StandsAt, IsRightAt}
 use Rattle.lp_definitions.specs.declared.Status.{Status}
 use Rattle.lp_definitions.specs.declared.Status.TheVariants.{Bs, Ll, Ul, Fr}
 use Rattle.lp_laws.proofs.Values.{same_from_difference}
-use Rattle.method_definitions.specs.Moves.{on_limits, rises_from, falls_from}
-use Rattle.path_laws.proofs.Rays.{Breaks, breaks_lower, breaks_upper}
+use Rattle.simplex_definitions.specs.Moves.{on_limits, rises_from, falls_from}
+use Rattle.simplex_laws.proofs.Rays.{Breaks, breaks_lower, breaks_upper}
 use Rattle.termination_laws.proofs.Numbers.{Against}
 
 -- the variable stands at the limit towards which it would lower the quantity

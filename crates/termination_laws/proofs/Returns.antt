@@ -10,12 +10,12 @@ use Rattle.lp_definitions.specs.declared.Status.{Status}
 use Rattle.lp_definitions.specs.declared.Status.TheVariants.{Bs, Ll, Ul}
 use Rattle.lp_laws.proofs.Values.{clash}
 use Rattle.lp_laws.proofs.Statuses.{status_of_basic, status_of_nonbasic}
-use Rattle.method_definitions.specs.Moves.{is_below, lowers}
-use Rattle.method_definitions.specs.Path.{excess_rate}
-use Rattle.path_laws.specs.Laws.{IsNonsingularBasis}
-use Rattle.path_laws.proofs.Turns.{IsFirstPhase}
-use Rattle.path_laws.proofs.Endless.{IsEntering, lowering_enters}
-use Rattle.path_laws.proofs.Rays.{broken_basic}
+use Rattle.simplex_definitions.specs.Moves.{is_below, lowers}
+use Rattle.simplex_definitions.specs.Path.{excess_rate}
+use Rattle.simplex_laws.specs.Laws.{IsNonsingularBasis}
+use Rattle.simplex_laws.proofs.Turns.{IsFirstPhase}
+use Rattle.simplex_laws.proofs.Endless.{IsEntering, lowering_enters}
+use Rattle.simplex_laws.proofs.Rays.{broken_basic}
 use Rattle.termination_laws.proofs.Walks.{Visit, In, IsWalk}
 use Rattle.termination_laws.proofs.Fickle.{Exchanges, FicklePair, fickle_pair}
 use Rattle.termination_laws.proofs.FirstClash.{first_clash}

@@ -16,15 +16,15 @@ use Rattle.lp_laws.specs.Vectors.{along}
 use Rattle.lp_laws.proofs.Values.{clash}
 use Rattle.lp_laws.proofs.Duality.{for_min-along}
 use Rattle.lp_laws.proofs.Statuses.{status_of_basic, status_of_nonbasic}
-use Rattle.method_definitions.specs.Moves.{is_fixed, lowers, signed, goes_up, room, reached}
-use Rattle.method_definitions.specs.Path.{Move, Moves, after, stopped_by, worth_rate}
-use Rattle.path_laws.specs.Laws.{IsNonsingularBasis}
-use Rattle.path_laws.proofs.Numbered.{find_some}
-use Rattle.path_laws.proofs.Motions.{ComesTo, stopped_is, length_of, comes, moved_point}
-use Rattle.path_laws.proofs.Turns.{IsStoppedTurn, bettering}
-use Rattle.path_laws.proofs.Ends.{feasible}
-use Rattle.path_laws.proofs.Endless.{IsEntering, enters, bettering_betters}
-use Rattle.path_laws.proofs.Steps.{rate_apart, signed_zero}
+use Rattle.simplex_definitions.specs.Moves.{is_fixed, lowers, signed, goes_up, room, reached}
+use Rattle.simplex_definitions.specs.Path.{Move, Moves, after, stopped_by, worth_rate}
+use Rattle.simplex_laws.specs.Laws.{IsNonsingularBasis}
+use Rattle.simplex_laws.proofs.Numbered.{find_some}
+use Rattle.simplex_laws.proofs.Motions.{ComesTo, stopped_is, length_of, comes, moved_point}
+use Rattle.simplex_laws.proofs.Turns.{IsStoppedTurn, bettering}
+use Rattle.simplex_laws.proofs.Ends.{feasible}
+use Rattle.simplex_laws.proofs.Endless.{IsEntering, enters, bettering_betters}
+use Rattle.simplex_laws.proofs.Steps.{rate_apart, signed_zero}
 use Rattle.termination_laws.proofs.Numbers.{Against}
 use Rattle.termination_laws.proofs.Resting.{moving, blocked}
 

@@ -13,15 +13,15 @@ use Rattle.lp_laws.specs.Rates.{weight}
 use Rattle.lp_laws.proofs.Values.{clash}
 use Rattle.lp_laws.proofs.Optimal.{objective_by_nonbasics}
 use Rattle.lp_laws.proofs.Statuses.{status_of_nonbasic, nonbasic_by_status}
-use Rattle.method_definitions.specs.Moves.{is_fixed, is_no_later, lowers, signed, goes_up, room, reaches_first, stopper}
-use Rattle.method_definitions.specs.Path.{worth_rate, mover}
-use Rattle.path_laws.specs.Laws.{IsNonsingularBasis}
-use Rattle.path_laws.proofs.Numbered.{find_some, list_all_from}
-use Rattle.path_laws.proofs.Stoppers.{stopper_some}
-use Rattle.path_laws.proofs.Turns.{bettering}
-use Rattle.path_laws.proofs.Ends.{right}
-use Rattle.path_laws.proofs.Endless.{enters, IsEntering, bettering_keeps, bettering_betters}
-use Rattle.path_laws.proofs.Steps.{signed_zero}
+use Rattle.simplex_definitions.specs.Moves.{is_fixed, is_no_later, lowers, signed, goes_up, room, reaches_first, stopper}
+use Rattle.simplex_definitions.specs.Path.{worth_rate, mover}
+use Rattle.simplex_laws.specs.Laws.{IsNonsingularBasis}
+use Rattle.simplex_laws.proofs.Numbered.{find_some, list_all_from}
+use Rattle.simplex_laws.proofs.Stoppers.{stopper_some}
+use Rattle.simplex_laws.proofs.Turns.{bettering}
+use Rattle.simplex_laws.proofs.Ends.{right}
+use Rattle.simplex_laws.proofs.Endless.{enters, IsEntering, bettering_keeps, bettering_betters}
+use Rattle.simplex_laws.proofs.Steps.{signed_zero}
 use Rattle.termination_laws.proofs.Numbers.{find_before, against_product, still_product, weighed, for_min_sum}
 use Rattle.termination_laws.proofs.Resting.{StopsAt, idle_stops, moving, no_room, blocked}
 

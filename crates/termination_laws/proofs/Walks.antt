@@ -9,7 +9,7 @@ use Rattle.std.proofs.Common.{◌≡◌, ◌⊎◌, inl, inr, List, [], ◌∷�
 use Rattle.lp_definitions.specs.LinearProgram.{LinearProgram}
 use Rattle.lp_definitions.specs.Basis.{Tableau, IsTableau}
 use Rattle.lp_definitions.specs.declared.Status.{Status}
-use Rattle.method_definitions.specs.Path.{Move, Moves, Rule, RuleStep, RulePath, after, last_of}
+use Rattle.simplex_definitions.specs.Path.{Move, Moves, Rule, RuleStep, RulePath, after, last_of}
 
 pub record Visit : Type 0 where
   pub basis : List Status

@@ -8,9 +8,9 @@ use Rattle.std.specs.Prelude.{◌≡◌, ◌≢◌, ℕ, ◌+◌, ◌<◌, ◌�
 use Rattle.lp_definitions.specs.LinearProgram.{LinearProgram, size, IsLinearProgram}
 use Rattle.lp_definitions.specs.Basis.{opening_statuses}
 use Rattle.lp_definitions.specs.declared.Status.{Status}
-use Rattle.method_definitions.specs.Path.{IsPath, last_of, GoesOnFor}
-use Rattle.method_definitions.specs.DualPath.{dual_turn, HasRightPrices, IsDualPath, DualGoesOnFor}
-use Rattle.path_laws.specs.Laws.{IsNonsingularBasis, HasTableau, EndsWithin, RuleEndsWithin}
+use Rattle.simplex_definitions.specs.Path.{IsPath, last_of, GoesOnFor}
+use Rattle.simplex_definitions.specs.DualPath.{dual_turn, HasRightPrices, IsDualPath, DualGoesOnFor}
+use Rattle.simplex_laws.specs.Laws.{IsNonsingularBasis, HasTableau, EndsWithin, RuleEndsWithin}
 
 -- a variable is basic, at its upper limit, or at the third place that its limits leave it: its lower limit, or 0 where it is free
 unfoldable pub lists_of : LinearProgram → ℕ

@@ -10,7 +10,7 @@ use Rattle.check_definitions.specs.declared.Verdict.{Verdict}
 use Rattle.check_definitions.specs.declared.Verdict.TheVariants.{Checked, Failed}
 use Rattle.check_definitions.specs.Steps.{Step, operation, comparison, verdict_of, in_turn, Product, sum_steps, sum_of}
 use Rattle.check_definitions.specs.Checks.{is_at, by_sign, equations, feasible_point, reduced_costs, ray_columns, multiplied, limit_product, ray_limits, free_direction, optimal_check, crossed_check, infeasible_check, unbounded_check}
-use Rattle.method_definitions.specs.Chain.{along}
+use Rattle.simplex_definitions.specs.Chain.{along}
 use Rattle.listing_definitions.specs.declared.Mark.{Mark}
 use Rattle.listing_definitions.specs.declared.Mark.TheVariants.{Optimal}
 use Rattle.listing_definitions.specs.Report.{PathVerdict, OptimalAt, CrossedAt, InfeasibleBy, UnboundedBy, Check, SolutionLines, Interval, ChainEnd, EndsAt, UnboundedPast, InfeasiblePast}

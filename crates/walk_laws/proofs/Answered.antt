@@ -14,9 +14,9 @@ use Rattle.run_definitions.specs.State.{Present, present_basis, path_of, gone_th
 use Rattle.run_definitions.specs.Moves.{printed_by, Outcome, gain_of, InAnswer, Move, Asks}
 use Rattle.run_definitions.specs.Verbs.{asks, mark_of, demanded, by_verdict, after_path}
 use Rattle.run_definitions.specs.Run.{counted}
-use Rattle.run_laws.specs.Truth.{PresentProgram, sheet_of, IsTrueOf, IsNotUnbounded}
-use Rattle.run_laws.proofs.Moves.{HasProblem}
-use Rattle.run_laws.proofs.Selected.{selected_is_lawful, selected_without_change}
+use Rattle.soundness_laws.specs.Truth.{PresentProgram, sheet_of, IsTrueOf, IsNotUnbounded}
+use Rattle.soundness_laws.proofs.Moves.{HasProblem}
+use Rattle.soundness_laws.proofs.Selected.{selected_is_lawful, selected_without_change}
 use Rattle.walk_definitions.specs.Reading.{Judged, Right, Fails, Refuses, judged, judged_map}
 use Rattle.walk_definitions.specs.Reading as readings
 use Rattle.walk_definitions.specs.Walker.{Pending, Walker, open_stop, open_pending, open_question, follows, passed, pending_after, noted, answered}

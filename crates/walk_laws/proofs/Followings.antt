@@ -31,9 +31,9 @@ use Rattle.run_definitions.specs.State.{Present, State, problem_of, choice_of}
 use Rattle.run_definitions.specs.Moves.{Nothing, Prints, Outcome, Goes, stops, Does, Asks}
 use Rattle.run_definitions.specs.Verbs.{size_of, files, not_less, change_row, change_set, mark_after, if_optimal, solves, shows, ranges, sweeps, converts, revises, sets_up, punches, punches_basis, inserts, verb_move}
 use Rattle.run_definitions.specs.Run.{counted}
-use Rattle.run_laws.specs.Truth.{IsOfProblem, named_by}
-use Rattle.run_laws.proofs.ChangeRow.{row_named, set_named, last_is}
-use Rattle.run_laws.proofs.Moves.{HasProblem}
+use Rattle.soundness_laws.specs.Truth.{IsOfProblem, named_by}
+use Rattle.soundness_laws.proofs.ChangeRow.{row_named, set_named, last_is}
+use Rattle.soundness_laws.proofs.Moves.{HasProblem}
 use Rattle.walk_definitions.specs.Forms.{is_ranges, is_punched}
 use Rattle.walk_definitions.specs.Walker.{Walker, Finds, Wrong, open_if, open_stop, open_pending, is_inserted_by, open_question}
 use Rattle.reading_laws.specs.Laws.{ReadingLaw}

@@ -12,7 +12,7 @@ use Rattle.control_definitions.specs.Cells.{Cells}
 use Rattle.selection_definitions.specs.Selection.{selected}
 use Rattle.question_definitions.specs.Answers.{Basis}
 use Rattle.run_definitions.specs.State.{Present, gone_through, choice_of}
-use Rattle.run_laws.specs.Truth.{PresentProgram, IsBestObjective}
+use Rattle.soundness_laws.specs.Truth.{PresentProgram, IsBestObjective}
 use Rattle.walk_definitions.specs.Walker.{Pending}
 
 pub record ProvesObjective (setup : Option Present) (cells : Cells) (objective : ℚ) : Type 0 where

@@ -5,7 +5,7 @@ use Rattle.exact_values.specs.Rational.{ℚ}
 use Rattle.exact_values.specs.Tests.{eq_ℚ}
 use Rattle.exact_values.proofs.Tests_laws.{same_from_test}
 use Rattle.lp_definitions.specs.LinearProgram.{LinearProgram}
-use Rattle.sweep_laws.specs.Truth.{IsSolvedBy}
+use Rattle.parametric_laws.specs.Truth.{IsSolvedBy}
 use Rattle.selection_definitions.specs.Selection.{selected}
 use Rattle.listing_definitions.specs.declared.Mark.{Mark}
 use Rattle.listing_definitions.specs.declared.Mark.TheVariants.{Optimal, Infeasible, Unbounded}
@@ -15,9 +15,9 @@ use Rattle.run_definitions.specs.State.{Present, present_basis, path_of, choice_
 use Rattle.run_definitions.specs.Moves.{Prints, Outcome, next, InAnswer, Move, Asks}
 use Rattle.run_definitions.specs.Verbs.{asks}
 use Rattle.run_definitions.specs.Run.{counted}
-use Rattle.run_laws.specs.Truth.{PresentProgram}
-use Rattle.run_laws.proofs.Moves.{HasProblem}
-use Rattle.run_laws.proofs.Selected.{selected_has_no_change}
+use Rattle.soundness_laws.specs.Truth.{PresentProgram}
+use Rattle.soundness_laws.proofs.Moves.{HasProblem}
+use Rattle.soundness_laws.proofs.Selected.{selected_has_no_change}
 use Rattle.walk_definitions.specs.Tables.{column_of}
 use Rattle.walk_definitions.specs.Tests.{says_checked, point_of, prices_of}
 use Rattle.walk_definitions.specs.Reading.{Judged, Right, Fails, Refuses, judged}

@@ -10,11 +10,11 @@ use Rattle.run_definitions.specs.State.{Present, present_basis, path_of, gone_th
 use Rattle.run_definitions.specs.Moves.{Outcome, InAnswer, Move, Asks}
 use Rattle.run_definitions.specs.Verbs.{asks, mark_of, after_sweep}
 use Rattle.run_definitions.specs.Run.{counted}
-use Rattle.run_laws.specs.Sweeps.{ChangesFreely}
-use Rattle.run_laws.specs.Truth.{PresentProgram, TellsOfRun}
-use Rattle.run_laws.proofs.ChangeRow.{changes_freely}
-use Rattle.run_laws.proofs.Moves.{HasProblem}
-use Rattle.run_laws.proofs.Verbs.{IsAskedFor}
+use Rattle.soundness_laws.specs.Sweeps.{ChangesFreely}
+use Rattle.soundness_laws.specs.Truth.{PresentProgram, TellsOfRun}
+use Rattle.soundness_laws.proofs.ChangeRow.{changes_freely}
+use Rattle.soundness_laws.proofs.Moves.{HasProblem}
+use Rattle.soundness_laws.proofs.Verbs.{IsAskedFor}
 use Rattle.walk_definitions.specs.Reading.{Judged, Right, Fails, Refuses, judged, sweep_head, sweep_in}
 use Rattle.walk_definitions.specs.Reading as readings
 use Rattle.walk_definitions.specs.Words.{left_after}

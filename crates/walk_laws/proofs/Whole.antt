@@ -18,9 +18,9 @@ use Rattle.run_definitions.specs.Moves.{Gain, printed_by, punched_by, Goes, Ends
 use Rattle.run_definitions.specs.Verbs.{verb_move}
 use Rattle.run_definitions.specs.Run.{max_executed, counted, Step, IsOver, at_end, at_limit, Reaches, begun, stepped, is_over, is_ended}
 use Rattle.run_definitions.specs.Answer.{job_decks, IsProgramOf, run}
-use Rattle.run_laws.specs.Headline.{HoldSoFar}
-use Rattle.run_laws.proofs.Moves.{HasProblem}
-use Rattle.run_laws.proofs.Filed.{job_reaching}
+use Rattle.soundness_laws.specs.Headline.{HoldSoFar}
+use Rattle.soundness_laws.proofs.Moves.{HasProblem}
+use Rattle.soundness_laws.proofs.Filed.{job_reaching}
 use Rattle.walk_definitions.specs.Walker.{Walker, Attested, Walks, Finds, closes, walk_move, walk_statement, turn}
 use Rattle.walk_definitions.specs.Found.{Reaches as IsCome, begun as at_start, walked as gone_on}
 use Rattle.reading_laws.specs.Laws.{ReadingLaw}

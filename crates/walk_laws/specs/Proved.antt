@@ -16,9 +16,9 @@ use Rattle.question_definitions.specs.Solving.{Solving}
 use Rattle.answer_definitions.specs.Sweeps.{family_of, sheet_at}
 use Rattle.run_definitions.specs.State.{Present, State}
 use Rattle.run_definitions.specs.Answer.{IsJobRun}
-use Rattle.sweep_laws.specs.Truth.{IsTrueRun}
-use Rattle.run_laws.specs.Truth.{PresentProgram, sheet_of, IsTrueOf, IsNotUnbounded, TellsOfRun}
-use Rattle.run_laws.specs.Headline.{HoldInJob}
+use Rattle.parametric_laws.specs.Truth.{IsTrueRun}
+use Rattle.soundness_laws.specs.Truth.{PresentProgram, sheet_of, IsTrueOf, IsNotUnbounded, TellsOfRun}
+use Rattle.soundness_laws.specs.Headline.{HoldInJob}
 use Rattle.walk_definitions.specs.Tests.{point_of, prices_of}
 use Rattle.walk_definitions.specs.Reading.{Right, judged}
 use Rattle.judged_laws.specs.Shown.{part_of, past_of, IsTrueAtFirst}

@@ -1,6 +1,6 @@
 use Rattle.std.proofs.Common.{sym, subst}
 use Rattle.certificate_check.specs.Results.{IsNotFailed}
-use Rattle.run_laws.proofs.Ends.{shown_is_best}
+use Rattle.soundness_laws.proofs.Ends.{shown_is_best}
 use Rattle.walk_definitions.specs.Tests.{solution_test}
 use Rattle.std.proofs.Common.{refl, []}
 use Rattle.question_definitions.specs.Answers.{Chained}

@@ -1,5 +1,5 @@
 use Rattle.std.proofs.Common.{sym, ◌∙◌, arith}
-use Rattle.method_definitions.specs.Moves.{is_crossed}
+use Rattle.simplex_definitions.specs.Moves.{is_crossed}
 use Rattle.basis_values.proofs.Skips.{found_least, found_none}
 use Rattle.basis_values.proofs.choices.crossed.Goals as goal
 

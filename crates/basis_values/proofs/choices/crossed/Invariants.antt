@@ -1,5 +1,5 @@
 use Rattle.std.proofs.Common.{◌≡◌, ℕ, ◌≤◌, false}
-use Rattle.method_definitions.specs.Moves.{is_crossed}
+use Rattle.simplex_definitions.specs.Moves.{is_crossed}
 use Rattle.basis_values.proofs.choices.crossed.Given as goal
 
 abbrev pub invariant-loop-k : goal.invariant-loop-k

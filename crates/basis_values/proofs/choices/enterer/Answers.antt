@@ -1,6 +1,6 @@
 use Rattle.std.proofs.Common.{sym, ◌∙◌, arith}
 use Rattle.lp_definitions.specs.LinearProgram.{value_at}
-use Rattle.method_definitions.specs.Moves.{lowers}
+use Rattle.simplex_definitions.specs.Moves.{lowers}
 use Rattle.basis_values.specs.Motions.{motion}
 use Rattle.basis_values.proofs.Skips.{found_least, found_none, one_more, lowers_at}
 use Rattle.basis_values.proofs.choices.enterer.Goals as goal

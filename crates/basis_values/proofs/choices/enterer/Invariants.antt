@@ -1,6 +1,6 @@
 use Rattle.std.proofs.Common.{◌≡◌, ℕ, ◌≤◌, false}
 use Rattle.lp_definitions.specs.LinearProgram.{value_at}
-use Rattle.method_definitions.specs.Moves.{lowers}
+use Rattle.simplex_definitions.specs.Moves.{lowers}
 use Rattle.basis_values.specs.Motions.{motion}
 use Rattle.basis_values.proofs.choices.enterer.Given as goal
 

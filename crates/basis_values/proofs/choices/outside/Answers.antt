@@ -2,7 +2,7 @@ use Rattle.std.proofs.Common.{sym, ◌∙◌, arith}
 use Rattle.std.specs.Prelude.{◌&&◌}
 use Rattle.lp_definitions.specs.LinearProgram.{value_at}
 use Rattle.lp_definitions.specs.Basis.{basics_of, is_in}
-use Rattle.method_definitions.specs.Moves.{is_outside}
+use Rattle.simplex_definitions.specs.Moves.{is_outside}
 use Rattle.basis_values.proofs.Skips.{found_least, found_none}
 use Rattle.basis_values.proofs.choices.outside.Goals as goal
 

@@ -1,6 +1,6 @@
 use Rattle.std.proofs.Common.{◌∙◌, ap, sym}
 use Rattle.lp_definitions.specs.LinearProgram.{Vector, value_at}
-use Rattle.method_definitions.specs.Moves.{entering}
+use Rattle.simplex_definitions.specs.Moves.{entering}
 use Rattle.basis_values.proofs.choices.wrong_price.Goals as goal
 
 pub returns : goal.returns

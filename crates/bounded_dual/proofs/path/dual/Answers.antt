@@ -4,7 +4,7 @@ use Rattle.exact_values.specs.Rational.{ℚ}
 use Rattle.lp_definitions.specs.LinearProgram.{value_at, IsLinearProgram}
 use Rattle.lp_definitions.specs.Basis.{ArePricesOf}
 use Rattle.lp_model.specs.declared.reports.Outcome.TheVariants.{Crossed}
-use Rattle.method_definitions.specs.DualPath.{dual_turn}
+use Rattle.simplex_definitions.specs.DualPath.{dual_turn}
 use Rattle.basis_values.proofs.PriceLaws.{take_all}
 use Rattle.bounded_primal.proofs.PathWalk.{begins_at, follows, stays}
 use Rattle.bounded_dual.specs.Stops.{dual_stop_of}

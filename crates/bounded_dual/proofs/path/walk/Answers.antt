@@ -3,8 +3,8 @@ use Rattle.std.proofs.lemmas.Result.{err_from_is_err_and}
 use Rattle.lp_definitions.specs.LinearProgram.{value_at}
 use Rattle.lp_definitions.specs.Basis.{basics_of}
 use Rattle.lp_laws.proofs.WaypointLaws.{keeps_then}
-use Rattle.method_definitions.specs.Counts.{counted_steps}
-use Rattle.method_definitions.specs.DualPath.{dual_turn}
+use Rattle.simplex_definitions.specs.Counts.{counted_steps}
+use Rattle.simplex_definitions.specs.DualPath.{dual_turn}
 use Rattle.bounded_primal.proofs.Agreement.{point_agrees}
 use Rattle.bounded_primal.proofs.PathWalk.{begins_at, ends_there, follows, follows_later, reached_later}
 use Rattle.bounded_dual.proofs.WalkSteps.{stops_there, point_stops_there, walk_more, walk_stops, carried_prices, stops_at_once}

@@ -2,7 +2,7 @@ use Rattle.std.proofs.Common.{◌≡◌, ◌-◌, ◌≤◌}
 use Rattle.std.specs.Prelude.{IsTrue}
 use Rattle.lp_definitions.specs.LinearProgram.{value_at}
 use Rattle.lp_definitions.specs.Basis.{IsPointOf, ArePricesOf}
-use Rattle.method_definitions.specs.DualPath.{dual_turn}
+use Rattle.simplex_definitions.specs.DualPath.{dual_turn}
 use Rattle.basis_values.specs.Calls.{HasRates}
 use Rattle.bounded_primal.specs.KeptPoints.{all_kept, AgreesWithPoint}
 use Rattle.bounded_primal.specs.Turns.{least_outside}

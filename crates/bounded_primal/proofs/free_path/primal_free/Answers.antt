@@ -3,7 +3,7 @@ use Rattle.lp_definitions.specs.LinearProgram.{IsLinearProgram}
 use Rattle.termination_laws.specs.Laws.{lists_of}
 use Rattle.lp_model.specs.declared.reports.Outcome.TheVariants.{Crossed}
 use Rattle.bounded_primal.proofs.TrueOutcomes.{true_result, crossed_call, crossed_truth}
-use Rattle.method_definitions.specs.Path.{turn}
+use Rattle.simplex_definitions.specs.Path.{turn}
 use Rattle.bounded_primal.proofs.PathWalk.{stays}
 use Rattle.bounded_primal.proofs.FreeWalk.{never_returned}
 use Rattle.bounded_primal.proofs.CompletePaths.{free_path_answered}

@@ -5,13 +5,13 @@ use Rattle.lp_definitions.specs.Basis.{basics_of}
 use Rattle.lp_laws.proofs.WaypointLaws.{keeps_then}
 use Rattle.termination_laws.specs.Laws.{lists_of}
 use Rattle.bounded_primal.proofs.Agreement.{point_agrees}
-use Rattle.method_definitions.specs.Path.{turn}
+use Rattle.simplex_definitions.specs.Path.{turn}
 use Rattle.bounded_primal.proofs.PathWalk.{begins_at, follows, follows_later}
 use Rattle.bounded_primal.proofs.WalkCases.{stops_at_once, step_stops, walk_more}
 use Rattle.bounded_primal.proofs.FreeWalk.{reached_short, free_ends, free_stops, counted_more, one_less}
 use Rattle.bounded_primal.proofs.FirstWanted.{leaves_variable, wants_moved}
 use Rattle.bounded_primal.proofs.Inside.{stays_inside}
-use Rattle.method_definitions.specs.Counts.{counted_steps}
+use Rattle.simplex_definitions.specs.Counts.{counted_steps}
 use Rattle.bounded_primal.proofs.free_path.walk_free.Goals as goal
 
 pub returns-in_err-point_of-clause-stops : goal.returns-in_err-point_of-clause-stops

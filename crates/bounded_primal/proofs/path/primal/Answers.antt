@@ -2,7 +2,7 @@ use Rattle.std.proofs.Common.{Ok, rules}
 use Rattle.lp_definitions.specs.LinearProgram.{IsLinearProgram}
 use Rattle.lp_model.specs.declared.reports.Outcome.TheVariants.{Crossed}
 use Rattle.bounded_primal.proofs.TrueOutcomes.{true_result, crossed_call, crossed_truth}
-use Rattle.method_definitions.specs.Path.{turn}
+use Rattle.simplex_definitions.specs.Path.{turn}
 use Rattle.bounded_primal.proofs.PathWalk.{stays}
 use Rattle.bounded_primal.proofs.FreeWalk.{limit_below, never_returned}
 use Rattle.bounded_primal.proofs.CompletePaths.{path_answered}

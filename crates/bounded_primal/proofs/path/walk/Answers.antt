@@ -4,12 +4,12 @@ use Rattle.lp_definitions.specs.LinearProgram.{value_at}
 use Rattle.lp_definitions.specs.Basis.{basics_of}
 use Rattle.lp_laws.proofs.WaypointLaws.{keeps_then}
 use Rattle.bounded_primal.proofs.Agreement.{point_agrees}
-use Rattle.method_definitions.specs.Path.{turn}
+use Rattle.simplex_definitions.specs.Path.{turn}
 use Rattle.bounded_primal.proofs.PathWalk.{begins_at, ends_there, stops_there, follows, follows_later}
 use Rattle.bounded_primal.proofs.WalkCases.{stops_at_once, walk_more, walk_stops}
 use Rattle.bounded_primal.proofs.FirstWanted.{leaves_variable, wants_moved}
 use Rattle.bounded_primal.proofs.Inside.{stays_inside}
-use Rattle.method_definitions.specs.Counts.{counted_steps}
+use Rattle.simplex_definitions.specs.Counts.{counted_steps}
 use Rattle.bounded_primal.proofs.path.walk.Goals as goal
 
 pub returns-in_err-point_of-clause-stops : goal.returns-in_err-point_of-clause-stops

@@ -6,7 +6,7 @@ use Rattle.basis_values.specs.Calls.{HasRates}
 use Rattle.basis_values.specs.Wants.{AreWants}
 use Rattle.bounded_primal.specs.KeptPoints.{all_kept, AgreesWithPoint}
 use Rattle.bounded_primal.specs.Turns.{least_outside}
-use Rattle.method_definitions.specs.Path.{turn}
+use Rattle.simplex_definitions.specs.Path.{turn}
 use Rattle.bounded_primal.proofs.PathWalk.{HasReached}
 use Rattle.bounded_primal.proofs.path.walk.Given as goal
 

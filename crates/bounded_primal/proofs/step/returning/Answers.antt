@@ -2,7 +2,7 @@ use Rattle.std.proofs.Common.{◌≡◌, Err, rules, arith}
 use Rattle.std.specs.Prelude.{unwrap_or}
 use Rattle.exact_values.specs.Rational.{zero_ℚ}
 use Rattle.lp_definitions.specs.LinearProgram.{value_at}
-use Rattle.method_definitions.specs.Formulas.{limit_numbered, number_of_limit}
+use Rattle.simplex_definitions.specs.Formulas.{limit_numbered, number_of_limit}
 use Rattle.bounded_primal.proofs.Returns.{distance_refused, change_refused}
 use Rattle.bounded_primal.proofs.step.returning.Goals as goal
 use Rattle.lp_laws.proofs.Places.{value_read}

@@ -1,6 +1,6 @@
 use Rattle.std.proofs.Common.{refl}
 use Rattle.lp_definitions.specs.LinearProgram.{value_at}
-use Rattle.method_definitions.specs.Moves.{room}
+use Rattle.simplex_definitions.specs.Moves.{room}
 use Rattle.basis_values.specs.Motions.{motion}
 use Rattle.basis_values.proofs.Places.{yields_more}
 use Rattle.bounded_primal.proofs.stopping.is_first.Goals as goal

@@ -1,6 +1,6 @@
 use Rattle.std.proofs.Common.{◌≡◌, ◌∙◌, ◌+◌, Err, refl, rules, arith}
 use Rattle.lp_definitions.specs.LinearProgram.{value_at}
-use Rattle.method_definitions.specs.Moves.{room}
+use Rattle.simplex_definitions.specs.Moves.{room}
 use Rattle.basis_values.specs.Motions.{motion}
 use Rattle.basis_values.proofs.Lengths.{nearest_more}
 use Rattle.lp_laws.proofs.Places.{value_next}

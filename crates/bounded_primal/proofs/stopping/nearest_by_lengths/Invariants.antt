@@ -1,5 +1,5 @@
 use Rattle.lp_definitions.specs.LinearProgram.{value_at}
-use Rattle.method_definitions.specs.Moves.{room}
+use Rattle.simplex_definitions.specs.Moves.{room}
 use Rattle.basis_values.specs.Motions.{motion}
 use Rattle.basis_values.specs.Reach.{IsNearest}
 use Rattle.bounded_primal.proofs.stopping.nearest_by_lengths.Given as goal

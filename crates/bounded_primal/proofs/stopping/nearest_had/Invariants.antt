@@ -1,6 +1,6 @@
 use Rattle.std.specs.Prelude.{IfSome}
 use Rattle.lp_definitions.specs.LinearProgram.{value_at, size}
-use Rattle.method_definitions.specs.Moves.{room}
+use Rattle.simplex_definitions.specs.Moves.{room}
 use Rattle.basis_values.specs.Motions.{motion}
 use Rattle.basis_values.specs.Reach.{Reaches}
 use Rattle.bounded_primal.proofs.stopping.nearest_had.Given as goal

@@ -1,6 +1,6 @@
 use Rattle.std.proofs.Common.{arith}
 use Rattle.lp_definitions.specs.LinearProgram.{value_at, size}
-use Rattle.method_definitions.specs.Moves.{room}
+use Rattle.simplex_definitions.specs.Moves.{room}
 use Rattle.basis_values.specs.Motions.{motion}
 use Rattle.basis_values.proofs.Nearest.{found_within}
 use Rattle.bounded_primal.proofs.StopperFacts.{stop_found, nothing_found}

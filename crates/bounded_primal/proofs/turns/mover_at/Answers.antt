@@ -1,7 +1,7 @@
 use Rattle.std.proofs.Common.{sym, ap, ap₂, ◌∙◌, arith}
 use Rattle.exact_values.specs.Tests.{lt_ℚ}
 use Rattle.lp_definitions.specs.LinearProgram.{value_at}
-use Rattle.method_definitions.specs.Moves.{signed}
+use Rattle.simplex_definitions.specs.Moves.{signed}
 use Rattle.bounded_primal.proofs.TurnChoices.{moved_at}
 use Rattle.bounded_primal.proofs.turns.mover_at.Goals as goal
 use Rattle.lp_laws.proofs.Places.{value_read}

@@ -1,6 +1,6 @@
 -- Each answer of the run.
 use Rattle.std.proofs.Common.{Ok, subst}
-use Rattle.present_answers.specs.Reports.{sheet_shown}
+use Rattle.verb_answers.specs.Reports.{sheet_shown}
 use Rattle.run_machine.specs.declared.finding.Finding.TheVariants.{Limit}
 use Rattle.control_run.specs.Sweeping.{sweep_shown, StopsSweep, SweepFinds, at_limit}
 use Rattle.control_run.proofs.Telling.{tells_quietly}

@@ -1,7 +1,7 @@
 -- Each kind of answer.
 use Rattle.std.proofs.Common.{subst}
 use Rattle.lp_model.specs.declared.reports.ParaReport.{ParaReport}
-use Rattle.present_answers.specs.RunReports.{IsPrintable, IsAnswered}
+use Rattle.verb_answers.specs.RunReports.{IsPrintable, IsAnswered}
 use Rattle.control_run.specs.Sweeping.{sweep_shown}
 use Rattle.control_run.proofs.parametric.print_run.Goals as goal
 

@@ -1,7 +1,7 @@
 use Rattle.std.proofs.Common.{subst}
 use Rattle.lp_model.specs.RatesCalls.{IfOverflow}
-use Rattle.present_answers.specs.Answers.{sheet_shown}
-use Rattle.present_answers.specs.Stops.{RangesRefused}
+use Rattle.verb_answers.specs.Answers.{sheet_shown}
+use Rattle.verb_answers.specs.Stops.{RangesRefused}
 use Rattle.lp_definitions.specs.declared.Evidence.{Evidence}
 use Rattle.run_setup.specs.Overflows.{IsOverflowAt}
 use Rattle.control_run.specs.Found.{RangesFound}

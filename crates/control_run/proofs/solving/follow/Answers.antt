@@ -1,7 +1,7 @@
 -- The path of each verb, within its limit.
 use Rattle.std.proofs.Common.{ℕ, Option, Some, subst}
 use Rattle.listing_definitions.specs.declared.Solver.TheVariants as solvers
-use Rattle.present_answers.specs.Reports.{sheet_shown}
+use Rattle.verb_answers.specs.Reports.{sheet_shown}
 use Rattle.run_machine.specs.Findings.{TellsFinding}
 use Rattle.control_run.specs.Found.{PathFinds}
 use Rattle.control_run.proofs.solving.follow.Goals as goal

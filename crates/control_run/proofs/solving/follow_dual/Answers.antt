@@ -1,9 +1,9 @@
 -- Each answer of the dual path.
 use Rattle.std.proofs.Common.{Ok, Some, subst}
-use Rattle.method_definitions.specs.DualPath.{dual_turn}
-use Rattle.method_definitions.specs.Statements.{Dual}
+use Rattle.simplex_definitions.specs.DualPath.{dual_turn}
+use Rattle.simplex_definitions.specs.Statements.{Dual}
 use Rattle.listing_definitions.specs.declared.Solver.TheVariants as solvers
-use Rattle.present_answers.specs.Reports.{sheet_shown, DualPathStops}
+use Rattle.verb_answers.specs.Reports.{sheet_shown, DualPathStops}
 use Rattle.run_machine.specs.declared.finding.Finding.TheVariants.{WrongPrices, Limit}
 use Rattle.control_run.specs.Found.{PathFinds, wrong_prices, at_limit}
 use Rattle.control_run.proofs.Telling.{tells_quietly, overflow_tells}

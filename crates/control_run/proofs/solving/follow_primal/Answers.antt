@@ -1,9 +1,9 @@
 -- Each answer of the simplex path.
 use Rattle.std.proofs.Common.{Ok, subst}
-use Rattle.method_definitions.specs.Path.{turn}
-use Rattle.method_definitions.specs.Statements.{Primal}
+use Rattle.simplex_definitions.specs.Path.{turn}
+use Rattle.simplex_definitions.specs.Statements.{Primal}
 use Rattle.listing_definitions.specs.declared.Solver.TheVariants as solvers
-use Rattle.present_answers.specs.Reports.{sheet_shown, PathStops}
+use Rattle.verb_answers.specs.Reports.{sheet_shown, PathStops}
 use Rattle.run_machine.specs.declared.finding.Finding.TheVariants.{Limit}
 use Rattle.control_run.specs.Found.{PathFinds, at_limit}
 use Rattle.control_run.proofs.Telling.{tells_quietly, overflow_tells}

@@ -1,6 +1,6 @@
 use Rattle.std.proofs.lemmas.Result.{err_from_is_err_and}
 use Rattle.report_text.specs.Verdicts.{verdict_shown, check_shown}
-use Rattle.present_answers.specs.Reports.{sheet_shown}
+use Rattle.verb_answers.specs.Reports.{sheet_shown}
 use Rattle.control_run.proofs.Solving_steps.{verdict_told, verdict_cut}
 use Rattle.control_run.proofs.solving.print_verdict.Goals as goal
 

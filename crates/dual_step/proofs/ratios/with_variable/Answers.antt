@@ -2,7 +2,7 @@ use Rattle.std.proofs.Common.{◌≡◌, ◌-◌, true, false, sym, ◌∙◌, a
 use Rattle.std.specs.Prelude.{Option, not}
 use Rattle.exact_values.specs.Rational.{ℚ}
 use Rattle.lp_definitions.specs.LinearProgram.{value_at}
-use Rattle.method_definitions.specs.Moves.{lowers, signed}
+use Rattle.simplex_definitions.specs.Moves.{lowers, signed}
 use Rattle.dual_step.specs.Cheapest.{brings, IsBest}
 use Rattle.dual_step.specs.declared.ratios.Candidate.{Candidate}
 use Rattle.dual_step.proofs.BestRatio.{brings_apart, best_without, best_first, best_kept, best_refused}

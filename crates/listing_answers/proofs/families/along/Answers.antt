@@ -7,7 +7,7 @@ use Rattle.lp_definitions.specs.LinearProgram.{numbers_from, size}
 use Rattle.lp_laws.proofs.Places.{value_next}
 use Rattle.check_definitions.specs.declared.Verdict.{Verdict}
 use Rattle.check_definitions.specs.Steps.{verdict_of}
-use Rattle.method_definitions.specs.Chain.{along}
+use Rattle.simplex_definitions.specs.Chain.{along}
 use Rattle.certificate_check.proofs.Each.{each_left}
 use Rattle.walk_definitions.specs.Tests.{along_steps}
 use Rattle.listing_readers.specs.Read.{sheet_shown}

@@ -1,6 +1,6 @@
 use Rattle.std.proofs.Common.{◌≡◌, map}
 use Rattle.lp_definitions.specs.LinearProgram.{numbers_from, size}
-use Rattle.method_definitions.specs.Chain.{along}
+use Rattle.simplex_definitions.specs.Chain.{along}
 use Rattle.certificate_check.proofs.Each.{EachLeft}
 use Rattle.listing_answers.proofs.Limits.{along_step}
 use Rattle.listing_answers.proofs.families.along.Given as goal

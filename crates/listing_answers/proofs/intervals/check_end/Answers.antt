@@ -4,7 +4,7 @@ use Rattle.check_definitions.specs.declared.Verdict.{Verdict}
 use Rattle.check_definitions.specs.declared.Verdict.TheVariants.{Checked}
 use Rattle.check_definitions.specs.Steps.{verdict_of, in_turn}
 use Rattle.check_definitions.specs.Checks.{optimal_check}
-use Rattle.method_definitions.specs.Chain.{along}
+use Rattle.simplex_definitions.specs.Chain.{along}
 use Rattle.answer_definitions.specs.Sweeps.{family_of}
 use Rattle.parametric_request.specs.Asking.{changing_of}
 use Rattle.walk_definitions.specs.Tests.{making_steps, along_steps}

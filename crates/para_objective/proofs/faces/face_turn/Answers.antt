@@ -2,7 +2,7 @@ use Rattle.std.proofs.Common.{◌-◌, refl, sym, subst, ◌∙◌, arith}
 use Rattle.std.specs.Prelude.{IsTrue}
 use Rattle.std.proofs.lemmas.Result.{err_from_is_err_and}
 use Rattle.lp_definitions.specs.LinearProgram.{value_at}
-use Rattle.method_definitions.specs.Path.{after}
+use Rattle.simplex_definitions.specs.Path.{after}
 use Rattle.basis_values.specs.Motions.{may_move}
 use Rattle.bounded_primal.specs.Moves.{move_by}
 use Rattle.para_objective.proofs.FaceFacts.{face_done, feasible, nonbasic, may, face_ends, face_moves, face_keeps, face_pivot, face_by_stopper, face_enters}

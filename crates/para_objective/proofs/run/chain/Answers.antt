@@ -3,8 +3,8 @@ use Rattle.std.proofs.lemmas.Result.{err_from_is_err_and}
 use Rattle.exact_values.proofs.Order.{le_refl}
 use Rattle.exact_values.proofs.Tests_laws.{same_from_test}
 use Rattle.bounded_primal.specs.declared.moves.PrimalStop.TheVariants.{NoMemory}
-use Rattle.run_calls.specs.Calls.{part_of}
-use Rattle.run_calls.proofs.Chains.{before_max}
+use Rattle.parametric_run.specs.Calls.{part_of}
+use Rattle.parametric_run.proofs.Chains.{before_max}
 use Rattle.para_objective.proofs.ChainWalk.{Begins, rows_stop_interval, end_stops_interval, progress, parts_begin, parts_more, ends_at_max, ends_past, opens_first_any, first_stops, stops_any, stood_any, follows_any, opens_more, stood_past, faces_stop_any, faces_follow_any}
 use Rattle.para_objective.proofs.run.chain.Goals as goal
 

@@ -4,7 +4,7 @@ use Rattle.lp_definitions.specs.LinearProgram.{value_at}
 use Rattle.lp_definitions.specs.Basis.{basics_of, ArePricesOf, IsOptimalBasis, IsPointOf}
 use Rattle.lp_model.specs.RatesCalls.{IsRowOf}
 use Rattle.basis_values.specs.Calls.{HasRates}
-use Rattle.run_calls.specs.Calls.{part_of}
+use Rattle.parametric_run.specs.Calls.{part_of}
 use Rattle.para_objective.specs.Faces.{family}
 use Rattle.para_objective.proofs.ChainWalk.{Begins, OpensAny}
 use Rattle.para_objective.proofs.run.chain.Given as goal

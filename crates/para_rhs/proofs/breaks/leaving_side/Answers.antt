@@ -1,5 +1,5 @@
 use Rattle.std.proofs.Common.{sym, ◌∙◌, ap}
-use Rattle.method_definitions.specs.RhsRun.{shift_of}
+use Rattle.simplex_definitions.specs.RhsRun.{shift_of}
 use Rattle.para_rhs.specs.Reach.{side_ahead}
 use Rattle.para_rhs.proofs.Narrowing.{apart_if_ahead}
 use Rattle.para_rhs.proofs.breaks.leaving_side.Goals as goal

@@ -2,16 +2,16 @@ use Rattle.std.proofs.Common.{◌≡◌, ◌≢◌, ◌-◌, List, Bool, refl, s
 use Rattle.std.specs.Prelude.{Option, Some, IsSome, not, if◌then◌else◌}
 use Rattle.std.proofs.lemmas.Result.{err_from_is_err_and}
 use Rattle.exact_values.specs.Rational.{ℚ, zero_ℚ}
-use Rattle.method_definitions.specs.Formulas.{limit_numbered, number_of_limit}
+use Rattle.simplex_definitions.specs.Formulas.{limit_numbered, number_of_limit}
 use Rattle.lp_definitions.specs.Basis.{IsOptimalBasis}
 use Rattle.lp_definitions.specs.LinearProgram.{value_at}
 use Rattle.lp_definitions.specs.declared.Status.{Status}
 use Rattle.lp_definitions.specs.declared.Status.TheVariants.{Ll, Ul}
 use Rattle.lp_model.specs.declared.reports.ParaEnd.{ParaEnd}
-use Rattle.method_definitions.specs.Path.{after}
-use Rattle.method_definitions.specs.Chain.{FaceEnds, FaceMoves}
-use Rattle.method_definitions.specs.RhsRun.{rhs_family, IsRhsFace}
-use Rattle.run_calls.specs.Calls.{end_of}
+use Rattle.simplex_definitions.specs.Path.{after}
+use Rattle.simplex_definitions.specs.Chain.{FaceEnds, FaceMoves}
+use Rattle.simplex_definitions.specs.RhsRun.{rhs_family, IsRhsFace}
+use Rattle.parametric_run.specs.Calls.{end_of}
 use Rattle.bounded_primal.specs.Moves.{IsStepBy, move_by, return_by}
 use Rattle.bounded_primal.specs.Turns.{ray_from}
 use Rattle.bounded_primal.specs.declared.moves.Stopper.{Stopper}

@@ -4,7 +4,7 @@ use Rattle.lp_definitions.specs.LinearProgram.{value_at}
 use Rattle.lp_definitions.specs.Basis.{basics_of, IsOptimalBasis}
 use Rattle.exact_values.specs.Rational.{ℚ}
 use Rattle.lp_model.specs.RatesCalls.{IfOverflow}
-use Rattle.method_definitions.specs.RhsRun.{IsSlope}
+use Rattle.simplex_definitions.specs.RhsRun.{IsSlope}
 use Rattle.bounded_primal.specs.Moves.{move_by}
 use Rattle.bounded_primal.proofs.StepFacts.{step_reaches, limit_apart}
 use Rattle.para_rhs.specs.Faces.{family}

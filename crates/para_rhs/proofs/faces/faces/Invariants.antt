@@ -1,7 +1,7 @@
 use Rattle.std.proofs.Common.{◌-◌}
 use Rattle.lp_definitions.specs.LinearProgram.{value_at}
 use Rattle.lp_definitions.specs.Basis.{ArePricesOf, IsOptimalBasis, IsPointOf}
-use Rattle.method_definitions.specs.RhsRun.{IsSlope}
+use Rattle.simplex_definitions.specs.RhsRun.{IsSlope}
 use Rattle.basis_values.specs.Calls.{HasRates}
 use Rattle.para_rhs.specs.Faces.{family, FacesReach, AnyRun}
 use Rattle.para_rhs.proofs.faces.faces.Given as goal

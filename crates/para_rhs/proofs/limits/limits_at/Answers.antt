@@ -1,6 +1,6 @@
 use Rattle.std.proofs.Common.{rules, Err, ◌≡◌, ℕ, [], ◌∷◌, ◌++◌, ◌∙◌, ap, map, arith}
 use Rattle.lp_definitions.specs.LinearProgram.{size, numbers_from}
-use Rattle.method_definitions.specs.RhsRun.{shift_of}
+use Rattle.simplex_definitions.specs.RhsRun.{shift_of}
 use Rattle.para_rhs.specs.Limits.{limit_on, moved_by}
 use Rattle.lp_model.proofs.Stops.{IfOverflow-map}
 use Rattle.para_rhs.proofs.Listed.{one_more}

@@ -1,6 +1,6 @@
 use Rattle.std.proofs.Common.{◌≡◌, map}
 use Rattle.lp_definitions.specs.LinearProgram.{numbers_from}
-use Rattle.method_definitions.specs.RhsRun.{shift_of}
+use Rattle.simplex_definitions.specs.RhsRun.{shift_of}
 use Rattle.para_rhs.specs.Limits.{limit_on, moved_by}
 use Rattle.para_rhs.proofs.limits.limits_at.Given as goal
 

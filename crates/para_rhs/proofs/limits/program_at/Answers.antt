@@ -2,7 +2,7 @@ use Rattle.std.proofs.Common.{rules, vec_len, ◌≡◌, List, length, sym, subs
 use Rattle.std.specs.Prelude.{Option}
 use Rattle.exact_values.specs.Rational.{ℚ}
 use Rattle.lp_definitions.specs.LinearProgram.{HasNoLimits, ChangeIsFree, with_limits}
-use Rattle.sweep_laws.proofs.OneRhs.{lawful_rhs}
+use Rattle.parametric_laws.proofs.OneRhs.{lawful_rhs}
 use Rattle.para_rhs.proofs.limits.program_at.Goals as goal
 
 pub with_limits-requires-clause-lower : goal.with_limits-requires-clause-lower

@@ -1,7 +1,7 @@
 use Rattle.std.proofs.Common.{rules, ◌≡◌, Err, sym, ◌∙◌, ap, subst, subst₂}
 use Rattle.exact_values.specs.Rational.{ℚ, ◌-ℚ◌}
 use Rattle.frac128.specs.declared.Op.TheVariants.{Sub, Div}
-use Rattle.method_definitions.specs.RhsRun.{shift_of}
+use Rattle.simplex_definitions.specs.RhsRun.{shift_of}
 use Rattle.basis_values.specs.Formulas.{IsRefusal}
 use Rattle.basis_values.specs.declared.formula.Formula.{Formula}
 use Rattle.para_rhs.specs.Limits.{number_of}

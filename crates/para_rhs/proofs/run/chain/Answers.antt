@@ -5,12 +5,12 @@ use Rattle.exact_values.proofs.Order.{le_refl}
 use Rattle.exact_values.proofs.Tests_laws.{same_from_test}
 use Rattle.lp_definitions.specs.LinearProgram.{value_at}
 use Rattle.lp_model.specs.RatesCalls.{IfOverflow}
-use Rattle.method_definitions.specs.RhsRun.{IsSlope}
+use Rattle.simplex_definitions.specs.RhsRun.{IsSlope}
 use Rattle.para_rhs.specs.Refusals.{RunRefused}
 use Rattle.lp_model.proofs.Stops.{IfOverflow-map}
 use Rattle.bounded_primal.specs.declared.moves.PrimalStop.TheVariants.{NoMemory}
-use Rattle.run_calls.specs.Calls.{part_of}
-use Rattle.run_calls.proofs.Chains.{before_max}
+use Rattle.parametric_run.specs.Calls.{part_of}
+use Rattle.parametric_run.proofs.Chains.{before_max}
 use Rattle.para_rhs.proofs.ChainWalk.{Begins, point_stops_interval, motion_stops_interval, progress, parts_begin, parts_more, ends_at_max, ends_past, opens_first_any, opens_second_any, first_stops, later_stops, stops_any, stood_any, follows_any, opens_more, stood_past, faces_stop_any, faces_follow_any}
 use Rattle.para_rhs.proofs.run.chain.Goals as goal
 

@@ -2,9 +2,9 @@ use Rattle.std.proofs.Common.{◌-◌, ◌≤◌, map}
 use Rattle.exact_values.specs.Rational.{◌≤ℚ◌}
 use Rattle.lp_definitions.specs.LinearProgram.{value_at}
 use Rattle.lp_definitions.specs.Basis.{ArePricesOf, IsOptimalBasis, IsPointOf}
-use Rattle.method_definitions.specs.RhsRun.{IsSlope}
+use Rattle.simplex_definitions.specs.RhsRun.{IsSlope}
 use Rattle.basis_values.specs.Calls.{HasRates}
-use Rattle.run_calls.specs.Calls.{part_of}
+use Rattle.parametric_run.specs.Calls.{part_of}
 use Rattle.para_rhs.specs.Faces.{family}
 use Rattle.para_rhs.proofs.ChainWalk.{Begins, OpensAny}
 use Rattle.para_rhs.proofs.run.chain.Given as goal

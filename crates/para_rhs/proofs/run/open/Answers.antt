@@ -3,9 +3,9 @@ use Rattle.std.proofs.lemmas.Result.{err_from_is_err_and}
 use Rattle.exact_values.specs.Rational.{ℚ}
 use Rattle.lp_definitions.specs.LinearProgram.{LinearProgram}
 use Rattle.lp_model.specs.RatesCalls.{IfOverflow}
-use Rattle.method_definitions.specs.Statements.{Pararhs}
-use Rattle.method_definitions.specs.Evidence.{ShiftHolds}
-use Rattle.method_definitions.specs.RhsRun.{rhs_family}
+use Rattle.simplex_definitions.specs.Statements.{Pararhs}
+use Rattle.simplex_definitions.specs.Evidence.{ShiftHolds}
+use Rattle.simplex_definitions.specs.RhsRun.{rhs_family}
 use Rattle.basis_values.specs.Calls.{HasRates}
 use Rattle.bounded_primal.specs.Outcomes.{IsTrueOutcome}
 use Rattle.bounded_primal.specs.Stops.{PrimalStops}

@@ -1,7 +1,7 @@
 use Rattle.std.proofs.Common.{rules, ◌≡◌, ℕ, [], ◌∷◌, ◌++◌, ◌∙◌, ap, map, arith}
 use Rattle.std.specs.Prelude.{option_map}
 use Rattle.lp_definitions.specs.LinearProgram.{size, numbers_from}
-use Rattle.method_definitions.specs.RhsRun.{shift_of}
+use Rattle.simplex_definitions.specs.RhsRun.{shift_of}
 use Rattle.para_rhs.specs.Limits.{limit_on}
 use Rattle.para_rhs.proofs.Listed.{one_more}
 use Rattle.para_rhs.proofs.slopes.shifts_of.Goals as goal

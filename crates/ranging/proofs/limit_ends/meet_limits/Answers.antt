@@ -2,7 +2,7 @@ use Rattle.std.proofs.Common.{◌≡◌, ◌+◌, Err, rules, arith, inr, sym, �
 use Rattle.std.proofs.lemmas.List.{length-set}
 use Rattle.lp_definitions.specs.LinearProgram.{value_at}
 use Rattle.lp_definitions.specs.Basis.{status_of}
-use Rattle.method_definitions.specs.Ranges.{stands_at_limit}
+use Rattle.simplex_definitions.specs.Ranges.{stands_at_limit}
 use Rattle.ranging.specs.LimitEnds.{distances_of, IsWithBasic}
 use Rattle.ranging.proofs.Distances.{met, met_next, rate_refused}
 use Rattle.ranging.proofs.limit_ends.meet_limits.Goals as goal

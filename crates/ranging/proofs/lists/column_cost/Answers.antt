@@ -3,7 +3,7 @@ use Rattle.std.specs.Prelude.{◌↔◌}
 use Rattle.lp_definitions.specs.LinearProgram.{value_at, cost}
 use Rattle.ranging.specs.Intervals.{IsIn, taken_from, DifferenceRefused}
 use Rattle.lp_definitions.specs.Basis.{IsOptimalBasis}
-use Rattle.method_definitions.specs.Ranges.{with_cost}
+use Rattle.simplex_definitions.specs.Ranges.{with_cost}
 use Rattle.ranging.specs.Tables.{AreEndsOfRow}
 use Rattle.ranging.proofs.Results.{IfOk-map}
 use Rattle.ranging.proofs.Distances.{ends_read}

@@ -1,7 +1,7 @@
 use Rattle.std.proofs.Common.{rules, ◌≡◌, ◌+◌, ◌++◌, ◌∷◌, [], arith, subst, sym}
 use Rattle.lp_definitions.specs.LinearProgram.{numbers_from}
 use Rattle.lp_definitions.specs.Basis.{IsOptimalBasis}
-use Rattle.method_definitions.specs.Ranges.{with_cost}
+use Rattle.simplex_definitions.specs.Ranges.{with_cost}
 use Rattle.ranging.specs.Lists.{ListsTo}
 use Rattle.ranging.proofs.Listed.{listed_next}
 use Rattle.ranging.proofs.lists.cost_list.Goals as goal

@@ -2,7 +2,7 @@ use Rattle.std.proofs.Common.{rules, ◌≡◌, ◌+◌, ◌++◌, ◌∷◌, []
 use Rattle.std.specs.Prelude.{filter}
 use Rattle.lp_definitions.specs.LinearProgram.{numbers_from, value_at, size}
 use Rattle.lp_definitions.specs.Basis.{status_of, IsOptimalBasis}
-use Rattle.method_definitions.specs.Ranges.{with_limit, stands_at_limit}
+use Rattle.simplex_definitions.specs.Ranges.{with_limit, stands_at_limit}
 use Rattle.ranging.specs.Intervals.{IsIn}
 use Rattle.ranging.specs.Lists.{ListsTo}
 use Rattle.ranging.specs.Tables.{AreLimitEnds}

@@ -1,7 +1,7 @@
 use Rattle.std.specs.Prelude.{filter}
 use Rattle.lp_definitions.specs.LinearProgram.{numbers_from}
 use Rattle.lp_definitions.specs.Basis.{status_of, IsOptimalBasis}
-use Rattle.method_definitions.specs.Ranges.{with_limit, stands_at_limit}
+use Rattle.simplex_definitions.specs.Ranges.{with_limit, stands_at_limit}
 use Rattle.ranging.specs.Lists.{ListsTo}
 use Rattle.ranging.proofs.lists.limit_list.Given as goal
 

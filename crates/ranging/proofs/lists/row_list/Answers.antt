@@ -2,7 +2,7 @@ use Rattle.std.proofs.Common.{rules, ◌≡◌, ◌+◌, ◌++◌, ◌∷◌, []
 use Rattle.std.specs.Prelude.{filter, ◌&&◌, not, nat_eq, ◌↔◌}
 use Rattle.lp_definitions.specs.LinearProgram.{numbers_from}
 use Rattle.lp_definitions.specs.Basis.{is_basic, status_of, IsOptimalBasis}
-use Rattle.method_definitions.specs.Ranges.{with_row}
+use Rattle.simplex_definitions.specs.Ranges.{with_row}
 use Rattle.ranging.specs.Intervals.{IsIn}
 use Rattle.ranging.specs.Lists.{ListsTo}
 use Rattle.ranging.specs.Tables.{AreEndsOfRow}

@@ -1,6 +1,6 @@
 use Rattle.std.proofs.Common.{sym, subst}
 use Rattle.lp_definitions.specs.Basis.{IsOptimalBasis}
-use Rattle.method_definitions.specs.Ranges.{with_limit, with_cost, with_row, at_limits, columns_of, intermediate_rows}
+use Rattle.simplex_definitions.specs.Ranges.{with_limit, with_cost, with_row, at_limits, columns_of, intermediate_rows}
 use Rattle.ranging.specs.Lists.{ListsTo}
 use Rattle.ranging.proofs.Listed.{are_intervals}
 use Rattle.ranging.proofs.reporting.report.Goals as goal

@@ -6,10 +6,10 @@ use Rattle.lp_definitions.specs.Basis.{IsOptimalBasis}
 use Rattle.lp_definitions.specs.declared.Status.{Status}
 use Rattle.lp_model.specs.declared.reports.Outcome.{Outcome}
 use Rattle.lp_model.specs.declared.reports.Outcome.TheVariants.{Optimal}
-use Rattle.method_definitions.specs.Path.{PathEnding, EndsOptimal, EndsCrossed, EndsInfeasible, EndsUnbounded, EndsAt}
-use Rattle.path_laws.specs.Laws.{IsNonsingularBasis}
-use Rattle.path_laws.proofs.Ends.{optimal_end}
-use Rattle.method_definitions.specs.Counts.{counted_steps}
+use Rattle.simplex_definitions.specs.Path.{PathEnding, EndsOptimal, EndsCrossed, EndsInfeasible, EndsUnbounded, EndsAt}
+use Rattle.simplex_laws.specs.Laws.{IsNonsingularBasis}
+use Rattle.simplex_laws.proofs.Ends.{optimal_end}
+use Rattle.simplex_definitions.specs.Counts.{counted_steps}
 use Rattle.bounded_primal.specs.Calls.{CallEnds, outcome_of}
 use Rattle.ranging_tests.proofs.tests.ranged.Goals as goal
 

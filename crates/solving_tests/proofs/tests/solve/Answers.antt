@@ -1,7 +1,7 @@
 -- The opening basis is a basis with nonsingular basics, and the rates are those of the rows.
 use Rattle.std.proofs.Common.{sym, ◌∙◌}
 use Rattle.lp_laws.proofs.Statuses.{basics_of-opening}
-use Rattle.path_laws.proofs.Steps.{opening_is}
+use Rattle.simplex_laws.proofs.Steps.{opening_is}
 use Rattle.solving_tests.proofs.tests.solve.Goals as goal
 
 pub primal-answer-requires : goal.primal-answer-requires

@@ -1,5 +1,0 @@
-use Rattle.affine_conditions.proofs.Lists.{stays, greatest, both_sides, strictly, reach}
-use Rattle.affine_conditions.proofs.condition_laws.Goals as goal
-
-pub returns : goal.returns
-returns c = record { stays = stays; greatest = greatest; both_sides = both_sides; ahead = greatest; strictly = strictly; reach = reach }

@@ -1,5 +1,0 @@
-use Rattle.changed_programs.proofs.Tableaus.{by_tableau}
-use Rattle.changed_programs.proofs.tableau_laws.Goals as goal
-
-pub returns : goal.returns
-returns c = record { by_tableau = λ p s t basis one rows. by_tableau p s basis one rows t }

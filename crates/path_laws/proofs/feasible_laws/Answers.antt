@@ -1,5 +1,0 @@
-use Rattle.path_laws.proofs.Second.{feasible_step, feasible_path}
-use Rattle.path_laws.proofs.feasible_laws.Goals as goal
-
-pub returns : goal.returns
-returns c = record { step = feasible_step; path = feasible_path }

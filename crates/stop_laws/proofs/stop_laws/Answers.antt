@@ -1,6 +1,0 @@
-use Rattle.answer_definitions.specs.Real.{linear_programming}
-use Rattle.stop_laws.proofs.OwnEnds.{own_end}
-use Rattle.stop_laws.proofs.stop_laws.Goals as goal
-
-pub returns : goal.returns
-returns c = own_end linear_programming
