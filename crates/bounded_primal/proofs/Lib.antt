@@ -16,5 +16,5 @@ pub mod CompletePaths
 pub mod StopperFacts
 pub mod Inside
 pub mod AtOnce
-pub mod Still
+pub mod LookedAt
 pub mod FirstWanted
