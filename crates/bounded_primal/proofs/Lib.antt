@@ -16,5 +16,6 @@ pub mod CompletePaths
 pub mod StopperFacts
 pub mod Inside
 pub mod AtOnce
-pub mod LookedAt
+pub mod Still
+mod LookedAt
 pub mod FirstWanted

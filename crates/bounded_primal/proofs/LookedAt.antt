@@ -1,21 +1,21 @@
 -- A loop over the variables that are looked at in a motion: what isn't among them stands still, so that a step leaves it where it is and
 -- it reaches no limit.
-use Rattle.std.proofs.Common.{◌≡◌, ℕ, zero, suc, ◌+◌, ◌-◌, ◌<◌, ◌≤◌, ◌⊎◌, inl, inr, Bool, true, false, List, [], ◌∷◌, length, get_or, drop, refl, sym, ap, ap₂, subst, ◌∙◌, add-one, arith}
+use Rattle.std.proofs.Common.{◌≡◌, ℕ, zero, suc, ◌+◌, ◌-◌, ◌<◌, ◌≤◌, ◌⊎◌, inl, inr, Bool, true, false, List, [], ◌∷◌, length, get_or, drop, refl, sym, ap, ap₂, subst, ◌∙◌, arith}
 use Rattle.std.specs.Prelude.{Option, Some, None, IsSome, IsTrue, ◌||◌, slice_set}
 use Rattle.std.proofs.lemmas.Bool.{cases_lt}
 use Rattle.std.proofs.lemmas.List.{drop_all, drop_more, get_or_past, get_or-set_other, get_or-set_same}
 use Rattle.exact_values.specs.Rational.{ℚ, zero_ℚ, ◌+ℚ◌, ◌*ℚ◌}
 use Rattle.lp_definitions.specs.LinearProgram.{LinearProgram, Vector, value_at, numbers_from}
 use Rattle.lp_model.specs.Sparse.{AreNonzeroFrom, no_more, next_nonzero, CoverNonzeroFrom, no_more_listed, next_listed}
-use Rattle.simplex_definitions.specs.Moves.{room, is_no_later, signed}
-use Rattle.simplex_laws.proofs.Steps.{signed_zero}
+use Rattle.simplex_definitions.specs.Moves.{room, is_no_later}
 use Rattle.basis_values.specs.Motions.{motion}
 use Rattle.basis_values.specs.Reach.{IsNearest, sooner}
 use Rattle.basis_values.specs.declared.reach.Reach.{Reach}
-use Rattle.basis_values.proofs.Lengths.{none_ahead, no_length, nearest_more}
+use Rattle.basis_values.proofs.Lengths.{nearest_more}
 use Rattle.basis_values.proofs.Skips.{stays_put}
 use Rattle.bounded_primal.specs.KeptPoints.{has_limit}
 use Rattle.bounded_primal.specs.Steps.{IsMoved, IsMovedAtLimits}
+use Rattle.bounded_primal.proofs.Still.{no_room}
 
 -- ---- which variables they are
 
@@ -97,9 +97,6 @@ module _ (xs : List ℚ) (Done : ℕ → Type 0) where
     end_at ks place past h = end_of (subst (IsDoneUpTo xs Done) (drop_all place ks past) h)
 
 -- ---- what reaches a limit first
-
-no_room : (p : LinearProgram) (z d : Vector) (up : Bool) (k : ℕ) → d k ≡ zero_ℚ → None ≡ room p z (motion d up) k
-no_room p z d up k still = no_length p z (motion d up) k (none_ahead p k (motion d up k) (ap (signed up) still ∙ signed_zero up))
 
 -- what is nearest stays nearest over those that reach no limit
 nearest_beyond : (f : ℕ → Option ℚ) (n m : ℕ) (nearest : Option Reach) → n ≤ m → ((k : ℕ) → n < k → k ≤ m → f k ≡ None) → IsNearest f n nearest → IsNearest f m nearest

@@ -20,9 +20,7 @@ use crate::moves::{PrimalStop, Stopper};
 use crate::moving::Moving;
 use crate::step::returning;
 use crate::stopping::stopper_from;
-use basis_values::{
-    counted, is_less, is_minimized, lies_below, point_of, prices_of, wrong_price,
-};
+use basis_values::{counted, is_less, is_minimized, lies_below, point_of, prices_of, wrong_price};
 use frac128::Frac;
 use lp_model::{
     Basis, Direction, Lp, NoMemory, Outcome, Point, Prices, Rates, Ray, SparseVector, Status, Stop,
@@ -498,14 +496,7 @@ fn run<R: Rates>(
     match stopper_of(lp, basis, rates, point, direction, moved.q, moved.up)? {
         None => {
             let point = whole_point(alloc, lp, basis, rates, point, kept)?;
-            Ok(Turn::Ends(endless(
-                alloc,
-                lp,
-                point,
-                direction.values(),
-                moved.up,
-                steps,
-            )?))
+            Ok(Turn::Ends(endless(alloc, lp, point, direction.values(), moved.up, steps)?))
         }
         Some(by) => {
             if left == 0 {
