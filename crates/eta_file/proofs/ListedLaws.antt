@@ -1,5 +1,5 @@
 -- A variable more or less in the list of a set.
-use Rattle.std.proofs.Common.{◌≡◌, ◌≢◌, ℕ, zero, suc, ◌+◌, ◌-◌, ◌<◌, ◌≤◌, List, [], ◌∷◌, ◌++◌, length, take, drop, get_or, set, filter, refl, sym, ◌∙◌, ap, ap₂, subst, true, false, cond, arith, All, Bool, ltb}
+use Rattle.std.proofs.Common.{◌≡◌, ◌≢◌, ℕ, zero, suc, ◌+◌, ◌-◌, ◌<◌, ◌≤◌, List, [], ◌∷◌, ◌++◌, length, get_or, set, filter, refl, sym, ◌∙◌, ap, ap₂, subst, true, false, cond, arith, All, Bool, ltb}
 use Rattle.std.specs.List.{insert, remove}
 use Rattle.std.proofs.lemmas.List.{get_or-set_same, get_or-set_other, length-set, append-nil}
 use Rattle.std.proofs.lemmas.List.Elements.{filter-append, All-filter}

@@ -66,11 +66,7 @@ fn row_marks(alloc: Global, lp: &Lp) -> Result<Vec<bool>, NoMemory>
 }
 
 /// The numbers of a direction at the listed variables, where they are not 0.
-fn entries_of(
-    alloc: Global,
-    direction: &[Frac],
-    listed: &[u32],
-) -> Result<Vec<EtaEntry>, NoMemory>
+fn entries_of(alloc: Global, direction: &[Frac], listed: &[u32]) -> Result<Vec<EtaEntry>, NoMemory>
     requires { All (λ k. (1 ≤ k) × (k ≤ length direction.now)) listed.now }
     ensures { IfOk result (λ entries. entries.items ≡ map (entry_of (value_at direction.now))
         (filter (λ k. not (eq_ℚ (value_at direction.now k) zero_ℚ)) listed.now)) }

@@ -1,4 +1,4 @@
-use Rattle.std.proofs.Common.{rules, ◌≡◌, ◌∙◌, ◌++◌, ◌∷◌, [], ◌+◌, ap}
+use Rattle.std.proofs.Common.{rules, ◌≡◌, ◌∙◌, ◌++◌, ◌∷◌, [], ◌+◌}
 use Rattle.eta_file.proofs.ListedLaws.{listed_then, listed_else}
 use Rattle.eta_file.proofs.basic_set.listed_in.Goals as goal
 use Rattle.eta_file.proofs.basic_set.listed_in.Goals.{then-marks-place+in_ok-map_err, else-marks-place}

@@ -1,5 +1,6 @@
-use Rattle.std.proofs.Common.{◌≡◌, ◌≤◌, sym, subst, ap, ℕ, All, length, IfOk}
+use Rattle.std.proofs.Common.{◌≡◌, ◌≤◌, sym, subst, All, length, IfOk}
 use Rattle.lp_definitions.specs.LinearProgram.{value_at}
+use Rattle.eta_file.specs.Listed.{listed_of}
 use Rattle.eta_file.proofs.ListedLaws.{listed_within}
 use Rattle.eta_file.proofs.RateEntries.{listed_entries}
 use Rattle.eta_file.proofs.file.entries_at.Goals as goal
@@ -7,7 +8,7 @@ use Rattle.eta_file.proofs.file.entries_at.Goals as goal
 pub entries_of-requires : goal.entries_of-requires
 entries_of-requires c =
     subst (λ ks. All (λ k. (1 ≤ k) × (k ≤ length c.args.direction.now)) ks) (sym c.listed.ensures)
-    (subst (λ n. All (λ k. (1 ≤ k) × (k ≤ n)) _) (sym c.requires) (listed_within c.args.basics.now))
+    (subst (λ n. All (λ k. (1 ≤ k) × (k ≤ n)) (listed_of c.args.basics.now)) (sym c.requires) (listed_within c.args.basics.now))
 
 pub returns : goal.returns
 returns c =

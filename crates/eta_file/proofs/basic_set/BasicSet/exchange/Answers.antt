@@ -1,4 +1,4 @@
-use Rattle.std.proofs.Common.{◌∙◌, sym, ap}
+use Rattle.std.proofs.Common.{◌∙◌, ap}
 use Rattle.std.specs.List.{remove}
 use Rattle.eta_file.specs.Listed.{place_in}
 use Rattle.eta_file.proofs.ListedLaws.{leaver_listed, exchanged_listed}
