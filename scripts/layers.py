@@ -60,7 +60,7 @@ def kind_of(crate, layer, last):
         return "tests"
     text = "\n".join(code_of(path) for path in files_of(crate, "src"))
     functions = len(re.findall(r"\bfn \w+", text))
-    if functions and len(re.findall(r"^\{\}$", text, re.M)) == functions:
+    if functions and len(re.findall(r"^\{(?:\n(?:    \w+\(\);\n)+)?\}$", text, re.M)) == functions:
         return "laws"
     shared = set(re.findall(r"\benum (\w+)", text))
     alone = re.sub(r"^impl (\w+) \{$.*?^\}$", lambda found: "" if found[1] in shared else found[0], text, flags=re.M | re.S)
