@@ -1,11 +1,13 @@
 -- A variable more or less in the list of a set.
-use Rattle.std.proofs.Common.{◌≡◌, ◌≢◌, ℕ, zero, suc, ◌+◌, ◌-◌, ◌<◌, ◌≤◌, List, [], ◌∷◌, ◌++◌, length, get_or, set, filter, refl, sym, ◌∙◌, ap, ap₂, subst, true, false, cond, arith, All, Bool, ltb}
+use Rattle.std.proofs.Common.{◌≡◌, ◌≢◌, ℕ, zero, suc, ◌+◌, ◌-◌, ◌<◌, ◌≤◌, List, [], ◌∷◌, ◌++◌, length, take, drop, get_or, set, filter, refl, sym, ◌∙◌, ap, ap₂, subst, true, false, cond, arith, All, Bool, ltb}
 use Rattle.std.specs.List.{insert, remove}
-use Rattle.std.proofs.lemmas.List.{get_or-set_same, get_or-set_other, length-set, append-nil}
+use Rattle.std.proofs.lemmas.List.{get_or-set_same, get_or-set_other, get_or_past, length-set, append-nil}
 use Rattle.std.proofs.lemmas.List.Elements.{filter-append, All-filter}
 use native.Mathlib.Decide.{ℕ_discrete}
-use Rattle.lp_definitions.specs.LinearProgram.{numbers_from}
-use Rattle.lp_definitions.specs.Basis.{Basics, is_in, exchanged}
+use Rattle.exact_values.specs.Rational.{ℚ, zero_ℚ}
+use Rattle.lp_definitions.specs.LinearProgram.{Matrix, size, numbers_from, value_at}
+use Rattle.lp_definitions.specs.Basis.{Basics, is_in, IsNonbasic, IsDirectionOf, exchanged}
+use Rattle.lp_model.specs.Sparse.{CoverNonzeroFrom, no_more_listed, next_listed, CoverNonzero}
 use Rattle.lp_laws.proofs.Values.{clash}
 use Rattle.lp_laws.proofs.Opening.{numbers_from-append}
 use Rattle.eta_file.proofs.RateEntries.{mark_next}
@@ -180,3 +182,59 @@ module _ (b : Basics) (p q : ℕ) (p_low : 1 ≤ p) (p_high : p ≤ length b) (q
       (is ∙ removed (is_in without) (is_in b) p other_out p_out leaves 1 (length b) (omega arith) p_low (omega (arith, p_high)))
       ∙ inserted (is_in without) (is_in (exchanged b p q)) q other_in q_out q_in 1 (length b) (omega arith) q_low (omega (arith, q_high))
       ∙ ap (λ n. filter (is_in (exchanged b p q)) (numbers_from 1 n)) (sym (length-set entered (p - 1) false ∙ length-set b (q - 1) true))
+
+-- ---- the variables where a direction may not be 0
+
+covers_more : (xs : List ℚ) (f : ℕ) (ks : List ℕ) → value_at xs f ≡ zero_ℚ → CoverNonzeroFrom xs (suc f) ks → CoverNonzeroFrom xs f ks
+covers_more xs f [] none (no_more_listed zeros) = no_more_listed (λ i from. at i from (ℕ_discrete i f))
+  where
+    at : (i : ℕ) → f ≤ i → Dec (i ≡ f) → value_at xs i ≡ zero_ℚ
+    at i from (yes same) = ap (value_at xs) same ∙ none
+    at i from (no apart) = zeros i (omega (arith, from, apart))
+covers_more xs f (k ∷ ks) none (next_listed h rest) = next_listed (record { from = omega (arith, h.from); within = h.within; between = λ i from below. at i from below (ℕ_discrete i f) }) rest
+  where
+    at : (i : ℕ) → f ≤ i → i < k → Dec (i ≡ f) → value_at xs i ≡ zero_ℚ
+    at i from below (yes same) = ap (value_at xs) same ∙ none
+    at i from below (no apart) = h.between i (omega (arith, from, apart)) below
+
+-- those that pass a test, where each number is 0 at which the test fails
+covered : (p : ℕ → Bool) (xs : List ℚ) → ((k : ℕ) → 1 ≤ k → k ≤ length xs → p k ≡ false → value_at xs k ≡ zero_ℚ) → (f n : ℕ) → 1 ≤ f → f + n ≡ suc (length xs) → CoverNonzeroFrom xs f (filter p (numbers_from f n))
+covered p xs zeros f zero low all = no_more_listed (λ i from. get_or_past_end i (omega (arith, from, all)))
+  where
+    get_or_past_end : (i : ℕ) → length xs < i → value_at xs i ≡ zero_ℚ
+    get_or_past_end i past = get_or_past xs (i - 1) zero_ℚ (omega (arith, past))
+covered p xs zeros f (suc n) low all = at (p f) refl (covered p xs zeros (suc f) n (omega arith) (omega (arith, all)))
+  where
+    nothing : (i : ℕ) → f ≤ i → i < f → value_at xs i ≡ zero_ℚ
+    nothing i from below = absurd (omega (arith, from, below))
+
+    at : (keeps : Bool) → p f ≡ keeps → CoverNonzeroFrom xs (suc f) (filter p (numbers_from (suc f) n))
+        → CoverNonzeroFrom xs f (cond keeps (f ∷ filter p (numbers_from (suc f) n)) (filter p (numbers_from (suc f) n)))
+    at true is rest = next_listed (record { from = omega arith; within = omega (arith, all); between = nothing }) rest
+    at false is rest = covers_more xs f (filter p (numbers_from (suc f) n)) (zeros f low (omega (arith, all)) is) rest
+
+module _ (a : Matrix) (b : Basics) (counted : length b ≡ size a) (j : ℕ) (out : IsNonbasic a b j) (xs : List ℚ) (places : length xs ≡ size a) (direction : IsDirectionOf a b j (value_at xs)) where
+  abbrev with_it : Basics
+  with_it = set b (j - 1) true
+
+  differ : (k : ℕ) → 1 ≤ k → k ≢ j → j - 1 ≢ k - 1
+  differ k low apart same = apart (omega (arith, same, low, out.0.0))
+
+  other_mark : (k : ℕ) → 1 ≤ k → k ≢ j → is_in with_it k ≡ is_in b k
+  other_mark k low apart = get_or-set_other b (j - 1) (k - 1) true false (λ e. differ k low apart (sym e))
+
+  own_mark : is_in with_it j ≡ true
+  own_mark = get_or-set_same b (j - 1) true false (omega (arith, counted, out.0.0, out.0.1))
+
+  zero_outside : (k : ℕ) → 1 ≤ k → k ≤ length xs → is_in with_it k ≡ false → value_at xs k ≡ zero_ℚ
+  zero_outside k low high fails = at (ℕ_discrete k j)
+    where
+      at : Dec (k ≡ j) → value_at xs k ≡ zero_ℚ
+      at (yes same) = absurd (clash (sym own_mark ∙ ap (is_in with_it) (sym same) ∙ fails))
+      at (no apart) = direction.others k ((low, omega (arith, high, places)), sym (other_mark k low apart) ∙ fails) apart
+
+  pub direction_covered : (front back : List ℕ) → front ≡ take (place_in (listed_of b) j) (listed_of b) → back ≡ drop (place_in (listed_of b) j) (listed_of b) → CoverNonzero xs (front ++ j ∷ back)
+  direction_covered front back is_front is_back =
+      subst (λ ks. CoverNonzeroFrom xs 1 ks)
+      (sym (inserted (is_in b) (is_in with_it) j other_mark out.1 own_mark 1 (length b) (omega arith) out.0.0 (omega (arith, counted, out.0.1))) ∙ ap₂ (λ us vs. us ++ j ∷ vs) (sym is_front) (sym is_back))
+      (covered (is_in with_it) xs zero_outside 1 (length b) (omega arith) (omega (arith, counted, places)))

@@ -8,19 +8,19 @@ ghost use Rattle.lp_definitions.specs.Basis.{is_in, IsBasic, IsNonbasic, IsNonsi
 ghost use Rattle.lp_definitions.specs.Waypoints.{waypoint};
 ghost use Rattle.lp_definitions.specs.RatesEvidence.{ExchangeRefused};
 ghost use Rattle.lp_model.specs.RatesCalls.{HasPivot, ColumnOverflow, ExchangeOverflow};
-ghost use Rattle.eta_file.specs.Crossings.{NoneLater, LeftAt};
+ghost use Rattle.eta_file.specs.Crossings.{AreZero, NoneLater, LeftAt};
 ghost use Rattle.eta_file.specs.Prefixes.{Passed, entry_of, entries_to, IsLent, IsLentScaled, IsExchangeOf, basic_columns, after, entry_count};
 ghost use Rattle.eta_file.specs.declared.eta.StoredEta.{StoredEta};
 ghost use Rattle.eta_file.specs.Inverse.{ways_of, IsAppended, IsDirectionAfter};
 ghost use Rattle.whole_vectors.specs.Quotients.{StandFor};
 
-use crate::basic_set::BasicSet;
-use crate::carry::{cross, fill_column, last_left, leave};
+use crate::basic_set::{BasicSet, place_of};
+use crate::carry::{clear, cross, fill_column, last_left, leave};
 use crate::eta::{Eta, EtaEntry, ScaledEta, StoredEta};
 use crate::steps::Steps;
 use crate::whole::{begin_whole, cross_whole, leave_whole, whole_eta};
 use frac128::Frac;
-use lp_model::{Entry, Evidence, Lp, NoMemory, Stop};
+use lp_model::{Entry, Evidence, Lp, NoMemory, SparseVector, Stop};
 use std::alloc::Global;
 use std::marker::{Brand, Model};
 use std::rc::Rc;
@@ -294,13 +294,14 @@ impl EtaFile {
         self.carry(j, out, &mut steps)
     }
 
-    /// The same as `begin`, over the denominator that is given. It gives up where a number doesn't fit.
+    /// The same as `begin`, over the denominator that is given, where `out` is all 0. It gives up where a number doesn't fit.
     fn begin_at(&self, first: usize, j: u32, out: &mut [Frac]) -> Option<Frac>
         requires nonbasic { IsNonbasic self.now.matrix self.now.basics j }
         requires places { length out.old ≡ size self.now.matrix }
         requires within { first ≤ length self.now.etas }
         requires none_later { NoneLater self.now.etas j first }
         requires left { LeftAt self.now.etas j first }
+        requires zero { AreZero out.old }
         ensures { IfSome result (λ d. StandFor (IsDirectionAfter self.now first j) d out.new) }
     {
         if first == 0 {
@@ -333,10 +334,12 @@ impl EtaFile {
         cross_whole(eta, denominator, out)
     }
 
-    /// Fills `out` with the direction of the nonbasic `j`, carried in numbers over one denominator. It gives up where one doesn't fit.
+    /// Fills `out`, which is all 0, with the direction of the nonbasic `j`, carried in numbers over one denominator. It gives up where
+    /// one doesn't fit.
     fn carried_whole(&self, j: u32, out: &mut [Frac]) -> Option<()>
         requires nonbasic { IsNonbasic self.now.matrix self.now.basics j }
         requires places { length out.old ≡ size self.now.matrix }
+        requires zero { AreZero out.old }
         ensures { IfSome result (λ _. IsDirectionOf self.now.matrix self.now.basics j
             (value_at out.new)) }
     {
@@ -348,10 +351,11 @@ impl EtaFile {
         divide(out, denominator)
     }
 
-    /// Fills `out` with the direction of the nonbasic `j`, and counts nothing.
-    pub fn column(&self, j: u32, out: &mut [Frac]) -> Result<(), Stop>
+    /// Fills `out`, which is all 0, with the direction of the nonbasic `j`, and counts nothing.
+    fn column_in(&self, j: u32, out: &mut [Frac]) -> Result<(), Stop>
         requires nonbasic { IsNonbasic self.now.matrix self.now.basics j }
         requires places { length out.old ≡ size self.now.matrix }
+        requires zero { AreZero out.old }
         ensures direction { OnOk result (IsDirectionOf self.now.matrix self.now.basics j
             (value_at out.new)) }
         ensures overflow { ColumnOverflow result self.now.matrix self.now.basics (ways_of self.now)
@@ -362,6 +366,59 @@ impl EtaFile {
             return Ok(());
         }
         self.carry_by::<Brand>(j, out, Blank::new(1))
+    }
+
+    /// The same, whatever `out` has.
+    pub fn column(&self, j: u32, out: &mut [Frac]) -> Result<(), Stop>
+        requires nonbasic { IsNonbasic self.now.matrix self.now.basics j }
+        requires places { length out.old ≡ size self.now.matrix }
+        ensures direction { OnOk result (IsDirectionOf self.now.matrix self.now.basics j
+            (value_at out.new)) }
+        ensures overflow { ColumnOverflow result self.now.matrix self.now.basics (ways_of self.now)
+            (ways_of self.now) }
+        ensures never { IfErr result (λ stop. stop ≢ Stop.NoMemory) }
+    {
+        clear(out);
+        self.column_in(j, out)
+    }
+
+    /// Puts the direction of the nonbasic `j` in where there are no numbers.
+    fn put_direction(
+        &self,
+        j: u32,
+        values: Vec<Frac>,
+        out: &mut SparseVector,
+    ) -> Result<(), NoMemory>
+        requires nonbasic { IsNonbasic self.now.matrix self.now.basics j }
+        requires places { length values.items ≡ size self.now.matrix }
+        requires direction { IsDirectionOf self.now.matrix self.now.basics j
+            (value_at values.items) }
+        requires none { out.old ≡ [] }
+        ensures { OnOk result (out.new ≡ values.items) }
+    {
+        let listed = self.basics.listed();
+        let (before, after) = listed.split_at(place_of(listed, j));
+        out.put_around(values, before, j, after)
+    }
+
+    /// Makes `out` the direction of the nonbasic `j`, and counts nothing. Only the places of numbers that aren't 0 are looked at.
+    pub fn direction(&self, j: u32, out: &mut SparseVector) -> Result<(), Stop>
+        requires nonbasic { IsNonbasic self.now.matrix self.now.basics j }
+        requires places { length out.old ≡ size self.now.matrix }
+        ensures direction { OnOk result (IsDirectionOf self.now.matrix self.now.basics j
+            (value_at out.new)) }
+        ensures places { OnOk result (length out.new ≡ size self.now.matrix) }
+        ensures overflow { ColumnOverflow result self.now.matrix self.now.basics (ways_of self.now)
+            (ways_of self.now) }
+    {
+        let mut values = out.take();
+        match self.column_in(j, &mut values) {
+            Ok(()) => match self.put_direction(j, values, out) {
+                Ok(()) => Ok(()),
+                Err(_refused) => Err(Stop::NoMemory),
+            },
+            Err(stop) => Err(stop),
+        }
     }
 
     /// Makes the nonbasic `q` basic in place of `p`, where this is the direction of q, and it is not 0 at p.
