@@ -143,7 +143,7 @@ impl ProductForm {
         let _size = self.file.size();
         self.last.carry(&self.file, q)?;
         self.file.append_carried(p, q, &self.last.direction)?;
-        self.last.of = None;
+        self.last.forget();
         self.since += 1;
         Ok(())
     }
@@ -168,7 +168,7 @@ impl ProductForm {
     {
         let _size = self.file.size();
         self.file.append_carried(p, q, direction)?;
-        self.last.of = None;
+        self.last.forget();
         self.since += 1;
         Ok(())
     }

@@ -71,7 +71,13 @@ fn leaver(old: &EtaFile, new: &EtaFile, direction: &[Frac], wish: u32) -> u32
 
 /// Makes column `c`, from 1, basic in the new file if it is in the old one and isn't yet in the new one, in place of the row that is
 /// wished for if that may leave.
-fn enter(old: &EtaFile, new: &mut EtaFile, c: u32, wish: u32, room: &mut SparseVector) -> Result<(), Stop>
+fn enter(
+    old: &EtaFile,
+    new: &mut EtaFile,
+    c: u32,
+    wish: u32,
+    room: &mut SparseVector,
+) -> Result<(), Stop>
     requires column { IsColumn old.now.matrix c }
     requires places { length room.old ≡ size old.now.matrix }
     requires rebuilt { IsRebuilt old.now.matrix old.now.basics 0 new.old }
