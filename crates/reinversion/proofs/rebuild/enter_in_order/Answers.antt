@@ -1,6 +1,5 @@
-use Rattle.std.proofs.Common.{◌≡◌, ◌∙◌, subst, sym, ap, length, List}
+use Rattle.std.proofs.Common.{◌∙◌, subst, sym, ap, length, List}
 use Rattle.exact_values.specs.Rational.{ℚ}
-use Rattle.lp_definitions.specs.LinearProgram.{size}
 use Rattle.eta_file.specs.Inverse.{Inverse}
 use Rattle.reinversion.specs.Rebuilt.{IsRebuilt}
 use Rattle.reinversion.proofs.rebuild.enter_in_order.Goals as goal
