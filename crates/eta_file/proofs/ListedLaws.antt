@@ -1,5 +1,6 @@
 -- A variable more or less in the list of a set.
-use Rattle.std.proofs.Common.{◌≡◌, ◌≢◌, ℕ, zero, suc, ◌+◌, ◌-◌, ◌<◌, ◌≤◌, List, [], ◌∷◌, ◌++◌, length, take, drop, get_or, set, filter, refl, sym, ◌∙◌, ap, ap₂, subst, true, false, cond, arith, All, Bool, ltb}
+use Rattle.std.proofs.Common.{◌≡◌, ◌≢◌, ℕ, zero, suc, ◌+◌, ◌-◌, ◌<◌, ◌≤◌, List, [], ◌∷◌, ◌++◌, length, take, drop, get_or, set, filter, refl, sym, ◌∙◌, ap, ap₂, subst, true, false, cond, arith, All, Bool, ltb, map, not}
+use Rattle.std.specs.Prelude.{nat_eq, ◌&&◌}
 use Rattle.std.specs.List.{insert, remove}
 use Rattle.std.proofs.lemmas.List.{get_or-set_same, get_or-set_other, get_or_past, length-set, append-nil}
 use Rattle.std.proofs.lemmas.List.Elements.{filter-append, All-filter}
@@ -7,10 +8,13 @@ use native.Mathlib.Decide.{ℕ_discrete}
 use Rattle.exact_values.specs.Rational.{ℚ, zero_ℚ}
 use Rattle.lp_definitions.specs.LinearProgram.{Matrix, size, numbers_from, value_at}
 use Rattle.lp_definitions.specs.Basis.{Basics, is_in, IsNonbasic, IsDirectionOf, exchanged}
-use Rattle.lp_model.specs.Sparse.{CoverNonzeroFrom, no_more_listed, next_listed, CoverNonzero}
+use Rattle.lp_model.specs.Sparse.{AreNonzeroFrom, no_more, next_nonzero, AreNonzero, CoverNonzeroFrom, no_more_listed, next_listed, CoverNonzero}
+use Rattle.exact_values.proofs.Tests_laws.{test_from_same, eq_fails_from_apart}
+use Rattle.eta_file.specs.declared.eta.EtaEntry.{EtaEntry}
+use Rattle.eta_file.specs.Prefixes.{is_entry, entry_of, entries_to}
 use Rattle.lp_laws.proofs.Values.{clash}
 use Rattle.lp_laws.proofs.Opening.{numbers_from-append}
-use Rattle.eta_file.proofs.RateEntries.{mark_next}
+use Rattle.eta_file.proofs.RateEntries.{mark_next, has_number, filter_both}
 use Rattle.eta_file.specs.Listed.{listed_of, place_in}
 
 -- one place more
@@ -26,17 +30,17 @@ listed_then b n so_far is e = ap (λ ks. ks ++ ((n + 1) ∷ [])) e ∙ sym (list
 pub listed_else : (b : Basics) (n : ℕ) (so_far : List ℕ) → get_or b n false ≡ false → so_far ≡ filter (is_in b) (numbers_from 1 n) → so_far ≡ filter (is_in b) (numbers_from 1 (n + 1))
 listed_else b n so_far is e = e ∙ sym (listed_more b n false is ∙ append-nil (filter (is_in b) (numbers_from 1 n)))
 
--- each of the list is a variable
-pub listed_within : (b : Basics) → All (λ k. (1 ≤ k) × (k ≤ length b)) (listed_of b)
-listed_within b = All-filter (is_in b) (λ k. (1 ≤ k) × (k ≤ length b)) (numbers_from 1 (length b)) numbers_within
-  where
-    number_at : (f n i d : ℕ) → i < length (numbers_from f n) → (f ≤ get_or (numbers_from f n) i d) × (get_or (numbers_from f n) i d < f + n)
-    number_at f zero i d below = absurd (omega arith)
-    number_at f (suc n) zero d below = (omega arith, omega arith)
-    number_at f (suc n) (suc i) d below = let rest = number_at (suc f) n i d (omega arith) in (omega (arith, rest.0), omega (arith, rest.1))
+number_at : (f n i d : ℕ) → i < length (numbers_from f n) → (f ≤ get_or (numbers_from f n) i d) × (get_or (numbers_from f n) i d < f + n)
+number_at f zero i d below = absurd (omega arith)
+number_at f (suc n) zero d below = (omega arith, omega arith)
+number_at f (suc n) (suc i) d below = let rest = number_at (suc f) n i d (omega arith) in (omega (arith, rest.0), omega (arith, rest.1))
 
-    numbers_within : All (λ k. (1 ≤ k) × (k ≤ length b)) (numbers_from 1 (length b))
-    numbers_within i d below = let is = number_at 1 (length b) i d below in (is.0, omega (arith, is.1))
+numbers_within : (n : ℕ) → All (λ (k : ℕ). (1 ≤ k) × (k ≤ n)) (numbers_from 1 n)
+numbers_within n i d below = let is = number_at 1 n i d below in (is.0, omega (arith, is.1))
+
+-- each of the list is a variable
+pub listed_within : (b : Basics) → All (λ (k : ℕ). (1 ≤ k) × (k ≤ length b)) (listed_of b)
+listed_within b = All-filter (is_in b) (λ (k : ℕ). (1 ≤ k) × (k ≤ length b)) (numbers_from 1 (length b)) (numbers_within (length b))
 
 none_less : (q : ℕ → Bool) (t f n : ℕ) → t < f → place_in (filter q (numbers_from f n)) t ≡ 0
 none_less q t f zero past = refl
@@ -238,3 +242,61 @@ module _ (a : Matrix) (b : Basics) (counted : length b ≡ size a) (j : ℕ) (ou
       subst (λ ks. CoverNonzeroFrom xs 1 ks)
       (sym (inserted (is_in b) (is_in with_it) j other_mark out.1 own_mark 1 (length b) (omega arith) out.0.0 (omega (arith, counted, out.0.1))) ∙ ap₂ (λ us vs. us ++ j ∷ vs) (sym is_front) (sym is_back))
       (covered (is_in with_it) xs zero_outside 1 (length b) (omega arith) (omega (arith, counted, places)))
+
+-- ---- the entries of a direction, by the list of its numbers that aren't 0
+
+has_number_from : (xs : List ℚ) (k : ℕ) → value_at xs k ≢ zero_ℚ → has_number (value_at xs) k ≡ true
+has_number_from xs k apart = ap not (eq_fails_from_apart (value_at xs k) zero_ℚ apart)
+
+no_number_from : (xs : List ℚ) (k : ℕ) → value_at xs k ≡ zero_ℚ → has_number (value_at xs) k ≡ false
+no_number_from xs k none = ap not (test_from_same (value_at xs k) zero_ℚ none)
+
+nonzero_from : (xs : List ℚ) (n f : ℕ) (ks : List ℕ) → f + n ≡ suc (length xs) → AreNonzeroFrom xs f ks → ks ≡ filter (has_number (value_at xs)) (numbers_from f n)
+nonzero_from xs zero f [] all h = refl
+nonzero_from xs zero f (k ∷ ks) all (next_nonzero h rest) = absurd (omega (arith, h.from, h.within, all))
+nonzero_from xs (suc n) f [] all (no_more zeros) =
+    nonzero_from xs n (suc f) [] (omega (arith, all)) (no_more (λ i from. zeros i (omega (arith, from))))
+    ∙ ap (λ b. cond b (f ∷ filter (has_number (value_at xs)) (numbers_from (suc f) n)) (filter (has_number (value_at xs)) (numbers_from (suc f) n))) (sym (no_number_from xs f (zeros f (omega arith))))
+nonzero_from xs (suc n) f (k ∷ ks) all (next_nonzero h rest) = at (ℕ_discrete f k) (λ js g. nonzero_from xs n (suc f) js (omega (arith, all)) g)
+  where
+    at : Dec (f ≡ k) → ((js : List ℕ) → AreNonzeroFrom xs (suc f) js → js ≡ filter (has_number (value_at xs)) (numbers_from (suc f) n))
+        → k ∷ ks ≡ cond (has_number (value_at xs) f) (f ∷ filter (has_number (value_at xs)) (numbers_from (suc f) n)) (filter (has_number (value_at xs)) (numbers_from (suc f) n))
+    at (yes same) more =
+        ap₂ (λ i js. i ∷ js) (sym same) (more ks (subst (λ i. AreNonzeroFrom xs (suc i) ks) (sym same) rest))
+        ∙ ap (λ b. cond b (f ∷ filter (has_number (value_at xs)) (numbers_from (suc f) n)) (filter (has_number (value_at xs)) (numbers_from (suc f) n)))
+        (sym (ap (has_number (value_at xs)) same ∙ has_number_from xs k h.nonzero))
+    at (no apart) more =
+        more (k ∷ ks) (next_nonzero (record { from = omega (arith, h.from, apart); within = h.within; nonzero = h.nonzero; between = λ i from below. h.between i (omega (arith, from)) below }) rest)
+        ∙ ap (λ b. cond b (f ∷ filter (has_number (value_at xs)) (numbers_from (suc f) n)) (filter (has_number (value_at xs)) (numbers_from (suc f) n)))
+        (sym (no_number_from xs f (h.between f (omega arith) (omega (arith, h.from, apart)))))
+
+filters_same : (p q : ℕ → Bool) (f n : ℕ) → ((k : ℕ) → f ≤ k → k < f + n → p k ≡ q k) → filter p (numbers_from f n) ≡ filter q (numbers_from f n)
+filters_same p q f zero agree = refl
+filters_same p q f (suc n) agree = ap₂ (λ b rest. cond b (f ∷ rest) rest) (agree f (omega arith) (omega arith)) (filters_same p q (suc f) n (λ k from below. agree k (omega (arith, from)) (omega (arith, below))))
+
+pub nonzero_within : (xs : List ℚ) (ks : List ℕ) → AreNonzero xs ks → All (λ (k : ℕ). (1 ≤ k) × (k ≤ length xs)) ks
+nonzero_within xs ks h =
+    subst (All (λ (k : ℕ). (1 ≤ k) × (k ≤ length xs))) (sym (nonzero_from xs (length xs) 1 ks (omega arith) h))
+    (All-filter (has_number (value_at xs)) (λ (k : ℕ). (1 ≤ k) × (k ≤ length xs)) (numbers_from 1 (length xs)) (numbers_within (length xs)))
+
+module _ (a : Matrix) (b : Basics) (counted : length b ≡ size a) (q : ℕ) (enters : IsNonbasic a b q) (xs : List ℚ) (places : length xs ≡ size a) (direction : IsDirectionOf a b q (value_at xs)) where
+  same_test : (k : ℕ) → 1 ≤ k → k < 1 + length xs → has_number (value_at xs) k && not (nat_eq k q) ≡ is_entry b (value_at xs) k
+  same_test k low high = at (has_number (value_at xs) k) (nat_eq k q) (is_in b k) refl refl refl
+    where
+      at : (some own mark : Bool) → has_number (value_at xs) k ≡ some → nat_eq k q ≡ own → is_in b k ≡ mark → some && not own ≡ mark && some
+      at true true true is_some is_own is_mark = let same : k ≡ q = grind (arith, is_own) in absurd (clash (sym is_mark ∙ ap (is_in b) same ∙ enters.1))
+      at true true false is_some is_own is_mark = refl
+      at true false true is_some is_own is_mark = refl
+      at true false false is_some is_own is_mark =
+          let apart : k ≢ q = grind (arith, is_own) in
+          absurd (clash (sym is_some ∙ no_number_from xs k (direction.others k ((low, omega (arith, high, places)), is_mark) apart)))
+      at false own true is_some is_own is_mark = refl
+      at false own false is_some is_own is_mark = refl
+
+  pub entries_along : (ks : List ℕ) → AreNonzero xs ks → (ys : List ℚ) → ys ≡ xs → (es : List EtaEntry) → es ≡ map (entry_of (value_at ys)) (filter (λ k. not (nat_eq k q)) ks) → es ≡ entries_to b (value_at xs) (length b)
+  entries_along ks nonzero ys same es are =
+      are ∙ ap₂ (λ zs js. map (entry_of (value_at zs)) (filter (λ k. not (nat_eq k q)) js)) same (nonzero_from xs (length xs) 1 ks (omega arith) nonzero)
+      ∙ ap (map (entry_of (value_at xs)))
+      (filter_both (has_number (value_at xs)) (λ k. not (nat_eq k q)) (numbers_from 1 (length xs))
+      ∙ filters_same (λ k. has_number (value_at xs) k && not (nat_eq k q)) (is_entry b (value_at xs)) 1 (length xs) same_test
+      ∙ ap (λ n. filter (is_entry b (value_at xs)) (numbers_from 1 n)) (places ∙ sym counted))

@@ -1,6 +1,6 @@
 //! The eta file.
 
-ghost use Rattle.std.specs.Prelude.{◌≡◌, ◌≢◌, ℕ, ◌+◌, ◌-◌, ◌*◌, ◌<◌, ◌≤◌, [], ◌∷◌, length, take, map, filter, All, not, IfOk, IfSome, IfErr, OnOk, OnErr, slice_index_or};
+ghost use Rattle.std.specs.Prelude.{◌≡◌, ◌≢◌, ℕ, ◌+◌, ◌-◌, ◌*◌, ◌<◌, ◌≤◌, [], ◌∷◌, length, take, map, filter, All, nat_eq, not, IfOk, IfSome, IfErr, OnOk, OnErr, slice_index_or};
 ghost use Rattle.exact_values.specs.Rational.{zero_ℚ};
 ghost use Rattle.exact_values.specs.Tests.{eq_ℚ};
 ghost use Rattle.lp_definitions.specs.LinearProgram.{IsMatrix, IsVariable, IsColumn, column, size, value_at};
@@ -11,7 +11,7 @@ ghost use Rattle.lp_model.specs.RatesCalls.{HasPivot, ColumnOverflow, ExchangeOv
 ghost use Rattle.eta_file.specs.Crossings.{AreZero, NoneLater, LeftAt};
 ghost use Rattle.eta_file.specs.Prefixes.{Passed, entry_of, entries_to, IsLent, IsLentScaled, IsExchangeOf, basic_columns, after, entry_count};
 ghost use Rattle.eta_file.specs.declared.eta.StoredEta.{StoredEta};
-ghost use Rattle.eta_file.specs.Inverse.{ways_of, IsAppended, IsDirectionAfter};
+ghost use Rattle.eta_file.specs.Inverse.{ways_of, IsAppended, IsNextEta, IsDirectionAfter};
 ghost use Rattle.whole_vectors.specs.Quotients.{StandFor};
 
 use crate::basic_set::{BasicSet, place_of};
@@ -94,6 +94,29 @@ fn entries_at(
         (length basics.now)) }
 {
     entries_of(alloc, direction, basics.listed())
+}
+
+/// The numbers of a direction at the listed variables but `q`.
+fn entries_but(
+    alloc: Global,
+    direction: &[Frac],
+    listed: &[u32],
+    q: u32,
+) -> Result<Vec<EtaEntry>, NoMemory>
+    requires { All (λ k. (1 ≤ k) × (k ≤ length direction.now)) listed.now }
+    ensures { IfOk result (λ entries. entries.items ≡ map (entry_of (value_at direction.now))
+        (filter (λ k. not (nat_eq k q)) listed.now)) }
+{
+    let mut entries = Vec::with_capacity(alloc, listed.len())?;
+    for k in listed {
+        if *k != q {
+            let rate = direction[*k as usize - 1];
+            entries
+                .push(EtaEntry { i: *k, rate })
+                .map_err(|_| NoMemory)?;
+        }
+    }
+    Ok(entries)
 }
 
 impl EtaFile {
@@ -433,11 +456,43 @@ impl EtaFile {
         ensures err { OnErr result (self.new ≡ self.old) }
     {
         let _size = self.size();
+        let entries = entries_at(self.alloc, direction, &self.basics)?;
+        self.append_entries(p, q, direction[p as usize - 1], entries)
+    }
+
+    /// The same, of a direction with the list of its numbers that are not 0.
+    pub fn append_along(&mut self, p: u32, q: u32, direction: &SparseVector) -> Result<(), NoMemory>
+        requires leaves { IsBasic self.old.matrix self.old.basics p }
+        requires enters { IsNonbasic self.old.matrix self.old.basics q }
+        requires places { length direction.now ≡ size self.old.matrix }
+        requires direction { IsDirectionOf self.old.matrix self.old.basics q
+            (value_at direction.now) }
+        requires pivot { value_at direction.now p ≢ zero_ℚ }
+        ensures ok { OnOk result (IsAppended self.old p q self.new) }
+        ensures err { OnErr result (self.new ≡ self.old) }
+    {
+        let _size = self.size();
+        let values = direction.values();
+        let entries = entries_but(self.alloc, values, direction.nonzero(), q)?;
+        self.append_entries(p, q, values[p as usize - 1], entries)
+    }
+
+    /// The same, with the pivot and the entries of the new eta.
+    fn append_entries(
+        &mut self,
+        p: u32,
+        q: u32,
+        pivot: Frac,
+        entries: Vec<EtaEntry>,
+    ) -> Result<(), NoMemory>
+        requires { IsNextEta self.old p q pivot entries.items }
+        ensures ok { OnOk result (IsAppended self.old p q self.new) }
+        ensures err { OnErr result (self.new ≡ self.old) }
+    {
+        let _size = self.size();
         if self.etas.len() >= MOST_ETAS {
             return Err(NoMemory);
         }
-        let entries = entries_at(self.alloc, direction, &self.basics)?;
-        let pivot = direction[p as usize - 1];
         let whole = whole_eta(self.alloc, pivot, &entries)?;
         let eta = StoredEta {
             p,

@@ -45,7 +45,7 @@ fn scaled_entries(
     ensures { IfOk result (λ made. IfSome made (λ list. list.items ≡ map (scaled scale)
         entries.now)) }
 {
-    let mut list = Vec::new(alloc);
+    let mut list = Vec::with_capacity(alloc, entries.len())?;
     for entry in entries {
         let Some(rate) = product(entry.rate, scale) else {
             return Ok(None);

@@ -151,7 +151,12 @@ impl ProductForm {
 
 impl ProductForm {
     /// Makes the exchange in the file along the direction of `q`, and counts it.
-    fn exchange_in_file_along(&mut self, p: u32, q: u32, direction: &[Frac]) -> Result<(), NoMemory>
+    fn exchange_in_file_along(
+        &mut self,
+        p: u32,
+        q: u32,
+        direction: &SparseVector,
+    ) -> Result<(), NoMemory>
         requires leaves { IsBasic self.old.file.matrix self.old.file.basics p }
         requires enters { IsNonbasic self.old.file.matrix self.old.file.basics q }
         requires direction { IsDirectionOf self.old.file.matrix self.old.file.basics q
@@ -167,7 +172,7 @@ impl ProductForm {
             (ways_of self.old.file) self.new.file.basics (ways_of self.new.file) }
     {
         let _size = self.file.size();
-        self.file.append_carried(p, q, direction)?;
+        self.file.append_along(p, q, direction)?;
         self.last.forget();
         self.since += 1;
         Ok(())
@@ -290,7 +295,7 @@ impl Rates for ProductForm {
             (ways_of self.old.file) (ways_of self.new.file) }
     {
         self.reinvert_if_due()?;
-        self.exchange_in_file_along(p, q, direction.values())?;
+        self.exchange_in_file_along(p, q, direction)?;
         Ok(())
     }
 

@@ -102,7 +102,7 @@ fn enter(
         return Err(kept(stop));
     }
     let p = leaver(old, new, room.values(), wish);
-    new.append_carried(p, k, room.values())?;
+    new.append_along(p, k, room)?;
     Ok(())
 }
 
