@@ -1,6 +1,6 @@
 use Rattle.std.proofs.Common.{◌≡◌, ℕ, ◌≤◌, take}
 use Rattle.lp_definitions.specs.LinearProgram.{value_at, on_row}
-use Rattle.eta_file.proofs.carry.fill_column.Given as goal
+use Rattle.eta_file.proofs.carry.place_column.Given as goal
 
 -- the numbers so far are there
 abbrev pub invariant-loop-entry : goal.invariant-loop-entry

@@ -1,4 +1,4 @@
-use Rattle.eta_file.proofs.file.EtaFile.column.Given as goal
+use Rattle.eta_file.proofs.file.EtaFile.column_in.Given as goal
 
 -- the counter's own ledger
 abbrev pub ghosts-carry_by : goal.ghosts-carry_by
