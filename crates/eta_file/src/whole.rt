@@ -12,7 +12,9 @@ use crate::eta::{EtaEntry, StoredEta, WholeEta};
 use frac128::Frac;
 use lp_model::{Entry, NoMemory};
 use std::alloc::Global;
-use whole_vectors::{common_multiple, less_product, multiply, product, quotient, reduce, terms};
+use whole_vectors::{
+    common_multiple, less_product, multiply, product, product_by_scale, quotient, reduce, terms,
+};
 
 /// 1 or -1, with which the pivot is positive.
 fn sign_of_pivot(pivot: Frac) -> Frac
@@ -47,7 +49,7 @@ fn scaled_entries(
 {
     let mut list = Vec::with_capacity(alloc, entries.len())?;
     for entry in entries {
-        let Some(rate) = product(entry.rate, scale) else {
+        let Some(rate) = product_by_scale(entry.rate, scale) else {
             return Ok(None);
         };
         list.push(EtaEntry { i: entry.i, rate })

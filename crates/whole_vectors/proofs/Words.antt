@@ -1,5 +1,5 @@
 -- Whole numbers of one machine word.
-use Rattle.std.proofs.Common.{◌≡◌, ℕ, ◌*◌, ◌^◌, ◌≤◌, sym, ◌∙◌, ap, ap₂, arith, ℤ, pos, FitsSigned, to_z, of_z, Option, None, Some}
+use Rattle.std.proofs.Common.{◌≡◌, ℕ, ◌*◌, ◌^◌, ◌≤◌, refl, sym, ◌∙◌, ap, ap₂, arith, ℤ, pos, FitsSigned, to_z, of_z, Option, None, Some}
 use Rattle.std.specs.Int.{w64, w128}
 use Rattle.std.specs.Option.{SomeIff}
 use Rattle.std.specs.Prelude.{IfSome}
@@ -8,6 +8,7 @@ use Rattle.std.proofs.lemmas.Int.{ints, unsigned_abs-mul, to_z-of_z}
 use Rattle.std.proofs.lemmas.Nat.{mul-le}
 use Rattle.exact_values.specs.Rational.{ℚ, whole, ◌+ℚ◌, ◌-ℚ◌, ◌*ℚ◌, neg_ℚ}
 use Rattle.exact_values.proofs.Fractions.{is_ratio, same_from_ratio}
+use Rattle.exact_values.proofs.Ring.{by_ring3, ◌⊗◌, ◌≐◌}
 use Rattle.exact_values.proofs.Ring_laws.{zero-add, mul-one, whole_ratio, whole-add, whole-mul, whole-neg}
 use Rattle.frac128.specs.Terms.{Fits}
 use Rattle.frac128.proofs.Parts.{read, read_fitting, word_product}
@@ -96,3 +97,7 @@ is_one n e = omega (arith, ints, e)
 -- a number that was cast to a word
 pub word_is : (x n m : ℤ) → FitsSigned w64 (read n) → x ≡ read n → Fits n → n ≡ m → to_z w64 (of_z w64 x) ≡ m
 word_is x n m word is_x fits is_n = ap (λ z. to_z w64 (of_z w64 z)) is_x ∙ to_z-of_z w64 (read n) word ∙ read_fitting n fits ∙ is_n
+
+-- a product by the parts of a fraction, with a multiple of its denominator
+pub by_multiple : (x s n d t : ℚ) → n ≡ x *ℚ d → s ≡ t *ℚ d → n *ℚ t ≡ x *ℚ s
+by_multiple x s n d t is_n is_s = ap (λ q. q *ℚ t) is_n ∙ by_ring3 x d t (λ x d t. (x ⊗ d) ⊗ t ≐ x ⊗ (t ⊗ d)) refl ∙ ap (λ q. x *ℚ q) (sym is_s)

@@ -40,6 +40,16 @@ fn word_total(sum: i64, x: i64, y: i64) -> i128
     sum as i128 + x as i128 * y as i128
 }
 
+/// The product of two words, as a fraction.
+#[inline(always)]
+pub fn word_product(x: Frac, y: Frac) -> Option<Frac>
+    ensures { IfSome result (λ product. product ≡ x *ℚ y) }
+{
+    let left = word(x)?;
+    let right = word(y)?;
+    Some(Frac::whole(word_total(0, left, right)))
+}
+
 /// The sum, with one product more. Nothing is made of 0, and no product of 1.
 #[inline(always)]
 pub fn word_sum(sum: i64, x: i64, y: Frac) -> Option<i64>
@@ -60,7 +70,7 @@ pub fn word_sum(sum: i64, x: i64, y: Frac) -> Option<i64>
 
 /// How often a word has a divisor, where this is a word too, at least 1, and it is a multiple of it.
 #[inline(always)]
-fn word_multiple(n: i64, by: Frac) -> Option<i64>
+pub fn word_multiple(n: i64, by: Frac) -> Option<i64>
     ensures { IfSome result (λ times. whole n ≡ whole times *ℚ by) }
 {
     let divisor = word(by)?;
