@@ -17,7 +17,7 @@ NUMBERS = "no one two three four five six seven eight nine ten eleven twelve thi
 # The dependencies on a crate of a higher layer, each with its reason. Another one is refused, and so is one here that is gone.
 SELECTED = "that what is selected of a lawful problem is a lawful linear program (`lp_setup/proofs`: `Lawful`, `FreeRows`) speaks of " \
     "definitions alone, and could stand in `selection_definitions/proofs`"
-PREFIX = "`IsFront`, that a text is a prefix of another, stands in `job_devices/specs/Text`, and could stand in `card_definitions/specs/Words`"
+PREFIX = "`IsPrefix`, that a text is a prefix of another, stands in `job_devices/specs/Text`, and could stand in `card_definitions/specs/Words`"
 UPWARD = {
     ("listing_laws", "name_table"): "the text that stands in 8 places (`name_table/specs/Places`, `Places_laws`) is a matter of texts, and could "
         "stand in `card_definitions`, but for what it says of names, which could stand in `problem_definitions`",
