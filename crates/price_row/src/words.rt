@@ -1,7 +1,7 @@
 //! Rows that are carried back in whole numbers of one machine word over one denominator. Where a number isn't one, the answer is None,
 //! and the row has to be had in another way.
 
-ghost use Rattle.std.specs.Prelude.{◌≡◌, ◌+◌, ◌≤◌, ◌<◌, length, All, IfSome};
+ghost use Rattle.std.specs.Prelude.{◌≡◌, ℕ, ◌+◌, ◌≤◌, ◌<◌, length, All, IfSome};
 ghost use Rattle.exact_values.specs.Rational.{whole, zero_ℚ};
 ghost use Rattle.lp_definitions.specs.LinearProgram.{size, value_at};
 ghost use Rattle.lp_definitions.specs.Basis.{IsBasic};
@@ -31,19 +31,16 @@ fn number_at(numbers: &[i64], k: u32) -> i64
     numbers[k as usize - 1]
 }
 
-/// The sum of the entries but that of `p`, each times the number there, begun with `first`. Most of these numbers are 0.
+/// The sum of the entries, each times the number there, begun with `first`. An entry at a number of 0 adds nothing.
 #[inline(always)]
-fn sum_of_entries(entries: &[EtaEntry], p: u32, first: i64, numbers: &[i64]) -> Option<i64>
+fn sum_of_entries(entries: &[EtaEntry], first: i64, numbers: &[i64]) -> Option<i64>
     requires { All (IsEntryWithin (length numbers.now)) entries.now }
-    ensures { IfSome result (λ sum. whole sum ≡ sum_from (whole first) (weighted p (wholes numbers.now)
-        entries.now)) }
+    ensures { IfSome result (λ sum. (p : ℕ) → value_at (wholes numbers.now) p ≡ zero_ℚ →
+        whole sum ≡ sum_from (whole first) (weighted p (wholes numbers.now) entries.now)) }
 {
     let mut sum = first;
     for entry in entries {
         let number = number_at(numbers, entry.i);
-        if number == 0 || entry.i == p {
-            continue;
-        }
         sum = word_sum(sum, number, entry.rate)?;
     }
     Some(sum)
@@ -84,11 +81,11 @@ fn back_words(
     let Some(whole) = file.whole(place + 1) else {
         return None;
     };
+    out[eta.p as usize - 1] = 0;
     let lead = number_at(out, eta.q);
     let first = word_sum(0, lead, whole.scale)?;
-    let sum = sum_of_entries(whole.entries, eta.p, first, out)?;
+    let sum = sum_of_entries(whole.entries, first, out)?;
     if sum == 0 {
-        out[eta.p as usize - 1] = 0;
         return Some(denominator);
     }
     let ratio = word_quotient(sum, whole.pivot)?;
