@@ -7,14 +7,14 @@ case ${1:-} in -h | --help) sed -n '2,4s/^# //p' "$0"; exit 0 ;; esac
 turns=${1:-20000}
 cd "$(dirname "$0")/../crates/bench"
 program=${2:-./out/bench}
-[ -x "$program" ] || rt run <stdin >/dev/null
+[ -x "$program" ] || rt run >/dev/null
 
 # the least processor time of five runs, in milliseconds
 least() {
     local least= spent
     local TIMEFORMAT=%3U
     for _ in 1 2 3 4 5; do
-        spent=$({ time "$program" fractions "$1" "$2" "$3" >/dev/null; } 2>&1 | tr -d .)
+        spent=$({ time "$program" "$1" "$2" "$3" >/dev/null; } 2>&1 | tr -d .)
         spent=$((10#$spent))
         if [ -z "$least" ] || [ "$spent" -lt "$least" ]; then least=$spent; fi
     done

@@ -1,19 +1,18 @@
 #!/usr/bin/env bash
-# Times the path of the simplex method by each engine, the dense table and the product form: on transportation problems of 10, 20 .. 60
-# sources and as many destinations, on the problems of 8, 10 and 12 queens, on a sparse problem of 300 rows and 350 columns, and on a
-# problem of the greatest size, 1,000 rows and 5,000 columns, whose path ends where it begins. Prints where each path ends, the least
-# processor time of five runs, in seconds, and the peak memory. Then it prints how many of fifty problems of 15 rows and 30 columns,
-# with numbers of two decimals, end without an overflow by each engine, and how long the fifty take together. Where the proved
-# program is built, or named, it also times whole jobs: the one of 60 by 60 from its bytes to its verdict, without and with RANGE;
+# Times whole jobs, from their bytes to their listings: PRIMAL on transportation problems of 10, 20 .. 60 sources and as many
+# destinations, on the problems of 8, 10 and 12 queens, on a sparse problem of 300 rows and 350 columns, and on a problem of the greatest
+# size, 1,000 rows and 5,000 columns, whose path ends where it begins; and the transportation of 60 by 60 with RANGE. Prints the steps
+# and the objective, the least processor time of five runs, in seconds, and the peak memory. Then it prints how many of fifty problems of
+# 15 rows and 30 columns, with numbers of two decimals, end without an overflow, and how long the fifty take together; and it times
 # SOLUTION of a problem of 1,000 rows and 5,000 columns; a parametric run on it, up to 0.1 and up to 0.3, which is 22 and 99
 # intervals; and, where one in twenty of the right-hand sides has changed since an optimum, PRIMAL from the opening basis against
 # PRIMAL and DUAL from the basis of that optimum, which INSERT takes.
-# Usage: scripts/bench_path.sh [--instructions] [PROGRAM [WHOLE]], a program that takes the words `path table` and `path product`, and
-# the one of whole jobs; with --instructions it counts the instructions of one run of each by valgrind, in place of time and memory; or
-# scripts/bench_path.sh --dense N, --queens N, --transportation N or --wide, which print a deck: the N-th of the fifty, that of N queens,
-# that of N sources and N destinations, and the one of the parametric run.
+# Usage: scripts/bench_path.sh [--instructions] [PROGRAM], which is the proved mps360 where none is named; with --instructions it counts
+# the instructions of one run of each by valgrind, in place of time and memory; or scripts/bench_path.sh --dense N, --queens N,
+# --transportation N, --sparse or --wide, which print a deck: the N-th of the fifty, that of N queens, that of N sources and N
+# destinations, the sparse one, and the one of the parametric run.
 set -eu
-case ${1:-} in -h | --help) sed -n '2,16s/^# //p' "$0"; exit 0 ;; esac
+case ${1:-} in -h | --help) sed -n '2,13s/^# //p' "$0"; exit 0 ;; esac
 here=$(cd "$(dirname "$0")" && pwd)
 deck=$(mktemp)
 counts=$(mktemp)
@@ -165,13 +164,12 @@ case ${1:-} in
 --dense) dense "$2"; exit 0 ;;
 --queens) queens "$2"; exit 0 ;;
 --transportation) transport "$2"; exit 0 ;;
+--sparse) sparse; exit 0 ;;
 --wide) wide; exit 0 ;;
 --instructions) counting=yes; shift ;;
 *) counting= ;;
 esac
-program=${1:-$here/../crates/bench/out/bench}
-whole=${2:-$here/../crates/mps360/out/mps360}
-[ -x "$program" ] || (cd "$here/../crates/bench" && rt run <stdin >/dev/null)
+program=${1:-$("$here/program.sh")}
 
 # What a program comes to on the deck, with its time and its memory, or with its instructions.
 measured() {
@@ -193,34 +191,6 @@ greatest() {
     }'
 }
 
-# The path of the deck by each engine.
-by_each() {
-    for engine in table product; do
-        echo "$1 by $engine:"
-        measured "$program" path "$engine"
-    done
-}
-
-for size in 10 20 30 40 50 60; do
-    transport "$size" >"$deck"
-    by_each "transportation $size by $size"
-done
-for size in 8 10 12; do
-    queens "$size" >"$deck"
-    by_each "$size queens"
-done
-sparse >"$deck"
-by_each "sparse"
-greatest >"$deck"
-by_each "the greatest size"
-for engine in table product; do
-    ended=0
-    TIMEFORMAT=%U
-    spent=$({ time for seed in $(seq 50); do dense "$seed" | "$program" path "$engine"; done >"$counts"; } 2>&1)
-    ended=$(grep -vc OVERFLOW "$counts")
-    echo "fifty problems with numbers of two decimals by $engine: $ended end without an overflow, $spent s"
-done
-
 # A job of the deck that the words after -- make, with the statements before it.
 job() {
     printf '         %s\n' PROGRAM CONVERT
@@ -233,28 +203,45 @@ job() {
     "$@"
 }
 
-if [ -x "$whole" ]; then
-    for ranging in "" RANGE; do
-        job SETUP PRIMAL ${ranging:+"$ranging"} -- transport 60 >"$deck"
-        echo "the whole job of 60 by 60${ranging:+ with RANGE}:"
-        measured "$whole"
+# Where the path of the present deck ends.
+path_end() {
+    "$program" <"$deck" | grep -o 'OPTIMAL STEPS.*OBJECTIVE [^ ]*'
+}
+
+# The job of PRIMAL on the deck that the words make, and perhaps one statement more, after its name.
+solved() {
+    local name=$1 more=$2
+    shift 2
+    job SETUP PRIMAL ${more:+"$more"} -- "$@" >"$deck"
+    echo "$name${more:+ with $more}, $(path_end):"
+    measured "$program"
+}
+
+for size in 10 20 30 40 50 60; do solved "transportation $size by $size" "" transport "$size"; done
+solved "transportation 60 by 60" RANGE transport 60
+for size in 8 10 12; do solved "$size queens" "" queens "$size"; done
+solved "the sparse problem" "" sparse
+solved "the greatest size" "" greatest
+TIMEFORMAT=%U
+spent=$({ time for seed in $(seq 50); do job SETUP PRIMAL -- dense "$seed" | "$program" || true; done >"$counts"; } 2>&1)
+ended=$((50 - $(grep -c OVERFLOW "$counts" || true)))
+echo "fifty problems with numbers of two decimals: $ended end without an overflow, $spent s"
+
+job SETUP PRIMAL SOLUTION -- wide >"$deck"
+echo "1,000 rows and 5,000 columns, SOLUTION, $("$program" <"$deck" | wc -l) lines:"
+measured "$program"
+for most in 0.1 0.3; do
+    job "MOVE(XCHROW,'CHANGE')" "MOVE(XPARMAX,$most)" SETUP PARAOBJ -- wide >"$deck"
+    echo "1,000 rows and 5,000 columns, PARAOBJ up to $most, $("$program" <"$deck" | wc -l) lines:"
+    measured "$program"
+done
+for problem in "transport 40" "transport 60" sparse; do
+    # (words of a command)
+    job SETUP PRIMAL PUNCH -- $problem >"$deck"
+    (cd "$folder" && rm -f PUNCH && "$program" <"$deck" >"$counts")
+    for way in PRIMAL "INSERT PRIMAL" "INSERT DUAL"; do
+        { job "MOVE(XRHS,'NEXT')" SETUP $way -- replanned $problem && cat "$folder/PUNCH"; } >"$deck"
+        echo "$problem, one in twenty of the right-hand sides changed, $way, $(path_end):"
+        measured "$program"
     done
-    job SETUP PRIMAL SOLUTION -- wide >"$deck"
-    echo "1,000 rows and 5,000 columns, SOLUTION, $("$whole" <"$deck" | wc -l) lines:"
-    measured "$whole"
-    for most in 0.1 0.3; do
-        job "MOVE(XCHROW,'CHANGE')" "MOVE(XPARMAX,$most)" SETUP PARAOBJ -- wide >"$deck"
-        echo "1,000 rows and 5,000 columns, PARAOBJ up to $most, $("$whole" <"$deck" | wc -l) lines:"
-        measured "$whole"
-    done
-    for problem in "transport 40" "transport 60" sparse; do
-        # (words of a command)
-        job SETUP PRIMAL PUNCH -- $problem >"$deck"
-        (cd "$folder" && rm -f PUNCH && "$whole" <"$deck" >"$counts")
-        for way in PRIMAL "INSERT PRIMAL" "INSERT DUAL"; do
-            { job "MOVE(XRHS,'NEXT')" SETUP $way -- replanned $problem && cat "$folder/PUNCH"; } >"$deck"
-            echo "$problem, one in twenty of the right-hand sides changed, $way: $("$whole" <"$deck" | grep -o ' STEPS.*OBJECTIVE [^ ]*')"
-            measured "$whole"
-        done
-    done
-fi
+done

@@ -150,9 +150,9 @@ def try_expected(folder):
 
 
 def try_measures(folder):
-    "what the bench is to print, by the scripts that work it out: fractions, the transportation problem of 4 by 4 by each engine; a timed run"
-    printed = call(SCRIPTS / "bench_expected.py").stdout + 2 * call(SCRIPTS / "path_expected.py", "4").stdout
-    check("bench_expected.py, path_expected.py", printed == (runner.TOP / "crates/bench/stdout").read_bytes())
+    "what the bench is to print, by the script that works it out; paths by Python's fractions; a timed run"
+    check("bench_expected.py", call(SCRIPTS / "bench_expected.py").stdout == (runner.TOP / "crates/bench/stdout").read_bytes())
+    check("path_expected.py 4", call(SCRIPTS / "path_expected.py", "4").stdout == b"OPTIMAL STEPS 15 OBJECTIVE 130/1\n")
     check("path_expected.py 2", call(SCRIPTS / "path_expected.py", "2").stdout == b"OPTIMAL STEPS 4 OBJECTIVE 180/1\n")
     # on a board of 2 by 2 the lines and the diagonals leave one plan, a half on each square
     check("path_expected.py queens 2", call(SCRIPTS / "path_expected.py", "queens", "2").stdout.endswith(b" OBJECTIVE 9/2\n"))

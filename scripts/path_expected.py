@@ -1,6 +1,7 @@
 #!/usr/bin/env python3
-"""What `bench path` prints of the transportation problem of N sources and N destinations, or of the problem of N queens, by Python's
-exact fractions: the bounded simplex method with the least-index rule over a table, written apart from the program.
+"""The steps and the objective of the path of the transportation problem of N sources and N destinations, or of the problem of N queens, as
+scripts/bench_path.sh makes them, by Python's exact fractions: the bounded simplex method with the least-index rule over a table,
+written apart from the program.
 Usage: path_expected.py [queens] N. The transportation problem takes a second for 20 and half a minute for 60."""
 from fractions import Fraction
 import sys
