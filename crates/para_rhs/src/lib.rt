@@ -3,12 +3,14 @@
 #![tactic(auto)]
 
 mod breaks;
-mod faces;
 mod limits;
+mod method;
 mod parts;
 mod reaching;
 mod run;
 mod slopes;
+mod told;
+mod turns;
 
 pub use breaks::{Leaver, face_leaver};
 pub use dual_step::cheapest;

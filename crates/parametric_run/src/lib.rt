@@ -5,10 +5,12 @@
 
 mod chain;
 mod faces;
-mod follow;
 mod method;
+mod run;
 mod workspace;
 
-pub use follow::run;
-pub use method::{AfterFaces, FaceStep, Parametric, Span};
-pub use workspace::{Workspace, point_with, prices_with, take_step_in, zeros};
+pub use method::{FaceStep, Parametric, Span};
+pub use run::follow;
+pub use workspace::{
+    Workspace, copied, point_with, prices_with, still_point, still_prices, zeros,
+};

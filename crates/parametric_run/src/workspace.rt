@@ -3,9 +3,11 @@
 ghost use Rattle.std.specs.Prelude.{◌≡◌, ℕ, length, replicate, IfOk, IfErr, OnOk, OnErr};
 ghost use Rattle.exact_values.specs.Rational.{zero_ℚ};
 ghost use Rattle.lp_definitions.specs.LinearProgram.{size, value_at};
-ghost use Rattle.lp_definitions.specs.Basis.{basics_of, IsPointOf};
+ghost use Rattle.lp_definitions.specs.Basis.{basics_of, IsBasic, IsNonbasic, IsDirectionOf, IsPointOf};
 ghost use Rattle.lp_definitions.specs.Waypoints.{KeepsWaypoints};
-ghost use Rattle.basis_values.specs.Calls.{HasRates};
+ghost use Rattle.lp_model.specs.RatesCalls.{IsRowOf};
+ghost use Rattle.basis_values.specs.Calls.{HasRates, KeepsRates};
+ghost use Rattle.basis_values.specs.Stops.{PointOverflow};
 ghost use Rattle.simplex_definitions.specs.Path.{after};
 ghost use Rattle.bounded_primal.specs.Moves.{StepOverflow, move_by};
 ghost use Rattle.parametric_run.specs.Standing.{AreSized, IsReady};
@@ -40,6 +42,52 @@ impl Workspace {
             row: room(alloc, size)?,
             direction: room(alloc, size)?,
         })
+    }
+
+    /// Fills the row with the rates of the basic `i`.
+    pub fn read_row<R: Rates>(
+        &mut self,
+        lp: &Lp,
+        basis: &Basis,
+        rates: &mut R,
+        i: u32,
+    ) -> Result<(), Stop>
+        requires rates { HasRates (R.matrix rates.old) (R.basics rates.old) lp.now basis.now }
+        requires basic { IsBasic lp.now.matrix (basics_of basis.now) i }
+        requires places { length self.old.row.items ≡ size lp.now.matrix }
+        ensures row { OnOk result
+            (IsRowOf lp.now.matrix (basics_of basis.now) i (value_at self.new.row.items)) }
+        ensures others { self.new ≡ record self.old { row = self.new.row } }
+        ensures places { length self.new.row.items ≡ length self.old.row.items }
+        ensures rates { KeepsRates (R.matrix rates.new) (R.basics rates.new) lp.now basis.now
+            (R.waypoints rates.old) (R.waypoints rates.new) }
+        ensures overflow { PointOverflow result lp.now basis.now
+            (R.waypoints rates.old) (R.waypoints rates.new) }
+    {
+        rates.row(i, &mut self.row)
+    }
+
+    /// Fills the direction with that of the nonbasic `j`.
+    pub fn read_direction<R: Rates>(
+        &mut self,
+        lp: &Lp,
+        basis: &Basis,
+        rates: &mut R,
+        j: u32,
+    ) -> Result<(), Stop>
+        requires rates { HasRates (R.matrix rates.old) (R.basics rates.old) lp.now basis.now }
+        requires nonbasic { IsNonbasic lp.now.matrix (basics_of basis.now) j }
+        requires places { length self.old.direction.items ≡ size lp.now.matrix }
+        ensures direction { OnOk result (IsDirectionOf lp.now.matrix (basics_of basis.now) j
+            (value_at self.new.direction.items)) }
+        ensures others { self.new ≡ record self.old { direction = self.new.direction } }
+        ensures places { length self.new.direction.items ≡ length self.old.direction.items }
+        ensures rates { KeepsRates (R.matrix rates.new) (R.basics rates.new) lp.now basis.now
+            (R.waypoints rates.old) (R.waypoints rates.new) }
+        ensures overflow { PointOverflow result lp.now basis.now
+            (R.waypoints rates.old) (R.waypoints rates.new) }
+    {
+        rates.column(j, &mut self.direction)
     }
 }
 
@@ -79,6 +127,22 @@ pub fn prices_with(alloc: Global, values: &[Frac]) -> Result<Prices, NoMemory>
     ensures { IfOk result (λ prices. prices ≡ values.now) }
 {
     let values = copied(alloc, values)?;
+    Ok(Prices::new(values))
+}
+
+/// The rates of a point that stands still.
+pub fn still_point(alloc: Global, lp: &Lp) -> Result<Point, NoMemory>
+    ensures { IfOk result (λ rates. rates ≡ replicate (size lp.now.matrix) zero_ℚ) }
+{
+    let values = zeros(alloc, lp)?;
+    Ok(Point::new(values))
+}
+
+/// The rates of prices that stand still.
+pub fn still_prices(alloc: Global, lp: &Lp) -> Result<Prices, NoMemory>
+    ensures { IfOk result (λ rates. rates ≡ replicate (size lp.now.matrix) zero_ℚ) }
+{
+    let values = zeros(alloc, lp)?;
     Ok(Prices::new(values))
 }
 

@@ -30,7 +30,7 @@ fn limit_of(span: &Span) -> u32
 /// `Limit` comes exactly where the run has not ended after as many steps as the limit, opening and breakpoints together. The basis and
 /// the rates are those that the run has reached, after a stop too. Where the run ends within the limit and no evidence of an overflow
 /// holds on it, the answer is its report, or there is no memory.
-pub fn run<M: Parametric, R: Rates>(
+pub fn follow<M: Parametric, R: Rates>(
     alloc: Global,
     method: &M,
     span: &Span,
