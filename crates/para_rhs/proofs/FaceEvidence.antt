@@ -1,8 +1,8 @@
 -- Evidence of the calls at a break is evidence of the run.
 use Rattle.std.proofs.Common.{◌≡◌, ◌≢◌, ℕ, ◌≤◌, List, true, refl, sym, arith}
-use Rattle.std.specs.Prelude.{Some, None, IsTrue, not, ◌&&◌, ◌||◌, nat_eq}
+use Rattle.std.specs.Prelude.{Some, None, not, ◌&&◌, ◌||◌, nat_eq}
 use Rattle.exact_values.specs.Rational.{ℚ, zero_ℚ}
-use Rattle.simplex_definitions.specs.Statements.{Pararhs, is_between, belongs}
+use Rattle.simplex_definitions.specs.Statements.{Pararhs, is_between}
 use Rattle.lp_definitions.specs.Basis.{Basics, basics_of, IsBasic, IsNonbasic, IsDirectionOf, ArePricesOf, IsPointOf}
 use Rattle.lp_definitions.specs.LinearProgram.{LinearProgram, Vector, IsLinearProgram}
 use Rattle.lp_definitions.specs.Waypoints.{KeepsWaypoints}
@@ -15,7 +15,6 @@ use Rattle.lp_model.specs.declared.Stop.TheVariants as stop
 use Rattle.simplex_laws.specs.Laws.{IsNonsingularBasis}
 use Rattle.simplex_definitions.specs.Chain.{FaceMoves}
 use Rattle.simplex_definitions.specs.RhsRun.{rhs_family, IsSlope, IsRhsFace}
-use Rattle.basis_values.specs.Calls.{PointRefused}
 use Rattle.basis_values.proofs.Covered.{point_refused_later}
 use Rattle.bounded_primal.specs.Moves.{StepRefused, move_by}
 use Rattle.bounded_primal.specs.Stops.{primal_stop_of}

@@ -6,7 +6,7 @@ use crate::reaching::reach;
 use crate::slopes::slope_of;
 use crate::told::told_at;
 use crate::turns::{entering, returning, stuck};
-use bounded_primal::{PrimalStop, point_of, primal, prices_of};
+use bounded_primal::{PrimalStop, point_of, prices_of, primal};
 use frac128::Frac;
 use lp_model::{Basis, Lp, Outcome, ParaPart, Point, Rates, Stop};
 use parametric_run::{

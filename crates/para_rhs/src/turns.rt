@@ -94,7 +94,9 @@ pub fn returning<R: Rates>(
 {
     let to = limit_broken(is_lower(leaver.side));
     let Workspace {
-        point, direction, ..
+        point,
+        direction,
+        ..
     } = workspace;
     return_of(lp, basis, rates, point, direction, q, leaver.r, to)
 }

@@ -171,7 +171,9 @@ pub fn take_step_in<R: Rates>(
         (R.waypoints rates.new) }
 {
     let Workspace {
-        point, direction, ..
+        point,
+        direction,
+        ..
     } = workspace;
     take_step(lp, basis, rates, point, direction, q, by)
 }

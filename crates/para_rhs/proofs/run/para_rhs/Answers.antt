@@ -1,5 +1,4 @@
-use Rattle.std.proofs.Common.{rules, List, sym, subst, ◌∙◌}
-use Rattle.exact_values.specs.Rational.{ℚ}
+use Rattle.std.proofs.Common.{rules, sym, subst}
 use Rattle.lp_definitions.specs.LinearProgram.{IsLinearProgram}
 use Rattle.para_rhs.specs.Method.{FitsRhs}
 use Rattle.para_rhs.proofs.OpeningFacts.{rhs_parametric}

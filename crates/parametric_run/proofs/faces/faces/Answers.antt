@@ -74,7 +74,7 @@ returns-in_err-take-in-Moves-clause-waypoints g c =
     let before = g.R.Rates.waypoints c.args.rates.now in
     let turned = any_later m c.args.theta c.args.basis.now c.args.begun before c.turns.basis (g.R.Rates.waypoints c.turns.rates) c.turns.left c.turns.invariant.any (g.R.Rates.waypoints c.face_turn.new.rates) c.in_ok-face_turn.ensures.rates.1 in
     let stopped = any_later m c.args.theta c.args.basis.now c.args.begun before c.turns.basis (g.R.Rates.waypoints c.face_turn.new.rates) c.turns.left turned (g.R.Rates.waypoints c.take.new.rates)
-        (rw c.in_err-take-in-Moves.ensures.unchanged at c.in_err-take-in-Moves.ensures.waypoints) in
+    (rw c.in_err-take-in-Moves.ensures.unchanged at c.in_err-take-in-Moves.ensures.waypoints) in
     rw c.in_err-take-in-Moves.ensures.unchanged
     (any_follows m c.args.theta c.args.basis.now c.args.begun before c.turns.basis (g.R.Rates.waypoints c.take.new.rates) c.turns.left stopped c.turns.invariant.reach)
 
@@ -85,7 +85,7 @@ turns-preserved g c =
     let before = g.R.Rates.waypoints c.args.rates.now in
     let turned = any_later m c.args.theta c.args.basis.now c.args.begun before c.turns.basis (g.R.Rates.waypoints c.turns.rates) c.turns.left c.turns.invariant.any (g.R.Rates.waypoints c.face_turn.new.rates) c.in_ok-face_turn.ensures.rates.1 in
     let stepped = any_more m c.args.theta c.args.basis.now c.args.begun before c.turns.basis (g.R.Rates.waypoints c.face_turn.new.rates) c.turns.left turned c.take.new.basis (g.R.Rates.waypoints c.take.new.rates)
-        (move_by c.in-Moves.q c.in-Moves.by) c.turns.invariant.reach moves.moves moves.is_left c.in_ok-take-in-Moves.ensures.basis c.in_ok-take-in-Moves.ensures.waypoints in
+    (move_by c.in-Moves.q c.in-Moves.by) c.turns.invariant.reach moves.moves moves.is_left c.in_ok-take-in-Moves.ensures.basis c.in_ok-take-in-Moves.ensures.waypoints in
     record {
       rates = c.in_ok-refresh.ensures.rates.0;
       workspace = c.in_ok-refresh.ensures.workspace;
@@ -103,9 +103,9 @@ returns-in_err-refresh-clause-found g c =
     let before = g.R.Rates.waypoints c.args.rates.now in
     let turned = any_later m c.args.theta c.args.basis.now c.args.begun before c.turns.basis (g.R.Rates.waypoints c.turns.rates) c.turns.left c.turns.invariant.any (g.R.Rates.waypoints c.face_turn.new.rates) c.in_ok-face_turn.ensures.rates.1 in
     let stepped = any_more m c.args.theta c.args.basis.now c.args.begun before c.turns.basis (g.R.Rates.waypoints c.face_turn.new.rates) c.turns.left turned c.take.new.basis (g.R.Rates.waypoints c.take.new.rates)
-        (move_by c.in-Moves.q c.in-Moves.by) c.turns.invariant.reach moves.moves moves.is_left c.in_ok-take-in-Moves.ensures.basis c.in_ok-take-in-Moves.ensures.waypoints in
+    (move_by c.in-Moves.q c.in-Moves.by) c.turns.invariant.reach moves.moves moves.is_left c.in_ok-take-in-Moves.ensures.basis c.in_ok-take-in-Moves.ensures.waypoints in
     let reach = faces_more m c.args.theta c.args.basis.now c.args.begun c.turns.basis c.take.new.basis c.turns.left (move_by c.in-Moves.q c.in-Moves.by) c.turns.invariant.reach moves.moves moves.is_left
-        c.in_ok-take-in-Moves.ensures.basis in
+    c.in_ok-take-in-Moves.ensures.basis in
     rw (p.1, p.2)
     (any_stops m c.args.theta c.args.basis.now c.args.begun before c.take.new.basis (g.R.Rates.waypoints c.take.new.rates) (c.turns.left - 1) stepped reach (g.R.Rates.waypoints c.refresh.new.rates) _
     (refused_stops m c.args.theta c.take.new.basis (c.turns.left - 1) (g.R.Rates.waypoints c.take.new.rates) (g.R.Rates.waypoints c.refresh.new.rates) c.in_err-refresh.field-0.0 c.in_err-refresh.ensures.overflow))
@@ -117,8 +117,8 @@ returns-in_err-refresh-clause-waypoints g c =
     let before = g.R.Rates.waypoints c.args.rates.now in
     let turned = any_later m c.args.theta c.args.basis.now c.args.begun before c.turns.basis (g.R.Rates.waypoints c.turns.rates) c.turns.left c.turns.invariant.any (g.R.Rates.waypoints c.face_turn.new.rates) c.in_ok-face_turn.ensures.rates.1 in
     let stepped = any_more m c.args.theta c.args.basis.now c.args.begun before c.turns.basis (g.R.Rates.waypoints c.face_turn.new.rates) c.turns.left turned c.take.new.basis (g.R.Rates.waypoints c.take.new.rates)
-        (move_by c.in-Moves.q c.in-Moves.by) c.turns.invariant.reach moves.moves moves.is_left c.in_ok-take-in-Moves.ensures.basis c.in_ok-take-in-Moves.ensures.waypoints in
+    (move_by c.in-Moves.q c.in-Moves.by) c.turns.invariant.reach moves.moves moves.is_left c.in_ok-take-in-Moves.ensures.basis c.in_ok-take-in-Moves.ensures.waypoints in
     let reach = faces_more m c.args.theta c.args.basis.now c.args.begun c.turns.basis c.take.new.basis c.turns.left (move_by c.in-Moves.q c.in-Moves.by) c.turns.invariant.reach moves.moves moves.is_left
-        c.in_ok-take-in-Moves.ensures.basis in
+    c.in_ok-take-in-Moves.ensures.basis in
     let last = any_later m c.args.theta c.args.basis.now c.args.begun before c.take.new.basis (g.R.Rates.waypoints c.take.new.rates) (c.turns.left - 1) stepped (g.R.Rates.waypoints c.refresh.new.rates) c.in_err-refresh.ensures.rates.1 in
     any_follows m c.args.theta c.args.basis.now c.args.begun before c.take.new.basis (g.R.Rates.waypoints c.refresh.new.rates) (c.turns.left - 1) last reach

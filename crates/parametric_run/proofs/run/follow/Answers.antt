@@ -22,7 +22,7 @@ pub overflow_sub-limit : goal.overflow_sub-limit
 overflow_sub-limit g c =
     let at : IsNonsingularBasis (g.M.Parametric.problem c.args.method.now).program c.args.basis.now = record { is_basis = c.requires.rates.is_basis; nonsingular = c.requires.rates.nonsingular } in
     let within = opening_within (g.M.Parametric.problem c.args.method.now) c.requires.parametric c.args.span.now c.args.basis.now c.opening.new.basis at (g.R.Rates.waypoints c.args.rates.now) (g.R.Rates.waypoints c.opening.new.rates)
-        c.in_ok-outcome.outcome c.in_ok-outcome.ensures.ends c.in_ok-outcome.ensures.waypoints c.limit_of-limit.ensures.small c.in-Optimal.steps c.in-Optimal.point c.in-Optimal.prices c.in-Optimal.is in
+    c.in_ok-outcome.outcome c.in_ok-outcome.ensures.ends c.in_ok-outcome.ensures.waypoints c.limit_of-limit.ensures.small c.in-Optimal.steps c.in-Optimal.point c.in-Optimal.prices c.in-Optimal.is in
     let limit = c.limit_of-limit.ensures.limit in
     omega (arith, within, limit)
 
@@ -43,8 +43,8 @@ returns-in_err-chain-in-Optimal-clause-stops g c =
     let p = err_from_is_err_and c.from_residual-in_err-chain-in-Optimal.result c.from_residual-in_err-chain-in-Optimal.ensures.1 in
     let at : IsNonsingularBasis (g.M.Parametric.problem c.args.method.now).program c.args.basis.now = record { is_basis = c.requires.rates.is_basis; nonsingular = c.requires.rates.nonsingular } in
     let counts : c.in-Optimal.steps + (c.limit_of-limit.result - c.in-Optimal.steps) ≡ c.args.span.now.limit =
-        (let limit = c.limit_of-limit.ensures.limit in let within = opening_within (g.M.Parametric.problem c.args.method.now) c.requires.parametric c.args.span.now c.args.basis.now c.opening.new.basis at (g.R.Rates.waypoints c.args.rates.now) (g.R.Rates.waypoints c.opening.new.rates)
-        c.in_ok-outcome.outcome c.in_ok-outcome.ensures.ends c.in_ok-outcome.ensures.waypoints c.limit_of-limit.ensures.small c.in-Optimal.steps c.in-Optimal.point c.in-Optimal.prices c.in-Optimal.is in omega (arith, limit, within)) in
+    (let limit = c.limit_of-limit.ensures.limit in let within = opening_within (g.M.Parametric.problem c.args.method.now) c.requires.parametric c.args.span.now c.args.basis.now c.opening.new.basis at (g.R.Rates.waypoints c.args.rates.now) (g.R.Rates.waypoints c.opening.new.rates)
+    c.in_ok-outcome.outcome c.in_ok-outcome.ensures.ends c.in_ok-outcome.ensures.waypoints c.limit_of-limit.ensures.small c.in-Optimal.steps c.in-Optimal.point c.in-Optimal.prices c.in-Optimal.is in omega (arith, limit, within)) in
     rw (p.1, p.2)
     (chain_stops (g.M.Parametric.problem c.args.method.now) c.requires.parametric c.args.span.now c.args.basis.now c.chain.new.basis (g.R.Rates.waypoints c.args.rates.now) (g.R.Rates.waypoints c.chain.new.rates) _
     (c.in_err-chain-in-Optimal.ensures.stops c.args.basis.now (g.R.Rates.waypoints c.args.rates.now) c.in-Optimal.steps counts
@@ -55,8 +55,8 @@ pub returns-in_err-chain-in-Optimal-clause-waypoints : goal.returns-in_err-chain
 returns-in_err-chain-in-Optimal-clause-waypoints g c =
     let at : IsNonsingularBasis (g.M.Parametric.problem c.args.method.now).program c.args.basis.now = record { is_basis = c.requires.rates.is_basis; nonsingular = c.requires.rates.nonsingular } in
     let counts : c.in-Optimal.steps + (c.limit_of-limit.result - c.in-Optimal.steps) ≡ c.args.span.now.limit =
-        (let limit = c.limit_of-limit.ensures.limit in let within = opening_within (g.M.Parametric.problem c.args.method.now) c.requires.parametric c.args.span.now c.args.basis.now c.opening.new.basis at (g.R.Rates.waypoints c.args.rates.now) (g.R.Rates.waypoints c.opening.new.rates)
-        c.in_ok-outcome.outcome c.in_ok-outcome.ensures.ends c.in_ok-outcome.ensures.waypoints c.limit_of-limit.ensures.small c.in-Optimal.steps c.in-Optimal.point c.in-Optimal.prices c.in-Optimal.is in omega (arith, limit, within)) in
+    (let limit = c.limit_of-limit.ensures.limit in let within = opening_within (g.M.Parametric.problem c.args.method.now) c.requires.parametric c.args.span.now c.args.basis.now c.opening.new.basis at (g.R.Rates.waypoints c.args.rates.now) (g.R.Rates.waypoints c.opening.new.rates)
+    c.in_ok-outcome.outcome c.in_ok-outcome.ensures.ends c.in_ok-outcome.ensures.waypoints c.limit_of-limit.ensures.small c.in-Optimal.steps c.in-Optimal.point c.in-Optimal.prices c.in-Optimal.is in omega (arith, limit, within)) in
     c.in_err-chain-in-Optimal.ensures.waypoints c.args.basis.now (g.R.Rates.waypoints c.args.rates.now) c.in-Optimal.steps counts
     (first_opens (g.M.Parametric.problem c.args.method.now) c.requires.parametric c.args.span.now c.args.basis.now c.opening.new.basis at (g.R.Rates.waypoints c.args.rates.now) (g.R.Rates.waypoints c.opening.new.rates)
     c.in_ok-outcome.outcome c.in_ok-outcome.ensures.ends c.in_ok-outcome.ensures.waypoints c.limit_of-limit.ensures.small c.in-Optimal.steps c.in-Optimal.point c.in-Optimal.prices c.in-Optimal.is)
@@ -88,8 +88,8 @@ pub returns-in-Optimal-clause-waypoints : goal.returns-in-Optimal-clause-waypoin
 returns-in-Optimal-clause-waypoints g c =
     let at : IsNonsingularBasis (g.M.Parametric.problem c.args.method.now).program c.args.basis.now = record { is_basis = c.requires.rates.is_basis; nonsingular = c.requires.rates.nonsingular } in
     let counts : c.in-Optimal.steps + (c.limit_of-limit.result - c.in-Optimal.steps) ≡ c.args.span.now.limit =
-        (let limit = c.limit_of-limit.ensures.limit in let within = opening_within (g.M.Parametric.problem c.args.method.now) c.requires.parametric c.args.span.now c.args.basis.now c.opening.new.basis at (g.R.Rates.waypoints c.args.rates.now) (g.R.Rates.waypoints c.opening.new.rates)
-        c.in_ok-outcome.outcome c.in_ok-outcome.ensures.ends c.in_ok-outcome.ensures.waypoints c.limit_of-limit.ensures.small c.in-Optimal.steps c.in-Optimal.point c.in-Optimal.prices c.in-Optimal.is in omega (arith, limit, within)) in
+    (let limit = c.limit_of-limit.ensures.limit in let within = opening_within (g.M.Parametric.problem c.args.method.now) c.requires.parametric c.args.span.now c.args.basis.now c.opening.new.basis at (g.R.Rates.waypoints c.args.rates.now) (g.R.Rates.waypoints c.opening.new.rates)
+    c.in_ok-outcome.outcome c.in_ok-outcome.ensures.ends c.in_ok-outcome.ensures.waypoints c.limit_of-limit.ensures.small c.in-Optimal.steps c.in-Optimal.point c.in-Optimal.prices c.in-Optimal.is in omega (arith, limit, within)) in
     c.in_ok-chain-in-Optimal.ensures.waypoints c.args.basis.now (g.R.Rates.waypoints c.args.rates.now) c.in-Optimal.steps counts
     (first_opens (g.M.Parametric.problem c.args.method.now) c.requires.parametric c.args.span.now c.args.basis.now c.opening.new.basis at (g.R.Rates.waypoints c.args.rates.now) (g.R.Rates.waypoints c.opening.new.rates)
     c.in_ok-outcome.outcome c.in_ok-outcome.ensures.ends c.in_ok-outcome.ensures.waypoints c.limit_of-limit.ensures.small c.in-Optimal.steps c.in-Optimal.point c.in-Optimal.prices c.in-Optimal.is)

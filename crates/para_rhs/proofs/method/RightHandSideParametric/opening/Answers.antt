@@ -2,7 +2,6 @@ use Rattle.std.proofs.Common.{refl, sym, subst}
 use Rattle.std.proofs.lemmas.Result.{err_from_is_err_and}
 use Rattle.lp_definitions.specs.LinearProgram.{LinearProgram}
 use Rattle.basis_values.specs.Calls.{HasRates}
-use Rattle.bounded_primal.specs.Calls.{CallEnds, WaypointsFollow}
 use Rattle.bounded_primal.specs.Outcomes.{IsTrueOutcome}
 use Rattle.bounded_primal.specs.Stops.{PrimalStops}
 use Rattle.para_rhs.proofs.OpeningFacts.{to_first, from_first, opening_stops, no_opening}
