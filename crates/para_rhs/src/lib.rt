@@ -18,4 +18,3 @@ pub use limits::{Side, program_at};
 pub use parts::ParaRhs;
 pub use reaching::reach;
 pub use run::para_rhs;
-pub use slopes::slope_of;

@@ -3,7 +3,6 @@
 use crate::breaks::face_leaver;
 use crate::limits::program_at;
 use crate::reaching::reach;
-use crate::slopes::slope_of;
 use crate::told::told_at;
 use crate::turns::{entering, returning, stuck};
 use bounded_primal::{PrimalStop, point_of, prices_of, primal};
@@ -14,11 +13,13 @@ use parametric_run::{
 };
 use std::alloc::Global;
 
-/// A linear program, and the shift of each row: theta times its shift is added to the limits of the row.
+/// A linear program, and the shift of each row: theta times its shift is added to the limits of the row. `moving` is the program whose
+/// limits are the shifts.
 #[derive(Clone, Copy)]
 pub struct RightHandSide<'a> {
     pub lp: &'a Lp,
     pub shift: &'a [Frac],
+    pub moving: &'a Lp,
 }
 
 impl<'a> Parametric for RightHandSide<'a> {
@@ -26,7 +27,7 @@ impl<'a> Parametric for RightHandSide<'a> {
 
     ghost problem = { λ m. rhs_problem m.lp.now m.shift.now };
 
-    ghost fits = { λ m. FitsRhs m.lp.now m.shift.now };
+    ghost fits = { λ m. FitsRhs m.lp.now m.shift.now m.moving.now };
 
     fn program(&self) -> &Lp {
         self.lp
@@ -66,14 +67,7 @@ impl<'a> Parametric for RightHandSide<'a> {
         rates: &mut R,
         workspace: &mut Workspace,
     ) -> Result<(), Stop> {
-        slope_of(
-            alloc,
-            self.lp,
-            basis,
-            rates,
-            self.shift,
-            &mut workspace.change,
-        )?;
+        self.slope(alloc, basis, rates, &mut workspace.change)?;
         prices_of(alloc, self.lp, basis, rates, &mut workspace.prices)?;
         Ok(())
     }

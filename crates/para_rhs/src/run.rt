@@ -10,6 +10,7 @@ ghost use Rattle.para_rhs.specs.Runs.{RhsEnds, RhsStops, RhsFollows, RhsUnhinder
 
 use crate::method::RightHandSide;
 use crate::parts::ParaRhs;
+use crate::slopes::slope_program;
 use bounded_primal::PrimalStop;
 use lp_model::{Basis, Lp, ParaReport, Rates};
 use parametric_run::{Span, follow};
@@ -47,10 +48,12 @@ pub fn para_rhs<R: Rates>(
         RhsUnhindered lp.now run.now basis.old (R.waypoints rates.old) report path →
         IsRunOrMemory basis.old report path basis.new result }
 {
-    let _size = lp.number_of_variables();
+    let shift = run.shift.as_slice();
+    let moving = slope_program(alloc, lp, shift)?;
     let method = RightHandSide {
         lp,
-        shift: &run.shift,
+        shift,
+        moving: &moving,
     };
     let span = Span {
         from: run.from,
