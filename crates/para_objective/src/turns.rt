@@ -13,7 +13,7 @@ ghost use Rattle.parametric_run.specs.Standing.{AreSized};
 ghost use Rattle.para_objective.specs.Faces.{face_up, IsEndlessPast};
 
 use crate::choices::worth;
-use bounded_primal::{Stopper, stopper};
+use bounded_primal::{Stopper, counted, stopper};
 use frac128::Frac;
 use lp_model::{Basis, Direction, Lp, NoMemory, ParaEnd, Rates, Stop};
 use parametric_run::{Workspace, point_with};
@@ -43,8 +43,7 @@ fn speed(lp: &Lp, direction: &[Frac], up: bool, k: u32) -> Frac
     requires places { length direction.now ≡ size lp.now.matrix }
     ensures { result ≡ motion (value_at direction.now) up k }
 {
-    let rate = direction[k as usize - 1];
-    if up { rate } else { rate.neg() }
+    counted(direction[k as usize - 1], up)
 }
 
 /// The speeds of all variables.

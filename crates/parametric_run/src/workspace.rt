@@ -37,10 +37,10 @@ impl Workspace {
         let size = point.len();
         Ok(Workspace {
             point,
-            prices: room(alloc, size)?,
-            change: room(alloc, size)?,
-            row: room(alloc, size)?,
-            direction: room(alloc, size)?,
+            prices: zeroed(alloc, size)?,
+            change: zeroed(alloc, size)?,
+            row: zeroed(alloc, size)?,
+            direction: zeroed(alloc, size)?,
         })
     }
 
@@ -92,7 +92,7 @@ impl Workspace {
 }
 
 /// So many zeros.
-fn room(alloc: Global, size: usize) -> Result<Vec<Frac>, NoMemory>
+fn zeroed(alloc: Global, size: usize) -> Result<Vec<Frac>, NoMemory>
     ensures { IfOk result (λ values. values.items ≡ replicate size zero_ℚ) }
 {
     let values = vec![in alloc; Frac::whole(0); size].map_err(|_| NoMemory)?;
@@ -103,7 +103,7 @@ fn room(alloc: Global, size: usize) -> Result<Vec<Frac>, NoMemory>
 pub fn zeros(alloc: Global, lp: &Lp) -> Result<Vec<Frac>, NoMemory>
     ensures { IfOk result (λ values. values.items ≡ replicate (size lp.now.matrix) zero_ℚ) }
 {
-    room(alloc, lp.number_of_variables() as usize)
+    zeroed(alloc, lp.number_of_variables() as usize)
 }
 
 /// A copy.
