@@ -3,7 +3,8 @@ use Rattle.std.proofs.Common.{◌≡◌, ℕ, ◌+◌, ◌-◌, ◌≤◌, ◌<�
 use Rattle.job_devices.proofs.TextLemmas.{Appends-then, writes_then, writes_same, writes_nothing}
 use Rattle.job_devices.specs.declared.device.WriteStop.{WriteStop}
 use Rattle.job_devices.specs.declared.device.WriteStop.TheVariants.{Failed, NoMemory}
-use Rattle.job_devices.specs.Text.{IsPrefix, Writes}
+use Rattle.card_definitions.specs.Prefixes.{IsPrefix}
+use Rattle.job_devices.specs.Text.{Writes}
 use Rattle.card_definitions.specs.Cards.{numbered_cards}
 use Rattle.deck_definitions.specs.Decks.{decks_of}
 use Rattle.deck_definitions.specs.Written.{card_text}

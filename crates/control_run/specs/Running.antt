@@ -10,7 +10,8 @@ use Rattle.std.specs.Io.KnownBytes.{Appends}
 use Rattle.job_devices.specs.declared.device.WriteStop.{WriteStop}
 use Rattle.job_devices.specs.declared.device.WriteStop.TheVariants.{Failed, NoMemory}
 use Rattle.job_devices.specs.Causes.{Rose}
-use Rattle.job_devices.specs.Text.{IsPrefix, Writes}
+use Rattle.card_definitions.specs.Prefixes.{IsPrefix}
+use Rattle.job_devices.specs.Text.{Writes}
 use Rattle.card_definitions.specs.Cards.{Card, numbered_cards}
 use Rattle.deck_definitions.specs.Decks.{decks_of}
 use Rattle.deck_definitions.specs.Written.{card_text}

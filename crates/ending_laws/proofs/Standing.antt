@@ -5,7 +5,7 @@ use Rattle.listing_definitions.specs.Report.{Report}
 use Rattle.listing_definitions.specs.Ending.{Ending, Ended, WordsRefused, ControlStop, VerbStop, SingularStop, PriceStop, DeckStop, CardStop, LimitStop, StatementLimit, OverflowStop, ReadFault, PrintFault, PunchFault, Memory, status_of}
 use Rattle.listing_definitions.specs.Listing.{listing}
 use Rattle.question_definitions.specs.Solving.{Solving}
-use Rattle.job_devices.specs.Text.{IsPrefix}
+use Rattle.card_definitions.specs.Prefixes.{IsPrefix}
 use Rattle.run_definitions.specs.Answer as run
 use Rattle.run_definitions.specs.Answer.{Job, bytes_of, Failures, Gains, IsJobRun, MayEnd, IsAnswer, whole, print_fails, print_wants_memory}
 use Rattle.soundness_laws.specs.Headline.{IsTrueAnswer}

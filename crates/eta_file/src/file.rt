@@ -1,6 +1,6 @@
 //! The eta file.
 
-ghost use Rattle.std.specs.Prelude.{◌≡◌, ◌≢◌, ℕ, ◌+◌, ◌-◌, ◌*◌, ◌<◌, ◌≤◌, [], ◌∷◌, length, take, not, ◌&&◌, IfOk, IfSome, IfErr, OnOk, OnErr, slice_index_or};
+ghost use Rattle.std.specs.Prelude.{◌≡◌, ◌≢◌, ℕ, ◌+◌, ◌-◌, ◌*◌, ◌<◌, ◌≤◌, [], ◌∷◌, length, take, map, filter, All, not, IfOk, IfSome, IfErr, OnOk, OnErr, slice_index_or};
 ghost use Rattle.exact_values.specs.Rational.{zero_ℚ};
 ghost use Rattle.exact_values.specs.Tests.{eq_ℚ};
 ghost use Rattle.lp_definitions.specs.LinearProgram.{IsMatrix, IsVariable, IsColumn, column, size, value_at};
@@ -9,11 +9,12 @@ ghost use Rattle.lp_definitions.specs.Waypoints.{waypoint};
 ghost use Rattle.lp_definitions.specs.RatesEvidence.{ExchangeRefused};
 ghost use Rattle.lp_model.specs.RatesCalls.{HasPivot, ColumnOverflow, ExchangeOverflow};
 ghost use Rattle.eta_file.specs.Crossings.{NoneLater, LeftAt};
-ghost use Rattle.eta_file.specs.Prefixes.{Passed, is_entry, entries_to, IsLent, IsLentScaled, IsExchangeOf, basic_columns, after, entry_count};
+ghost use Rattle.eta_file.specs.Prefixes.{Passed, entry_of, entries_to, IsLent, IsLentScaled, IsExchangeOf, basic_columns, after, entry_count};
 ghost use Rattle.eta_file.specs.declared.eta.StoredEta.{StoredEta};
 ghost use Rattle.eta_file.specs.Inverse.{ways_of, IsAppended, IsDirectionAfter};
 ghost use Rattle.whole_vectors.specs.Quotients.{StandFor};
 
+use crate::basic_set::BasicSet;
 use crate::carry::{cross, fill_column, last_left, leave};
 use crate::eta::{Eta, EtaEntry, ScaledEta, StoredEta};
 use crate::steps::Steps;
@@ -36,7 +37,7 @@ pub struct EtaFile {
     rows: u32,
     cols: u32,
     columns: Rc<Vec<Vec<Entry>>, Global>,
-    marks: Vec<bool>,
+    basics: BasicSet,
     etas: Vec<StoredEta>,
     alloc: Global,
 }
@@ -64,31 +65,35 @@ fn row_marks(alloc: Global, lp: &Lp) -> Result<Vec<bool>, NoMemory>
     Ok(marks)
 }
 
-/// Whether the variable of a place has an entry: it is basic, and its rate is not 0. Most variables aren't basic, so the mark is looked
-/// at first.
-fn has_entry(marks: &[bool], direction: &[Frac], k: usize) -> bool
-    requires places { length direction.now ≡ length marks.now }
-    requires within { k < length marks.now }
-    ensures { result ≡ is_entry marks.now (value_at direction.now) (k + 1) }
-{
-    marks[k] && !direction[k].is_zero()
-}
-
-/// The numbers of a direction at the marked variables, where they are not 0.
-fn entries_at(alloc: Global, direction: &[Frac], marks: &[bool]) -> Result<Vec<EtaEntry>, NoMemory>
-    requires places { length direction.now ≡ length marks.now }
-    requires small { length marks.now < 4294967296 }
-    ensures { IfOk result (λ entries. entries.items ≡ entries_to marks.now (value_at direction.now)
-        (length marks.now)) }
+/// The numbers of a direction at the listed variables, where they are not 0.
+fn entries_of(alloc: Global, direction: &[Frac], listed: &[u32]) -> Result<Vec<EtaEntry>, NoMemory>
+    requires { All (λ k. (1 ≤ k) × (k ≤ length direction.now)) listed.now }
+    ensures { IfOk result (λ entries. entries.items ≡ map (entry_of (value_at direction.now))
+        (filter (λ k. not (eq_ℚ (value_at direction.now k) zero_ℚ)) listed.now)) }
 {
     let mut entries = Vec::new(alloc);
-    for k in 0..marks.len() {
-        if has_entry(marks, direction, k) {
-            let (i, rate) = (k as u32 + 1, direction[k]);
-            entries.push(EtaEntry { i, rate }).map_err(|_| NoMemory)?;
+    for k in listed {
+        let rate = direction[*k as usize - 1];
+        if !rate.is_zero() {
+            entries
+                .push(EtaEntry { i: *k, rate })
+                .map_err(|_| NoMemory)?;
         }
     }
     Ok(entries)
+}
+
+/// The numbers of a direction at the basics, where they are not 0.
+fn entries_at(
+    alloc: Global,
+    direction: &[Frac],
+    basics: &BasicSet,
+) -> Result<Vec<EtaEntry>, NoMemory>
+    requires { length direction.now ≡ length basics.now }
+    ensures { IfOk result (λ entries. entries.items ≡ entries_to basics.now (value_at direction.now)
+        (length basics.now)) }
+{
+    entries_of(alloc, direction, basics.listed())
 }
 
 impl EtaFile {
@@ -103,7 +108,7 @@ impl EtaFile {
             rows: lp.rows,
             cols: lp.cols,
             columns: Rc::new(alloc, lp.copied_columns(alloc)?).map_err(|_| NoMemory)?,
-            marks: row_marks(alloc, lp)?,
+            basics: BasicSet::new(alloc, row_marks(alloc, lp)?)?,
             etas: Vec::new(alloc),
             alloc,
         })
@@ -145,7 +150,7 @@ impl EtaFile {
             rows: self.rows,
             cols: self.cols,
             columns: self.columns.clone()?,
-            marks,
+            basics: BasicSet::new(self.alloc, marks)?,
             etas: Vec::new(self.alloc),
             alloc: self.alloc,
         })
@@ -156,7 +161,7 @@ impl EtaFile {
         requires { IsVariable self.now.matrix k }
         ensures { result ≡ is_in self.now.basics k }
     {
-        self.marks[k as usize - 1]
+        self.basics.has(k)
     }
 
     /// The numbers of column `j`, from 1, in the order of the deck.
@@ -374,7 +379,7 @@ impl EtaFile {
         if self.etas.len() >= MOST_ETAS {
             return Err(NoMemory);
         }
-        let entries = entries_at(self.alloc, direction, &self.marks)?;
+        let entries = entries_at(self.alloc, direction, &self.basics)?;
         let pivot = direction[p as usize - 1];
         let whole = whole_eta(self.alloc, pivot, &entries)?;
         let eta = StoredEta {
@@ -385,8 +390,7 @@ impl EtaFile {
             whole,
         };
         self.etas.push(eta).map_err(|_| NoMemory)?;
-        self.marks[q as usize - 1] = true;
-        self.marks[p as usize - 1] = false;
+        self.basics.exchange(p, q);
         Ok(())
     }
 
@@ -497,7 +501,7 @@ impl EtaFile {
         ensures { out.new ≡ waypoint self.now.basics (ways_of self.now) way }
     {
         if way == 0 {
-            out.copy_from_slice(&self.marks);
+            out.copy_from_slice(self.basics.marks());
             return;
         }
         self.mark_rows(out);

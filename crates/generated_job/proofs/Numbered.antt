@@ -5,7 +5,8 @@ use Rattle.std.specs.List.{flat_map}
 use Rattle.std.proofs.lemmas.List.{append-nil, map-append}
 use Rattle.std.proofs.lemmas.List.Concat.{flat_map-append}
 use Rattle.job_devices.specs.declared.device.WriteStop.{WriteStop}
-use Rattle.job_devices.specs.Text.{IsPrefix, Writes}
+use Rattle.card_definitions.specs.Prefixes.{IsPrefix}
+use Rattle.job_devices.specs.Text.{Writes}
 use Rattle.job_devices.proofs.TextLemmas.{writes_then, writes_more, writes_same}
 use Rattle.deck_definitions.specs.Written.{card_text}
 use Rattle.deck_definitions.specs.Transport.{up_to}

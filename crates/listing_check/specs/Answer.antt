@@ -4,7 +4,7 @@
 --     IsPrintCut bytes lines ..    a prefix of it stands
 --     IsCheckAnswer bytes lines .. what a call answers to a job and a listing, so far as its print tells what it gains
 use Rattle.std.specs.Prelude.{◌≡◌, ℕ, List, [], Option, codes}
-use Rattle.job_devices.specs.Text.{IsPrefix}
+use Rattle.card_definitions.specs.Prefixes.{IsPrefix}
 use Rattle.walk_definitions.specs.Walker.{Found}
 use Rattle.walk_definitions.specs.Found.{Answers, answer_text, answer_status}
 

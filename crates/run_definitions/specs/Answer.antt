@@ -16,7 +16,7 @@ use Rattle.control_definitions.specs.Program.{Program}
 use Rattle.control_definitions.specs.Compiled.{compiled}
 use Rattle.listing_definitions.specs.Report.{Report}
 use Rattle.listing_definitions.specs.Ending.{Ending, WordsRefused, ControlStop, CardStop, ReadFault, PrintFault, PunchFault, Memory, status_of}
-use Rattle.job_devices.specs.Text.{IsPrefix}
+use Rattle.card_definitions.specs.Prefixes.{IsPrefix}
 use Rattle.listing_definitions.specs.Listing.{ending_text, reports_text, listing}
 use Rattle.question_definitions.specs.Solving.{Solving}
 use Rattle.run_definitions.specs.State.{State}

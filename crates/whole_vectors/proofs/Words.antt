@@ -40,11 +40,27 @@ module _ (x c e : ℤ) (x_word : FitsSigned w64 x) (c_word : FitsSigned w64 c) (
       less : (a b : ℤ) → unsigned_abs a ≤ 2 ^ 63 → unsigned_abs b ≤ 2 ^ 63 * 2 ^ 63 → Fits (a -ℤ b)
       less a b h k = omega (arith, ints)
 
+  fitting : (z : ℤ) → Fits z → FitsSigned w128 z
+  fitting z h = omega (arith, ints)
+
   pub word_rest_wide : FitsSigned w128 (x -ℤ c *ℤ e)
-  word_rest_wide = at (x -ℤ c *ℤ e) word_rest_fits
+  word_rest_wide = fitting (x -ℤ c *ℤ e) word_rest_fits
+
+  pub word_total_is : read (to_z w64 (of_z w64 x)) +ℤ read (read (to_z w64 (of_z w64 c)) *ℤ read (to_z w64 (of_z w64 e))) ≡ x +ℤ c *ℤ e
+  word_total_is = ap₂ (λ a b. a +ℤ b) (word_twice x x_word) product_is
+
+  pub word_total_fits : Fits (x +ℤ c *ℤ e)
+  word_total_fits =
+      let bound : unsigned_abs c * unsigned_abs e ≤ 2 ^ 63 * 2 ^ 63 = mul-le (unsigned_abs c) (unsigned_abs e) (2 ^ 63) (2 ^ 63) (word_abs c c_word) (word_abs e e_word) in
+      let product : unsigned_abs (c *ℤ e) ≤ 2 ^ 63 * 2 ^ 63 = rw (unsigned_abs-mul c e) bound in
+      let first = word_abs x x_word in
+      more x (c *ℤ e) first product
     where
-      at : (z : ℤ) → Fits z → FitsSigned w128 z
-      at z h = omega (arith, ints)
+      more : (a b : ℤ) → unsigned_abs a ≤ 2 ^ 63 → unsigned_abs b ≤ 2 ^ 63 * 2 ^ 63 → Fits (a +ℤ b)
+      more a b h k = omega (arith, ints)
+
+  pub word_total_wide : FitsSigned w128 (x +ℤ c *ℤ e)
+  word_total_wide = fitting (x +ℤ c *ℤ e) word_total_fits
 
 -- a fraction over 1 is its numerator
 pub is_whole : (x : ℚ) → x.denominator ≡ 1 → whole x.numerator ≡ x
@@ -58,6 +74,9 @@ whole_rest x c e p q r =
   where
     minus : (a b : ℤ) → a -ℤ b ≡ a +ℤ neg_ℤ b
     minus a b = omega (arith, ints)
+
+pub whole_total : (x c e : ℤ) → whole (x +ℤ c *ℤ e) ≡ whole x +ℚ whole c *ℚ whole e
+whole_total x c e = whole-add x (c *ℤ e) ∙ ap (λ q. whole x +ℚ q) (whole-mul c e)
 
 pub is_one : (n : ℕ) → pos n ≡ pos 1 → n ≡ 1
 is_one n e = omega (arith, ints, e)

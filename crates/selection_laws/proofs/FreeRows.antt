@@ -3,7 +3,8 @@ use Rattle.std.proofs.Common.{◌≡◌, ℕ, ◌+◌, ◌<◌, Bool, true, fals
 use Rattle.std.specs.Prelude.{Option, Some, None, Ok, IfSome, nat_lt, option_map, unwrap_or, is_none, if◌then◌else◌}
 use Rattle.std.specs.List.{position_or_len}
 use Rattle.std.proofs.lemmas.List.{length-map}
-use Rattle.card_definitions.specs.Words.{◌⟹◌, first_fault, unless}
+use Rattle.std.proofs.lemmas.Option.{same_Some}
+use Rattle.card_definitions.specs.Words.{◌⟹◌, first_fault}
 use Rattle.lp_definitions.specs.LinearProgram.{LinearProgram, IsRow, HasNoLimits, IsLinearProgram}
 use Rattle.problem_definitions.specs.Kinds.{is_free_kind}
 use Rattle.problem_definitions.specs.Names.{Name, same, has_name, number_in}
@@ -14,8 +15,9 @@ use Rattle.selection_definitions.specs.declared.SelectionFault.{SelectionFault}
 use Rattle.selection_definitions.specs.declared.SelectionFault.TheVariants.{NoObjective, ObjectiveNotFree, NoRhsSet, NoRangeSet, NoBoundSet}
 use Rattle.selection_definitions.specs.Choice.{Choice, objective_of, is_not_free, misses_set, selection_fault}
 use Rattle.selection_definitions.specs.Selection.{matrix_of, program_of_choice, selected}
-use Rattle.lp_setup.specs.Changes.{free_row_number, IsFreeIn}
-use Rattle.lp_setup.proofs.Lawful.{program_is_lawful, number_there}
+use Rattle.selection_definitions.specs.Changes.{free_row_number, IsFreeIn}
+use Rattle.selection_laws.proofs.Lawful.{program_is_lawful, number_there}
+use Rattle.selection_laws.proofs.Selected.{is_chosen}
 
 -- ---- the row of a name
 
@@ -78,15 +80,6 @@ faultless_too problem choice name free none =
     none_again (is_none (objective_of problem.rows choice.objective)) (is_not_free problem.rows choice.objective) (is_none (objective_of problem.rows (Some name))) (is_not_free problem.rows (Some name)) sets
     none (is_there name problem.rows free) (ap not free)
 
--- what is selected has no fault, and is the linear program of the choice
-faultless : {A F : Type 0} (fault : Option F) (value lp : A) → unless fault value ≡ Ok lp → (fault ≡ None) × (value ≡ lp)
-faultless None value lp e = (refl, cc e)
-faultless (Some fault) value lp e = absurd (cc e)
-
-pub is_chosen : (problem : Problem ℕ) (choice : Choice) (lp : LinearProgram) → selected problem choice ≡ Ok lp → (selection_fault problem choice ≡ None) × (program_of_choice problem choice ≡ lp)
-unfolding selected
-is_chosen problem choice lp e = faultless (selection_fault problem choice) (program_of_choice problem choice) lp e
-
 -- what is selected with it has the same matrix and limits, and its objective row is without limits
 pub row_is_free : (problem : Problem ℕ) (choice : Choice) (lp : LinearProgram) (name : Name) → IsProblem problem → selected problem choice ≡ Ok lp → has_free_row problem.rows name ≡ true →
     IsRow lp.matrix (number_in (row_names problem) name) × HasNoLimits lp (number_in (row_names problem) name)
@@ -103,3 +96,11 @@ free_in problem name rows found is same e free =
     subst (λ (o : Option ℕ). IfSome o (IsFreeIn problem))
     (sym (free_found problem name rows found same e free ∙ ap (λ (b : Bool). if b then Some (number_in (row_names problem) name) else None) named))
     (λ choice lp ok. row_is_free problem choice lp name is ok named)
+
+-- the N row of a name, in each linear program that is selected
+pub row_is_free_in : (problem : Problem ℕ) (name : Name) (row : ℕ) → IsProblem problem → free_row_number problem name ≡ Some row → IsFreeIn problem row
+row_is_free_in problem name row is e = by (has_free_row problem.rows name) refl e
+  where
+    by : (free : Bool) → has_free_row problem.rows name ≡ free → (if free then Some (number_in (row_names problem) name) else None) ≡ Some row → IsFreeIn problem row
+    by true free e = subst (IsFreeIn problem) (same_Some (number_in (row_names problem) name) row e) (λ choice lp ok. row_is_free problem choice lp name is ok free)
+    by false free e = absurd (cc e)

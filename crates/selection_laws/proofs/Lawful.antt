@@ -22,9 +22,9 @@ use Rattle.problem_definitions.proofs.Each.{each-change, each-all, each-mapped, 
 use Rattle.selection_definitions.specs.Choice.{Choice, row_number, objective_of, rhs_items, set_items, is_not_free, selection_fault}
 use Rattle.selection_definitions.specs.Limits.{Limits, no_limits, value_on, row_limits, column_limits}
 use Rattle.selection_definitions.specs.Selection.{coefficients, matrix_of, program_of_choice}
-use Rattle.lp_setup.specs.Parts.{side_on, limits_with, program_with}
-use Rattle.lp_setup.proofs.Faults.{objective-passes}
-use Rattle.lp_setup.proofs.Distinct.{distinct-coefficients, each-coefficient}
+use Rattle.selection_definitions.specs.Programs.{side_on, limits_with, program_with}
+use Rattle.selection_laws.proofs.Faults.{objective-passes}
+use Rattle.selection_laws.proofs.Distinct.{distinct-coefficients, each-coefficient}
 
 -- ---- the objective row
 

@@ -1,20 +1,17 @@
--- Texts in places, and the names that stand in 8 of them.
-use Rattle.std.proofs.Common.{◌≡◌, ℕ, zero, suc, ◌+◌, ◌-◌, ◌≤◌, Bool, true, false, ◌&&◌, List, [], ◌∷◌, ◌++◌, length, take, drop, replicate, refl, ap, sym, ◌∙◌, arith, IsTrue, length-append, eqb}
+-- Texts in places: padded to their width, and found there again.
+use Rattle.std.proofs.Common.{◌≡◌, ℕ, zero, suc, ◌+◌, ◌-◌, ◌≤◌, Bool, true, false, ◌&&◌, List, [], ◌∷◌, ◌++◌, length, drop, replicate, refl, ap, sym, ◌∙◌, arith, length-append, eqb}
 use Rattle.std.specs.Prelude.{bytes_eq}
-use Rattle.std.specs.Hash as fed
 use Rattle.std.specs.List.{list_all, suffix_len}
 use Rattle.std.proofs.lemmas.Bool.{eqb-true}
 use Rattle.std.proofs.lemmas.Bool.Decides.{same_from_decides, Decides-like}
 use Rattle.std.proofs.lemmas.Slice.Eq.{bytes_eq-Decides}
-use Rattle.std.proofs.lemmas.List.{take-replicate, drop-replicate, length-replicate, length-take-le}
-use Rattle.std.proofs.lemmas.List.Folds.{list_all-append}
+use Rattle.std.proofs.lemmas.List.{drop-replicate, length-replicate, length-take-le}
 use Rattle.std.proofs.lemmas.List.Sums.{suffix_len-le-length}
-use Rattle.std.proofs.Math.Seq.{take-append-add, take-length}
+use Rattle.std.proofs.Math.Seq.{take-length}
 use Rattle.card_definitions.specs.Words.{without_trailing, padded}
-use Rattle.card_definitions.specs.Cards.{is_blank, is_printable}
+use Rattle.card_definitions.specs.Cards.{is_blank}
 use Rattle.card_definitions.proofs.Trailing.{trailing_split, without_trailing-append}
-use Rattle.problem_definitions.specs.Valid.{IsName}
-use Rattle.name_table.specs.Places.{text_in, ArePrintable}
+use Rattle.card_definitions.specs.Places.{text_in}
 
 all_blank : (ys : List ℕ) → list_all is_blank ys ≡ true → ys ≡ replicate (length ys) 32
 all_blank [] h = refl
@@ -25,7 +22,7 @@ all_blank (y ∷ ys) h = by (eqb y 32) refl h (all_blank ys)
     by false e rest more = cc rest
 
 -- blanks, and what passes of them
-blanks_pass : (p : ℕ → Bool) (n : ℕ) → p 32 ≡ true → list_all p (replicate n 32) ≡ true
+pub blanks_pass : (p : ℕ → Bool) (n : ℕ) → p 32 ≡ true → list_all p (replicate n 32) ≡ true
 blanks_pass p zero h = refl
 blanks_pass p (suc n) h = rw h (blanks_pass p n h)
 
@@ -59,32 +56,6 @@ module _ (width : ℕ) where
       same_from_decides (bytes_eq a b) (bytes_eq (text_in a) (text_in b)) (bytes_eq-Decides a b)
       (Decides-like (bytes_eq (text_in a) (text_in b)) (λ e. sym (padded-text_in a a_full) ∙ ap (padded width) e ∙ padded-text_in b b_full) (ap text_in) (bytes_eq-Decides (text_in a) (text_in b)))
 
--- A name's places hold it.
-pub name_in_places : (name : List ℕ) → IsName name → text_in (padded 8 name) ≡ name
-name_in_places name h = text_in-padded 8 name h.trimmed
-
-pub placed : (name : List ℕ) → IsName name → ArePrintable (padded 8 name)
-placed name h = record {
-  eight = length-padded 8 name h.short;
-  printable = list_all-append is_printable name (replicate (8 - length name) 32) ∙ rw h.printable (blanks_pass is_printable (8 - length name) refl);
-}
-
--- What stands in 8 printable places is a name.
-pub name_stands : (places : List ℕ) → ArePrintable places → IsName (text_in places)
-name_stands places h =
-    let split = trailing_split is_blank places in
-    let lengths : length (text_in places) + length split.0 ≡ 8 = sym (length-append (text_in places) split.0) ∙ ap length (sym split.2) ∙ h.eight in
-    record {
-      short = omega arith;
-      printable = first_pass (list_all is_printable (text_in places)) (list_all is_printable split.0)
-          (sym (list_all-append is_printable (text_in places) split.0) ∙ ap (list_all is_printable) (sym split.2) ∙ h.printable);
-      trimmed = sym (without_trailing-append is_blank (text_in places) split.0 split.1) ∙ ap text_in (sym split.2);
-    }
-  where
-    first_pass : (a b : Bool) → (a && b) ≡ true → a ≡ true
-    first_pass true b e = refl
-    first_pass false b e = cc e
-
 -- A text none of whose last bytes passes is trimmed, and the other way round.
 pub untrimmed : (p : ℕ → Bool) (xs : List ℕ) → (suffix_len p xs ≡ 0 → without_trailing p xs ≡ xs) × (without_trailing p xs ≡ xs → suffix_len p xs ≡ 0)
 untrimmed p xs = (
@@ -94,7 +65,3 @@ untrimmed p xs = (
       let same : length (without_trailing p xs) ≡ length xs = ap length e in
       omega arith,
 )
-
--- Equal names stand alike in their places.
-pub places_alike : (x y : List ℕ) → IsTrue (bytes_eq x y) → fed.slice fed.u8 (padded 8 x) ≡ fed.slice fed.u8 (padded 8 y)
-places_alike x y h = let same : x ≡ y = (bytes_eq-Decides x y).0 h in ap (λ name. fed.slice fed.u8 (padded 8 name)) same

@@ -8,7 +8,7 @@ use Rattle.problem_definitions.specs.Problem.{Problem, row_names, has_free_row, 
 use Rattle.problem_definitions.specs.Groups.{items_of}
 use Rattle.selection_definitions.specs.Choice.{Choice}
 use Rattle.selection_definitions.specs.Selection.{selected}
-use Rattle.lp_setup.specs.Parts.{side_on}
+use Rattle.selection_definitions.specs.Programs.{side_on}
 
 -- the number of the N row of this name, if there is one
 abbrev pub free_row_number : Problem ℕ → Name → Option ℕ
