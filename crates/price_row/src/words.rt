@@ -19,7 +19,7 @@ use crate::is_wanted_at;
 use eta_file::{EtaEntry, EtaFile};
 use frac128::Frac;
 use lp_model::{Entry, Wanted};
-use whole_vectors::{multiply_words, product, quotient, terms, word, word_fraction, word_sum};
+use whole_vectors::{multiply_words, product, terms, word, word_quotient, word_sum};
 
 /// The number at the variable `k`.
 #[inline(always)]
@@ -31,7 +31,7 @@ fn number_at(numbers: &[i64], k: u32) -> i64
     numbers[k as usize - 1]
 }
 
-/// The sum of the entries but that of `p`, each times the number there, begun with `first`.
+/// The sum of the entries but that of `p`, each times the number there, begun with `first`. Most of these numbers are 0.
 #[inline(always)]
 fn sum_of_entries(entries: &[EtaEntry], p: u32, first: i64, numbers: &[i64]) -> Option<i64>
     requires { All (IsEntryWithin (length numbers.now)) entries.now }
@@ -40,10 +40,11 @@ fn sum_of_entries(entries: &[EtaEntry], p: u32, first: i64, numbers: &[i64]) -> 
 {
     let mut sum = first;
     for entry in entries {
-        if entry.i != p {
-            let number = number_at(numbers, entry.i);
-            sum = word_sum(sum, number, entry.rate)?;
+        let number = number_at(numbers, entry.i);
+        if number == 0 || entry.i == p {
+            continue;
         }
+        sum = word_sum(sum, number, entry.rate)?;
     }
     Some(sum)
 }
@@ -90,7 +91,7 @@ fn back_words(
         out[eta.p as usize - 1] = 0;
         return Some(denominator);
     }
-    let ratio = quotient(word_fraction(sum), whole.pivot)?;
+    let ratio = word_quotient(sum, whole.pivot)?;
     let (number, by) = terms(ratio);
     multiply_words(out, by)?;
     let made = word(number.neg())?;
@@ -149,11 +150,11 @@ fn rate_in_words(
         return Some(Frac::whole(0));
     }
     if place < rows {
-        let number = word_fraction(number_at(out, place + 1));
-        return quotient(number.neg(), denominator);
+        let multiplier = word_quotient(number_at(out, place + 1), denominator)?;
+        return Some(multiplier.neg());
     }
     let sum = sum_of_column(file.numbers(place + 1 - rows), out)?;
-    quotient(word_fraction(sum), denominator)
+    word_quotient(sum, denominator)
 }
 
 /// Fills in the rates from the numbers of the multipliers of the rows, up to the first that is wanted.

@@ -12,7 +12,7 @@ mod word_vectors;
 
 use divisors::gcd;
 use frac128::Frac;
-pub use word_vectors::{multiply_words, word, word_fraction, word_sum};
+pub use word_vectors::{multiply_words, word, word_fraction, word_quotient, word_sum};
 
 /// A denominator of this size or more is reduced.
 const LARGE: u128 = 1 << 50;

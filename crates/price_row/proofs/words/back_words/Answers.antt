@@ -22,8 +22,8 @@ sum_of_entries-requires c =
     whole_within c.args.file.now c.size-size.ensures.passed c.args.place c.requires.within c.eta-eta.result.p c.eta-eta.result.q c.eta-eta.result.entries.now c.eta-eta.ensures.lent
     c.in-Some.whole.scale c.in-Some.whole.pivot c.in-Some.whole.entries.now c.in-Some.ensures (length c.args.out.now) c.requires.places
 
-pub quotient-requires : goal.quotient-requires
-quotient-requires c =
+pub word_quotient-requires : goal.word_quotient-requires
+word_quotient-requires c =
     whole_pivot_apart c.args.file.now c.size-size.ensures.passed c.args.place c.requires.within c.eta-eta.result.p c.eta-eta.result.q c.eta-eta.result.entries.now c.eta-eta.ensures.lent
     c.in-Some.whole.scale c.in-Some.whole.pivot c.in-Some.whole.entries.now c.in-Some.ensures
 
@@ -60,7 +60,7 @@ returns c =
     (whole c.in_ok-first.first) (whole c.in_ok-sum.sum) c.in_ok-ratio.ratio
     (c.in_ok-first.ensures ∙ ap (λ x. zero_ℚ +ℚ x *ℚ c.in-Some.whole.scale) (ap whole (to_z-of_z w64 c.number_at-lead.result (search rules)) ∙ c.number_at-lead.ensures)
     ∙ zero-add (value_at (wholes c.args.out.now) c.eta-eta.result.q *ℚ c.in-Some.whole.scale)) total
-    (c.in_ok-ratio.ensures ∙ ap (λ x. x /ℚ c.in-Some.whole.pivot) (c.word_fraction.ensures ∙ ap whole (to_z-of_z w64 c.in_ok-sum.sum (search rules))))
+    (c.in_ok-ratio.ensures ∙ ap (λ x. whole x /ℚ c.in-Some.whole.pivot) (to_z-of_z w64 c.in_ok-sum.sum (search rules)))
     c.terms-number.result.1 c.terms-number.result.0 v (wholes c.multiply_words.new.numbers) written c.terms-number.ensures.apart c.terms-number.ensures.product is_v
     c.in_ok-multiply_words.ensures same_length
     (map-set whole c.multiply_words.new.numbers (c.eta-eta.result.p - 1) c.in_ok-made.made ∙ ap (set (wholes c.multiply_words.new.numbers) (c.eta-eta.result.p - 1)) (c.in_ok-made.ensures ∙ c.neg.ensures)))
