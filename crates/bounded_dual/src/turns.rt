@@ -18,7 +18,7 @@ use lp_model::{Outcome, Rates, SparseVector};
 use std::alloc::Global;
 
 /// Brings the basic `r` back to the limit that it broke, at the least loss, or answers why nothing does. `row` takes the rates of `r`,
-/// and `direction` is room.
+/// and `direction` is a workspace.
 fn bring_back<R: Rates>(
     alloc: Global,
     at: &Position<'_>,
@@ -90,9 +90,8 @@ fn optimal<R: Rates>(
     Ok(Turn::Ends(best(alloc, point, prices, at.steps)?))
 }
 
-/// What the dual path does at the basis, where `broken` is the least-numbered basic outside its limits. The values of `point` that are
-/// `kept` are those of the basis, and so are those of the variables with a limit in any case; `prices` are the basis's. `row` takes the
-/// rates of what leaves, and `direction` those of what enters.
+/// What the dual path does where it stands; `prices` are the basis's. `row` takes the rates of what leaves, and `direction` those of what
+/// enters.
 pub fn next_turn<R: Rates>(
     alloc: Global,
     at: &Position<'_>,

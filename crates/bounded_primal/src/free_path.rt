@@ -17,7 +17,7 @@ ghost use Rattle.bounded_primal.specs.Turns.{IsUncrossed, least_outside, FreeTur
 
 use crate::kept::Kept;
 use crate::moves::PrimalStop;
-use crate::path::{outside_after, room};
+use crate::path::{outside_after, workspace};
 use crate::position::Position;
 use crate::step::step_over;
 use crate::turns::{Turn, next_turn};
@@ -40,8 +40,8 @@ fn unlimited(stop: PrimalStop) -> Stop
     }
 }
 
-/// What the path does at the basis, where `broken` is the least-numbered basic outside its limits, and a step is always left. `point`,
-/// `kept` and `wanted` are those of `next_turn`; `row` and `direction` are room.
+/// What the path does where it stands, with one step left, so that a limit is never reached. `wanted` is that of `next_turn`; `row` and
+/// `direction` are workspaces.
 fn free_turn<R: Rates>(
     alloc: Global,
     at: &Position<'_>,
@@ -74,7 +74,7 @@ fn free_turn<R: Rates>(
 }
 
 /// Makes the basis's point, and goes from basis to basis with it, or with the values that steps need, until the path ends. `wanted`
-/// has the signs of the rates that let a nonbasic lower a quantity; `point`, `row` and `direction` are room.
+/// has the signs of the rates that let a nonbasic lower a quantity; `point`, `row` and `direction` are workspaces.
 /// The ledger of `blank` counts the steps for the proof that this comes to an end, since no basis comes twice; it takes no bytes.
 fn walk_free<R: Rates, L: Ledger>(
     alloc: Global,
@@ -159,8 +159,8 @@ pub fn primal_free<R: Rates>(
     if let Some(k) = crossed(lp) {
         return Ok(Outcome::Crossed { k });
     }
-    let mut point = room(alloc, size)?;
-    let mut row = room(alloc, size)?;
+    let mut point = workspace(alloc, size)?;
+    let mut row = workspace(alloc, size)?;
     let mut direction = SparseVector::zeros(alloc, size)?;
     let mut wanted = wants_of(alloc, lp, basis)?;
     walk_free::<R, Brand>(

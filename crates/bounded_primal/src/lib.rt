@@ -19,7 +19,7 @@ pub use free_path::primal_free;
 pub use kept::Kept;
 pub use moves::{PrimalStop, Stopper};
 pub use moving::Moving;
-pub use path::{primal, room};
+pub use path::{primal, workspace};
 pub use position::Position;
 pub use step::{returning, step_over, take_step};
 pub use stopping::stopper;

@@ -23,9 +23,9 @@ use frac128::Frac;
 use lp_model::{Basis, Lp, NoMemory, Outcome, Rates, SparseVector, Wanted};
 use std::alloc::Global;
 
-/// Room for so many values.
-pub fn room(alloc: Global, size: usize) -> Result<Vec<Frac>, NoMemory>
-    ensures { IfOk result (λ room. vec_len room ≡ size) }
+/// A workspace of so many numbers.
+pub fn workspace(alloc: Global, size: usize) -> Result<Vec<Frac>, NoMemory>
+    ensures { IfOk result (λ made. vec_len made ≡ size) }
 {
     vec![in alloc; Frac::whole(0); size].map_err(|_| NoMemory)
 }
@@ -44,7 +44,7 @@ pub fn outside_after(lp: &Lp, basis: &Basis, point: &[Frac], broken: Option<u32>
 }
 
 /// Makes the basis's point, and goes from basis to basis with it, or with the values that steps need, where another is refused.
-/// `wanted` has the signs of the rates that let a nonbasic lower a quantity; `point`, `row` and `direction` are room.
+/// `wanted` has the signs of the rates that let a nonbasic lower a quantity; `point`, `row` and `direction` are workspaces.
 fn walk<R: Rates>(
     alloc: Global,
     lp: &Lp,
@@ -127,8 +127,8 @@ pub fn primal<R: Rates>(
     if let Some(k) = crossed(lp) {
         return Ok(Outcome::Crossed { k });
     }
-    let mut point = room(alloc, size)?;
-    let mut row = room(alloc, size)?;
+    let mut point = workspace(alloc, size)?;
+    let mut row = workspace(alloc, size)?;
     let mut direction = SparseVector::zeros(alloc, size)?;
     let mut wanted = wants_of(alloc, lp, basis)?;
     walk(

@@ -4,8 +4,9 @@ use crate::kept::Kept;
 use frac128::Frac;
 use lp_model::{Basis, Lp};
 
-/// Where a path stands: its linear program and its basis, the values of the basis's point, of which those that are `kept` are right, the
-/// least-numbered basic outside its limits, how many steps are made, and how many more may be.
+/// Where a path stands: its linear program and its basis, the least-numbered basic outside its limits, which is `broken`, how many steps
+/// are made, and how many more may be. The values of `point` that are `kept` are those of the basis's point, and so are those of the
+/// variables with a limit in any case.
 #[derive(Clone, Copy)]
 pub struct Position<'a> {
     pub lp: &'a Lp,

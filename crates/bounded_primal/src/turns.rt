@@ -349,7 +349,7 @@ pub enum Turn {
 }
 
 /// The first phase: brings the basic `r` back to the limit that it broke, or answers why nothing does. `row` and `direction` are
-/// room.
+/// workspaces.
 fn first_phase<R: Rates>(
     alloc: Global,
     at: &Position<'_>,
@@ -451,8 +451,7 @@ fn endless(
     })
 }
 
-/// Moves `q` up or down until something stops it, or answers that nothing does. `point` and `kept` are those of `next_turn`;
-/// `direction` is room.
+/// Moves `q` up or down until something stops it, or answers that nothing does. `direction` is a workspace.
 fn run<R: Rates>(
     alloc: Global,
     at: &Position<'_>,
@@ -492,7 +491,7 @@ fn run<R: Rates>(
 }
 
 /// The second phase: moves the least-numbered variable that betters the objective, or answers that none does or that nothing stops
-/// it. `point` and `kept` are those of `next_turn`; `row` and `direction` are room.
+/// it. `row` and `direction` are workspaces.
 fn second_phase<R: Rates>(
     alloc: Global,
     at: &Position<'_>,
@@ -526,9 +525,8 @@ fn second_phase<R: Rates>(
     }
 }
 
-/// What the path does at the basis, where `broken` is the least-numbered basic outside its limits. The values of `point` that are
-/// `kept` are those of the basis, and so are those of the variables with a limit in any case. `wanted` has the signs of the rates
-/// that let a nonbasic lower a quantity. `row` and `direction` are room.
+/// What the path does where it stands. `wanted` has the signs of the rates that let a nonbasic lower a quantity. `row` and `direction`
+/// are workspaces.
 pub fn next_turn<R: Rates>(
     alloc: Global,
     at: &Position<'_>,
