@@ -19,7 +19,7 @@ ghost use Rattle.bounded_dual.specs.Stops.{DualEnds, DualStops, IsNotUnbounded};
 use crate::moves::DualStop;
 use crate::turns::next_turn;
 use basis_values::{crossed, fill_prices, outside, point_of, wrong_price};
-use bounded_primal::{Kept, Turn, room, step_over};
+use bounded_primal::{Kept, Position, Turn, room, step_over};
 use dual_step::prices_over;
 use frac128::Frac;
 use lp_model::{Basis, Lp, Outcome, Rates, SparseVector, Stop};
@@ -87,20 +87,16 @@ fn walk<R: Rates>(
     let mut kept = Kept::AllSoFar;
     let mut steps = 0;
     loop {
-        match next_turn(
-            alloc,
+        let at = Position {
             lp,
             basis,
-            rates,
             point,
             kept,
-            prices,
-            row,
-            direction,
             broken,
             steps,
-            limit - steps,
-        )? {
+            left: limit - steps,
+        };
+        match next_turn(alloc, &at, rates, prices, row, direction)? {
             Turn::Ends(outcome) => return Ok(outcome),
             Turn::Moves { q, by } => {
                 let carried = prices_over(prices, row, by.p, q);

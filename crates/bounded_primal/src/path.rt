@@ -15,6 +15,7 @@ ghost use Rattle.termination_laws.specs.Laws.{lists_of};
 
 use crate::kept::Kept;
 use crate::moves::PrimalStop;
+use crate::position::Position;
 use crate::step::step_over;
 use crate::turns::{Turn, next_turn};
 use basis_values::{crossed, outside, point_of, renew_wants, wants_of};
@@ -74,20 +75,16 @@ fn walk<R: Rates>(
     let mut kept = Kept::AllSoFar;
     let mut steps = 0;
     loop {
-        match next_turn(
-            alloc,
+        let at = Position {
             lp,
             basis,
-            rates,
             point,
             kept,
-            wanted,
-            row,
-            direction,
             broken,
             steps,
-            limit - steps,
-        )? {
+            left: limit - steps,
+        };
+        match next_turn(alloc, &at, rates, wanted, row, direction)? {
             Turn::Ends(outcome) => return Ok(outcome),
             Turn::Moves { q, by } => {
                 kept = step_over(lp, basis, rates, point, direction, q, &by, kept)?;

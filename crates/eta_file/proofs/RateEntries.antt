@@ -163,7 +163,7 @@ zero_test false x tells told = sym (eq_fails_from_apart x zero_ℚ (λ none. cla
 abbrev pub has_number : Vector → ℕ → Bool
 has_number d k = not (eq_ℚ (d k) zero_ℚ)
 
-filter_both : (p q : ℕ → Bool) (ks : List ℕ) → filter q (filter p ks) ≡ filter (λ k. p k && q k) ks
+pub filter_both : (p q : ℕ → Bool) (ks : List ℕ) → filter q (filter p ks) ≡ filter (λ k. p k && q k) ks
 filter_both p q [] = refl
 filter_both p q (k ∷ ks) = at (p k) (filter_both p q ks)
   where
@@ -195,3 +195,25 @@ module _ (d : Vector) (ks : List ℕ) (n : ℕ) (below : n < length ks) (so_far 
   pub entry_else : (x : ℚ) (none : Bool) → x ≡ d variable → none ≡ eq_ℚ x zero_ℚ → none ≡ true → so_far ≡ map (entry_of d) (filter (has_number d) (take (n + 1) ks))
   entry_else x none at_x tested no_number =
       sym (next_listed ∙ ap (λ t. so_far ++ map (entry_of d) (cond (not t) (variable ∷ []) [])) (ap (λ v. eq_ℚ v zero_ℚ) (sym at_x) ∙ sym tested ∙ no_number) ∙ append-nil so_far)
+
+-- the same of a list without one variable
+module _ (d : Vector) (q : ℕ) (ks : List ℕ) (n : ℕ) (below : n < length ks) (so_far : List EtaEntry) (is : so_far ≡ map (entry_of d) (filter (λ k. not (nat_eq k q)) (take n ks))) where
+  abbrev next : ℕ
+  next = get_or ks n 0
+
+  next_other : map (entry_of d) (filter (λ k. not (nat_eq k q)) (take (n + 1) ks)) ≡ so_far ++ map (entry_of d) (cond (not (nat_eq next q)) (next ∷ []) [])
+  next_other =
+      ap (map (entry_of d)) (filter_more (λ k. not (nat_eq k q)) ks n 0 below)
+      ∙ map-append (entry_of d) (filter (λ k. not (nat_eq k q)) (take n ks)) (cond (not (nat_eq next q)) (next ∷ []) [])
+      ∙ ap (λ xs. xs ++ map (entry_of d) (cond (not (nat_eq next q)) (next ∷ []) [])) (sym is)
+
+  pub other_then : (x : ℚ) → x ≡ d next → next ≢ q → so_far ++ (record { i = next; rate = x } ∷ []) ≡ map (entry_of d) (filter (λ k. not (nat_eq k q)) (take (n + 1) ks))
+  other_then x at_x apart =
+      let other : nat_eq next q ≡ false = grind (arith, apart) in
+      ap (λ (v : ℚ). so_far ++ (record { i = next; rate = v } ∷ [])) at_x
+      ∙ sym (next_other ∙ ap (λ t. so_far ++ map (entry_of d) (cond (not t) (next ∷ []) [])) other)
+
+  pub other_else : next ≡ q → so_far ≡ map (entry_of d) (filter (λ k. not (nat_eq k q)) (take (n + 1) ks))
+  other_else same =
+      let own : nat_eq next q ≡ true = grind (arith, same) in
+      sym (next_other ∙ ap (λ t. so_far ++ map (entry_of d) (cond (not t) (next ∷ []) [])) own ∙ append-nil so_far)

@@ -1,6 +1,6 @@
 //! The eta file.
 
-ghost use Rattle.std.specs.Prelude.{◌≡◌, ◌≢◌, ℕ, ◌+◌, ◌-◌, ◌*◌, ◌<◌, ◌≤◌, [], ◌∷◌, length, take, map, filter, All, not, IfOk, IfSome, IfErr, OnOk, OnErr, slice_index_or};
+ghost use Rattle.std.specs.Prelude.{◌≡◌, ◌≢◌, ℕ, ◌+◌, ◌-◌, ◌*◌, ◌<◌, ◌≤◌, [], ◌∷◌, length, take, map, filter, All, nat_eq, not, IfOk, IfSome, IfErr, OnOk, OnErr, slice_index_or};
 ghost use Rattle.exact_values.specs.Rational.{zero_ℚ};
 ghost use Rattle.exact_values.specs.Tests.{eq_ℚ};
 ghost use Rattle.lp_definitions.specs.LinearProgram.{IsMatrix, IsVariable, IsColumn, column, size, value_at};
@@ -8,19 +8,19 @@ ghost use Rattle.lp_definitions.specs.Basis.{is_in, IsBasic, IsNonbasic, IsNonsi
 ghost use Rattle.lp_definitions.specs.Waypoints.{waypoint};
 ghost use Rattle.lp_definitions.specs.RatesEvidence.{ExchangeRefused};
 ghost use Rattle.lp_model.specs.RatesCalls.{HasPivot, ColumnOverflow, ExchangeOverflow};
-ghost use Rattle.eta_file.specs.Crossings.{NoneLater, LeftAt};
+ghost use Rattle.eta_file.specs.Crossings.{AreZero, NoneLater, LeftAt};
 ghost use Rattle.eta_file.specs.Prefixes.{Passed, entry_of, entries_to, IsLent, IsLentScaled, IsExchangeOf, basic_columns, after, entry_count};
 ghost use Rattle.eta_file.specs.declared.eta.StoredEta.{StoredEta};
-ghost use Rattle.eta_file.specs.Inverse.{ways_of, IsAppended, IsDirectionAfter};
+ghost use Rattle.eta_file.specs.Inverse.{ways_of, IsAppended, IsNextEta, IsDirectionAfter};
 ghost use Rattle.whole_vectors.specs.Quotients.{StandFor};
 
-use crate::basic_set::BasicSet;
-use crate::carry::{cross, fill_column, last_left, leave};
+use crate::basic_set::{BasicSet, place_of};
+use crate::carry::{clear, cross, fill_column, last_left, leave};
 use crate::eta::{Eta, EtaEntry, ScaledEta, StoredEta};
 use crate::steps::Steps;
 use crate::whole::{begin_whole, cross_whole, leave_whole, whole_eta};
 use frac128::Frac;
-use lp_model::{Entry, Evidence, Lp, NoMemory, Stop};
+use lp_model::{Entry, Evidence, Lp, NoMemory, SparseVector, Stop};
 use std::alloc::Global;
 use std::marker::{Brand, Model};
 use std::rc::Rc;
@@ -94,6 +94,29 @@ fn entries_at(
         (length basics.now)) }
 {
     entries_of(alloc, direction, basics.listed())
+}
+
+/// The numbers of a direction at the listed variables but `q`.
+fn entries_but(
+    alloc: Global,
+    direction: &[Frac],
+    listed: &[u32],
+    q: u32,
+) -> Result<Vec<EtaEntry>, NoMemory>
+    requires { All (λ k. (1 ≤ k) × (k ≤ length direction.now)) listed.now }
+    ensures { IfOk result (λ entries. entries.items ≡ map (entry_of (value_at direction.now))
+        (filter (λ k. not (nat_eq k q)) listed.now)) }
+{
+    let mut entries = Vec::with_capacity(alloc, listed.len())?;
+    for k in listed {
+        if *k != q {
+            let rate = direction[*k as usize - 1];
+            entries
+                .push(EtaEntry { i: *k, rate })
+                .map_err(|_| NoMemory)?;
+        }
+    }
+    Ok(entries)
 }
 
 impl EtaFile {
@@ -294,13 +317,14 @@ impl EtaFile {
         self.carry(j, out, &mut steps)
     }
 
-    /// The same as `begin`, over the denominator that is given. It gives up where a number doesn't fit.
+    /// The same as `begin`, over the denominator that is given, where `out` is all 0. It gives up where a number doesn't fit.
     fn begin_at(&self, first: usize, j: u32, out: &mut [Frac]) -> Option<Frac>
         requires nonbasic { IsNonbasic self.now.matrix self.now.basics j }
         requires places { length out.old ≡ size self.now.matrix }
         requires within { first ≤ length self.now.etas }
         requires none_later { NoneLater self.now.etas j first }
         requires left { LeftAt self.now.etas j first }
+        requires zero { AreZero out.old }
         ensures { IfSome result (λ d. StandFor (IsDirectionAfter self.now first j) d out.new) }
     {
         if first == 0 {
@@ -333,10 +357,12 @@ impl EtaFile {
         cross_whole(eta, denominator, out)
     }
 
-    /// Fills `out` with the direction of the nonbasic `j`, carried in numbers over one denominator. It gives up where one doesn't fit.
+    /// Fills `out`, which is all 0, with the direction of the nonbasic `j`, carried in numbers over one denominator. It gives up where
+    /// one doesn't fit.
     fn carried_whole(&self, j: u32, out: &mut [Frac]) -> Option<()>
         requires nonbasic { IsNonbasic self.now.matrix self.now.basics j }
         requires places { length out.old ≡ size self.now.matrix }
+        requires zero { AreZero out.old }
         ensures { IfSome result (λ _. IsDirectionOf self.now.matrix self.now.basics j
             (value_at out.new)) }
     {
@@ -348,10 +374,11 @@ impl EtaFile {
         divide(out, denominator)
     }
 
-    /// Fills `out` with the direction of the nonbasic `j`, and counts nothing.
-    pub fn column(&self, j: u32, out: &mut [Frac]) -> Result<(), Stop>
+    /// Fills `out`, which is all 0, with the direction of the nonbasic `j`, and counts nothing.
+    fn column_in(&self, j: u32, out: &mut [Frac]) -> Result<(), Stop>
         requires nonbasic { IsNonbasic self.now.matrix self.now.basics j }
         requires places { length out.old ≡ size self.now.matrix }
+        requires zero { AreZero out.old }
         ensures direction { OnOk result (IsDirectionOf self.now.matrix self.now.basics j
             (value_at out.new)) }
         ensures overflow { ColumnOverflow result self.now.matrix self.now.basics (ways_of self.now)
@@ -362,6 +389,59 @@ impl EtaFile {
             return Ok(());
         }
         self.carry_by::<Brand>(j, out, Blank::new(1))
+    }
+
+    /// The same, whatever `out` has.
+    pub fn column(&self, j: u32, out: &mut [Frac]) -> Result<(), Stop>
+        requires nonbasic { IsNonbasic self.now.matrix self.now.basics j }
+        requires places { length out.old ≡ size self.now.matrix }
+        ensures direction { OnOk result (IsDirectionOf self.now.matrix self.now.basics j
+            (value_at out.new)) }
+        ensures overflow { ColumnOverflow result self.now.matrix self.now.basics (ways_of self.now)
+            (ways_of self.now) }
+        ensures never { IfErr result (λ stop. stop ≢ Stop.NoMemory) }
+    {
+        clear(out);
+        self.column_in(j, out)
+    }
+
+    /// Puts the direction of the nonbasic `j` in where there are no numbers.
+    fn put_direction(
+        &self,
+        j: u32,
+        values: Vec<Frac>,
+        out: &mut SparseVector,
+    ) -> Result<(), NoMemory>
+        requires nonbasic { IsNonbasic self.now.matrix self.now.basics j }
+        requires places { length values.items ≡ size self.now.matrix }
+        requires direction { IsDirectionOf self.now.matrix self.now.basics j
+            (value_at values.items) }
+        requires none { out.old ≡ [] }
+        ensures { OnOk result (out.new ≡ values.items) }
+    {
+        let listed = self.basics.listed();
+        let (before, after) = listed.split_at(place_of(listed, j));
+        out.put_around(values, before, j, after)
+    }
+
+    /// Makes `out` the direction of the nonbasic `j`, and counts nothing. Only the places of numbers that aren't 0 are looked at.
+    pub fn direction(&self, j: u32, out: &mut SparseVector) -> Result<(), Stop>
+        requires nonbasic { IsNonbasic self.now.matrix self.now.basics j }
+        requires places { length out.old ≡ size self.now.matrix }
+        ensures direction { OnOk result (IsDirectionOf self.now.matrix self.now.basics j
+            (value_at out.new)) }
+        ensures places { OnOk result (length out.new ≡ size self.now.matrix) }
+        ensures overflow { ColumnOverflow result self.now.matrix self.now.basics (ways_of self.now)
+            (ways_of self.now) }
+    {
+        let mut values = out.take();
+        match self.column_in(j, &mut values) {
+            Ok(()) => match self.put_direction(j, values, out) {
+                Ok(()) => Ok(()),
+                Err(_refused) => Err(Stop::NoMemory),
+            },
+            Err(stop) => Err(stop),
+        }
     }
 
     /// Makes the nonbasic `q` basic in place of `p`, where this is the direction of q, and it is not 0 at p.
@@ -376,11 +456,43 @@ impl EtaFile {
         ensures err { OnErr result (self.new ≡ self.old) }
     {
         let _size = self.size();
+        let entries = entries_at(self.alloc, direction, &self.basics)?;
+        self.append_entries(p, q, direction[p as usize - 1], entries)
+    }
+
+    /// The same, of a direction with the list of its numbers that are not 0.
+    pub fn append_along(&mut self, p: u32, q: u32, direction: &SparseVector) -> Result<(), NoMemory>
+        requires leaves { IsBasic self.old.matrix self.old.basics p }
+        requires enters { IsNonbasic self.old.matrix self.old.basics q }
+        requires places { length direction.now ≡ size self.old.matrix }
+        requires direction { IsDirectionOf self.old.matrix self.old.basics q
+            (value_at direction.now) }
+        requires pivot { value_at direction.now p ≢ zero_ℚ }
+        ensures ok { OnOk result (IsAppended self.old p q self.new) }
+        ensures err { OnErr result (self.new ≡ self.old) }
+    {
+        let _size = self.size();
+        let values = direction.values();
+        let entries = entries_but(self.alloc, values, direction.nonzero(), q)?;
+        self.append_entries(p, q, values[p as usize - 1], entries)
+    }
+
+    /// The same, with the pivot and the entries of the new eta.
+    fn append_entries(
+        &mut self,
+        p: u32,
+        q: u32,
+        pivot: Frac,
+        entries: Vec<EtaEntry>,
+    ) -> Result<(), NoMemory>
+        requires { IsNextEta self.old p q pivot entries.items }
+        ensures ok { OnOk result (IsAppended self.old p q self.new) }
+        ensures err { OnErr result (self.new ≡ self.old) }
+    {
+        let _size = self.size();
         if self.etas.len() >= MOST_ETAS {
             return Err(NoMemory);
         }
-        let entries = entries_at(self.alloc, direction, &self.basics)?;
-        let pivot = direction[p as usize - 1];
         let whole = whole_eta(self.alloc, pivot, &entries)?;
         let eta = StoredEta {
             p,

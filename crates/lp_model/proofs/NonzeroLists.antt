@@ -1,5 +1,5 @@
 -- Lists of the variables whose numbers aren't 0.
-use Rattle.std.proofs.Common.{◌≡◌, ◌≢◌, ◌∙◌, sym, ap, subst, ℕ, zero, suc, ◌+◌, ◌-◌, ◌<◌, ◌≤◌, Bool, true, false, not, List, [], ◌∷◌, ◌++◌, length, drop, filter, get_or, replicate, slice_index_or, slice_set, ◌⊎◌, inl, inr, ◌↔◌, refl, add-one, IsTrue, cond, arith}
+use Rattle.std.proofs.Common.{◌≡◌, ◌≢◌, ◌∙◌, sym, ap, subst, ℕ, zero, suc, ◌+◌, ◌-◌, ◌<◌, ◌≤◌, Bool, true, false, not, List, [], ◌∷◌, ◌++◌, length, drop, filter, get_or, replicate, slice_index_or, slice_set, ◌⊎◌, inl, inr, ◌↔◌, refl, add-one, IsTrue, cond, arith, All}
 use Rattle.std.proofs.lemmas.Bool.{cases_lt}
 use Rattle.std.proofs.lemmas.List.{get_or_past, get_or-set_other, get_or-set_same, drop_all, append_assoc, append-nil}
 use Rattle.std.proofs.lemmas.List.Elements.{filter-append}
@@ -200,3 +200,12 @@ pub candidates_within : (xs : List ℚ) (n : ℕ) (ks : List ℕ) → 1 ≤ n �
 candidates_within xs n [] low (no_more_listed zeros) k d below = absurd (omega (arith, below))
 candidates_within xs n (j ∷ ks) low (next_listed h rest) zero d below = (omega (arith, low, h.from), h.within)
 candidates_within xs n (j ∷ ks) low (next_listed h rest) (suc k) d below = candidates_within xs (suc j) ks (omega arith) rest k d (omega (arith, below))
+
+-- what holds of two lists and one number between them
+pub all_around : (P : ℕ → Type 0) (before after : List ℕ) (k : ℕ) → All P (before ++ k ∷ after) → P k × All P after
+all_around P [] after k h = (h zero k (omega arith), λ i d below. h (suc i) d (omega (arith, below)))
+all_around P (b ∷ bs) after k h = all_around P bs after k (λ i d below. h (suc i) d (omega (arith, below)))
+
+pub all_one : (P : ℕ → Type 0) (k : ℕ) → P k → All P (k ∷ [])
+all_one P k h zero d below = h
+all_one P k h (suc i) d below = absurd (omega (arith, below))

@@ -1,6 +1,6 @@
 //! Vectors most of whose numbers are 0.
 
-ghost use Rattle.std.specs.Prelude.{◌≡◌, ◌≢◌, ◌≤◌, ◌++◌, ◌^◌, ◌<◌, [], ℕ, All, filter, length, replicate, IfOk, OnOk, OnErr, not};
+ghost use Rattle.std.specs.Prelude.{◌≡◌, ◌≢◌, ◌≤◌, ◌++◌, ◌∷◌, ◌^◌, ◌<◌, [], ℕ, All, filter, length, replicate, IfOk, OnOk, OnErr, not};
 ghost use Rattle.exact_values.specs.Rational.{zero_ℚ};
 ghost use Rattle.exact_values.specs.Tests.{eq_ℚ};
 ghost use Rattle.lp_definitions.specs.LinearProgram.{value_at, numbers_from};
@@ -56,6 +56,23 @@ fn keep_nonzero(values: &[Frac], candidates: &[u32], kept: &mut Vec<u32>) -> Res
         }
     }
     Ok(())
+}
+
+/// Adds those of two lists, and of one variable between them, whose numbers aren't 0.
+fn keep_around(
+    values: &[Frac],
+    before: &[u32],
+    k: u32,
+    after: &[u32],
+    kept: &mut Vec<u32>,
+) -> Result<(), NoMemory>
+    requires { All (λ k. (1 ≤ k) × (k ≤ length values.now)) (before.now ++ k ∷ after.now) }
+    ensures { OnOk result (kept.new.items ≡ kept.old.items ++ filter
+        (λ k. not (eq_ℚ (value_at values.now k) zero_ℚ)) (before.now ++ k ∷ after.now)) }
+{
+    keep_nonzero(values, before, kept)?;
+    keep_nonzero(values, &[k], kept)?;
+    keep_nonzero(values, after, kept)
 }
 
 /// Adds all variables whose numbers aren't 0.
@@ -129,6 +146,32 @@ impl SparseVector {
     {
         self.nonzero.clear();
         match keep_nonzero(&values, candidates, &mut self.nonzero) {
+            Ok(()) => {
+                self.values = values;
+                Ok(())
+            }
+            Err(refused) => {
+                self.nonzero.clear();
+                Err(refused)
+            }
+        }
+    }
+
+    /// The same, where the candidates are two lists and one variable between them.
+    pub fn put_around(
+        &mut self,
+        values: Vec<Frac>,
+        before: &[u32],
+        k: u32,
+        after: &[u32],
+    ) -> Result<(), NoMemory>
+        requires none { self.old ≡ [] }
+        requires covered { CoverNonzero values.items (before.now ++ k ∷ after.now) }
+        ensures values { OnOk result (self.new ≡ values.items) }
+        ensures none { OnErr result (self.new ≡ []) }
+    {
+        self.nonzero.clear();
+        match keep_around(&values, before, k, after, &mut self.nonzero) {
             Ok(()) => {
                 self.values = values;
                 Ok(())

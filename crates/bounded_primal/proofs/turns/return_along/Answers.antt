@@ -10,7 +10,7 @@ pub returns-in_err-direction-clause-overflow : goal.returns-in_err-direction-cla
 returns-in_err-direction-clause-overflow g c =
     let is_err : c.from_residual.result ≡ Err c.in_err-direction.field-0.0 = search rules in
     rw is_err (IfOverflow-map c.in_err-direction.field-0.0 (λ e h. by_column h)
-    (column_refused c.args.lp.now c.args.basis.now (g.R.Rates.matrix c.args.rates.now) (g.R.Rates.basics c.args.rates.now) (g.R.Rates.basics c.direction.new.self) (g.R.Rates.waypoints c.args.rates.now) (g.R.Rates.waypoints c.direction.new.self) c.in_err-direction.field-0.0
+    (column_refused c.args.at.now.lp.now c.args.at.now.basis.now (g.R.Rates.matrix c.args.rates.now) (g.R.Rates.basics c.args.rates.now) (g.R.Rates.basics c.direction.new.self) (g.R.Rates.waypoints c.args.rates.now) (g.R.Rates.waypoints c.direction.new.self) c.in_err-direction.field-0.0
     c.requires.rates c.direction.ensures.same_basics c.direction.ensures.waypoints c.in_err-direction.ensures.overflow))
 
 pub returning-requires-clause-moves : goal.returning-requires-clause-moves

@@ -1,8 +1,0 @@
--- The program that is written out is lawful, by the test that computes.
-use Rattle.std.proofs.Common.{refl}
-use Rattle.lp_definitions.proofs.Lawful.{tested}
-use Rattle.engine_tests.proofs.tests.testprob.Goals as goal
-
-pub invariant_of-result : goal.invariant_of-result
-invariant_of-result c =
-    rw (c.in_ok-lower.ensures.items, c.in_ok-upper.ensures.items, c.in_ok-rhs.ensures.items, c.in_ok-columns.ensures.items, c.in_ok-x.ensures.items, c.in_ok-y.ensures.items, c.in_ok-z.ensures.items) (tested _ refl)

@@ -1,8 +1,0 @@
--- The program that is written out is lawful, by the test that computes.
-use Rattle.std.proofs.Common.{refl}
-use Rattle.lp_definitions.proofs.Lawful.{tested}
-use Rattle.model_tests.proofs.models.one.Goals as goal
-
-pub invariant_of-result : goal.invariant_of-result
-invariant_of-result c =
-    rw (c.in_ok-lower.ensures.items, c.in_ok-upper.ensures.items, c.in_ok-rhs.ensures.items, c.in_ok-vec.ensures.items, c.in_ok-ones.ensures.items) (tested _ refl)

@@ -1,7 +1,0 @@
--- The last value isn't less than the first.
-use Rattle.std.proofs.Common.{sym, ◌∙◌}
-use Rattle.parametric_tests.proofs.tests.ran.Goals as goal
-use Rattle.exact_values.proofs.Tests_laws.{le_from_lt_fails}
-
-pub para_obj-requires-clause-forward : goal.para_obj-requires-clause-forward
-para_obj-requires-clause-forward c = le_from_lt_fails c.whole-last.result c.whole-zero.result (sym c.is_less.ensures ∙ c.if-is_less.false)
