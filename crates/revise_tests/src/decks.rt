@@ -2,7 +2,7 @@ use card_reader::{Cards, read_job};
 use deck_fields::{DeckFault, DeckFaultKind, DeckStop};
 use job_devices::SureSource;
 use mps_convert::convert;
-use problem_file::{Problem, RowDecl};
+use problem_file::{BoundSet, ColumnDecl, DeckEntry, Problem, RowDecl, ValueSet};
 use revise_deck::revise;
 use std::alloc::Global;
 use std::test::Fail;
@@ -64,46 +64,56 @@ pub fn fault_of(alloc: Global, edits: &[u8]) -> Result<Option<(u32, DeckFaultKin
 // What a problem says, shortly: a line each for the rows, the columns, the right-hand sides, the ranges and the bounds.
 pub fn text_of(alloc: Global, problem: &Problem) -> Result<Vec<u8>, Fail> {
     let mut text = Vec::new(alloc);
-    for row in problem.rows() {
+    put_rows(&mut text, problem.rows())?;
+    text.push(b'/')?;
+    put_columns(&mut text, problem.columns())?;
+    text.push(b'/')?;
+    put_sets(&mut text, problem.rhs())?;
+    text.push(b'/')?;
+    put_sets(&mut text, problem.ranges())?;
+    text.push(b'/')?;
+    put_bounds(&mut text, problem.bounds())?;
+    Ok(text)
+}
+
+fn put_rows(text: &mut Vec<u8>, rows: &[RowDecl]) -> Result<(), Fail> {
+    for row in rows {
         text.extend_from_slice(row.name.bytes())?;
-        put_parts(&mut text, row)?;
+        put_parts(text, row)?;
         text.push(b' ')?;
     }
-    text.push(b'/')?;
-    for column in problem.columns() {
+    Ok(())
+}
+
+fn put_columns(text: &mut Vec<u8>, columns: &[ColumnDecl]) -> Result<(), Fail> {
+    for column in columns {
         text.extend_from_slice(column.name.bytes())?;
-        for entry in &column.entries {
-            text.push(b' ')?;
-            text.push(digit(entry.row))?;
-            text.push(b':')?;
-            text.extend_from_slice(entry.value.text())?;
-        }
-        text.push(b';')?;
+        put_entries(text, &column.entries)?;
     }
-    text.push(b'/')?;
-    for set in problem.rhs() {
+    Ok(())
+}
+
+fn put_sets(text: &mut Vec<u8>, sets: &[ValueSet]) -> Result<(), Fail> {
+    for set in sets {
         text.extend_from_slice(set.name.bytes())?;
-        for item in &set.items {
-            text.push(b' ')?;
-            text.push(digit(item.row))?;
-            text.push(b':')?;
-            text.extend_from_slice(item.value.text())?;
-        }
-        text.push(b';')?;
+        put_entries(text, &set.items)?;
     }
-    text.push(b'/')?;
-    for set in problem.ranges() {
-        text.extend_from_slice(set.name.bytes())?;
-        for item in &set.items {
-            text.push(b' ')?;
-            text.push(digit(item.row))?;
-            text.push(b':')?;
-            text.extend_from_slice(item.value.text())?;
-        }
-        text.push(b';')?;
+    Ok(())
+}
+
+fn put_entries(text: &mut Vec<u8>, entries: &[DeckEntry]) -> Result<(), Fail> {
+    for entry in entries {
+        text.push(b' ')?;
+        text.push(digit(entry.row))?;
+        text.push(b':')?;
+        text.extend_from_slice(entry.value.text())?;
     }
-    text.push(b'/')?;
-    for set in problem.bounds() {
+    text.push(b';')?;
+    Ok(())
+}
+
+fn put_bounds(text: &mut Vec<u8>, sets: &[BoundSet]) -> Result<(), Fail> {
+    for set in sets {
         text.extend_from_slice(set.name.bytes())?;
         for bound in &set.items {
             text.push(b' ')?;
@@ -111,7 +121,7 @@ pub fn text_of(alloc: Global, problem: &Problem) -> Result<Vec<u8>, Fail> {
         }
         text.push(b';')?;
     }
-    Ok(text)
+    Ok(())
 }
 
 // The parts of a row, if it is a combination.
