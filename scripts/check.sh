@@ -36,7 +36,7 @@ if command -v git >/dev/null && git rev-parse --git-dir >/dev/null 2>&1; then
 fi
 
 # README.md is short, and the edits that must fail are few.
-most_lines=100 most_edits=220
+most_lines=100 most_edits=80
 lines=$(wc -l <README.md)
 [ "$lines" -le "$most_lines" ] || fail "README.md has $lines lines, more than $most_lines"
 edits=$(find crates -path '*/must-fail/*.edit' | wc -l)

@@ -22,7 +22,7 @@ use basis_values::{crossed, fill_prices, outside, point_of, wrong_price};
 use bounded_primal::{Kept, Turn, room, step_over};
 use dual_step::prices_over;
 use frac128::Frac;
-use lp_model::{Basis, Lp, Outcome, Rates, Stop};
+use lp_model::{Basis, Lp, Outcome, Rates, SparseVector, Stop};
 use std::alloc::Global;
 
 /// The prices of the basis, which are at hand where they were `carried` there, and are made anew where an operation was refused on the
@@ -62,7 +62,7 @@ fn walk<R: Rates>(
     point: &mut [Frac],
     prices: &mut [Frac],
     row: &mut [Frac],
-    direction: &mut [Frac],
+    direction: &mut SparseVector,
     limit: u32,
 ) -> Result<Outcome, DualStop>
     requires lawful { IsLinearProgram lp.now }
@@ -105,7 +105,7 @@ fn walk<R: Rates>(
             Turn::Moves { q, by } => {
                 let carried = prices_over(prices, row, by.p, q);
                 kept = step_over(lp, basis, rates, point, direction, q, &by, kept)?;
-                kept_prices(lp, basis, rates, direction, prices, carried)?;
+                kept_prices(lp, basis, rates, row, prices, carried)?;
             }
         }
         broken = outside(lp, basis, point);
@@ -155,7 +155,7 @@ pub fn dual<R: Rates>(
         return Ok(Outcome::Crossed { k });
     }
     let mut point = room(alloc, size)?;
-    let mut direction = room(alloc, size)?;
+    let mut direction = SparseVector::zeros(alloc, size)?;
     walk(
         alloc,
         lp,

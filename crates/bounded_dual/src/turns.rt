@@ -1,6 +1,6 @@
 //! What the dual path does at a basis: it ends there, or a basic comes back to the limit that it broke.
 
-ghost use Rattle.std.specs.Prelude.{◌≡◌, ℕ, None, Some, length, IsTrue};
+ghost use Rattle.std.specs.Prelude.{◌≡◌, ℕ, None, Some, length, OnOk, IsTrue};
 ghost use Rattle.exact_values.specs.Rational.{ℚ};
 ghost use Rattle.lp_definitions.specs.LinearProgram.{size, value_at, IsLinearProgram};
 ghost use Rattle.lp_definitions.specs.Basis.{ArePricesOf, IsPointOf};
@@ -11,10 +11,10 @@ ghost use Rattle.bounded_dual.specs.Turns.{DualTurnFound};
 
 use crate::moves::DualStop;
 use basis_values::lies_below;
-use bounded_primal::{Kept, Turn, best, limit_broken, ray_of, return_of, whole_point};
+use bounded_primal::{Kept, Turn, best, limit_broken, ray_of, return_along, whole_point};
 use dual_step::{cheapest, read_row};
 use frac128::Frac;
-use lp_model::{Basis, Lp, Outcome, Rates};
+use lp_model::{Basis, Lp, Outcome, Rates, SparseVector};
 use std::alloc::Global;
 
 /// Brings the basic `r` back to the limit that it broke, at the least loss, or answers why nothing does. `row` takes the rates of `r`,
@@ -27,7 +27,7 @@ fn bring_back<R: Rates>(
     point: &[Frac],
     prices: &[Frac],
     row: &mut [Frac],
-    direction: &mut [Frac],
+    direction: &mut SparseVector,
     r: u32,
     steps: u32,
     left: u32,
@@ -45,6 +45,7 @@ fn bring_back<R: Rates>(
     requires outside { least_outside lp.now basis.now (value_at point.now) ≡ Some r }
     ensures turn { DualTurnFound result lp.now basis.now steps left (value_at direction.new)
         (value_at row.new) (R.waypoints rates.old) (R.waypoints rates.new) }
+    ensures direction_places { OnOk result (length direction.new ≡ size lp.now.matrix) }
     ensures rates { KeepsRates (R.matrix rates.new) (R.basics rates.new) lp.now basis.now
         (R.waypoints rates.old) (R.waypoints rates.new) }
 {
@@ -61,7 +62,7 @@ fn bring_back<R: Rates>(
     if left == 0 {
         return Err(DualStop::Limit);
     }
-    let by = return_of(
+    let by = return_along(
         lp,
         basis,
         rates,
@@ -116,7 +117,7 @@ pub fn next_turn<R: Rates>(
     kept: Kept,
     prices: &[Frac],
     row: &mut [Frac],
-    direction: &mut [Frac],
+    direction: &mut SparseVector,
     broken: Option<u32>,
     steps: u32,
     left: u32,
@@ -135,6 +136,7 @@ pub fn next_turn<R: Rates>(
     requires broken { broken ≡ least_outside lp.now basis.now (value_at point.now) }
     ensures turn { DualTurnFound result lp.now basis.now steps left (value_at direction.new)
         (value_at row.new) (R.waypoints rates.old) (R.waypoints rates.new) }
+    ensures direction_places { OnOk result (length direction.new ≡ size lp.now.matrix) }
     ensures rates { KeepsRates (R.matrix rates.new) (R.basics rates.new) lp.now basis.now
         (R.waypoints rates.old) (R.waypoints rates.new) }
 {

@@ -1,6 +1,6 @@
 //! The path of the bounded simplex method without a limit of steps.
 
-ghost use Rattle.std.specs.Prelude.{◌≡◌, ◌≢◌, ◌<◌, List, length, IfOk, IfErr, IsTrue};
+ghost use Rattle.std.specs.Prelude.{◌≡◌, ◌≢◌, ◌<◌, List, length, OnOk, IfOk, IfErr, IsTrue};
 ghost use Rattle.lp_definitions.specs.LinearProgram.{size, value_at, IsLinearProgram};
 ghost use Rattle.lp_definitions.specs.Basis.{IsPointOf};
 ghost use Rattle.lp_definitions.specs.declared.Status.{Status};
@@ -22,7 +22,7 @@ use crate::step::step_over;
 use crate::turns::{Turn, next_turn};
 use basis_values::{crossed, outside, point_of, renew_wants, wants_of};
 use frac128::Frac;
-use lp_model::{Basis, Lp, Outcome, Rates, Stop, Wanted};
+use lp_model::{Basis, Lp, Outcome, Rates, SparseVector, Stop, Wanted};
 use std::alloc::Global;
 use std::marker::Brand;
 use std::sync::ledger::{Blank, Ledger};
@@ -50,7 +50,7 @@ fn free_turn<R: Rates>(
     kept: Kept,
     wanted: &[Wanted],
     row: &mut [Frac],
-    direction: &mut [Frac],
+    direction: &mut SparseVector,
     broken: Option<u32>,
     steps: u32,
 ) -> Result<Turn, Stop>
@@ -66,6 +66,7 @@ fn free_turn<R: Rates>(
     requires broken { broken ≡ least_outside lp.now basis.now (value_at point.now) }
     ensures turn { FreeTurnFound result lp.now basis.now steps (value_at direction.new)
         (R.waypoints rates.old) (R.waypoints rates.new) }
+    ensures direction_places { OnOk result (length direction.new ≡ size lp.now.matrix) }
     ensures rates { KeepsRates (R.matrix rates.new) (R.basics rates.new) lp.now basis.now
         (R.waypoints rates.old) (R.waypoints rates.new) }
 {
@@ -88,7 +89,7 @@ fn walk_free<R: Rates, L: Ledger>(
     point: &mut [Frac],
     wanted: &mut [Wanted],
     row: &mut [Frac],
-    direction: &mut [Frac],
+    direction: &mut SparseVector,
     blank: Blank,
 ) -> Result<Outcome, Stop>
     requires name { blank.name ≡ L.name }
@@ -158,7 +159,7 @@ pub fn primal_free<R: Rates>(
     }
     let mut point = room(alloc, size)?;
     let mut row = room(alloc, size)?;
-    let mut direction = room(alloc, size)?;
+    let mut direction = SparseVector::zeros(alloc, size)?;
     let mut wanted = wants_of(alloc, lp, basis)?;
     walk_free::<R, Brand>(
         alloc,

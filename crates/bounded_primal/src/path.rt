@@ -19,7 +19,7 @@ use crate::step::step_over;
 use crate::turns::{Turn, next_turn};
 use basis_values::{crossed, outside, point_of, renew_wants, wants_of};
 use frac128::Frac;
-use lp_model::{Basis, Lp, NoMemory, Outcome, Rates, Wanted};
+use lp_model::{Basis, Lp, NoMemory, Outcome, Rates, SparseVector, Wanted};
 use std::alloc::Global;
 
 /// Room for so many values.
@@ -52,7 +52,7 @@ fn walk<R: Rates>(
     point: &mut [Frac],
     wanted: &mut [Wanted],
     row: &mut [Frac],
-    direction: &mut [Frac],
+    direction: &mut SparseVector,
     limit: u32,
 ) -> Result<Outcome, PrimalStop>
     requires lawful { IsLinearProgram lp.now }
@@ -132,7 +132,7 @@ pub fn primal<R: Rates>(
     }
     let mut point = room(alloc, size)?;
     let mut row = room(alloc, size)?;
-    let mut direction = room(alloc, size)?;
+    let mut direction = SparseVector::zeros(alloc, size)?;
     let mut wanted = wants_of(alloc, lp, basis)?;
     walk(
         alloc,

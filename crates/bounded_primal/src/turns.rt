@@ -17,14 +17,14 @@ ghost use Rattle.bounded_primal.specs.Turns.{IsUncrossed, least_outside, ray_fro
 
 use crate::kept::Kept;
 use crate::moves::{PrimalStop, Stopper};
+use crate::moving::Moving;
 use crate::step::returning;
 use crate::stopping::stopper_from;
-use basis_values::{
-    counted, fill_prices, is_less, is_minimized, lies_below, point_of, wrong_price,
-};
+use basis_values::{counted, is_less, is_minimized, lies_below, point_of, prices_of, wrong_price};
 use frac128::Frac;
 use lp_model::{
-    Basis, Direction, Lp, NoMemory, Outcome, Point, Prices, Rates, Ray, Status, Stop, Wanted,
+    Basis, Direction, Lp, NoMemory, Outcome, Point, Prices, Rates, Ray, SparseVector, Status, Stop,
+    Wanted,
 };
 use std::alloc::Global;
 
@@ -166,13 +166,51 @@ pub fn return_of<R: Rates>(
     }
 }
 
+/// The same, with the list of what moves.
+pub fn return_along<R: Rates>(
+    lp: &Lp,
+    basis: &Basis,
+    rates: &mut R,
+    point: &[Frac],
+    direction: &mut SparseVector,
+    q: u32,
+    p: u32,
+    to: Status,
+) -> Result<Stopper, Stop>
+    requires rates { HasRates (R.matrix rates.old) (R.basics rates.old) lp.now basis.now }
+    requires point_places { length point.now ≡ size lp.now.matrix }
+    requires direction_places { length direction.old ≡ size lp.now.matrix }
+    requires nonbasic { IsNonbasic lp.now.matrix (basics_of basis.now) q }
+    requires basic { IsBasic lp.now.matrix (basics_of basis.now) p }
+    requires limit { IsSome (limit_numbered lp.now p (number_of_limit to)) }
+    requires pivot { (d : ℕ → ℚ) → IsDirectionOf lp.now.matrix (basics_of basis.now) q d →
+        d p ≢ zero_ℚ }
+    ensures direction { OnOk result (IsDirectionOf lp.now.matrix (basics_of basis.now) q
+        (value_at direction.new)) }
+    ensures stopper { IfOk result (λ by. by ≡ return_by lp.now (value_at point.now)
+        (value_at direction.new) p to) }
+    ensures direction_places { OnOk result (length direction.new ≡ size lp.now.matrix) }
+    ensures rates { KeepsRates (R.matrix rates.new) (R.basics rates.new) lp.now basis.now
+        (R.waypoints rates.old) (R.waypoints rates.new) }
+    ensures overflow { IfErr result
+        (λ stop. IfOverflow stop (ReturnStops lp.now basis.now (value_at point.now) q p to
+        (R.waypoints rates.old) (R.waypoints rates.new))) }
+{
+    let _size = lp.number_of_variables();
+    rates.direction(q, direction)?;
+    match returning(lp, point, direction.values(), q, p, to) {
+        Ok(by) => Ok(by),
+        Err(evidence) => Err(Stop::Overflow(evidence)),
+    }
+}
+
 /// What stops `q`. `direction` takes the direction of `q`.
 fn stopper_of<R: Rates>(
     lp: &Lp,
     basis: &Basis,
     rates: &mut R,
     point: &[Frac],
-    direction: &mut [Frac],
+    direction: &mut SparseVector,
     q: u32,
     up: bool,
 ) -> Result<Option<Stopper>, Stop>
@@ -187,14 +225,17 @@ fn stopper_of<R: Rates>(
         (value_at direction.new)) }
     ensures stopper { IfOk result (λ found. found ≡ stopper_by lp.now (value_at point.now)
         (value_at direction.new) up) }
+    ensures direction_places { OnOk result (length direction.new ≡ size lp.now.matrix) }
     ensures rates { KeepsRates (R.matrix rates.new) (R.basics rates.new) lp.now basis.now
         (R.waypoints rates.old) (R.waypoints rates.new) }
     ensures overflow { IfErr result
         (λ stop. IfOverflow stop (RunStopsAtPoint lp.now basis.now q up
         (R.waypoints rates.old) (R.waypoints rates.new))) }
 {
-    rates.column(q, direction)?;
-    match stopper_from(lp, point, direction, q, up) {
+    let _size = lp.number_of_variables();
+    rates.direction(q, direction)?;
+    let moving = Moving::Listed(direction.nonzero());
+    match stopper_from(lp, point, direction.values(), &moving, q, up) {
         Ok(found) => Ok(found),
         Err(evidence) => Err(Stop::Overflow(evidence)),
     }
@@ -228,18 +269,16 @@ fn bettering(lp: &Lp, basis: &Basis, prices: &[Frac]) -> Option<Mover>
     Some(mover_at(lp, prices, q))
 }
 
-/// The variable that betters the objective, if there is one, by the prices of all variables, which `prices` takes. `change` is
-/// room.
+/// The variable that betters the objective, if there is one, by the prices of all variables, which `prices` takes.
 fn mover_by_prices<R: Rates>(
+    alloc: Global,
     lp: &Lp,
     basis: &Basis,
     rates: &mut R,
-    change: &mut [Frac],
     prices: &mut [Frac],
 ) -> Result<Option<Mover>, Stop>
     requires rates { HasRates (R.matrix rates.old) (R.basics rates.old) lp.now basis.now }
     requires lawful { IsLinearProgram lp.now }
-    requires change { length change.old ≡ size lp.now.matrix }
     requires places { length prices.old ≡ size lp.now.matrix }
     ensures found { IfOk result (IsMoverFound lp.now basis.now (value_at prices.new)) }
     ensures rates { KeepsRates (R.matrix rates.new) (R.basics rates.new) lp.now basis.now
@@ -247,7 +286,7 @@ fn mover_by_prices<R: Rates>(
     ensures overflow { IfErr result (λ stop. IfOverflow stop
         (PointRefused lp.now (R.waypoints rates.old) basis.now (R.waypoints rates.new))) }
 {
-    match fill_prices(lp, basis, rates, change, prices) {
+    match prices_of(alloc, lp, basis, rates, prices) {
         Ok(()) => Ok(bettering(lp, basis, prices)),
         Err(stop) => Err(stop),
     }
@@ -279,19 +318,18 @@ fn mover_by_row<R: Rates>(
     }
 }
 
-/// The variable that betters the objective, if there is one. Where there is none, `prices` takes the prices; `change` is room.
+/// The variable that betters the objective, if there is one. Where there is none, `prices` takes the prices.
 fn mover_of<R: Rates>(
+    alloc: Global,
     lp: &Lp,
     basis: &Basis,
     rates: &mut R,
     wanted: &[Wanted],
-    change: &mut [Frac],
     prices: &mut [Frac],
 ) -> Result<Option<Mover>, Stop>
     requires rates { HasRates (R.matrix rates.old) (R.basics rates.old) lp.now basis.now }
     requires lawful { IsLinearProgram lp.now }
     requires wants { AreWants lp.now basis.now wanted.now }
-    requires change { length change.old ≡ size lp.now.matrix }
     requires places { length prices.old ≡ size lp.now.matrix }
     ensures found { IfOk result (IsMoverFound lp.now basis.now (value_at prices.new)) }
     ensures rates { KeepsRates (R.matrix rates.new) (R.basics rates.new) lp.now basis.now
@@ -301,7 +339,7 @@ fn mover_of<R: Rates>(
 {
     match lp.change {
         None => mover_by_row(lp, basis, rates, wanted, prices),
-        Some(_) => mover_by_prices(lp, basis, rates, change, prices),
+        Some(_) => mover_by_prices(alloc, lp, basis, rates, prices),
     }
 }
 
@@ -321,7 +359,7 @@ fn first_phase<R: Rates>(
     point: &[Frac],
     wanted: &[Wanted],
     row: &mut [Frac],
-    direction: &mut [Frac],
+    direction: &mut SparseVector,
     r: u32,
     steps: u32,
     left: u32,
@@ -336,6 +374,7 @@ fn first_phase<R: Rates>(
     requires outside { least_outside lp.now basis.now (value_at point.now) ≡ Some r }
     ensures turn { TurnFound result lp.now basis.now steps left
         (value_at direction.new) (R.waypoints rates.old) (R.waypoints rates.new) }
+    ensures direction_places { OnOk result (length direction.new ≡ size lp.now.matrix) }
     ensures rates { KeepsRates (R.matrix rates.new) (R.basics rates.new) lp.now basis.now
         (R.waypoints rates.old) (R.waypoints rates.new) }
 {
@@ -347,7 +386,7 @@ fn first_phase<R: Rates>(
     if left == 0 {
         return Err(PrimalStop::Limit);
     }
-    let by = return_of(
+    let by = return_along(
         lp,
         basis,
         rates,
@@ -435,7 +474,7 @@ fn run<R: Rates>(
     rates: &mut R,
     point: &[Frac],
     kept: Kept,
-    direction: &mut [Frac],
+    direction: &mut SparseVector,
     moved: Mover,
     steps: u32,
     left: u32,
@@ -450,13 +489,14 @@ fn run<R: Rates>(
     requires moves { Betters lp.now basis.now moved }
     ensures turn { TurnFound result lp.now basis.now steps left
         (value_at direction.new) (R.waypoints rates.old) (R.waypoints rates.new) }
+    ensures direction_places { OnOk result (length direction.new ≡ size lp.now.matrix) }
     ensures rates { KeepsRates (R.matrix rates.new) (R.basics rates.new) lp.now basis.now
         (R.waypoints rates.old) (R.waypoints rates.new) }
 {
     match stopper_of(lp, basis, rates, point, direction, moved.q, moved.up)? {
         None => {
             let point = whole_point(alloc, lp, basis, rates, point, kept)?;
-            Ok(Turn::Ends(endless(alloc, lp, point, direction, moved.up, steps)?))
+            Ok(Turn::Ends(endless(alloc, lp, point, direction.values(), moved.up, steps)?))
         }
         Some(by) => {
             if left == 0 {
@@ -479,7 +519,7 @@ fn second_phase<R: Rates>(
     kept: Kept,
     wanted: &[Wanted],
     row: &mut [Frac],
-    direction: &mut [Frac],
+    direction: &mut SparseVector,
     steps: u32,
     left: u32,
 ) -> Result<Turn, PrimalStop>
@@ -495,10 +535,11 @@ fn second_phase<R: Rates>(
     requires inside { least_outside lp.now basis.now (value_at point.now) ≡ None }
     ensures turn { TurnFound result lp.now basis.now steps left
         (value_at direction.new) (R.waypoints rates.old) (R.waypoints rates.new) }
+    ensures direction_places { OnOk result (length direction.new ≡ size lp.now.matrix) }
     ensures rates { KeepsRates (R.matrix rates.new) (R.basics rates.new) lp.now basis.now
         (R.waypoints rates.old) (R.waypoints rates.new) }
 {
-    match mover_of(lp, basis, rates, wanted, direction, row)? {
+    match mover_of(alloc, lp, basis, rates, wanted, row)? {
         None => {
             let point = whole_point(alloc, lp, basis, rates, point, kept)?;
             Ok(Turn::Ends(best(alloc, point, row, steps)?))
@@ -521,7 +562,7 @@ pub fn next_turn<R: Rates>(
     kept: Kept,
     wanted: &[Wanted],
     row: &mut [Frac],
-    direction: &mut [Frac],
+    direction: &mut SparseVector,
     broken: Option<u32>,
     steps: u32,
     left: u32,
@@ -538,6 +579,7 @@ pub fn next_turn<R: Rates>(
     requires broken { broken ≡ least_outside lp.now basis.now (value_at point.now) }
     ensures turn { TurnFound result lp.now basis.now steps left
         (value_at direction.new) (R.waypoints rates.old) (R.waypoints rates.new) }
+    ensures direction_places { OnOk result (length direction.new ≡ size lp.now.matrix) }
     ensures rates { KeepsRates (R.matrix rates.new) (R.basics rates.new) lp.now basis.now
         (R.waypoints rates.old) (R.waypoints rates.new) }
 {
