@@ -4,8 +4,9 @@ each definition of docs/DEFINITIONS.md stands where it says, and in its tables f
 has a contract, each fault its number, its test and its place in the order of tests, and links alone lead there from README.md; each
 call and each clause of docs/CLAIMS.md is there. scripts/check.sh runs it.
 
-usage: check_documents.py      ends with 1 where something isn't so"""
-import pathlib, re, sys
+usage: check_documents.py                     ends with 1 where something isn't so
+       check_documents.py --walks [SEED]      prints ten rules, picked by a seed, with the links by which README.md leads to each"""
+import pathlib, random, re, sys
 
 TOP = pathlib.Path(__file__).resolve().parent.parent
 CRATES = TOP / "crates"
@@ -186,15 +187,40 @@ def links_of(page):
     return {(page.parent / name).resolve() for name in re.findall(r"\]\(([^)#\s]+)(?:#[^)]*)?\)", text) if "://" not in name}
 
 
+def walks():
+    "the files to which links alone lead from README.md in three steps at most, each with the files on the way"
+    ways = {TOP / "README.md": [TOP / "README.md"]}
+    edge = list(ways)
+    for _ in range(3):
+        following = []
+        for page in (page for page in edge if page.suffix == ".md"):
+            for to in sorted(links_of(page)):
+                if to.is_file() and to not in ways:
+                    ways[to] = [*ways[page], to]
+                    following.append(to)
+        edge = following
+    return ways
+
+
+def walk_to(lines, ways):
+    "the way to a file that defines a rule, and its definition there; or None"
+    return next(((ways[path], name) for _, what, _, name, path in lines if what == "definition" and path in ways and defined_in(name, path)), None)
+
+
 def check_walks():
     "from README.md, links alone lead in three steps at most to a file that defines each rule"
-    steps, edge = {TOP / "README.md": 0}, [TOP / "README.md"]
-    for step in (1, 2, 3):
-        edge = [to for page in edge if page.suffix == ".md" for to in sorted(links_of(page)) if to.is_file() and to not in steps]
-        steps.update(dict.fromkeys(edge, step))
+    ways = walks()
     for number, rule, lines in rules():
-        if not any(what == "definition" and path in steps and defined_in(name, path) for _, what, _, name, path in lines):
+        if not walk_to(lines, ways):
             told(TOP / "docs/DEFINITIONS.md", number, f"{rule}: README.md is more than three links away from its definition")
+
+
+def print_walks(seed):
+    "ten rules, with the way to each"
+    ways = walks()
+    for _, rule, lines in random.Random(seed).sample(rules(), 10):
+        found = walk_to(lines, ways)
+        print(f"{rule}: {' -> '.join(str(path.relative_to(TOP)) for path in found[0])}, `{found[1]}`" if found else f"{rule}: no way")
 
 
 def headings_of(page):
@@ -235,9 +261,14 @@ def check_claims():
 
 
 def main():
-    if len(sys.argv) > 1:
+    words = sys.argv[1:]
+    if words[:1] == ["--walks"] and len(words) <= 2:
+        print_walks(words[1] if len(words) > 1 else "0")
+        check_walks()
+        return 1 if wrong else 0
+    if words:
         print(__doc__)
-        return 0 if sys.argv[1] in ("-h", "--help") else 64
+        return 0 if words[0] in ("-h", "--help") else 64
     check_citations()
     check_paths()
     check_headings()

@@ -14,25 +14,11 @@ LIST, PAGE, PICTURE, MAP = TOP / "crates.txt", TOP / "docs/LAYERS.md", TOP / "do
 MARKS = "<!-- longest-chain -->", "<!-- /longest-chain -->"
 NUMBERS = "no one two three four five six seven eight nine ten eleven twelve thirteen fourteen fifteen sixteen seventeen eighteen nineteen".split()
 
-# The dependencies on a crate of a higher layer, each with its reason. Another one is refused, and so is one here that is gone.
-SELECTED = "that what is selected of a lawful problem is a lawful linear program (`lp_setup/proofs`: `Lawful`, `FreeRows`) speaks of " \
-    "definitions alone, and could stand in `selection_definitions/proofs`"
-PREFIX = "`IsFront`, that a text is a prefix of another, stands in `job_devices/specs/Text`, and could stand in `card_definitions/specs/Words`"
-UPWARD = {
-    ("listing_laws", "name_table"): "the text that stands in 8 places (`name_table/specs/Places`, `Places_laws`) is a matter of texts, and could "
-        "stand in `card_definitions`, but for what it says of names, which could stand in `problem_definitions`",
-    ("run_definitions", "job_devices"): PREFIX,
-    ("soundness_laws", "lp_setup"): SELECTED,
-    ("determinism_laws", "lp_setup"): SELECTED,
-    ("ending_laws", "job_devices"): PREFIX,
-}
-
 # The picture: sizes, what fills a box by its crate's kind, and the colours of lines by the layer in which they begin.
 WIDE, MARGIN, LETTER = 960, 14, 6.45
 BOX, GAP, ROW, HEAD, FOOT = 20, 16, 40, 22, 6
 FILL = {"definitions": "#dbe9f9", "laws": "#dcf0dc", "code": "#f4f4f4", "tests": "#fbeed5"}
 LINES = ["#7a7a7a", "#2f6fb0", "#8a5a2b", "#3d8b57", "#8a4fa0", "#b0486a", "#b9b9b9"]
-RED = "#d00000"
 TURNS = 12
 
 
@@ -74,7 +60,7 @@ def kind_of(crate, layer, last):
         return "tests"
     text = "\n".join(code_of(path) for path in files_of(crate, "src"))
     functions = len(re.findall(r"\bfn \w+", text))
-    if functions and len(re.findall(r"^\{\}$", text, re.M)) == functions:
+    if functions and len(re.findall(r"^\{(?:\n(?:    \w+\(\);\n)+)?\}$", text, re.M)) == functions:
         return "laws"
     shared = set(re.findall(r"\benum (\w+)", text))
     alone = re.sub(r"^impl (\w+) \{$.*?^\}$", lambda found: "" if found[1] in shared else found[0], text, flags=re.M | re.S)
@@ -104,9 +90,6 @@ class Map:
                 self.sink(other, (*over, crate))
             self.level[crate] = 1 + max((self.level[other] for other in self.below[crate]), default=0)
             self.all_below[crate] = set(self.below[crate]).union(*(self.all_below[other] for other in self.below[crate]))
-
-    def upward(self):
-        return [(crate, other) for crate in self.order for other in self.below[crate] if self.layer[other] > self.layer[crate]]
 
     def longest(self):
         "a longest chain, the lowest crate first; of several the one whose crates, from the top, stand first in crates.txt"
@@ -146,9 +129,7 @@ def mermaid(crates):
         yield f'    subgraph layer_{place + 1} ["{place + 1}. {title.partition(":")[0]}"]'
         yield from (f"        {crate}" for crate in members)
         yield "    end"
-    for crate in crates.order:
-        for other in crates.reduced[crate]:
-            yield f"    {crate} {'-.->' if crates.layer[other] > crates.layer[crate] else '-->'} {other}"
+    yield from (f"    {crate} --> {other}" for crate in crates.order for other in crates.reduced[crate])
 
 
 def page_of(crates):
@@ -167,11 +148,7 @@ def page_of(crates):
         yield f"## {place + 1}. {title}\n"
         yield from table(crates, place)
         yield ""
-    yield "## Upward\n"
-    yield "A crate stands on crates of its own layer and of lower ones. These dependencies alone lead to a higher layer:\n"
-    yield "| Crate | Stands on | Since |\n|---|---|---|"
-    yield from (f"| `{crate}` | `{other}` | {UPWARD.get((crate, other), '?')} |" for crate, other in crates.upward())
-    yield "\n## Libraries of the kit\n"
+    yield "## Libraries of the kit\n"
     yield "| Library | Crates that cite it |\n|---|---|"
     yield from (f"| `{name}` | {', '.join(f'`{crate}`' for crate in users)} |" for name, users in crates.libraries().items())
     yield "\n## The same as a graph\n"
@@ -234,11 +211,9 @@ def placed(crates, rows):
 
 
 def line(crates, crate, other, x, y):
-    up = y[other] < y[crate]
-    first, last = (y[crate], y[other] + BOX) if up else (y[crate] + BOX, y[other])
-    bend = min(abs(last - first) / 2, 60) * (-1 if up else 1)
-    upward = crates.layer[other] > crates.layer[crate]
-    look = f'stroke="{RED}" stroke-dasharray="5 3"' if upward else f'stroke="{LINES[crates.layer[crate] % len(LINES)]}" stroke-opacity="0.55"'
+    first, last = y[crate] + BOX, y[other]
+    bend = min((last - first) / 2, 60)
+    look = f'stroke="{LINES[crates.layer[crate] % len(LINES)]}" stroke-opacity="0.55"'
     return f'<path d="M{x[crate]} {first:g}C{x[crate]} {first + bend:g} {x[other]} {last - bend:g} {x[other]} {last:g}" {look}/>'
 
 
@@ -263,7 +238,7 @@ def picture(crates):
         legend.append(f'<rect x="{left}" y="{MARGIN}" width="{width(kind)}" height="{BOX}" rx="3" fill="{fill}" stroke="#666666"/>'
                       f'<text x="{left + 5}" y="{MARGIN + 15}">{kind}</text>')
         left += width(kind) + GAP
-    legend.append(f'<text x="{left + 6}" y="{MARGIN + 15}">a line leads down to what a crate stands on; dashed: upward</text>')
+    legend.append(f'<text x="{left + 6}" y="{MARGIN + 15}">a line leads down to what a crate stands on</text>')
     return "\n".join([
         f'<svg xmlns="http://www.w3.org/2000/svg" viewBox="0 0 {WIDE} {top}" font-family="monospace" font-size="10.5">',
         f'<rect width="{WIDE}" height="{top}" fill="#ffffff"/>', *legend, *parts, '<g fill="none" stroke-width="1.1">', *lines, "</g>", *boxes, "</svg>"]) + "\n"
@@ -294,15 +269,11 @@ def trimmed(crates):
 
 
 def check_order(crates):
-    for crate, other in crates.upward():
-        if (crate, other) not in UPWARD:
-            yield f"crates.txt: {crate} stands on {other}, which is of a higher layer"
-    for crate, other in UPWARD:
-        if (crate, other) not in crates.upward():
-            yield f"scripts/layers.py: {crate} doesn't stand on {other} any more: take it out of UPWARD"
     for crate in crates.order:
         for other in crates.below[crate]:
-            if crates.layer[other] == crates.layer[crate] and crates.order.index(other) > crates.order.index(crate):
+            if crates.layer[other] > crates.layer[crate]:
+                yield f"crates.txt: {crate} stands on {other}, which is of a higher layer"
+            elif crates.order.index(other) > crates.order.index(crate):
                 yield f"crates.txt: {crate} stands on {other}, which is to stand above it"
 
 

@@ -1,6 +1,6 @@
 #!/usr/bin/env python3
 """Runs a job once for each allocation that the program makes, and refuses that one. Each run has to end with the job's own status and
-listing, or with status 28 and a front of that listing, which STOP 28 MEMORY may end. With LISTING the program is mps360check, of which the
+listing, or with status 28 and a prefix of that listing, which STOP 28 MEMORY may end. With LISTING the program is mps360check, of which the
 same is asked of its one line.
 usage: refuse_memory.py PROGRAM JOB [LISTING]. It wants a C compiler, for an allocator that is loaded before the C library's."""
 import os, pathlib, shutil, subprocess, sys, tempfile
@@ -60,8 +60,8 @@ with tempfile.TemporaryDirectory() as folder:
     wrong = cut = 0
     for number in range(1, count + 1):
         ended, printed, _ = run(number)
-        front = printed.removesuffix(b"STOP 28 MEMORY\n")
-        is_cut = ended == 28 and listing.startswith(front)
+        prefix = printed.removesuffix(b"STOP 28 MEMORY\n")
+        is_cut = ended == 28 and listing.startswith(prefix)
         cut += is_cut
         if not is_cut and (ended, printed) != (status, listing):
             wrong += 1

@@ -27,7 +27,7 @@ fn put_deck<P: Sink>(problem: &Problem, punch: &mut P) -> Result<(), WriteStop>
     put_all(punch, b"ENDATA\n")
 }
 
-/// Writes the cards of a problem's deck, and says how many there are: at most 4,294,967,295. At a stop a front of their
+/// Writes the cards of a problem's deck, and says how many there are: at most 4,294,967,295. At a stop a prefix of their
 /// text is written. It takes no memory of its own.
 pub fn deck_of<P: Sink>(problem: &Problem, punch: &mut P) -> Result<u32, WriteStop>
     ensures text { Writes P.written P.stopped_at P.faults P.refusals punch.old punch.new result

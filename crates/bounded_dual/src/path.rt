@@ -19,25 +19,25 @@ ghost use Rattle.bounded_dual.specs.Stops.{DualEnds, DualStops, IsNotUnbounded};
 use crate::moves::DualStop;
 use crate::turns::next_turn;
 use basis_values::{crossed, fill_prices, outside, point_of, wrong_price};
-use bounded_primal::{Kept, Turn, room, step_over};
+use bounded_primal::{Kept, Position, Turn, step_over, workspace};
 use dual_step::prices_over;
 use frac128::Frac;
-use lp_model::{Basis, Lp, Outcome, Rates, Stop};
+use lp_model::{Basis, Lp, Outcome, Rates, SparseVector, Stop};
 use std::alloc::Global;
 
 /// The prices of the basis, which are at hand where they were `carried` there, and are made anew where an operation was refused on the
-/// way. `room` is room for a row.
+/// way. `workspace` has a place for each variable.
 fn kept_prices<R: Rates>(
     lp: &Lp,
     basis: &Basis,
     rates: &mut R,
-    room: &mut [Frac],
+    workspace: &mut [Frac],
     prices: &mut [Frac],
     carried: bool,
 ) -> Result<(), Stop>
     requires lawful { IsLinearProgram lp.now }
     requires rates { HasRates (R.matrix rates.old) (R.basics rates.old) lp.now basis.now }
-    requires room { length room.old ≡ size lp.now.matrix }
+    requires workspace { length workspace.old ≡ size lp.now.matrix }
     requires places { length prices.old ≡ size lp.now.matrix }
     requires carried { IsTrue carried → ArePricesOf lp.now basis.now (value_at prices.old) }
     ensures prices { OnOk result (ArePricesOf lp.now basis.now (value_at prices.new)) }
@@ -49,11 +49,11 @@ fn kept_prices<R: Rates>(
     if carried {
         return Ok(());
     }
-    fill_prices(lp, basis, rates, room, prices)
+    fill_prices(lp, basis, rates, workspace, prices)
 }
 
 /// Makes the basis's point, and goes from basis to basis with it, or with the values that steps need, where another is refused.
-/// `prices` are the basis's, and are kept over each step; `row` and `direction` are room.
+/// `prices` are the basis's, and are kept over each step; `row` and `direction` are workspaces.
 fn walk<R: Rates>(
     alloc: Global,
     lp: &Lp,
@@ -62,7 +62,7 @@ fn walk<R: Rates>(
     point: &mut [Frac],
     prices: &mut [Frac],
     row: &mut [Frac],
-    direction: &mut [Frac],
+    direction: &mut SparseVector,
     limit: u32,
 ) -> Result<Outcome, DualStop>
     requires lawful { IsLinearProgram lp.now }
@@ -87,25 +87,21 @@ fn walk<R: Rates>(
     let mut kept = Kept::AllSoFar;
     let mut steps = 0;
     loop {
-        match next_turn(
-            alloc,
+        let at = Position {
             lp,
             basis,
-            rates,
             point,
             kept,
-            prices,
-            row,
-            direction,
             broken,
             steps,
-            limit - steps,
-        )? {
+            left: limit - steps,
+        };
+        match next_turn(alloc, &at, rates, prices, row, direction)? {
             Turn::Ends(outcome) => return Ok(outcome),
             Turn::Moves { q, by } => {
                 let carried = prices_over(prices, row, by.p, q);
                 kept = step_over(lp, basis, rates, point, direction, q, &by, kept)?;
-                kept_prices(lp, basis, rates, direction, prices, carried)?;
+                kept_prices(lp, basis, rates, row, prices, carried)?;
             }
         }
         broken = outside(lp, basis, point);
@@ -145,8 +141,8 @@ pub fn dual<R: Rates>(
         bases ending → IsEndOr DualStop.NoMemory basis.old bases ending basis.new result }
 {
     let size = lp.number_of_variables() as usize;
-    let mut prices = room(alloc, size)?;
-    let mut row = room(alloc, size)?;
+    let mut prices = workspace(alloc, size)?;
+    let mut row = workspace(alloc, size)?;
     fill_prices(lp, basis, rates, &mut row, &mut prices)?;
     if let Some(j) = wrong_price(lp, basis, &prices) {
         return Err(DualStop::NotDualFeasible(j));
@@ -154,8 +150,8 @@ pub fn dual<R: Rates>(
     if let Some(k) = crossed(lp) {
         return Ok(Outcome::Crossed { k });
     }
-    let mut point = room(alloc, size)?;
-    let mut direction = room(alloc, size)?;
+    let mut point = workspace(alloc, size)?;
+    let mut direction = SparseVector::zeros(alloc, size)?;
     walk(
         alloc,
         lp,

@@ -1,6 +1,6 @@
 //! What the dual path does at a basis: it ends there, or a basic comes back to the limit that it broke.
 
-ghost use Rattle.std.specs.Prelude.{◌≡◌, ℕ, None, Some, length, IsTrue};
+ghost use Rattle.std.specs.Prelude.{◌≡◌, ℕ, None, Some, length, OnOk, IsTrue};
 ghost use Rattle.exact_values.specs.Rational.{ℚ};
 ghost use Rattle.lp_definitions.specs.LinearProgram.{size, value_at, IsLinearProgram};
 ghost use Rattle.lp_definitions.specs.Basis.{ArePricesOf, IsPointOf};
@@ -11,137 +11,115 @@ ghost use Rattle.bounded_dual.specs.Turns.{DualTurnFound};
 
 use crate::moves::DualStop;
 use basis_values::lies_below;
-use bounded_primal::{Kept, Turn, best, limit_broken, ray_of, return_of, whole_point};
+use bounded_primal::{Position, Turn, best, limit_broken, ray_of, return_along, whole_point};
 use dual_step::{cheapest, read_row};
 use frac128::Frac;
-use lp_model::{Basis, Lp, Outcome, Rates};
+use lp_model::{Outcome, Rates, SparseVector};
 use std::alloc::Global;
 
 /// Brings the basic `r` back to the limit that it broke, at the least loss, or answers why nothing does. `row` takes the rates of `r`,
-/// and `direction` is room.
+/// and `direction` is a workspace.
 fn bring_back<R: Rates>(
     alloc: Global,
-    lp: &Lp,
-    basis: &Basis,
+    at: &Position<'_>,
     rates: &mut R,
-    point: &[Frac],
     prices: &[Frac],
     row: &mut [Frac],
-    direction: &mut [Frac],
+    direction: &mut SparseVector,
     r: u32,
-    steps: u32,
-    left: u32,
 ) -> Result<Turn, DualStop>
-    requires lawful { IsLinearProgram lp.now }
-    requires no_change { lp.now.change ≡ None }
-    requires rates { HasRates (R.matrix rates.old) (R.basics rates.old) lp.now basis.now }
-    requires point_places { length point.now ≡ size lp.now.matrix }
-    requires price_places { length prices.now ≡ size lp.now.matrix }
-    requires row_places { length row.old ≡ size lp.now.matrix }
-    requires direction_places { length direction.old ≡ size lp.now.matrix }
-    requires point { AgreesWithPoint lp.now basis.now (value_at point.now) }
-    requires prices { ArePricesOf lp.now basis.now (value_at prices.now) }
-    requires uncrossed { IsUncrossed lp.now }
-    requires outside { least_outside lp.now basis.now (value_at point.now) ≡ Some r }
-    ensures turn { DualTurnFound result lp.now basis.now steps left (value_at direction.new)
+    requires lawful { IsLinearProgram at.now.lp.now }
+    requires no_change { at.now.lp.now.change ≡ None }
+    requires rates { HasRates (R.matrix rates.old) (R.basics rates.old) at.now.lp.now at.now.basis.now }
+    requires point_places { length at.now.point.now ≡ size at.now.lp.now.matrix }
+    requires price_places { length prices.now ≡ size at.now.lp.now.matrix }
+    requires row_places { length row.old ≡ size at.now.lp.now.matrix }
+    requires direction_places { length direction.old ≡ size at.now.lp.now.matrix }
+    requires point { AgreesWithPoint at.now.lp.now at.now.basis.now (value_at at.now.point.now) }
+    requires prices { ArePricesOf at.now.lp.now at.now.basis.now (value_at prices.now) }
+    requires uncrossed { IsUncrossed at.now.lp.now }
+    requires outside { least_outside at.now.lp.now at.now.basis.now (value_at at.now.point.now) ≡ Some r }
+    ensures turn { DualTurnFound result at.now.lp.now at.now.basis.now at.now.steps at.now.left (value_at direction.new)
         (value_at row.new) (R.waypoints rates.old) (R.waypoints rates.new) }
-    ensures rates { KeepsRates (R.matrix rates.new) (R.basics rates.new) lp.now basis.now
+    ensures direction_places { OnOk result (length direction.new ≡ size at.now.lp.now.matrix) }
+    ensures rates { KeepsRates (R.matrix rates.new) (R.basics rates.new) at.now.lp.now at.now.basis.now
         (R.waypoints rates.old) (R.waypoints rates.new) }
 {
-    let below = lies_below(lp, point, r);
-    read_row(lp, basis, rates, r, row)?;
-    let chosen = match cheapest(lp, basis, prices, row, r, below) {
+    let below = lies_below(at.lp, at.point, r);
+    read_row(at.lp, at.basis, rates, r, row)?;
+    let chosen = match cheapest(at.lp, at.basis, prices, row, r, below) {
         Ok(chosen) => chosen,
         Err(evidence) => return Err(DualStop::Overflow(evidence)),
     };
     let Some(q) = chosen else {
-        let ray = ray_of(alloc, lp, row, r, below)?;
-        return Ok(Turn::Ends(Outcome::Infeasible { steps, ray }));
+        let ray = ray_of(alloc, at.lp, row, r, below)?;
+        return Ok(Turn::Ends(Outcome::Infeasible {
+            steps: at.steps,
+            ray,
+        }));
     };
-    if left == 0 {
+    if at.left == 0 {
         return Err(DualStop::Limit);
     }
-    let by = return_of(
-        lp,
-        basis,
-        rates,
-        point,
-        direction,
-        q,
-        r,
-        limit_broken(below),
-    )?;
+    let by = return_along(at, rates, direction, q, r, limit_broken(below))?;
     Ok(Turn::Moves { q, by })
 }
 
 /// The end, where no basic is outside its limits: the point, and the prices at hand.
 fn optimal<R: Rates>(
     alloc: Global,
-    lp: &Lp,
-    basis: &Basis,
+    at: &Position<'_>,
     rates: &mut R,
-    point: &[Frac],
-    kept: Kept,
     prices: &[Frac],
-    steps: u32,
-    left: u32,
 ) -> Result<Turn, DualStop>
-    requires no_change { lp.now.change ≡ None }
-    requires rates { HasRates (R.matrix rates.old) (R.basics rates.old) lp.now basis.now }
-    requires point_places { length point.now ≡ size lp.now.matrix }
-    requires price_places { length prices.now ≡ size lp.now.matrix }
-    requires point { AgreesWithPoint lp.now basis.now (value_at point.now) }
-    requires kept { IsTrue (all_kept kept) → IsPointOf lp.now basis.now (value_at point.now) }
-    requires prices { ArePricesOf lp.now basis.now (value_at prices.now) }
-    requires uncrossed { IsUncrossed lp.now }
-    requires inside { least_outside lp.now basis.now (value_at point.now) ≡ None }
-    ensures turn { (d xs : ℕ → ℚ) → DualTurnFound result lp.now basis.now steps left d xs
+    requires no_change { at.now.lp.now.change ≡ None }
+    requires rates { HasRates (R.matrix rates.old) (R.basics rates.old) at.now.lp.now at.now.basis.now }
+    requires point_places { length at.now.point.now ≡ size at.now.lp.now.matrix }
+    requires price_places { length prices.now ≡ size at.now.lp.now.matrix }
+    requires point { AgreesWithPoint at.now.lp.now at.now.basis.now (value_at at.now.point.now) }
+    requires kept { IsTrue (all_kept at.now.kept) → IsPointOf at.now.lp.now at.now.basis.now (value_at at.now.point.now) }
+    requires prices { ArePricesOf at.now.lp.now at.now.basis.now (value_at prices.now) }
+    requires uncrossed { IsUncrossed at.now.lp.now }
+    requires inside { least_outside at.now.lp.now at.now.basis.now (value_at at.now.point.now) ≡ None }
+    ensures turn { (d xs : ℕ → ℚ) → DualTurnFound result at.now.lp.now at.now.basis.now at.now.steps at.now.left d xs
         (R.waypoints rates.old) (R.waypoints rates.new) }
-    ensures rates { KeepsRates (R.matrix rates.new) (R.basics rates.new) lp.now basis.now
+    ensures rates { KeepsRates (R.matrix rates.new) (R.basics rates.new) at.now.lp.now at.now.basis.now
         (R.waypoints rates.old) (R.waypoints rates.new) }
 {
-    let point = whole_point(alloc, lp, basis, rates, point, kept)?;
-    Ok(Turn::Ends(best(alloc, point, prices, steps)?))
+    let point = whole_point(alloc, at, rates)?;
+    Ok(Turn::Ends(best(alloc, point, prices, at.steps)?))
 }
 
-/// What the dual path does at the basis, where `broken` is the least-numbered basic outside its limits. The values of `point` that are
-/// `kept` are those of the basis, and so are those of the variables with a limit in any case; `prices` are the basis's. `row` takes the
-/// rates of what leaves, and `direction` those of what enters.
+/// What the dual path does where it stands; `prices` are the basis's. `row` takes the rates of what leaves, and `direction` those of what
+/// enters.
 pub fn next_turn<R: Rates>(
     alloc: Global,
-    lp: &Lp,
-    basis: &Basis,
+    at: &Position<'_>,
     rates: &mut R,
-    point: &[Frac],
-    kept: Kept,
     prices: &[Frac],
     row: &mut [Frac],
-    direction: &mut [Frac],
-    broken: Option<u32>,
-    steps: u32,
-    left: u32,
+    direction: &mut SparseVector,
 ) -> Result<Turn, DualStop>
-    requires lawful { IsLinearProgram lp.now }
-    requires no_change { lp.now.change ≡ None }
-    requires rates { HasRates (R.matrix rates.old) (R.basics rates.old) lp.now basis.now }
-    requires point_places { length point.now ≡ size lp.now.matrix }
-    requires price_places { length prices.now ≡ size lp.now.matrix }
-    requires row_places { length row.old ≡ size lp.now.matrix }
-    requires direction_places { length direction.old ≡ size lp.now.matrix }
-    requires point { AgreesWithPoint lp.now basis.now (value_at point.now) }
-    requires kept { IsTrue (all_kept kept) → IsPointOf lp.now basis.now (value_at point.now) }
-    requires prices { ArePricesOf lp.now basis.now (value_at prices.now) }
-    requires uncrossed { IsUncrossed lp.now }
-    requires broken { broken ≡ least_outside lp.now basis.now (value_at point.now) }
-    ensures turn { DualTurnFound result lp.now basis.now steps left (value_at direction.new)
+    requires lawful { IsLinearProgram at.now.lp.now }
+    requires no_change { at.now.lp.now.change ≡ None }
+    requires rates { HasRates (R.matrix rates.old) (R.basics rates.old) at.now.lp.now at.now.basis.now }
+    requires point_places { length at.now.point.now ≡ size at.now.lp.now.matrix }
+    requires price_places { length prices.now ≡ size at.now.lp.now.matrix }
+    requires row_places { length row.old ≡ size at.now.lp.now.matrix }
+    requires direction_places { length direction.old ≡ size at.now.lp.now.matrix }
+    requires point { AgreesWithPoint at.now.lp.now at.now.basis.now (value_at at.now.point.now) }
+    requires kept { IsTrue (all_kept at.now.kept) → IsPointOf at.now.lp.now at.now.basis.now (value_at at.now.point.now) }
+    requires prices { ArePricesOf at.now.lp.now at.now.basis.now (value_at prices.now) }
+    requires uncrossed { IsUncrossed at.now.lp.now }
+    requires broken { at.now.broken ≡ least_outside at.now.lp.now at.now.basis.now (value_at at.now.point.now) }
+    ensures turn { DualTurnFound result at.now.lp.now at.now.basis.now at.now.steps at.now.left (value_at direction.new)
         (value_at row.new) (R.waypoints rates.old) (R.waypoints rates.new) }
-    ensures rates { KeepsRates (R.matrix rates.new) (R.basics rates.new) lp.now basis.now
+    ensures direction_places { OnOk result (length direction.new ≡ size at.now.lp.now.matrix) }
+    ensures rates { KeepsRates (R.matrix rates.new) (R.basics rates.new) at.now.lp.now at.now.basis.now
         (R.waypoints rates.old) (R.waypoints rates.new) }
 {
-    match broken {
-        Some(r) => bring_back(
-            alloc, lp, basis, rates, point, prices, row, direction, r, steps, left,
-        ),
-        None => optimal(alloc, lp, basis, rates, point, kept, prices, steps, left),
+    match at.broken {
+        Some(r) => bring_back(alloc, at, rates, prices, row, direction, r),
+        None => optimal(alloc, at, rates, prices),
     }
 }

@@ -17,4 +17,5 @@ pub mod StopperFacts
 pub mod Inside
 pub mod AtOnce
 pub mod Still
+mod LookedAt
 pub mod FirstWanted

@@ -1,6 +1,7 @@
 -- A step: the limit to which its stopper goes, and the basis to which it leads.
-use Rattle.std.proofs.Common.{◌≡◌, ◌≢◌, ℕ, ◌-◌, List, Bool, true, false, refl, sym, ap, ◌∙◌, subst}
-use Rattle.std.specs.Prelude.{Option, Some, None, option_map, unwrap_or, if◌then◌else◌}
+use Rattle.std.proofs.Common.{◌≡◌, ◌≢◌, ℕ, ◌-◌, List, Bool, true, false, ◌⊎◌, inl, inr, refl, sym, ap, ◌∙◌, subst}
+use Rattle.std.specs.Prelude.{Option, Some, None, option_map, unwrap_or, eqb, if◌then◌else◌}
+use Rattle.std.proofs.lemmas.Bool.Decides.{eqb_tells}
 use Rattle.std.proofs.lemmas.List.{set-set}
 use Rattle.exact_values.specs.Rational.{ℚ, zero_ℚ, inverse_ℚ, ◌+ℚ◌, ◌-ℚ◌, ◌*ℚ◌, ◌/ℚ◌}
 use Rattle.exact_values.specs.Tests.{lt_ℚ}
@@ -180,18 +181,33 @@ module _ (p : LinearProgram) (s : List Status) (z d : Vector) (q : ℕ) (by : St
       replaced : HasRates p.matrix (exchanged (basics_of s) by.p q) p (with_status (with_status s q Bs) by.p by.to)
       replaced = has_replaced p.matrix (exchanged (basics_of s) by.p q) other refl refl
 
-      pub replaced_agrees : AgreesWithPoint p s x → IsMovedAtLimits p by.step d x (size p.matrix) y → AgreesWithPoint p (with_status (with_status s q Bs) by.p by.to) y
+      replaced_agrees : AgreesWithPoint p s x → IsMovedAtLimits p by.step d x (size p.matrix) y → AgreesWithPoint p (with_status (with_status s q Bs) by.p by.to) y
       replaced_agrees agrees = agrees_moved p (with_status (with_status s q Bs) by.p by.to) replaced.is_basis replaced.nonsingular z d by.step (point_replaced point) x y (agrees z point)
 
-      pub replaced_exact : IsPointOf p s x → IsMoved by.step d x (size p.matrix) y → IsPointOf p (with_status (with_status s q Bs) by.p by.to) y
+      replaced_exact : IsPointOf p s x → IsMoved by.step d x (size p.matrix) y → IsPointOf p (with_status (with_status s q Bs) by.p by.to) y
       replaced_exact exact moved = point_same p (with_status (with_status s q Bs) by.p by.to) (along z by.step d) y (comes exact moved) (point_replaced point)
 
     module _ (own : by.p ≡ q) where
       flipped : HasRates p.matrix (basics_of s) p (with_status s q by.to)
       flipped = has_flipped p.matrix (basics_of s) own refl refl
 
-      pub flipped_agrees : AgreesWithPoint p s x → IsMovedAtLimits p by.step d x (size p.matrix) y → AgreesWithPoint p (with_status s q by.to) y
+      flipped_agrees : AgreesWithPoint p s x → IsMovedAtLimits p by.step d x (size p.matrix) y → AgreesWithPoint p (with_status s q by.to) y
       flipped_agrees agrees = agrees_moved p (with_status s q by.to) flipped.is_basis flipped.nonsingular z d by.step (point_flipped own point) x y (agrees z point)
 
-      pub flipped_exact : IsPointOf p s x → IsMoved by.step d x (size p.matrix) y → IsPointOf p (with_status s q by.to) y
+      flipped_exact : IsPointOf p s x → IsMoved by.step d x (size p.matrix) y → IsPointOf p (with_status s q by.to) y
       flipped_exact exact moved = point_same p (with_status s q by.to) (along z by.step d) y (comes exact moved) (point_flipped own point)
+
+    -- either way the basis goes over to this one
+    pub after_agrees : AgreesWithPoint p s x → IsMovedAtLimits p by.step d x (size p.matrix) y → AgreesWithPoint p (with_status (with_status s q Bs) by.p by.to) y
+    after_agrees agrees moved = at (eqb_tells by.p q)
+      where
+        at : (((eqb by.p q ≡ true) × (by.p ≡ q)) ⊎ ((eqb by.p q ≡ false) × (by.p ≢ q))) → AgreesWithPoint p (with_status (with_status s q Bs) by.p by.to) y
+        at (inl own) = subst (λ (next : List Status). AgreesWithPoint p next y) (flip_is own.1) (flipped_agrees own.1 agrees moved)
+        at (inr other) = replaced_agrees other.1 agrees moved
+
+    pub after_exact : IsPointOf p s x → IsMoved by.step d x (size p.matrix) y → IsPointOf p (with_status (with_status s q Bs) by.p by.to) y
+    after_exact exact moved = at (eqb_tells by.p q)
+      where
+        at : (((eqb by.p q ≡ true) × (by.p ≡ q)) ⊎ ((eqb by.p q ≡ false) × (by.p ≢ q))) → IsPointOf p (with_status (with_status s q Bs) by.p by.to) y
+        at (inl own) = subst (λ (next : List Status). IsPointOf p next y) (flip_is own.1) (flipped_exact own.1 exact moved)
+        at (inr other) = replaced_exact other.1 exact moved

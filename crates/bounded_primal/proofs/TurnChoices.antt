@@ -1,7 +1,7 @@
 -- Which turn the path makes at a basis, from the point, the rates of a row, the prices and a direction.
 use Rattle.std.proofs.Common.{◌≡◌, ◌≤◌, ◌≢◌, ℕ, List, length, Bool, true, false, refl, sym, ap, ap₂, ◌∙◌, subst, arith}
-use Rattle.std.specs.Prelude.{Option, Some, None, IsSome, IsTrue, not, ◌&&◌, ◌||◌, option_map, unwrap_or, if◌then◌else◌, nat_eq}
-use Rattle.exact_values.specs.Rational.{ℚ, zero_ℚ, one_ℚ, neg_ℚ, ◌-ℚ◌, ◌/ℚ◌, ◌<ℚ◌}
+use Rattle.std.specs.Prelude.{Option, Some, None, IsSome, IsTrue, not, ◌&&◌, ◌||◌, option_map, unwrap_or, if◌then◌else◌}
+use Rattle.exact_values.specs.Rational.{ℚ, zero_ℚ, ◌-ℚ◌, ◌/ℚ◌, ◌<ℚ◌}
 use Rattle.exact_values.specs.Tests.{lt_ℚ}
 use Rattle.exact_values.proofs.Order.{lt_irrefl, lt_not_le, le_of_lt}
 use Rattle.exact_values.proofs.Tests_laws.{lt_from_test}

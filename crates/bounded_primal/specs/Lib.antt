@@ -1,5 +1,6 @@
 pub mod Calls
 pub mod Moves
+pub mod Moving
 pub mod Stops
 pub mod KeptPoints
 pub mod Steps

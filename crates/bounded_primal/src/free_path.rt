@@ -1,6 +1,6 @@
 //! The path of the bounded simplex method without a limit of steps.
 
-ghost use Rattle.std.specs.Prelude.{◌≡◌, ◌≢◌, ◌<◌, List, length, IfOk, IfErr, IsTrue};
+ghost use Rattle.std.specs.Prelude.{◌≡◌, ◌≢◌, ◌<◌, List, length, OnOk, IfOk, IfErr, IsTrue};
 ghost use Rattle.lp_definitions.specs.LinearProgram.{size, value_at, IsLinearProgram};
 ghost use Rattle.lp_definitions.specs.Basis.{IsPointOf};
 ghost use Rattle.lp_definitions.specs.declared.Status.{Status};
@@ -17,12 +17,13 @@ ghost use Rattle.bounded_primal.specs.Turns.{IsUncrossed, least_outside, FreeTur
 
 use crate::kept::Kept;
 use crate::moves::PrimalStop;
-use crate::path::{outside_after, room};
+use crate::path::{outside_after, workspace};
+use crate::position::Position;
 use crate::step::step_over;
 use crate::turns::{Turn, next_turn};
 use basis_values::{crossed, outside, point_of, renew_wants, wants_of};
 use frac128::Frac;
-use lp_model::{Basis, Lp, Outcome, Rates, Stop, Wanted};
+use lp_model::{Basis, Lp, Outcome, Rates, SparseVector, Stop, Wanted};
 use std::alloc::Global;
 use std::marker::Brand;
 use std::sync::ledger::{Blank, Ledger};
@@ -39,46 +40,41 @@ fn unlimited(stop: PrimalStop) -> Stop
     }
 }
 
-/// What the path does at the basis, where `broken` is the least-numbered basic outside its limits, and a step is always left. `point`,
-/// `kept` and `wanted` are those of `next_turn`; `row` and `direction` are room.
+/// What the path does where it stands, with one step left, so that a limit is never reached. `wanted` is that of `next_turn`; `row` and
+/// `direction` are workspaces.
 fn free_turn<R: Rates>(
     alloc: Global,
-    lp: &Lp,
-    basis: &Basis,
+    at: &Position<'_>,
     rates: &mut R,
-    point: &[Frac],
-    kept: Kept,
     wanted: &[Wanted],
     row: &mut [Frac],
-    direction: &mut [Frac],
-    broken: Option<u32>,
-    steps: u32,
+    direction: &mut SparseVector,
 ) -> Result<Turn, Stop>
-    requires lawful { IsLinearProgram lp.now }
-    requires rates { HasRates (R.matrix rates.old) (R.basics rates.old) lp.now basis.now }
-    requires wants { AreWants lp.now basis.now wanted.now }
-    requires point_places { length point.now ≡ size lp.now.matrix }
-    requires row_places { length row.old ≡ size lp.now.matrix }
-    requires direction_places { length direction.old ≡ size lp.now.matrix }
-    requires point { AgreesWithPoint lp.now basis.now (value_at point.now) }
-    requires kept { IsTrue (all_kept kept) → IsPointOf lp.now basis.now (value_at point.now) }
-    requires uncrossed { IsUncrossed lp.now }
-    requires broken { broken ≡ least_outside lp.now basis.now (value_at point.now) }
-    ensures turn { FreeTurnFound result lp.now basis.now steps (value_at direction.new)
+    requires lawful { IsLinearProgram at.now.lp.now }
+    requires rates { HasRates (R.matrix rates.old) (R.basics rates.old) at.now.lp.now at.now.basis.now }
+    requires wants { AreWants at.now.lp.now at.now.basis.now wanted.now }
+    requires point_places { length at.now.point.now ≡ size at.now.lp.now.matrix }
+    requires row_places { length row.old ≡ size at.now.lp.now.matrix }
+    requires direction_places { length direction.old ≡ size at.now.lp.now.matrix }
+    requires point { AgreesWithPoint at.now.lp.now at.now.basis.now (value_at at.now.point.now) }
+    requires kept { IsTrue (all_kept at.now.kept) → IsPointOf at.now.lp.now at.now.basis.now (value_at at.now.point.now) }
+    requires uncrossed { IsUncrossed at.now.lp.now }
+    requires left { at.now.left ≡ 1 }
+    requires broken { at.now.broken ≡ least_outside at.now.lp.now at.now.basis.now (value_at at.now.point.now) }
+    ensures turn { FreeTurnFound result at.now.lp.now at.now.basis.now at.now.steps (value_at direction.new)
         (R.waypoints rates.old) (R.waypoints rates.new) }
-    ensures rates { KeepsRates (R.matrix rates.new) (R.basics rates.new) lp.now basis.now
+    ensures direction_places { OnOk result (length direction.new ≡ size at.now.lp.now.matrix) }
+    ensures rates { KeepsRates (R.matrix rates.new) (R.basics rates.new) at.now.lp.now at.now.basis.now
         (R.waypoints rates.old) (R.waypoints rates.new) }
 {
-    match next_turn(
-        alloc, lp, basis, rates, point, kept, wanted, row, direction, broken, steps, 1,
-    ) {
+    match next_turn(alloc, at, rates, wanted, row, direction) {
         Ok(turn) => Ok(turn),
         Err(stop) => Err(unlimited(stop)),
     }
 }
 
 /// Makes the basis's point, and goes from basis to basis with it, or with the values that steps need, until the path ends. `wanted`
-/// has the signs of the rates that let a nonbasic lower a quantity; `point`, `row` and `direction` are room.
+/// has the signs of the rates that let a nonbasic lower a quantity; `point`, `row` and `direction` are workspaces.
 /// The ledger of `blank` counts the steps for the proof that this comes to an end, since no basis comes twice; it takes no bytes.
 fn walk_free<R: Rates, L: Ledger>(
     alloc: Global,
@@ -88,7 +84,7 @@ fn walk_free<R: Rates, L: Ledger>(
     point: &mut [Frac],
     wanted: &mut [Wanted],
     row: &mut [Frac],
-    direction: &mut [Frac],
+    direction: &mut SparseVector,
     blank: Blank,
 ) -> Result<Outcome, Stop>
     requires name { blank.name ≡ L.name }
@@ -114,9 +110,16 @@ fn walk_free<R: Rates, L: Ledger>(
     let mut kept = Kept::AllSoFar;
     let mut steps: u32 = 0;
     loop {
-        match free_turn(
-            alloc, lp, basis, rates, point, kept, wanted, row, direction, broken, steps,
-        )? {
+        let at = Position {
+            lp,
+            basis,
+            point,
+            kept,
+            broken,
+            steps,
+            left: 1,
+        };
+        match free_turn(alloc, &at, rates, wanted, row, direction)? {
             Turn::Ends(outcome) => return Ok(outcome),
             Turn::Moves { q, by } => {
                 kept = step_over(lp, basis, rates, point, direction, q, &by, kept)?;
@@ -156,9 +159,9 @@ pub fn primal_free<R: Rates>(
     if let Some(k) = crossed(lp) {
         return Ok(Outcome::Crossed { k });
     }
-    let mut point = room(alloc, size)?;
-    let mut row = room(alloc, size)?;
-    let mut direction = room(alloc, size)?;
+    let mut point = workspace(alloc, size)?;
+    let mut row = workspace(alloc, size)?;
+    let mut direction = SparseVector::zeros(alloc, size)?;
     let mut wanted = wants_of(alloc, lp, basis)?;
     walk_free::<R, Brand>(
         alloc,

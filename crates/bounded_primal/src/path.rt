@@ -15,16 +15,17 @@ ghost use Rattle.termination_laws.specs.Laws.{lists_of};
 
 use crate::kept::Kept;
 use crate::moves::PrimalStop;
+use crate::position::Position;
 use crate::step::step_over;
 use crate::turns::{Turn, next_turn};
 use basis_values::{crossed, outside, point_of, renew_wants, wants_of};
 use frac128::Frac;
-use lp_model::{Basis, Lp, NoMemory, Outcome, Rates, Wanted};
+use lp_model::{Basis, Lp, NoMemory, Outcome, Rates, SparseVector, Wanted};
 use std::alloc::Global;
 
-/// Room for so many values.
-pub fn room(alloc: Global, size: usize) -> Result<Vec<Frac>, NoMemory>
-    ensures { IfOk result (λ room. vec_len room ≡ size) }
+/// A workspace of so many numbers.
+pub fn workspace(alloc: Global, size: usize) -> Result<Vec<Frac>, NoMemory>
+    ensures { IfOk result (λ made. vec_len made ≡ size) }
 {
     vec![in alloc; Frac::whole(0); size].map_err(|_| NoMemory)
 }
@@ -43,7 +44,7 @@ pub fn outside_after(lp: &Lp, basis: &Basis, point: &[Frac], broken: Option<u32>
 }
 
 /// Makes the basis's point, and goes from basis to basis with it, or with the values that steps need, where another is refused.
-/// `wanted` has the signs of the rates that let a nonbasic lower a quantity; `point`, `row` and `direction` are room.
+/// `wanted` has the signs of the rates that let a nonbasic lower a quantity; `point`, `row` and `direction` are workspaces.
 fn walk<R: Rates>(
     alloc: Global,
     lp: &Lp,
@@ -52,7 +53,7 @@ fn walk<R: Rates>(
     point: &mut [Frac],
     wanted: &mut [Wanted],
     row: &mut [Frac],
-    direction: &mut [Frac],
+    direction: &mut SparseVector,
     limit: u32,
 ) -> Result<Outcome, PrimalStop>
     requires lawful { IsLinearProgram lp.now }
@@ -74,20 +75,16 @@ fn walk<R: Rates>(
     let mut kept = Kept::AllSoFar;
     let mut steps = 0;
     loop {
-        match next_turn(
-            alloc,
+        let at = Position {
             lp,
             basis,
-            rates,
             point,
             kept,
-            wanted,
-            row,
-            direction,
             broken,
             steps,
-            limit - steps,
-        )? {
+            left: limit - steps,
+        };
+        match next_turn(alloc, &at, rates, wanted, row, direction)? {
             Turn::Ends(outcome) => return Ok(outcome),
             Turn::Moves { q, by } => {
                 kept = step_over(lp, basis, rates, point, direction, q, &by, kept)?;
@@ -130,9 +127,9 @@ pub fn primal<R: Rates>(
     if let Some(k) = crossed(lp) {
         return Ok(Outcome::Crossed { k });
     }
-    let mut point = room(alloc, size)?;
-    let mut row = room(alloc, size)?;
-    let mut direction = room(alloc, size)?;
+    let mut point = workspace(alloc, size)?;
+    let mut row = workspace(alloc, size)?;
+    let mut direction = SparseVector::zeros(alloc, size)?;
     let mut wanted = wants_of(alloc, lp, basis)?;
     walk(
         alloc,

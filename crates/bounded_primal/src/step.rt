@@ -1,23 +1,27 @@
 //! One step: a basis goes over to the next one, and its point with it.
 
 ghost use Rattle.std.specs.Prelude.{◌≡◌, ◌≢◌, ◌||◌, length, OnOk, OnErr, IfOk, IfErr, IfSome, IsSome, IsTrue};
+ghost use Rattle.std.specs.Option.{option_copied};
 ghost use Rattle.exact_values.specs.Rational.{zero_ℚ, ◌+ℚ◌, ◌*ℚ◌};
 ghost use Rattle.lp_definitions.specs.LinearProgram.{size, value_at, IsVariable};
-ghost use Rattle.lp_definitions.specs.Basis.{basics_of, IsNonbasic, IsPointOf, IsDirectionOf};
+ghost use Rattle.lp_definitions.specs.Basis.{basics_of, exchanged, IsBasic, IsNonbasic, IsPointOf, IsDirectionOf};
 ghost use Rattle.lp_definitions.specs.Waypoints.{KeepsWaypoints};
 ghost use Rattle.simplex_definitions.specs.Path.{after};
 ghost use Rattle.simplex_definitions.specs.Formulas.{limit_numbered, number_of_limit};
 ghost use Rattle.basis_values.specs.Calls.{HasRates};
-ghost use Rattle.lp_model.specs.RatesCalls.{IfOverflow};
+ghost use Rattle.lp_model.specs.RatesCalls.{IfOverflow, HasPivot, ExchangeOverflow};
+ghost use Rattle.lp_model.specs.Sparse.{CoverNonzero};
 ghost use Rattle.bounded_primal.specs.KeptPoints.{all_kept, all_needed, has_limit as is_limited, AgreesWithPoint};
-ghost use Rattle.bounded_primal.specs.Moves.{IsStepBy, StepsFromPoint, move_by, return_by, StepRefused, StepOverflow};
+ghost use Rattle.bounded_primal.specs.Moving.{variables_of};
+ghost use Rattle.bounded_primal.specs.Moves.{IsStepBy, IsStepOf, PivotsAlong, StepsFromPoint, move_by, return_by, StepRefused, StepOverflow};
 ghost use Rattle.bounded_primal.specs.Steps.{IsMoved, IsMovedAtLimits, MovedRefused, SomeMovedRefused, ReturnRefused, step_formula};
 
 use crate::kept::Kept;
 use crate::moves::Stopper;
+use crate::moving::Moving;
 use basis_values::{Formula, plus_product, reach};
 use frac128::Frac;
-use lp_model::{Basis, Evidence, Lp, Rates, Status, Stop};
+use lp_model::{Basis, Evidence, Lp, Rates, SparseVector, Status, Stop};
 
 /// Formula 8 or 9 of the variable `i`, where `q` moves until `p` stops it.
 fn formula(number: u8, p: u32, q: u32, i: u32) -> Formula
@@ -110,12 +114,14 @@ fn moved_if_possible(
 fn move_point(
     lp: &Lp,
     direction: &[Frac],
+    moving: &Moving<'_>,
     q: u32,
     by: &Stopper,
     point: &mut [Frac],
     kept: Kept,
 ) -> Result<Kept, Evidence>
     requires direction_places { length direction.now ≡ size lp.now.matrix }
+    requires covered { CoverNonzero direction.now (variables_of moving.now) }
     requires point_places { length point.old ≡ size lp.now.matrix }
     ensures limited { OnOk result (IsMovedAtLimits lp.now by.now.step (value_at direction.now)
         (value_at point.old) (size lp.now.matrix) (value_at point.new)) }
@@ -127,21 +133,22 @@ fn move_point(
         (value_at direction.now) (value_at point.old) q) }
 {
     let mut still = kept;
-    for k in 0..lp.number_of_variables() {
-        let rate = direction[k as usize];
+    for place in 0..moving.count() {
+        let k = moving.variable(place);
+        let rate = direction[k as usize - 1];
         if rate.is_zero() {
             continue;
         }
-        let needed = is_needed(lp, kept, k + 1);
+        let needed = is_needed(lp, kept, k);
         if !needed && !still.has_all() {
             continue;
         }
-        let value = point[k as usize];
-        let Some(next) = moved_if_possible(value, by.step, rate, by.p, q, k + 1, needed)? else {
+        let value = point[k as usize - 1];
+        let Some(next) = moved_if_possible(value, by.step, rate, by.p, q, k, needed)? else {
             still = Kept::Limited;
             continue;
         };
-        point[k as usize] = next;
+        point[k as usize - 1] = next;
     }
     Ok(still)
 }
@@ -197,6 +204,63 @@ pub fn returning(
     Ok(Stopper { p, step, to })
 }
 
+/// Makes `q` basic in place of `p`, whose rate at q is not 0: by the direction of q, where it is at hand with its list.
+fn exchange_by<R: Rates>(
+    rates: &mut R,
+    p: u32,
+    q: u32,
+    direction: Option<&SparseVector>,
+) -> Result<(), Stop>
+    requires leaves { IsBasic (R.matrix rates.old) (R.basics rates.old) p }
+    requires enters { IsNonbasic (R.matrix rates.old) (R.basics rates.old) q }
+    requires pivot { HasPivot (R.matrix rates.old) (R.basics rates.old) p q }
+    requires along { IfSome (option_copied direction)
+        (PivotsAlong (R.matrix rates.old) (R.basics rates.old) p q) }
+    ensures ok { OnOk result (R.basics rates.new ≡ exchanged (R.basics rates.old) p q) }
+    ensures err { OnErr result (R.basics rates.new ≡ R.basics rates.old) }
+    ensures same_matrix { R.matrix rates.new ≡ R.matrix rates.old }
+    ensures waypoints { KeepsWaypoints (R.matrix rates.old) (R.basics rates.old)
+        (R.waypoints rates.old) (R.basics rates.new) (R.waypoints rates.new) }
+    ensures overflow { ExchangeOverflow result (R.matrix rates.old) (R.basics rates.old) p q
+        (R.waypoints rates.old) (R.waypoints rates.new) }
+{
+    match direction {
+        Some(direction) => rates.exchange_along(p, q, direction),
+        None => rates.exchange(p, q),
+    }
+}
+
+/// Takes the basis and the rates over the step `by` of `q`. Where `q` itself stops, it changes its limit, and no exchange is made.
+fn change_basis<R: Rates>(
+    lp: &Lp,
+    basis: &mut Basis,
+    rates: &mut R,
+    q: u32,
+    by: &Stopper,
+    direction: Option<&SparseVector>,
+) -> Result<(), Stop>
+    requires rates { HasRates (R.matrix rates.old) (R.basics rates.old) lp.now basis.old }
+    requires nonbasic { IsNonbasic lp.now.matrix (basics_of basis.old) q }
+    requires step { IsStepOf lp.now basis.old q by.now }
+    requires along { IfSome (option_copied direction)
+        (PivotsAlong lp.now.matrix (basics_of basis.old) by.now.p q) }
+    ensures basis { OnOk result (basis.new ≡ after basis.old (move_by q by.now)) }
+    ensures unchanged { OnErr result (basis.new ≡ basis.old) }
+    ensures rates { HasRates (R.matrix rates.new) (R.basics rates.new) lp.now basis.new }
+    ensures waypoints { KeepsWaypoints lp.now.matrix (basics_of basis.old) (R.waypoints rates.old)
+        (basics_of basis.new) (R.waypoints rates.new) }
+    ensures overflow { StepOverflow result lp.now basis.old q by.now (R.waypoints rates.old)
+        (R.waypoints rates.new) }
+{
+    if by.p == q {
+        basis.flip(q, by.to);
+        return Ok(());
+    }
+    exchange_by(rates, by.p, q, direction)?;
+    basis.replace(by.p, q, by.to);
+    Ok(())
+}
+
 /// Makes the step `by` of `q` as `take_step` does, from the values of the point that are `kept`. Answers which are still kept
 /// after it: where not all are needed, a refused one of a variable without limits is given up.
 pub fn step_over<R: Rates>(
@@ -204,7 +268,7 @@ pub fn step_over<R: Rates>(
     basis: &mut Basis,
     rates: &mut R,
     point: &mut [Frac],
-    direction: &[Frac],
+    direction: &SparseVector,
     q: u32,
     by: &Stopper,
     kept: Kept,
@@ -231,16 +295,12 @@ pub fn step_over<R: Rates>(
     ensures overflow { IfErr result (λ stop. IfOverflow stop (StepRefused lp.now
         (R.waypoints rates.old) basis.old q by.now (R.waypoints rates.new))) }
 {
-    let still = match move_point(lp, direction, q, by, point, kept) {
+    let moving = Moving::Listed(direction.nonzero());
+    let still = match move_point(lp, direction.values(), &moving, q, by, point, kept) {
         Ok(still) => still,
         Err(evidence) => return Err(Stop::Overflow(evidence)),
     };
-    if by.p == q {
-        basis.flip(q, by.to);
-        return Ok(still);
-    }
-    rates.exchange(by.p, q)?;
-    basis.replace(by.p, q, by.to);
+    change_basis(lp, basis, rates, q, by, Some(direction))?;
     Ok(still)
 }
 
@@ -274,8 +334,9 @@ pub fn take_step<R: Rates>(
     ensures overflow { StepOverflow result lp.now basis.old q by.now (R.waypoints rates.old)
         (R.waypoints rates.new) }
 {
-    match step_over(lp, basis, rates, point, direction, q, by, Kept::All) {
-        Ok(_) => Ok(()),
-        Err(stop) => Err(stop),
+    let moving = Moving::All(lp.number_of_variables());
+    match move_point(lp, direction, &moving, q, by, point, Kept::All) {
+        Ok(_) => change_basis(lp, basis, rates, q, by, None),
+        Err(evidence) => Err(Stop::Overflow(evidence)),
     }
 }

@@ -7,10 +7,13 @@ ghost use Rattle.lp_definitions.specs.Solutions.{IsFeasible, IsWithinLimits};
 ghost use Rattle.lp_definitions.specs.Basis.{basics_of, IsBasis, IsNonbasic, IsNonsingular, IsPointOf, IsDirectionOf};
 ghost use Rattle.simplex_definitions.specs.Moves.{room, signed, reached};
 ghost use Rattle.basis_values.specs.Motions.{may_move, motion};
+ghost use Rattle.lp_model.specs.Sparse.{CoverNonzero};
+ghost use Rattle.bounded_primal.specs.Moving.{variables_of};
 ghost use Rattle.bounded_primal.specs.Moves.{stopper_of, StopperRefused};
 ghost use Rattle.basis_values.specs.Reach.{length_of, IsFirst, IsNearest, Reaches, SomeRoomRefused};
 
 use crate::moves::Stopper;
+use crate::moving::Moving;
 use basis_values::reach::{Reach, length_to, nearer, yields};
 use basis_values::{counted, is_less};
 use frac128::Frac;
@@ -32,11 +35,13 @@ fn nearest_by_lengths(
     lp: &Lp,
     point: &[Frac],
     direction: &[Frac],
+    moving: &Moving<'_>,
     q: u32,
     up: bool,
 ) -> Result<Option<Reach>, Evidence>
     requires point_places { length point.now ≡ size lp.now.matrix }
     requires direction_places { length direction.now ≡ size lp.now.matrix }
+    requires covered { CoverNonzero direction.now (variables_of moving.now) }
     requires within { IsWithinLimits lp.now (value_at point.now) }
     ensures nearest { IfOk result (IsNearest (room lp.now (value_at point.now)
         (motion (value_at direction.now) up)) (size lp.now.matrix)) }
@@ -44,12 +49,13 @@ fn nearest_by_lengths(
         (value_at direction.now) up q) }
 {
     let mut nearest: Option<Reach> = None;
-    for k in 0..lp.number_of_variables() {
-        if direction[k as usize].is_zero() {
+    for place in 0..moving.count() {
+        let k = moving.variable(place);
+        if direction[k as usize - 1].is_zero() {
             continue;
         }
-        let length = length_to(lp, point, direction, up, q, k + 1)?;
-        nearest = nearer(nearest, length, k + 1);
+        let length = length_to(lp, point, direction, up, q, k)?;
+        nearest = nearer(nearest, length, k);
         if is_at_once(&nearest) {
             return Ok(nearest);
         }
@@ -112,18 +118,20 @@ fn nearest(
     lp: &Lp,
     point: &[Frac],
     direction: &[Frac],
+    moving: &Moving<'_>,
     q: u32,
     up: bool,
 ) -> Result<Option<Reach>, Evidence>
     requires point_places { length point.now ≡ size lp.now.matrix }
     requires direction_places { length direction.now ≡ size lp.now.matrix }
+    requires covered { CoverNonzero direction.now (variables_of moving.now) }
     requires within { IsWithinLimits lp.now (value_at point.now) }
     ensures nearest { IfOk result (IsNearest (room lp.now (value_at point.now)
         (motion (value_at direction.now) up)) (size lp.now.matrix)) }
     ensures refused { IfErr result (SomeRoomRefused lp.now (value_at point.now)
         (value_at direction.now) up q) }
 {
-    match nearest_by_lengths(lp, point, direction, q, up) {
+    match nearest_by_lengths(lp, point, direction, moving, q, up) {
         Ok(nearest) => Ok(nearest),
         Err(evidence) => match first_by_places(lp, point, direction, q, up) {
             Some(first) => Ok(Some(first)),
@@ -148,18 +156,20 @@ pub fn stopper_from(
     lp: &Lp,
     point: &[Frac],
     direction: &[Frac],
+    moving: &Moving<'_>,
     q: u32,
     up: bool,
 ) -> Result<Option<Stopper>, Evidence>
     requires point_places { length point.now ≡ size lp.now.matrix }
     requires direction_places { length direction.now ≡ size lp.now.matrix }
+    requires covered { CoverNonzero direction.now (variables_of moving.now) }
     requires within { IsWithinLimits lp.now (value_at point.now) }
     ensures stopper { IfOk result (λ found. found ≡ stopper_of lp.now (value_at point.now)
         (value_at direction.now) up) }
     ensures refused { IfErr result (SomeRoomRefused lp.now (value_at point.now)
         (value_at direction.now) up q) }
 {
-    let found = nearest(lp, point, direction, q, up)?;
+    let found = nearest(lp, point, direction, moving, q, up)?;
     match found {
         None => Ok(None),
         Some(nearest) => {
@@ -198,5 +208,6 @@ pub fn stopper(
     ensures refused { IfErr result (StopperRefused lp.now basis.now (value_at point.now)
         (value_at direction.now) q up) }
 {
-    stopper_from(lp, point, direction, q, up)
+    let moving = Moving::All(lp.number_of_variables());
+    stopper_from(lp, point, direction, &moving, q, up)
 }

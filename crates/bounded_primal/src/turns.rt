@@ -17,14 +17,15 @@ ghost use Rattle.bounded_primal.specs.Turns.{IsUncrossed, least_outside, ray_fro
 
 use crate::kept::Kept;
 use crate::moves::{PrimalStop, Stopper};
+use crate::moving::Moving;
+use crate::position::Position;
 use crate::step::returning;
 use crate::stopping::stopper_from;
-use basis_values::{
-    counted, fill_prices, is_less, is_minimized, lies_below, point_of, wrong_price,
-};
+use basis_values::{counted, is_less, is_minimized, lies_below, point_of, prices_of, wrong_price};
 use frac128::Frac;
 use lp_model::{
-    Basis, Direction, Lp, NoMemory, Outcome, Point, Prices, Rates, Ray, Status, Stop, Wanted,
+    Basis, Direction, Lp, NoMemory, Outcome, Point, Prices, Rates, Ray, SparseVector, Status, Stop,
+    Wanted,
 };
 use std::alloc::Global;
 
@@ -166,13 +167,49 @@ pub fn return_of<R: Rates>(
     }
 }
 
+/// The same, with the list of what moves.
+pub fn return_along<R: Rates>(
+    at: &Position<'_>,
+    rates: &mut R,
+    direction: &mut SparseVector,
+    q: u32,
+    p: u32,
+    to: Status,
+) -> Result<Stopper, Stop>
+    requires rates { HasRates (R.matrix rates.old) (R.basics rates.old) at.now.lp.now at.now.basis.now }
+    requires point_places { length at.now.point.now ≡ size at.now.lp.now.matrix }
+    requires direction_places { length direction.old ≡ size at.now.lp.now.matrix }
+    requires nonbasic { IsNonbasic at.now.lp.now.matrix (basics_of at.now.basis.now) q }
+    requires basic { IsBasic at.now.lp.now.matrix (basics_of at.now.basis.now) p }
+    requires limit { IsSome (limit_numbered at.now.lp.now p (number_of_limit to)) }
+    requires pivot { (d : ℕ → ℚ) → IsDirectionOf at.now.lp.now.matrix (basics_of at.now.basis.now) q d →
+        d p ≢ zero_ℚ }
+    ensures direction { OnOk result (IsDirectionOf at.now.lp.now.matrix (basics_of at.now.basis.now) q
+        (value_at direction.new)) }
+    ensures stopper { IfOk result (λ by. by ≡ return_by at.now.lp.now (value_at at.now.point.now)
+        (value_at direction.new) p to) }
+    ensures direction_places { OnOk result (length direction.new ≡ size at.now.lp.now.matrix) }
+    ensures rates { KeepsRates (R.matrix rates.new) (R.basics rates.new) at.now.lp.now at.now.basis.now
+        (R.waypoints rates.old) (R.waypoints rates.new) }
+    ensures overflow { IfErr result
+        (λ stop. IfOverflow stop (ReturnStops at.now.lp.now at.now.basis.now (value_at at.now.point.now) q p to
+        (R.waypoints rates.old) (R.waypoints rates.new))) }
+{
+    let _size = at.lp.number_of_variables();
+    rates.direction(q, direction)?;
+    match returning(at.lp, at.point, direction.values(), q, p, to) {
+        Ok(by) => Ok(by),
+        Err(evidence) => Err(Stop::Overflow(evidence)),
+    }
+}
+
 /// What stops `q`. `direction` takes the direction of `q`.
 fn stopper_of<R: Rates>(
     lp: &Lp,
     basis: &Basis,
     rates: &mut R,
     point: &[Frac],
-    direction: &mut [Frac],
+    direction: &mut SparseVector,
     q: u32,
     up: bool,
 ) -> Result<Option<Stopper>, Stop>
@@ -187,14 +224,17 @@ fn stopper_of<R: Rates>(
         (value_at direction.new)) }
     ensures stopper { IfOk result (λ found. found ≡ stopper_by lp.now (value_at point.now)
         (value_at direction.new) up) }
+    ensures direction_places { OnOk result (length direction.new ≡ size lp.now.matrix) }
     ensures rates { KeepsRates (R.matrix rates.new) (R.basics rates.new) lp.now basis.now
         (R.waypoints rates.old) (R.waypoints rates.new) }
     ensures overflow { IfErr result
         (λ stop. IfOverflow stop (RunStopsAtPoint lp.now basis.now q up
         (R.waypoints rates.old) (R.waypoints rates.new))) }
 {
-    rates.column(q, direction)?;
-    match stopper_from(lp, point, direction, q, up) {
+    let _size = lp.number_of_variables();
+    rates.direction(q, direction)?;
+    let moving = Moving::Listed(direction.nonzero());
+    match stopper_from(lp, point, direction.values(), &moving, q, up) {
         Ok(found) => Ok(found),
         Err(evidence) => Err(Stop::Overflow(evidence)),
     }
@@ -228,18 +268,16 @@ fn bettering(lp: &Lp, basis: &Basis, prices: &[Frac]) -> Option<Mover>
     Some(mover_at(lp, prices, q))
 }
 
-/// The variable that betters the objective, if there is one, by the prices of all variables, which `prices` takes. `change` is
-/// room.
+/// The variable that betters the objective, if there is one, by the prices of all variables, which `prices` takes.
 fn mover_by_prices<R: Rates>(
+    alloc: Global,
     lp: &Lp,
     basis: &Basis,
     rates: &mut R,
-    change: &mut [Frac],
     prices: &mut [Frac],
 ) -> Result<Option<Mover>, Stop>
     requires rates { HasRates (R.matrix rates.old) (R.basics rates.old) lp.now basis.now }
     requires lawful { IsLinearProgram lp.now }
-    requires change { length change.old ≡ size lp.now.matrix }
     requires places { length prices.old ≡ size lp.now.matrix }
     ensures found { IfOk result (IsMoverFound lp.now basis.now (value_at prices.new)) }
     ensures rates { KeepsRates (R.matrix rates.new) (R.basics rates.new) lp.now basis.now
@@ -247,7 +285,7 @@ fn mover_by_prices<R: Rates>(
     ensures overflow { IfErr result (λ stop. IfOverflow stop
         (PointRefused lp.now (R.waypoints rates.old) basis.now (R.waypoints rates.new))) }
 {
-    match fill_prices(lp, basis, rates, change, prices) {
+    match prices_of(alloc, lp, basis, rates, prices) {
         Ok(()) => Ok(bettering(lp, basis, prices)),
         Err(stop) => Err(stop),
     }
@@ -279,19 +317,18 @@ fn mover_by_row<R: Rates>(
     }
 }
 
-/// The variable that betters the objective, if there is one. Where there is none, `prices` takes the prices; `change` is room.
+/// The variable that betters the objective, if there is one. Where there is none, `prices` takes the prices.
 fn mover_of<R: Rates>(
+    alloc: Global,
     lp: &Lp,
     basis: &Basis,
     rates: &mut R,
     wanted: &[Wanted],
-    change: &mut [Frac],
     prices: &mut [Frac],
 ) -> Result<Option<Mover>, Stop>
     requires rates { HasRates (R.matrix rates.old) (R.basics rates.old) lp.now basis.now }
     requires lawful { IsLinearProgram lp.now }
     requires wants { AreWants lp.now basis.now wanted.now }
-    requires change { length change.old ≡ size lp.now.matrix }
     requires places { length prices.old ≡ size lp.now.matrix }
     ensures found { IfOk result (IsMoverFound lp.now basis.now (value_at prices.new)) }
     ensures rates { KeepsRates (R.matrix rates.new) (R.basics rates.new) lp.now basis.now
@@ -301,7 +338,7 @@ fn mover_of<R: Rates>(
 {
     match lp.change {
         None => mover_by_row(lp, basis, rates, wanted, prices),
-        Some(_) => mover_by_prices(lp, basis, rates, change, prices),
+        Some(_) => mover_by_prices(alloc, lp, basis, rates, prices),
     }
 }
 
@@ -312,78 +349,66 @@ pub enum Turn {
 }
 
 /// The first phase: brings the basic `r` back to the limit that it broke, or answers why nothing does. `row` and `direction` are
-/// room.
+/// workspaces.
 fn first_phase<R: Rates>(
     alloc: Global,
-    lp: &Lp,
-    basis: &Basis,
+    at: &Position<'_>,
     rates: &mut R,
-    point: &[Frac],
     wanted: &[Wanted],
     row: &mut [Frac],
-    direction: &mut [Frac],
+    direction: &mut SparseVector,
     r: u32,
-    steps: u32,
-    left: u32,
 ) -> Result<Turn, PrimalStop>
-    requires rates { HasRates (R.matrix rates.old) (R.basics rates.old) lp.now basis.now }
-    requires wants { AreWants lp.now basis.now wanted.now }
-    requires point_places { length point.now ≡ size lp.now.matrix }
-    requires row_places { length row.old ≡ size lp.now.matrix }
-    requires direction_places { length direction.old ≡ size lp.now.matrix }
-    requires point { AgreesWithPoint lp.now basis.now (value_at point.now) }
-    requires uncrossed { IsUncrossed lp.now }
-    requires outside { least_outside lp.now basis.now (value_at point.now) ≡ Some r }
-    ensures turn { TurnFound result lp.now basis.now steps left
+    requires rates { HasRates (R.matrix rates.old) (R.basics rates.old) at.now.lp.now at.now.basis.now }
+    requires wants { AreWants at.now.lp.now at.now.basis.now wanted.now }
+    requires point_places { length at.now.point.now ≡ size at.now.lp.now.matrix }
+    requires row_places { length row.old ≡ size at.now.lp.now.matrix }
+    requires direction_places { length direction.old ≡ size at.now.lp.now.matrix }
+    requires point { AgreesWithPoint at.now.lp.now at.now.basis.now (value_at at.now.point.now) }
+    requires uncrossed { IsUncrossed at.now.lp.now }
+    requires outside { least_outside at.now.lp.now at.now.basis.now (value_at at.now.point.now) ≡ Some r }
+    ensures turn { TurnFound result at.now.lp.now at.now.basis.now at.now.steps at.now.left
         (value_at direction.new) (R.waypoints rates.old) (R.waypoints rates.new) }
-    ensures rates { KeepsRates (R.matrix rates.new) (R.basics rates.new) lp.now basis.now
+    ensures direction_places { OnOk result (length direction.new ≡ size at.now.lp.now.matrix) }
+    ensures rates { KeepsRates (R.matrix rates.new) (R.basics rates.new) at.now.lp.now at.now.basis.now
         (R.waypoints rates.old) (R.waypoints rates.new) }
 {
-    let below = lies_below(lp, point, r);
-    let Some(q) = returner(lp, basis, rates, wanted, row, r, below)? else {
-        let ray = ray_of(alloc, lp, row, r, below)?;
-        return Ok(Turn::Ends(Outcome::Infeasible { steps, ray }));
+    let below = lies_below(at.lp, at.point, r);
+    let Some(q) = returner(at.lp, at.basis, rates, wanted, row, r, below)? else {
+        let ray = ray_of(alloc, at.lp, row, r, below)?;
+        return Ok(Turn::Ends(Outcome::Infeasible {
+            steps: at.steps,
+            ray,
+        }));
     };
-    if left == 0 {
+    if at.left == 0 {
         return Err(PrimalStop::Limit);
     }
-    let by = return_of(
-        lp,
-        basis,
-        rates,
-        point,
-        direction,
-        q,
-        r,
-        limit_broken(below),
-    )?;
+    let by = return_along(at, rates, direction, q, r, limit_broken(below))?;
     Ok(Turn::Moves { q, by })
 }
 
 /// The point of the basis: a copy where all its values are kept, and else made anew.
 pub fn whole_point<R: Rates>(
     alloc: Global,
-    lp: &Lp,
-    basis: &Basis,
+    at: &Position<'_>,
     rates: &mut R,
-    point: &[Frac],
-    kept: Kept,
 ) -> Result<Vec<Frac>, Stop>
-    requires rates { HasRates (R.matrix rates.old) (R.basics rates.old) lp.now basis.now }
-    requires places { length point.now ≡ size lp.now.matrix }
-    requires kept { IsTrue (all_kept kept) → IsPointOf lp.now basis.now (value_at point.now) }
-    ensures places { IfOk result (λ made. length made.items ≡ size lp.now.matrix) }
-    ensures point { IfOk result (λ made. IsPointOf lp.now basis.now (value_at made.items)) }
-    ensures rates { KeepsRates (R.matrix rates.new) (R.basics rates.new) lp.now basis.now
+    requires rates { HasRates (R.matrix rates.old) (R.basics rates.old) at.now.lp.now at.now.basis.now }
+    requires places { length at.now.point.now ≡ size at.now.lp.now.matrix }
+    requires kept { IsTrue (all_kept at.now.kept) → IsPointOf at.now.lp.now at.now.basis.now (value_at at.now.point.now) }
+    ensures places { IfOk result (λ made. length made.items ≡ size at.now.lp.now.matrix) }
+    ensures point { IfOk result (λ made. IsPointOf at.now.lp.now at.now.basis.now (value_at made.items)) }
+    ensures rates { KeepsRates (R.matrix rates.new) (R.basics rates.new) at.now.lp.now at.now.basis.now
         (R.waypoints rates.old) (R.waypoints rates.new) }
     ensures overflow { IfErr result (λ stop. IfOverflow stop
-        (PointRefused lp.now (R.waypoints rates.old) basis.now (R.waypoints rates.new))) }
+        (PointRefused at.now.lp.now (R.waypoints rates.old) at.now.basis.now (R.waypoints rates.new))) }
 {
-    let mut values = copied(alloc, point)?;
-    if kept.has_all() {
+    let mut values = copied(alloc, at.point)?;
+    if at.kept.has_all() {
         return Ok(values);
     }
-    point_of(alloc, lp, basis, rates, &mut values)?;
+    point_of(alloc, at.lp, at.basis, rates, &mut values)?;
     Ok(values)
 }
 
@@ -426,40 +451,37 @@ fn endless(
     })
 }
 
-/// Moves `q` up or down until something stops it, or answers that nothing does. `point` and `kept` are those of `next_turn`;
-/// `direction` is room.
+/// Moves `q` up or down until something stops it, or answers that nothing does. `direction` is a workspace.
 fn run<R: Rates>(
     alloc: Global,
-    lp: &Lp,
-    basis: &Basis,
+    at: &Position<'_>,
     rates: &mut R,
-    point: &[Frac],
-    kept: Kept,
-    direction: &mut [Frac],
+    direction: &mut SparseVector,
     moved: Mover,
-    steps: u32,
-    left: u32,
 ) -> Result<Turn, PrimalStop>
-    requires rates { HasRates (R.matrix rates.old) (R.basics rates.old) lp.now basis.now }
-    requires point_places { length point.now ≡ size lp.now.matrix }
-    requires direction_places { length direction.old ≡ size lp.now.matrix }
-    requires point { AgreesWithPoint lp.now basis.now (value_at point.now) }
-    requires kept { IsTrue (all_kept kept) → IsPointOf lp.now basis.now (value_at point.now) }
-    requires uncrossed { IsUncrossed lp.now }
-    requires inside { least_outside lp.now basis.now (value_at point.now) ≡ None }
-    requires moves { Betters lp.now basis.now moved }
-    ensures turn { TurnFound result lp.now basis.now steps left
+    requires rates { HasRates (R.matrix rates.old) (R.basics rates.old) at.now.lp.now at.now.basis.now }
+    requires point_places { length at.now.point.now ≡ size at.now.lp.now.matrix }
+    requires direction_places { length direction.old ≡ size at.now.lp.now.matrix }
+    requires point { AgreesWithPoint at.now.lp.now at.now.basis.now (value_at at.now.point.now) }
+    requires kept { IsTrue (all_kept at.now.kept) → IsPointOf at.now.lp.now at.now.basis.now (value_at at.now.point.now) }
+    requires uncrossed { IsUncrossed at.now.lp.now }
+    requires inside { least_outside at.now.lp.now at.now.basis.now (value_at at.now.point.now) ≡ None }
+    requires moves { Betters at.now.lp.now at.now.basis.now moved }
+    ensures turn { TurnFound result at.now.lp.now at.now.basis.now at.now.steps at.now.left
         (value_at direction.new) (R.waypoints rates.old) (R.waypoints rates.new) }
-    ensures rates { KeepsRates (R.matrix rates.new) (R.basics rates.new) lp.now basis.now
+    ensures direction_places { OnOk result (length direction.new ≡ size at.now.lp.now.matrix) }
+    ensures rates { KeepsRates (R.matrix rates.new) (R.basics rates.new) at.now.lp.now at.now.basis.now
         (R.waypoints rates.old) (R.waypoints rates.new) }
 {
-    match stopper_of(lp, basis, rates, point, direction, moved.q, moved.up)? {
+    match stopper_of(
+        at.lp, at.basis, rates, at.point, direction, moved.q, moved.up,
+    )? {
         None => {
-            let point = whole_point(alloc, lp, basis, rates, point, kept)?;
-            Ok(Turn::Ends(endless(alloc, lp, point, direction, moved.up, steps)?))
+            let point = whole_point(alloc, at, rates)?;
+            Ok(Turn::Ends(endless(alloc, at.lp, point, direction.values(), moved.up, at.steps)?))
         }
         Some(by) => {
-            if left == 0 {
+            if at.left == 0 {
                 Err(PrimalStop::Limit)
             } else {
                 Ok(Turn::Moves { q: moved.q, by })
@@ -469,84 +491,68 @@ fn run<R: Rates>(
 }
 
 /// The second phase: moves the least-numbered variable that betters the objective, or answers that none does or that nothing stops
-/// it. `point` and `kept` are those of `next_turn`; `row` and `direction` are room.
+/// it. `row` and `direction` are workspaces.
 fn second_phase<R: Rates>(
     alloc: Global,
-    lp: &Lp,
-    basis: &Basis,
+    at: &Position<'_>,
     rates: &mut R,
-    point: &[Frac],
-    kept: Kept,
     wanted: &[Wanted],
     row: &mut [Frac],
-    direction: &mut [Frac],
-    steps: u32,
-    left: u32,
+    direction: &mut SparseVector,
 ) -> Result<Turn, PrimalStop>
-    requires lawful { IsLinearProgram lp.now }
-    requires rates { HasRates (R.matrix rates.old) (R.basics rates.old) lp.now basis.now }
-    requires wants { AreWants lp.now basis.now wanted.now }
-    requires point_places { length point.now ≡ size lp.now.matrix }
-    requires row_places { length row.old ≡ size lp.now.matrix }
-    requires direction_places { length direction.old ≡ size lp.now.matrix }
-    requires point { AgreesWithPoint lp.now basis.now (value_at point.now) }
-    requires kept { IsTrue (all_kept kept) → IsPointOf lp.now basis.now (value_at point.now) }
-    requires uncrossed { IsUncrossed lp.now }
-    requires inside { least_outside lp.now basis.now (value_at point.now) ≡ None }
-    ensures turn { TurnFound result lp.now basis.now steps left
+    requires lawful { IsLinearProgram at.now.lp.now }
+    requires rates { HasRates (R.matrix rates.old) (R.basics rates.old) at.now.lp.now at.now.basis.now }
+    requires wants { AreWants at.now.lp.now at.now.basis.now wanted.now }
+    requires point_places { length at.now.point.now ≡ size at.now.lp.now.matrix }
+    requires row_places { length row.old ≡ size at.now.lp.now.matrix }
+    requires direction_places { length direction.old ≡ size at.now.lp.now.matrix }
+    requires point { AgreesWithPoint at.now.lp.now at.now.basis.now (value_at at.now.point.now) }
+    requires kept { IsTrue (all_kept at.now.kept) → IsPointOf at.now.lp.now at.now.basis.now (value_at at.now.point.now) }
+    requires uncrossed { IsUncrossed at.now.lp.now }
+    requires inside { least_outside at.now.lp.now at.now.basis.now (value_at at.now.point.now) ≡ None }
+    ensures turn { TurnFound result at.now.lp.now at.now.basis.now at.now.steps at.now.left
         (value_at direction.new) (R.waypoints rates.old) (R.waypoints rates.new) }
-    ensures rates { KeepsRates (R.matrix rates.new) (R.basics rates.new) lp.now basis.now
+    ensures direction_places { OnOk result (length direction.new ≡ size at.now.lp.now.matrix) }
+    ensures rates { KeepsRates (R.matrix rates.new) (R.basics rates.new) at.now.lp.now at.now.basis.now
         (R.waypoints rates.old) (R.waypoints rates.new) }
 {
-    match mover_of(lp, basis, rates, wanted, direction, row)? {
+    match mover_of(alloc, at.lp, at.basis, rates, wanted, row)? {
         None => {
-            let point = whole_point(alloc, lp, basis, rates, point, kept)?;
-            Ok(Turn::Ends(best(alloc, point, row, steps)?))
+            let point = whole_point(alloc, at, rates)?;
+            Ok(Turn::Ends(best(alloc, point, row, at.steps)?))
         }
-        Some(moved) => run(
-            alloc, lp, basis, rates, point, kept, direction, moved, steps, left,
-        ),
+        Some(moved) => run(alloc, at, rates, direction, moved),
     }
 }
 
-/// What the path does at the basis, where `broken` is the least-numbered basic outside its limits. The values of `point` that are
-/// `kept` are those of the basis, and so are those of the variables with a limit in any case. `wanted` has the signs of the rates
-/// that let a nonbasic lower a quantity. `row` and `direction` are room.
+/// What the path does where it stands. `wanted` has the signs of the rates that let a nonbasic lower a quantity. `row` and `direction`
+/// are workspaces.
 pub fn next_turn<R: Rates>(
     alloc: Global,
-    lp: &Lp,
-    basis: &Basis,
+    at: &Position<'_>,
     rates: &mut R,
-    point: &[Frac],
-    kept: Kept,
     wanted: &[Wanted],
     row: &mut [Frac],
-    direction: &mut [Frac],
-    broken: Option<u32>,
-    steps: u32,
-    left: u32,
+    direction: &mut SparseVector,
 ) -> Result<Turn, PrimalStop>
-    requires lawful { IsLinearProgram lp.now }
-    requires rates { HasRates (R.matrix rates.old) (R.basics rates.old) lp.now basis.now }
-    requires wants { AreWants lp.now basis.now wanted.now }
-    requires point_places { length point.now ≡ size lp.now.matrix }
-    requires row_places { length row.old ≡ size lp.now.matrix }
-    requires direction_places { length direction.old ≡ size lp.now.matrix }
-    requires point { AgreesWithPoint lp.now basis.now (value_at point.now) }
-    requires kept { IsTrue (all_kept kept) → IsPointOf lp.now basis.now (value_at point.now) }
-    requires uncrossed { IsUncrossed lp.now }
-    requires broken { broken ≡ least_outside lp.now basis.now (value_at point.now) }
-    ensures turn { TurnFound result lp.now basis.now steps left
+    requires lawful { IsLinearProgram at.now.lp.now }
+    requires rates { HasRates (R.matrix rates.old) (R.basics rates.old) at.now.lp.now at.now.basis.now }
+    requires wants { AreWants at.now.lp.now at.now.basis.now wanted.now }
+    requires point_places { length at.now.point.now ≡ size at.now.lp.now.matrix }
+    requires row_places { length row.old ≡ size at.now.lp.now.matrix }
+    requires direction_places { length direction.old ≡ size at.now.lp.now.matrix }
+    requires point { AgreesWithPoint at.now.lp.now at.now.basis.now (value_at at.now.point.now) }
+    requires kept { IsTrue (all_kept at.now.kept) → IsPointOf at.now.lp.now at.now.basis.now (value_at at.now.point.now) }
+    requires uncrossed { IsUncrossed at.now.lp.now }
+    requires broken { at.now.broken ≡ least_outside at.now.lp.now at.now.basis.now (value_at at.now.point.now) }
+    ensures turn { TurnFound result at.now.lp.now at.now.basis.now at.now.steps at.now.left
         (value_at direction.new) (R.waypoints rates.old) (R.waypoints rates.new) }
-    ensures rates { KeepsRates (R.matrix rates.new) (R.basics rates.new) lp.now basis.now
+    ensures direction_places { OnOk result (length direction.new ≡ size at.now.lp.now.matrix) }
+    ensures rates { KeepsRates (R.matrix rates.new) (R.basics rates.new) at.now.lp.now at.now.basis.now
         (R.waypoints rates.old) (R.waypoints rates.new) }
 {
-    match broken {
-        Some(r) => first_phase(
-            alloc, lp, basis, rates, point, wanted, row, direction, r, steps, left,
-        ),
-        None => second_phase(
-            alloc, lp, basis, rates, point, kept, wanted, row, direction, steps, left,
-        ),
+    match at.broken {
+        Some(r) => first_phase(alloc, at, rates, wanted, row, direction, r),
+        None => second_phase(alloc, at, rates, wanted, row, direction),
     }
 }

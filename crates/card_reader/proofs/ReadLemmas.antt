@@ -4,22 +4,22 @@ use Rattle.std.specs.Io.KnownBytes.{IsAtEnd}
 use Rattle.std.proofs.lemmas.List.{take_all, length-take}
 use Rattle.job_devices.specs.declared.reading.SourceStop.{SourceStop}
 use Rattle.job_devices.specs.declared.reading.SourceStop.TheVariants as source
-use Rattle.job_devices.proofs.SourceLemmas.{front_of_whole, IsKept}
+use Rattle.job_devices.proofs.SourceLemmas.{prefix_of_whole, IsKept}
 use Rattle.card_definitions.specs.Cards.{job_fault}
 use Rattle.card_definitions.specs.declared.CardFault.TheVariants as fault
 use Rattle.card_reader.proofs.FaultLemmas.{job_fault-bytes}
-use Rattle.card_reader.specs.Reading.{EndsAtStop, ReadsAtStop, ReadsFront, ReadsJob, read_limit}
+use Rattle.card_reader.specs.Reading.{EndsAtStop, ReadsAtStop, ReadsJob, ReadsPrefix, read_limit}
 use Rattle.card_reader.specs.Stop.{stop_of_source}
 use Rattle.card_reader.specs.declared.stop.ReadStop.{ReadStop}
 use Rattle.card_reader.specs.declared.stop.ReadStop.TheVariants.{ReadFault, NoMemory, TooLong, CardTooLong, NotPrintable}
 
--- a job that was read as far as the limit had a front read
-pub front_of_job : (old new : Option (List ℕ)) → ReadsJob old new → ReadsFront old new
-front_of_job old new read = front_of_whole read_limit old new read
+-- a job that was read as far as the limit had a prefix read
+pub prefix_of_job : (old new : Option (List ℕ)) → ReadsJob old new → ReadsPrefix old new
+prefix_of_job old new read = prefix_of_whole read_limit old new read
 
 pub reads_at_stop : (stop : ReadStop) (old new : Option (List ℕ)) → ReadsJob old new → ReadsAtStop stop old new
-reads_at_stop ReadFault old new read = front_of_job old new read
-reads_at_stop NoMemory old new read = front_of_job old new read
+reads_at_stop ReadFault old new read = prefix_of_job old new read
+reads_at_stop NoMemory old new read = prefix_of_job old new read
 reads_at_stop TooLong old new read = read
 reads_at_stop (CardTooLong number) old new read = read
 reads_at_stop (NotPrintable number) old new read = read
@@ -32,9 +32,9 @@ ends_at_stop (CardTooLong number) new end = end
 ends_at_stop (NotPrintable number) new end = end
 
 -- how far the job was read where its source stopped, and why it did
-pub reads_at_source_stop : (stop : SourceStop) (old new : Option (List ℕ)) → ReadsFront old new → ReadsAtStop (stop_of_source stop) old new
-reads_at_source_stop source.Failed old new front = front
-reads_at_source_stop source.NoMemory old new front = front
+pub reads_at_source_stop : (stop : SourceStop) (old new : Option (List ℕ)) → ReadsPrefix old new → ReadsAtStop (stop_of_source stop) old new
+reads_at_source_stop source.Failed old new prefix = prefix
+reads_at_source_stop source.NoMemory old new prefix = prefix
 
 -- what holds of the kept bytes holds of a job that isn't too long
 pub holds_of_job : (P : List ℕ → Type 0) (old : Option (List ℕ)) (bytes : List ℕ) → IsKept read_limit old bytes → length bytes ≤ 16400000 → P bytes → IfSome old P

@@ -26,13 +26,13 @@ abbrev pub ReadsJob : Option (List ℕ) → Option (List ℕ) → Type 0
 ReadsJob old new = ReadsWhole read_limit old new
 
 -- some of the job was read, and no more than to the limit
-abbrev pub ReadsFront : Option (List ℕ) → Option (List ℕ) → Type 0
-ReadsFront old new = ReadsUpTo read_limit old new
+abbrev pub ReadsPrefix : Option (List ℕ) → Option (List ℕ) → Type 0
+ReadsPrefix old new = ReadsUpTo read_limit old new
 
 -- how far a job was read that isn't given: a fault of the source or want of memory may come before the end
 abbrev pub ReadsAtStop : ReadStop → Option (List ℕ) → Option (List ℕ) → Type 0
-ReadsAtStop ReadFault old new = ReadsFront old new
-ReadsAtStop NoMemory old new = ReadsFront old new
+ReadsAtStop ReadFault old new = ReadsPrefix old new
+ReadsAtStop NoMemory old new = ReadsPrefix old new
 ReadsAtStop stop old new = ReadsJob old new
 
 -- how far the job was read

@@ -3,7 +3,7 @@ ghost use Rattle.std.specs.Prelude.{◌≡◌, ◌≤◌, ◌<◌, Option, lengt
 ghost use Rattle.std.specs.Io.KnownBytes.{Consumes, IsAtEnd};
 ghost use Rattle.card_definitions.specs.Cards.{cards_of};
 ghost use Rattle.card_definitions.specs.declared.CardFault.{CardFault};
-ghost use Rattle.card_reader.specs.Reading.{HasCause, Judges, Reads, ReadsFront, Ends, EndsAtStop, TellsCardFault, read_limit};
+ghost use Rattle.card_reader.specs.Reading.{HasCause, Judges, Reads, ReadsPrefix, Ends, EndsAtStop, TellsCardFault, read_limit};
 
 use crate::ReadStop;
 use crate::cards::Cards;
@@ -18,7 +18,7 @@ fn read_bytes<S: Source>(alloc: Global, source: &mut S) -> Result<Vec<u8>, ReadS
     ensures bytes { IfOk result (λ bytes. IfSome (S.left source.old)
         (λ job. bytes.items ≡ take read_limit job)) }
     ensures reads { Reads result (S.left source.old) (S.left source.new) }
-    ensures no_further { ReadsFront (S.left source.old) (S.left source.new) }
+    ensures no_further { ReadsPrefix (S.left source.old) (S.left source.new) }
     ensures end { IfOk result (λ bytes. length bytes.items ≤ MAX_JOB_BYTES → IsAtEnd
         (S.left source.new)) }
     ensures cause { HasCause (S.faults source.old) (S.faults source.new) result }
@@ -39,7 +39,7 @@ pub fn read_job<S: Source>(alloc: Global, source: &mut S) -> Result<Cards, ReadS
     ensures fault { Judges result (S.left source.old) }
 
     ensures reads { Reads result (S.left source.old) (S.left source.new) }
-    ensures no_further { ReadsFront (S.left source.old) (S.left source.new) }
+    ensures no_further { ReadsPrefix (S.left source.old) (S.left source.new) }
     ensures end { Ends result (S.left source.new) }
     ensures cause { HasCause (S.faults source.old) (S.faults source.new) result }
 {

@@ -31,7 +31,8 @@ use Rattle.run_definitions.specs.Answer.{IsSoFar}
 use Rattle.soundness_laws.specs.Truth.{PresentProgram}
 use Rattle.soundness_laws.proofs.Moves.{HasProblem, Knows}
 use Rattle.soundness_laws.proofs.Runs.{has_problem, known, knows_linear_programming}
-use Rattle.soundness_laws.proofs.Selected.{selected_is_lawful, selected_has_names}
+use Rattle.selection_laws.proofs.Selected.{selected_is_lawful}
+use Rattle.soundness_laws.proofs.Selected.{selected_has_names}
 use Rattle.carried_basis_laws.specs.Laws.{StandsForPresent, ComesBack, goes, overflows}
 
 -- ---- a fact of every outcome of a move, where it says nothing of an end

@@ -37,9 +37,9 @@ cut [] = inl refl
 cut (x ∷ xs) = at (x == 61) refl (cut xs)
   where
     at : (b : Bool) → (x == 61) ≡ b → Cut xs → Cut (x ∷ xs)
-    at true e rest = inr (xs, ap (λ k. k ∷ xs) (eqb-true x 61 e) ∙ ap (λ front. front ++ 61 ∷ xs) (sym (before_equals x xs e)))
+    at true e rest = inr (xs, ap (λ k. k ∷ xs) (eqb-true x 61 e) ∙ ap (λ prefix. prefix ++ 61 ∷ xs) (sym (before_equals x xs e)))
     at false e (inl whole) = inl (before_other x xs e ∙ ap (λ t. x ∷ t) whole)
-    at false e (inr (v, parts)) = inr (v, ap (λ t. x ∷ t) parts ∙ ap (λ front. front ++ 61 ∷ v) (sym (before_other x xs e)))
+    at false e (inr (v, parts)) = inr (v, ap (λ t. x ∷ t) parts ∙ ap (λ prefix. prefix ++ 61 ∷ v) (sym (before_other x xs e)))
 
 long_kind : (x : ℕ) (xs : Text) → Word (45 ∷ 45 ∷ x ∷ xs)
 long_kind x xs = at (bytes_eq (codes "make") (before_first is_equals (x ∷ xs))) refl (cut (x ∷ xs))
@@ -72,12 +72,12 @@ word_kind (x ∷ xs) = first (x == 45) refl xs
 
 -- ---- what is asked for where a word is none of those that ask
 
-after_is : (front text v : Text) → rest_after front text ≡ Some v → text ≡ front ++ v
+after_is : (prefix text v : Text) → rest_after prefix text ≡ Some v → text ≡ prefix ++ v
 after_is [] text v e = cc
-after_is (c ∷ front) [] v e = absurd (cc)
-after_is (c ∷ front) (x ∷ text) v e = at (x == c) refl e (after_is front text v)
+after_is (c ∷ prefix) [] v e = absurd (cc)
+after_is (c ∷ prefix) (x ∷ text) v e = at (x == c) refl e (after_is prefix text v)
   where
-    at : (b : Bool) → (x == c) ≡ b → (if b then rest_after front text else None) ≡ Some v → (rest_after front text ≡ Some v → text ≡ front ++ v) → x ∷ text ≡ c ∷ (front ++ v)
+    at : (b : Bool) → (x == c) ≡ b → (if b then rest_after prefix text else None) ≡ Some v → (rest_after prefix text ≡ Some v → text ≡ prefix ++ v) → x ∷ text ≡ c ∷ (prefix ++ v)
     at true test rest tail = let head = eqb-true x c test in let same = tail rest in cc
     at false test rest tail = absurd (cc)
 

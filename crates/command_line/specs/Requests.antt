@@ -18,11 +18,11 @@ abbrev pub asked_with : Option (List ℕ) → Option Request
 asked_with None = Some Read
 asked_with (Some value) = option_map (λ size. Make size) (size_written value)
 
--- what follows a front in a text, if it begins with it
+-- what follows a prefix in a text, if it begins with it
 abbrev pub rest_after : List ℕ → List ℕ → Option (List ℕ)
 rest_after [] text = Some text
-rest_after (c ∷ front) [] = None
-rest_after (c ∷ front) (x ∷ text) = if x == c then rest_after front text else None
+rest_after (c ∷ prefix) [] = None
+rest_after (c ∷ prefix) (x ∷ text) = if x == c then rest_after prefix text else None
 
 -- nothing may follow what is asked for but the word `--`, which ends options
 abbrev pub ends : List (List ℕ) → Bool

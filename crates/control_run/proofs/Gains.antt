@@ -2,7 +2,7 @@
 use Rattle.std.proofs.Common.{◌≡◌, ℕ, List, [], ◌∷◌, ◌++◌, Option, refl, sym, ap, ◌∙◌, append-nil}
 use Rattle.std.specs.Io.KnownBytes.{Appends}
 use Rattle.std.proofs.lemmas.List.Concat.{flat_map-append}
-use Rattle.job_devices.specs.Text.{AppendsFront}
+use Rattle.job_devices.specs.Text.{AppendsPrefix}
 use Rattle.deck_definitions.specs.Written.{card_text}
 use Rattle.listing_definitions.specs.Report.{Report}
 use Rattle.listing_definitions.specs.Ending.{Ending, Ended, WordsRefused, ControlStop, VerbStop, SingularStop, PriceStop, DeckStop, CardStop, LimitStop, StatementLimit, OverflowStop, ReadFault, PrintFault, PunchFault, Memory}
@@ -48,9 +48,9 @@ gains_all PrintFault text = refl
 pub gains_whole : (ending : Ending) (old new : Option (List ℕ)) (text : List ℕ) → Appends old new text → GainsBy ending old new text
 gains_whole ending old new text appends = (text, appends, gains_all ending text)
 
--- where a deck is broken off a front is gained
-pub gains_front_at_fault : (old new : Option (List ℕ)) (text : List ℕ) → AppendsFront old new text → GainsBy PunchFault old new text
-gains_front_at_fault old new text front = (front.0, front.2, front.1)
+-- where a deck is broken off a prefix is gained
+pub gains_prefix_at_fault : (old new : Option (List ℕ)) (text : List ℕ) → AppendsPrefix old new text → GainsBy PunchFault old new text
+gains_prefix_at_fault old new text prefix = (prefix.0, prefix.2, prefix.1)
 
-pub gains_front_for_memory : (old new : Option (List ℕ)) (text : List ℕ) → AppendsFront old new text → GainsBy Memory old new text
-gains_front_for_memory old new text front = (front.0, front.2, front.1)
+pub gains_prefix_for_memory : (old new : Option (List ℕ)) (text : List ℕ) → AppendsPrefix old new text → GainsBy Memory old new text
+gains_prefix_for_memory old new text prefix = (prefix.0, prefix.2, prefix.1)

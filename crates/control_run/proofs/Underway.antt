@@ -3,7 +3,8 @@ use Rattle.std.proofs.Common.{◌≡◌, ℕ, ◌+◌, ◌-◌, ◌≤◌, ◌<�
 use Rattle.job_devices.proofs.TextLemmas.{Appends-then, writes_then, writes_same, writes_nothing}
 use Rattle.job_devices.specs.declared.device.WriteStop.{WriteStop}
 use Rattle.job_devices.specs.declared.device.WriteStop.TheVariants.{Failed, NoMemory}
-use Rattle.job_devices.specs.Text.{IsFront, Writes}
+use Rattle.card_definitions.specs.Prefixes.{IsPrefix}
+use Rattle.job_devices.specs.Text.{Writes}
 use Rattle.card_definitions.specs.Cards.{numbered_cards}
 use Rattle.deck_definitions.specs.Decks.{decks_of}
 use Rattle.deck_definitions.specs.Written.{card_text}
@@ -25,7 +26,7 @@ use Rattle.run_machine.specs.Ends.{end_shown}
 use Rattle.run_setup.specs.Standing.{IsSound, Stands}
 use Rattle.run_machine.specs.Punching.{gain_cards}
 use Rattle.control_run.specs.Running.{decks_after, by_itself, for_memory, for_memory_of_punch, for_punch_fault, Turns, IsStepCut, IsDeckCut, Steps, RunsTo, IsRunCut, Runs}
-use Rattle.control_run.proofs.Gains.{printed_text, reports_text_more, card_text_more, gains_whole, gains_front_at_fault, gains_front_for_memory}
+use Rattle.control_run.proofs.Gains.{printed_text, reports_text_more, card_text_more, gains_whole, gains_prefix_at_fault, gains_prefix_for_memory}
 use Rattle.control_run.proofs.Reported.{left}
 
 module _ (S : Solving) (program : Program) (cards : List (List ℕ)) {P U : Type 0} (written stopped_at : P → Option (List ℕ)) (faults refusals : P → ℕ)
@@ -126,7 +127,7 @@ module _ (S : Solving) (program : Program) (cards : List (List ℕ)) {P U : Type
           outcome = t.outcome;
           step = t.step;
           part = part.0;
-          is_part = subst (λ (text : List ℕ). IsFront part.0 text) (sym (printed_text (gain_of t.outcome))) part.1;
+          is_part = subst (λ (text : List ℕ). IsPrefix part.0 text) (sym (printed_text (gain_of t.outcome))) part.1;
           gains = Appends-then (written old) (written now) (written later) (reports_text u.reports) part.0 u.prints.bytes part.2;
           leaves = left (writes_then u.prints t.prints);
           punches = punches_more u (gain_of t.outcome) t.punches;
@@ -142,7 +143,7 @@ module _ (S : Solving) (program : Program) (cards : List (List ℕ)) {P U : Type
           punched = u.punched ++ t.deck;
           can_end = for_punch_fault t.deck (w.cause.failed refl) u.reaches t.punching;
           prints = prints_same u later t.is_quiet;
-          gains = gains_front_at_fault (punch_written punch_old) (punch_written punch_later) (card_text (u.punched ++ t.deck)) w.bytes;
+          gains = gains_prefix_at_fault (punch_written punch_old) (punch_written punch_later) (card_text (u.punched ++ t.deck)) w.bytes;
           leaves = left w;
         }
     underway_deck_cut NoMemory t =
@@ -152,7 +153,7 @@ module _ (S : Solving) (program : Program) (cards : List (List ℕ)) {P U : Type
           punched = u.punched ++ t.deck;
           can_end = for_memory_of_punch t.deck (w.cause.no_memory refl) u.reaches t.punching;
           prints = prints_same u later t.is_quiet;
-          gains = gains_front_for_memory (punch_written punch_old) (punch_written punch_later) (card_text (u.punched ++ t.deck)) w.bytes;
+          gains = gains_prefix_for_memory (punch_written punch_old) (punch_written punch_later) (card_text (u.punched ++ t.deck)) w.bytes;
           leaves = left w;
         }
 

@@ -10,7 +10,8 @@ use Rattle.std.specs.Io.KnownBytes.{Appends}
 use Rattle.job_devices.specs.declared.device.WriteStop.{WriteStop}
 use Rattle.job_devices.specs.declared.device.WriteStop.TheVariants.{Failed, NoMemory}
 use Rattle.job_devices.specs.Causes.{Rose}
-use Rattle.job_devices.specs.Text.{IsFront, Writes}
+use Rattle.card_definitions.specs.Prefixes.{IsPrefix}
+use Rattle.job_devices.specs.Text.{Writes}
 use Rattle.card_definitions.specs.Cards.{Card, numbered_cards}
 use Rattle.deck_definitions.specs.Decks.{decks_of}
 use Rattle.deck_definitions.specs.Written.{card_text}
@@ -43,7 +44,7 @@ abbrev pub punch_end : WriteStop → Ending
 punch_end Failed = PunchFault
 punch_end NoMemory = Memory
 
--- known bytes grow by what the punch gains of a text by this end: all of it, or a front where its deck may be broken off
+-- known bytes grow by what the punch gains of a text by this end: all of it, or a prefix where its deck may be broken off
 abbrev pub GainsBy : Ending → Option (List ℕ) → Option (List ℕ) → List ℕ → Type 0
 GainsBy ending old new text = (gained : List ℕ) × Appends old new gained × Gains ending gained text
 
@@ -73,10 +74,10 @@ module _ (S : Solving) (program : Program) (cards : List (List ℕ)) where
     pub data IsCut (old new punch_old punch_new : Option (List ℕ)) : Type 0 where
       in_report : {reports : List Report} {punched : List (List ℕ)} {state : State} (outcome : Outcome) (part : List ℕ) →
           Reaches S program (decks_after program cards) reports punched state → Step S program state outcome →
-          IsFront part (reports_text (printed_by (gain_of outcome))) → Appends old new (reports_text reports ++ part) →
+          IsPrefix part (reports_text (printed_by (gain_of outcome))) → Appends old new (reports_text reports ++ part) →
           Appends punch_old punch_new (card_text (punched ++ punched_by (gain_of outcome))) → IsCut old new punch_old punch_new
       in_end : {reports : List Report} {punched : List (List ℕ)} {ending : Ending} (part : List ℕ) → CanEnd reports punched ending →
-          IsFront part (ending_text ending) → Appends old new (reports_text reports ++ part) → GainsBy ending punch_old punch_new (card_text punched) →
+          IsPrefix part (ending_text ending) → Appends old new (reports_text reports ++ part) → GainsBy ending punch_old punch_new (card_text punched) →
           IsCut old new punch_old punch_new
 
   -- What a run may be answered: the status of an end, with the whole listing, and with all that is punched by then, or a prefix of it
@@ -143,7 +144,7 @@ module _ (S : Solving) (program : Program) (cards : List (List ℕ)) where
       pub outcome : Outcome
       pub step : Step S program state outcome
       pub part : List ℕ
-      pub is_part : IsFront part (reports_text (printed_by (gain_of outcome)))
+      pub is_part : IsPrefix part (reports_text (printed_by (gain_of outcome)))
       pub gains : Appends (written print_old) (written print_new) (reports_text reports ++ part)
       pub leaves : Leaves written stopped_at faults refusals print_old print_new (Err stop)
       pub punches : Writes {T = Unit {0}} punch_written punch_stopped_at punch_faults punch_refusals punch_old punch_new (Ok tt) (card_text (punched ++ punched_by (gain_of outcome)))

@@ -7,8 +7,8 @@ use Rattle.card_definitions.specs.Cards.{is_blank}
 use Rattle.card_definitions.specs.Numbers.{Decimal, trimmed, number_fault, number_of, decimal_of, formed_length, lacks_digit, exponent_size}
 use Rattle.card_definitions.proofs.Trailing.{trimmed_twice}
 use Rattle.problem_definitions.specs.Valid.{IsDecimal}
-use Rattle.name_table.specs.Places.{text_in}
-use Rattle.name_table.specs.Places_laws.{text_in-padded}
+use Rattle.card_definitions.specs.Places.{text_in}
+use Rattle.card_definitions.proofs.Places.{text_in-padded}
 
 -- the last of the four tests of a number fails where none finds a fault
 last_test_fails : (empty bad none range : Bool) (place : ℕ) → first_fault ((empty ⟹ Empty) ∷ (bad ⟹ BadCharacter place) ∷ (none ⟹ NoDigit) ∷ (range ⟹ ExponentRange) ∷ []) ≡ None → range ≡ false

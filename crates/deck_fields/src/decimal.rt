@@ -21,8 +21,8 @@ impl Model for Decimal {
     ghost use Rattle.std.specs.Prelude.{length, ◌≡◌};
     ghost use Rattle.card_definitions.specs.Numbers.{Decimal as Number};
     ghost use Rattle.card_definitions.specs.Words.{padded};
-    ghost use Rattle.name_table.specs.Places.{text_in};
-    ghost use Rattle.name_table.specs.Places_laws.{padded-text_in};
+    ghost use Rattle.card_definitions.specs.Places.{text_in};
+    ghost use Rattle.card_definitions.proofs.Places.{padded-text_in};
     ghost use Rattle.problem_definitions.specs.Valid.{IsDecimal};
 
     ghost Value = { Number };

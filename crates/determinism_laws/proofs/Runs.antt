@@ -20,14 +20,13 @@ use Rattle.run_definitions.specs.Run.{counted, Step, IsOver, at_end, at_limit, I
 use Rattle.run_definitions.specs.Answer.{IsProgramOf, job_decks, IsJobRun, card_fault, control_fault, run}
 use Rattle.soundness_laws.specs.Laws.{KnowsSolving}
 use Rattle.lp_definitions.specs.LinearProgram.{LinearProgram, IsLinearProgram}
-use Rattle.soundness_laws.proofs.Selected.{selected_is_lawful}
+use Rattle.selection_laws.proofs.Selected.{is_chosen, selected_is_lawful}
 use Rattle.determinism_laws.specs.Laws.{IsAsked, MeetsNoEvidence, AnswersOnce, IsOverflow, IsOverflowStop, IsSameOrStop, AreSame, Continues, IsFunction}
 use Rattle.determinism_laws.proofs.Stops.{statement_evidence}
 use Rattle.determinism_laws.proofs.OneRange.{ranged_once}
 use Rattle.determinism_laws.proofs.Swept.{swept_once}
 use Rattle.determinism_laws.proofs.OneAnswer.{path_once, dual_path_once, installed_once, shown_once}
 use Rattle.determinism_laws.proofs.Steps.{Comes, two_outcomes, steps, GoesOn, same_so_far, goes_on, continues}
-use Rattle.lp_setup.proofs.FreeRows.{is_chosen}
 
 -- two outcomes that end a run are the same
 record SameEnding (gain other : Gain) (ending another : Ending) : Type 0 where

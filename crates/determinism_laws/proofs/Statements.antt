@@ -32,7 +32,8 @@ use Rattle.lp_definitions.specs.Basis.{IsOptimalBasis}
 use Rattle.listing_definitions.specs.declared.Solver.{Solver}
 use Rattle.listing_definitions.specs.declared.Solver.TheVariants.{Primal as ByPrimal, Dual as ByDual}
 use Rattle.listing_definitions.specs.declared.Mark.TheVariants.{Optimal}
-use Rattle.soundness_laws.proofs.Selected.{selected_is_lawful, selected_has_names}
+use Rattle.selection_laws.proofs.Selected.{selected_is_lawful}
+use Rattle.soundness_laws.proofs.Selected.{selected_has_names}
 use Rattle.soundness_laws.proofs.Moves.{HasProblem, EndsOptimally, Knows}
 use Rattle.soundness_laws.specs.Truth.{IsOfProblem}
 use Rattle.soundness_laws.proofs.ChangeRow.{row_of_problem, set_of_problem, changes_part, last_no_less}

@@ -4,7 +4,7 @@ use Rattle.question_definitions.specs.Answers.{Basis, Sheet, Sweep, SweepEnd, Of
 use Rattle.answer_definitions.specs.Sweeps.{IsSwept}
 use Rattle.soundness_laws.proofs.OneEnd.{one_sweep_end}
 use Rattle.soundness_laws.proofs.ChangeRow.{changes_freely}
-use Rattle.soundness_laws.proofs.Selected.{selected_is_lawful}
+use Rattle.selection_laws.proofs.Selected.{selected_is_lawful}
 use Rattle.determinism_laws.specs.Laws.{IsAsked}
 
 pub swept_once : (sweep : Sweep) (sheet : Sheet) (s : Basis) (a b : SweepEnd) → IsAsked (OfSweep sweep) sheet s → IsSwept sheet s sweep a → IsSwept sheet s sweep b → a ≡ b

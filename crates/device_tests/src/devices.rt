@@ -160,7 +160,7 @@ fn sinks_in_memory_take_pieces(rt: HostRuntime) -> Result<(), Fail> {
     let mut sink = SureSink::new(rt.alloc())?;
     put_each(&mut sink, &[b"END ", b"0", b"\n"])?;
     assert_eq!(rt; sink.bytes(), b"END 0\n".as_slice());
-    // The second write is listed as one that fails, and leaves a front.
+    // The second write is listed as one that fails, and leaves a prefix.
     let mut sink = MemorySink::new(rt.alloc(), &[2])?;
     assert_eq!(rt;
         put_each(&mut sink, &[b"END ", b"0"]),

@@ -5,7 +5,7 @@ use Rattle.listing_definitions.specs.Report.{Report}
 use Rattle.listing_definitions.specs.Ending.{Ending, Ended, WordsRefused, ControlStop, VerbStop, SingularStop, PriceStop, DeckStop, CardStop, LimitStop, StatementLimit, OverflowStop, ReadFault, PrintFault, PunchFault, Memory, status_of}
 use Rattle.listing_definitions.specs.Listing.{listing}
 use Rattle.question_definitions.specs.Solving.{Solving}
-use Rattle.job_devices.specs.Text.{IsFront}
+use Rattle.card_definitions.specs.Prefixes.{IsPrefix}
 use Rattle.run_definitions.specs.Answer as run
 use Rattle.run_definitions.specs.Answer.{Job, bytes_of, Failures, Gains, IsJobRun, MayEnd, IsAnswer, whole, print_fails, print_wants_memory}
 use Rattle.soundness_laws.specs.Headline.{IsTrueAnswer}
@@ -55,15 +55,15 @@ module _ (S : Solving) (job : Job) (failures : Failures) (status : ℕ) (PrintGa
     by_itself Memory own runs is text gains = absurd own
 
   -- a run that is broken off
-  broken_off : (reports : List Report) (cards : List (List ℕ)) (ending : Ending) → MayEnd S job failures reports cards ending → printed ≡ listing reports ending → IsFront punched (card_text cards) →
+  broken_off : (reports : List Report) (cards : List (List ℕ)) (ending : Ending) → MayEnd S job failures reports cards ending → printed ≡ listing reports ending → IsPrefix punched (card_text cards) →
       StandsBrokenOff S job failures PrintGains PunchGains ending
-  broken_off reports cards ending may_end text front = record {
+  broken_off reports cards ending may_end text prefix = record {
     reports = reports;
     cards = cards;
     may_end = may_end;
     print_gains = subst PrintGains text print_gains;
     punched = punched;
-    is_front = front;
+    is_prefix = prefix;
     punch_gains = punch_gains;
   }
 

@@ -11,7 +11,7 @@ use Rattle.control_definitions.specs.declared.ControlFault.{ControlFault}
 use Rattle.listing_definitions.specs.Report.{Report}
 use Rattle.listing_definitions.specs.Ending.{StatementFault, SingularBasis, WrongPrice, DeckCardFault, LimitReached, Overflow, Ending, Ended, WordsRefused, ControlStop, VerbStop, SingularStop, PriceStop, DeckStop, CardStop, LimitStop, StatementLimit, OverflowStop, ReadFault, PunchFault, Memory}
 use Rattle.listing_definitions.specs.Listing.{ending_text, reports_text}
-use Rattle.job_devices.specs.Text.{IsFront}
+use Rattle.card_definitions.specs.Prefixes.{IsPrefix}
 use Rattle.question_definitions.specs.Solving.{Solving}
 use Rattle.answer_definitions.specs.Real.{linear_programming}
 use Rattle.run_definitions.specs.Answer.{Job, WithoutBytes, Read, bytes_of, Failures, IsJobRun, MayEnd, IsCutShort}
@@ -48,14 +48,14 @@ module _ (S : Solving) (job : Job) (failures : Failures) (PrintGains PunchGains 
   StandsAlone ending = PrintGains (ending_text ending) × PunchGains []
 
   -- The run has been broken off. The text of its reports so far stands whole with the lines of this end.
-  -- Of the cards that are punched by then, with the deck of the statement in hand, a front stands.
+  -- Of the cards that are punched by then, with the deck of the statement in hand, a prefix stands.
   pub record StandsBrokenOff (ending : Ending) : Type 0 where
     pub reports : List Report
     pub cards : List (List ℕ)
     pub may_end : MayEnd S job failures reports cards ending
     pub print_gains : PrintGains (reports_text reports ++ ending_text ending)
     pub punched : List ℕ
-    pub is_front : IsFront punched (card_text cards)
+    pub is_prefix : IsPrefix punched (card_text cards)
     pub punch_gains : PunchGains punched
 
   -- The print has stopped in a report or in the lines of an end: all that comes before stands, with a
@@ -71,7 +71,7 @@ module _ (S : Solving) (job : Job) (failures : Failures) (PrintGains PunchGains 
   -- WHAT STANDS AFTER EACH STATUS. A job of the words, of its cards or of its control program that is
   -- refused, and one of which a read fails, leaves the line of this stop alone. A job that ends by
   -- itself leaves its whole listing and all its cards. A fault of the punch, or want of memory, breaks
-  -- it off: the reports so far and the stop's line stand, and a front of the cards. Where the print
+  -- it off: the reports so far and the stop's line stand, and a prefix of the cards. Where the print
   -- fails, or wants memory itself, it has stopped in a report or in the lines of an end: all that comes
   -- before stands, with a prefix of this text, and the cards that are punched by then.
   pub data StandsAfter (status : ℕ) : Type 0 where

@@ -9,3 +9,4 @@ pub mod Marks
 pub mod Counts
 pub mod ColumnLaws
 pub mod WholeSteps
+pub mod ListedLaws

@@ -2,7 +2,7 @@
 use Rattle.std.proofs.Common.{◌≡◌, ◌≢◌, ℕ, zero, suc, ◌+◌, ◌-◌, ◌<◌, ◌≤◌, List, [], ◌∷◌, ◌++◌, length, take, get_or, map, filter, refl, sym, ◌∙◌, ap, true, false, cond, arith, Bool}
 use Rattle.std.specs.Prelude.{nat_eq, not, ◌&&◌}
 use Rattle.std.proofs.lemmas.List.{map-append, append-nil}
-use Rattle.std.proofs.lemmas.List.Elements.{filter-append}
+use Rattle.std.proofs.lemmas.List.Elements.{filter-append, filter_more}
 use native.Mathlib.Decide.{ℕ_discrete}
 use Rattle.exact_values.specs.Rational.{ℚ, zero_ℚ, ◌+ℚ◌}
 use Rattle.exact_values.specs.Tests.{eq_ℚ}
@@ -153,21 +153,67 @@ length-rate_entries a w d = length_from w d 1 (size a)
 pub mark_next : (w : Basics) (n : ℕ) → get_or w n false ≡ is_in w (n + 1)
 mark_next w n = let same : n + 1 - 1 ≡ n = omega arith in ap (λ k. get_or w k false) (sym same)
 
--- what a loop over a direction makes of the next variable
-pub entry_more : (w : Basics) (d : Vector) (n : ℕ) (keeps : Bool) (x : ℚ) (es : List EtaEntry) → x ≡ d (n + 1) → keeps ≡ is_entry w d (n + 1)
-    → es ≡ entries_to w d n → keeps ≡ true → es ++ (record { i = n + 1; rate = x } ∷ []) ≡ entries_to w d (n + 1)
-entry_more w d n keeps x es at_x tested so_far kept =
-    let one : EtaEntry = record { i = n + 1; rate = x } in
-    ap (λ ys. ys ++ (one ∷ [])) so_far
-    ∙ ap (λ v. entries_to w d n ++ (record { i = n + 1; rate = v } ∷ [])) at_x
-    ∙ sym (entries_to-more w d n ∙ ap (λ t. entries_to w d n ++ cond t (entry_of d (n + 1) ∷ []) []) (sym tested ∙ kept))
-
-pub entry_none : (w : Basics) (d : Vector) (n : ℕ) (keeps : Bool) (es : List EtaEntry) → keeps ≡ is_entry w d (n + 1)
-    → es ≡ entries_to w d n → keeps ≡ false → es ≡ entries_to w d (n + 1)
-entry_none w d n keeps es tested so_far kept =
-    so_far ∙ sym (entries_to-more w d n ∙ ap (λ t. entries_to w d n ++ cond t (entry_of d (n + 1) ∷ []) []) (sym tested ∙ kept) ∙ append-nil (entries_to w d n))
-
 -- the test for 0
 pub zero_test : (b : Bool) (x : ℚ) → (b ≡ true → x ≡ zero_ℚ) → (x ≡ zero_ℚ → b ≡ true) → b ≡ eq_ℚ x zero_ℚ
 zero_test true x tells told = sym (test_from_same x zero_ℚ (tells refl))
 zero_test false x tells told = sym (eq_fails_from_apart x zero_ℚ (λ none. clash (sym (told none))))
+
+-- ---- over a list of the basics
+
+abbrev pub has_number : Vector → ℕ → Bool
+has_number d k = not (eq_ℚ (d k) zero_ℚ)
+
+pub filter_both : (p q : ℕ → Bool) (ks : List ℕ) → filter q (filter p ks) ≡ filter (λ k. p k && q k) ks
+filter_both p q [] = refl
+filter_both p q (k ∷ ks) = at (p k) (filter_both p q ks)
+  where
+    at : (first : Bool) → filter q (filter p ks) ≡ filter (λ x. p x && q x) ks
+        → filter q (cond first (k ∷ filter p ks) (filter p ks)) ≡ cond (first && q k) (k ∷ filter (λ x. p x && q x) ks) (filter (λ x. p x && q x) ks)
+    at true h = ap (λ rest. cond (q k) (k ∷ rest) rest) h
+    at false h = h
+
+pub listed_entries : (b : Basics) (d : Vector) (ks : List ℕ) → ks ≡ filter (is_in b) (numbers_from 1 (length b)) → map (entry_of d) (filter (has_number d) ks) ≡ entries_to b d (length b)
+listed_entries b d ks is = ap (λ xs. map (entry_of d) (filter (has_number d) xs)) is ∙ ap (map (entry_of d)) (filter_both (is_in b) (has_number d) (numbers_from 1 (length b)))
+
+-- one variable of the list more
+module _ (d : Vector) (ks : List ℕ) (n : ℕ) (below : n < length ks) (so_far : List EtaEntry) (is : so_far ≡ map (entry_of d) (filter (has_number d) (take n ks))) where
+  abbrev variable : ℕ
+  variable = get_or ks n 0
+
+  next_listed : map (entry_of d) (filter (has_number d) (take (n + 1) ks)) ≡ so_far ++ map (entry_of d) (cond (has_number d variable) (variable ∷ []) [])
+  next_listed =
+      ap (map (entry_of d)) (filter_more (has_number d) ks n 0 below)
+      ∙ map-append (entry_of d) (filter (has_number d) (take n ks)) (cond (has_number d variable) (variable ∷ []) [])
+      ∙ ap (λ xs. xs ++ map (entry_of d) (cond (has_number d variable) (variable ∷ []) [])) (sym is)
+
+  pub entry_then : (x : ℚ) (none : Bool) → x ≡ d variable → none ≡ eq_ℚ x zero_ℚ → none ≡ false
+      → so_far ++ (record { i = variable; rate = x } ∷ []) ≡ map (entry_of d) (filter (has_number d) (take (n + 1) ks))
+  entry_then x none at_x tested some =
+      ap (λ (v : ℚ). so_far ++ (record { i = variable; rate = v } ∷ [])) at_x
+      ∙ sym (next_listed ∙ ap (λ t. so_far ++ map (entry_of d) (cond (not t) (variable ∷ []) [])) (ap (λ v. eq_ℚ v zero_ℚ) (sym at_x) ∙ sym tested ∙ some))
+
+  pub entry_else : (x : ℚ) (none : Bool) → x ≡ d variable → none ≡ eq_ℚ x zero_ℚ → none ≡ true → so_far ≡ map (entry_of d) (filter (has_number d) (take (n + 1) ks))
+  entry_else x none at_x tested no_number =
+      sym (next_listed ∙ ap (λ t. so_far ++ map (entry_of d) (cond (not t) (variable ∷ []) [])) (ap (λ v. eq_ℚ v zero_ℚ) (sym at_x) ∙ sym tested ∙ no_number) ∙ append-nil so_far)
+
+-- the same of a list without one variable
+module _ (d : Vector) (q : ℕ) (ks : List ℕ) (n : ℕ) (below : n < length ks) (so_far : List EtaEntry) (is : so_far ≡ map (entry_of d) (filter (λ k. not (nat_eq k q)) (take n ks))) where
+  abbrev next : ℕ
+  next = get_or ks n 0
+
+  next_other : map (entry_of d) (filter (λ k. not (nat_eq k q)) (take (n + 1) ks)) ≡ so_far ++ map (entry_of d) (cond (not (nat_eq next q)) (next ∷ []) [])
+  next_other =
+      ap (map (entry_of d)) (filter_more (λ k. not (nat_eq k q)) ks n 0 below)
+      ∙ map-append (entry_of d) (filter (λ k. not (nat_eq k q)) (take n ks)) (cond (not (nat_eq next q)) (next ∷ []) [])
+      ∙ ap (λ xs. xs ++ map (entry_of d) (cond (not (nat_eq next q)) (next ∷ []) [])) (sym is)
+
+  pub other_then : (x : ℚ) → x ≡ d next → next ≢ q → so_far ++ (record { i = next; rate = x } ∷ []) ≡ map (entry_of d) (filter (λ k. not (nat_eq k q)) (take (n + 1) ks))
+  other_then x at_x apart =
+      let other : nat_eq next q ≡ false = grind (arith, apart) in
+      ap (λ (v : ℚ). so_far ++ (record { i = next; rate = v } ∷ [])) at_x
+      ∙ sym (next_other ∙ ap (λ t. so_far ++ map (entry_of d) (cond (not t) (next ∷ []) [])) other)
+
+  pub other_else : next ≡ q → so_far ≡ map (entry_of d) (filter (λ k. not (nat_eq k q)) (take (n + 1) ks))
+  other_else same =
+      let own : nat_eq next q ≡ true = grind (arith, same) in
+      sym (next_other ∙ ap (λ t. so_far ++ map (entry_of d) (cond (not t) (next ∷ []) [])) own ∙ append-nil so_far)

@@ -6,6 +6,7 @@
 --     IsScaled p u es new          u times the rate, at each variable but p
 --     IsLeaving eta new            the direction of the leaver after the eta
 --     IsColumnFilled c j new       the numbers of a column on its rows, and 1 at j
+--     AreZero xs                   all numbers are 0
 --     NoneLater etas j n           j leaves at none of the etas after the first n
 --     LeftAt etas j n              j left at the n-th eta, if n is not 0
 use Rattle.std.specs.Prelude.{◌≡◌, ◌≢◌, ℕ, ◌-◌, ◌<◌, ◌≤◌, List, length, All, slice_index_or, nat_eq, if◌then◌else◌}
@@ -51,6 +52,9 @@ pub record IsLeaving (eta : StoredEta) (new : List ℚ) : Type 0 where
 pub record IsColumnFilled (c : List Entry) (j : ℕ) (new : List ℚ) : Type 0 where
   pub own : value_at new j ≡ one_ℚ
   pub rows : (k : ℕ) → 1 ≤ k → k ≢ j → value_at new k ≡ on_row c k
+
+abbrev pub AreZero : List ℚ → Type 0
+AreZero xs = (k : ℕ) → 1 ≤ k → value_at xs k ≡ zero_ℚ
 
 abbrev pub NoneLater : List StoredEta → ℕ → ℕ → Type 0
 NoneLater etas j n = (k : ℕ) (d : StoredEta) → n ≤ k → k < length etas → (slice_index_or etas k d).p ≢ j

@@ -13,7 +13,7 @@ use Rattle.eta_file.specs.declared.file.EtaFile.TheInside.{Inside}
 abbrev pub inverse_of : Inside → Inverse
 inverse_of a = record {
   matrix = record { rows = a.rows; cols = a.cols; columns = entries_of a.columns.value.items };
-  basics = a.marks.items;
+  basics = a.basics;
   etas = a.etas.items;
 }
 

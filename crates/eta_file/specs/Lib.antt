@@ -5,3 +5,4 @@ pub mod Prefixes
 pub mod Inverse
 pub mod File
 pub mod Columns
+pub mod Listed

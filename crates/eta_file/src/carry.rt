@@ -1,12 +1,11 @@
 //! A column carried through the file: where it begins, and what each eta makes of it.
 
-ghost use Rattle.std.specs.Prelude.{◌≡◌, ◌≢◌, ◌+◌, ◌-◌, ◌*◌, ◌<◌, ◌≤◌, ◌^◌, length, All, IfOk, IfErr, OnOk, slice_index_or};
-ghost use Rattle.std.specs.Prelude.{ℕ};
+ghost use Rattle.std.specs.Prelude.{◌≡◌, ◌≢◌, ◌+◌, ◌-◌, ◌*◌, ◌<◌, ◌≤◌, ◌^◌, length, All, IfOk, IfErr, OnOk};
 ghost use Rattle.exact_values.specs.Rational.{zero_ℚ, one_ℚ, neg_ℚ, ◌-ℚ◌, ◌*ℚ◌, ◌/ℚ◌};
 ghost use Rattle.lp_definitions.specs.LinearProgram.{value_at, on_row};
 ghost use Rattle.lp_definitions.specs.RatesEvidence.{Names};
 ghost use Rattle.eta_file.specs.Entries.{sum_rate, others, IsEntryWithin, AreApart, AreDistinctRows, IsRowWithin};
-ghost use Rattle.eta_file.specs.Crossings.{IsWithinPlaces, IsSubtracted, IsCrossed, IsScaled, IsLeaving, IsColumnFilled, NoneLater, LeftAt};
+ghost use Rattle.eta_file.specs.Crossings.{IsWithinPlaces, IsSubtracted, IsCrossed, IsScaled, IsLeaving, IsColumnFilled, AreZero, NoneLater, LeftAt};
 ghost use Rattle.eta_file.specs.Refusals.{IsRefusal, IsRestRefused, SubtractRefused, CrossRefused, ScaleRefused, LeaveRefused};
 
 use crate::eta::{EtaEntry, StoredEta};
@@ -194,7 +193,7 @@ impl Crossing {
     ) -> Result<(), Evidence>
         requires within { All (IsEntryWithin (length out.old)) entries.now }
         requires apart { AreApart entries.now }
-        requires zero { (k : ℕ) → slice_index_or out.old k zero_ℚ ≡ zero_ℚ }
+        requires zero { AreZero out.old }
         ensures scaled { OnOk result (IsScaled self.p reciprocal entries.now out.new) }
         ensures refused { IfErr result (ScaleRefused self.way self.p self.q reciprocal
             entries.now) }
@@ -241,7 +240,7 @@ pub fn cross<L: Ledger>(
 
 /// Fills with 0. Most places of a sparse program are 0 already, and what is 0 isn't written.
 pub fn clear(out: &mut [Frac])
-    ensures { (k : ℕ) → slice_index_or out.new k zero_ℚ ≡ zero_ℚ }
+    ensures { AreZero out.new }
 {
     for place in out.iter_mut() {
         if !place.is_zero() {
@@ -276,7 +275,22 @@ pub fn leave<L: Ledger>(
     Ok(())
 }
 
-/// The direction that the column `j`, whose numbers these are, has where the rows are basic.
+/// The direction that the column `j`, whose numbers these are, has where the rows are basic. `out` is all 0.
+pub fn place_column(column: &[Entry], j: u32, out: &mut [Frac])
+    requires rows { All (IsRowWithin j) column.now }
+    requires low { 1 ≤ j }
+    requires high { j ≤ length out.old }
+    requires distinct { AreDistinctRows column.now }
+    requires zero { AreZero out.old }
+    ensures { IsColumnFilled column.now j out.new }
+{
+    for entry in column {
+        out[entry.row as usize - 1] = entry.value;
+    }
+    out[j as usize - 1] = Frac::whole(1);
+}
+
+/// The same, whatever `out` has.
 pub fn fill_column(column: &[Entry], j: u32, out: &mut [Frac])
     requires rows { All (IsRowWithin j) column.now }
     requires low { 1 ≤ j }
@@ -285,10 +299,7 @@ pub fn fill_column(column: &[Entry], j: u32, out: &mut [Frac])
     ensures { IsColumnFilled column.now j out.new }
 {
     clear(out);
-    for entry in column {
-        out[entry.row as usize - 1] = entry.value;
-    }
-    out[j as usize - 1] = Frac::whole(1);
+    place_column(column, j, out);
 }
 
 /// The number of etas up to the last one at which `j` left, or 0.

@@ -1,6 +1,6 @@
 //! The eta file.
 
-ghost use Rattle.std.specs.Prelude.{◌≡◌, ◌≢◌, ℕ, ◌+◌, ◌-◌, ◌*◌, ◌<◌, ◌≤◌, [], ◌∷◌, length, take, not, ◌&&◌, IfOk, IfSome, IfErr, OnOk, OnErr, slice_index_or};
+ghost use Rattle.std.specs.Prelude.{◌≡◌, ◌≢◌, ℕ, ◌+◌, ◌-◌, ◌*◌, ◌<◌, ◌≤◌, [], ◌∷◌, length, take, map, filter, All, nat_eq, not, IfOk, IfSome, IfErr, OnOk, OnErr, slice_index_or};
 ghost use Rattle.exact_values.specs.Rational.{zero_ℚ};
 ghost use Rattle.exact_values.specs.Tests.{eq_ℚ};
 ghost use Rattle.lp_definitions.specs.LinearProgram.{IsMatrix, IsVariable, IsColumn, column, size, value_at};
@@ -8,18 +8,19 @@ ghost use Rattle.lp_definitions.specs.Basis.{is_in, IsBasic, IsNonbasic, IsNonsi
 ghost use Rattle.lp_definitions.specs.Waypoints.{waypoint};
 ghost use Rattle.lp_definitions.specs.RatesEvidence.{ExchangeRefused};
 ghost use Rattle.lp_model.specs.RatesCalls.{HasPivot, ColumnOverflow, ExchangeOverflow};
-ghost use Rattle.eta_file.specs.Crossings.{NoneLater, LeftAt};
-ghost use Rattle.eta_file.specs.Prefixes.{Passed, is_entry, entries_to, IsLent, IsLentScaled, IsExchangeOf, basic_columns, after, entry_count};
+ghost use Rattle.eta_file.specs.Crossings.{AreZero, NoneLater, LeftAt};
+ghost use Rattle.eta_file.specs.Prefixes.{Passed, entry_of, entries_to, IsLent, IsLentScaled, IsExchangeOf, basic_columns, after, entry_count};
 ghost use Rattle.eta_file.specs.declared.eta.StoredEta.{StoredEta};
-ghost use Rattle.eta_file.specs.Inverse.{ways_of, IsAppended, IsDirectionAfter};
+ghost use Rattle.eta_file.specs.Inverse.{ways_of, IsAppended, IsNextEta, IsDirectionAfter};
 ghost use Rattle.whole_vectors.specs.Quotients.{StandFor};
 
-use crate::carry::{cross, fill_column, last_left, leave};
+use crate::basic_set::{BasicSet, place_of};
+use crate::carry::{clear, cross, fill_column, last_left, leave};
 use crate::eta::{Eta, EtaEntry, ScaledEta, StoredEta};
 use crate::steps::Steps;
 use crate::whole::{begin_whole, cross_whole, leave_whole, whole_eta};
 use frac128::Frac;
-use lp_model::{Entry, Evidence, Lp, NoMemory, Stop};
+use lp_model::{Entry, Evidence, Lp, NoMemory, SparseVector, Stop};
 use std::alloc::Global;
 use std::marker::{Brand, Model};
 use std::rc::Rc;
@@ -36,7 +37,7 @@ pub struct EtaFile {
     rows: u32,
     cols: u32,
     columns: Rc<Vec<Vec<Entry>>, Global>,
-    marks: Vec<bool>,
+    basics: BasicSet,
     etas: Vec<StoredEta>,
     alloc: Global,
 }
@@ -64,28 +65,55 @@ fn row_marks(alloc: Global, lp: &Lp) -> Result<Vec<bool>, NoMemory>
     Ok(marks)
 }
 
-/// Whether the variable of a place has an entry: it is basic, and its rate is not 0. Most variables aren't basic, so the mark is looked
-/// at first.
-fn has_entry(marks: &[bool], direction: &[Frac], k: usize) -> bool
-    requires places { length direction.now ≡ length marks.now }
-    requires within { k < length marks.now }
-    ensures { result ≡ is_entry marks.now (value_at direction.now) (k + 1) }
-{
-    marks[k] && !direction[k].is_zero()
-}
-
-/// The numbers of a direction at the marked variables, where they are not 0.
-fn entries_at(alloc: Global, direction: &[Frac], marks: &[bool]) -> Result<Vec<EtaEntry>, NoMemory>
-    requires places { length direction.now ≡ length marks.now }
-    requires small { length marks.now < 4294967296 }
-    ensures { IfOk result (λ entries. entries.items ≡ entries_to marks.now (value_at direction.now)
-        (length marks.now)) }
+/// The numbers of a direction at the listed variables, where they are not 0.
+fn entries_of(alloc: Global, direction: &[Frac], listed: &[u32]) -> Result<Vec<EtaEntry>, NoMemory>
+    requires { All (λ k. (1 ≤ k) × (k ≤ length direction.now)) listed.now }
+    ensures { IfOk result (λ entries. entries.items ≡ map (entry_of (value_at direction.now))
+        (filter (λ k. not (eq_ℚ (value_at direction.now k) zero_ℚ)) listed.now)) }
 {
     let mut entries = Vec::new(alloc);
-    for k in 0..marks.len() {
-        if has_entry(marks, direction, k) {
-            let (i, rate) = (k as u32 + 1, direction[k]);
-            entries.push(EtaEntry { i, rate }).map_err(|_| NoMemory)?;
+    for k in listed {
+        let rate = direction[*k as usize - 1];
+        if !rate.is_zero() {
+            entries
+                .push(EtaEntry { i: *k, rate })
+                .map_err(|_| NoMemory)?;
+        }
+    }
+    Ok(entries)
+}
+
+/// The numbers of a direction at the basics, where they are not 0.
+fn entries_at(
+    alloc: Global,
+    direction: &[Frac],
+    basics: &BasicSet,
+) -> Result<Vec<EtaEntry>, NoMemory>
+    requires { length direction.now ≡ length basics.now }
+    ensures { IfOk result (λ entries. entries.items ≡ entries_to basics.now (value_at direction.now)
+        (length basics.now)) }
+{
+    entries_of(alloc, direction, basics.listed())
+}
+
+/// The numbers of a direction at the listed variables but `q`.
+fn entries_but(
+    alloc: Global,
+    direction: &[Frac],
+    listed: &[u32],
+    q: u32,
+) -> Result<Vec<EtaEntry>, NoMemory>
+    requires { All (λ k. (1 ≤ k) × (k ≤ length direction.now)) listed.now }
+    ensures { IfOk result (λ entries. entries.items ≡ map (entry_of (value_at direction.now))
+        (filter (λ k. not (nat_eq k q)) listed.now)) }
+{
+    let mut entries = Vec::with_capacity(alloc, listed.len())?;
+    for k in listed {
+        if *k != q {
+            let rate = direction[*k as usize - 1];
+            entries
+                .push(EtaEntry { i: *k, rate })
+                .map_err(|_| NoMemory)?;
         }
     }
     Ok(entries)
@@ -103,7 +131,7 @@ impl EtaFile {
             rows: lp.rows,
             cols: lp.cols,
             columns: Rc::new(alloc, lp.copied_columns(alloc)?).map_err(|_| NoMemory)?,
-            marks: row_marks(alloc, lp)?,
+            basics: BasicSet::new(alloc, row_marks(alloc, lp)?)?,
             etas: Vec::new(alloc),
             alloc,
         })
@@ -145,7 +173,7 @@ impl EtaFile {
             rows: self.rows,
             cols: self.cols,
             columns: self.columns.clone()?,
-            marks,
+            basics: BasicSet::new(self.alloc, marks)?,
             etas: Vec::new(self.alloc),
             alloc: self.alloc,
         })
@@ -156,7 +184,7 @@ impl EtaFile {
         requires { IsVariable self.now.matrix k }
         ensures { result ≡ is_in self.now.basics k }
     {
-        self.marks[k as usize - 1]
+        self.basics.has(k)
     }
 
     /// The numbers of column `j`, from 1, in the order of the deck.
@@ -289,13 +317,14 @@ impl EtaFile {
         self.carry(j, out, &mut steps)
     }
 
-    /// The same as `begin`, over the denominator that is given. It gives up where a number doesn't fit.
+    /// The same as `begin`, over the denominator that is given, where `out` is all 0. It gives up where a number doesn't fit.
     fn begin_at(&self, first: usize, j: u32, out: &mut [Frac]) -> Option<Frac>
         requires nonbasic { IsNonbasic self.now.matrix self.now.basics j }
         requires places { length out.old ≡ size self.now.matrix }
         requires within { first ≤ length self.now.etas }
         requires none_later { NoneLater self.now.etas j first }
         requires left { LeftAt self.now.etas j first }
+        requires zero { AreZero out.old }
         ensures { IfSome result (λ d. StandFor (IsDirectionAfter self.now first j) d out.new) }
     {
         if first == 0 {
@@ -328,10 +357,12 @@ impl EtaFile {
         cross_whole(eta, denominator, out)
     }
 
-    /// Fills `out` with the direction of the nonbasic `j`, carried in numbers over one denominator. It gives up where one doesn't fit.
+    /// Fills `out`, which is all 0, with the direction of the nonbasic `j`, carried in numbers over one denominator. It gives up where
+    /// one doesn't fit.
     fn carried_whole(&self, j: u32, out: &mut [Frac]) -> Option<()>
         requires nonbasic { IsNonbasic self.now.matrix self.now.basics j }
         requires places { length out.old ≡ size self.now.matrix }
+        requires zero { AreZero out.old }
         ensures { IfSome result (λ _. IsDirectionOf self.now.matrix self.now.basics j
             (value_at out.new)) }
     {
@@ -343,10 +374,11 @@ impl EtaFile {
         divide(out, denominator)
     }
 
-    /// Fills `out` with the direction of the nonbasic `j`, and counts nothing.
-    pub fn column(&self, j: u32, out: &mut [Frac]) -> Result<(), Stop>
+    /// Fills `out`, which is all 0, with the direction of the nonbasic `j`, and counts nothing.
+    fn column_in(&self, j: u32, out: &mut [Frac]) -> Result<(), Stop>
         requires nonbasic { IsNonbasic self.now.matrix self.now.basics j }
         requires places { length out.old ≡ size self.now.matrix }
+        requires zero { AreZero out.old }
         ensures direction { OnOk result (IsDirectionOf self.now.matrix self.now.basics j
             (value_at out.new)) }
         ensures overflow { ColumnOverflow result self.now.matrix self.now.basics (ways_of self.now)
@@ -357,6 +389,59 @@ impl EtaFile {
             return Ok(());
         }
         self.carry_by::<Brand>(j, out, Blank::new(1))
+    }
+
+    /// The same, whatever `out` has.
+    pub fn column(&self, j: u32, out: &mut [Frac]) -> Result<(), Stop>
+        requires nonbasic { IsNonbasic self.now.matrix self.now.basics j }
+        requires places { length out.old ≡ size self.now.matrix }
+        ensures direction { OnOk result (IsDirectionOf self.now.matrix self.now.basics j
+            (value_at out.new)) }
+        ensures overflow { ColumnOverflow result self.now.matrix self.now.basics (ways_of self.now)
+            (ways_of self.now) }
+        ensures never { IfErr result (λ stop. stop ≢ Stop.NoMemory) }
+    {
+        clear(out);
+        self.column_in(j, out)
+    }
+
+    /// Puts the direction of the nonbasic `j` in where there are no numbers.
+    fn put_direction(
+        &self,
+        j: u32,
+        values: Vec<Frac>,
+        out: &mut SparseVector,
+    ) -> Result<(), NoMemory>
+        requires nonbasic { IsNonbasic self.now.matrix self.now.basics j }
+        requires places { length values.items ≡ size self.now.matrix }
+        requires direction { IsDirectionOf self.now.matrix self.now.basics j
+            (value_at values.items) }
+        requires none { out.old ≡ [] }
+        ensures { OnOk result (out.new ≡ values.items) }
+    {
+        let listed = self.basics.listed();
+        let (before, after) = listed.split_at(place_of(listed, j));
+        out.put_around(values, before, j, after)
+    }
+
+    /// Makes `out` the direction of the nonbasic `j`, and counts nothing. Only the places of numbers that aren't 0 are looked at.
+    pub fn direction(&self, j: u32, out: &mut SparseVector) -> Result<(), Stop>
+        requires nonbasic { IsNonbasic self.now.matrix self.now.basics j }
+        requires places { length out.old ≡ size self.now.matrix }
+        ensures direction { OnOk result (IsDirectionOf self.now.matrix self.now.basics j
+            (value_at out.new)) }
+        ensures places { OnOk result (length out.new ≡ size self.now.matrix) }
+        ensures overflow { ColumnOverflow result self.now.matrix self.now.basics (ways_of self.now)
+            (ways_of self.now) }
+    {
+        let mut values = out.take();
+        match self.column_in(j, &mut values) {
+            Ok(()) => match self.put_direction(j, values, out) {
+                Ok(()) => Ok(()),
+                Err(_refused) => Err(Stop::NoMemory),
+            },
+            Err(stop) => Err(stop),
+        }
     }
 
     /// Makes the nonbasic `q` basic in place of `p`, where this is the direction of q, and it is not 0 at p.
@@ -371,11 +456,43 @@ impl EtaFile {
         ensures err { OnErr result (self.new ≡ self.old) }
     {
         let _size = self.size();
+        let entries = entries_at(self.alloc, direction, &self.basics)?;
+        self.append_entries(p, q, direction[p as usize - 1], entries)
+    }
+
+    /// The same, of a direction with the list of its numbers that are not 0.
+    pub fn append_along(&mut self, p: u32, q: u32, direction: &SparseVector) -> Result<(), NoMemory>
+        requires leaves { IsBasic self.old.matrix self.old.basics p }
+        requires enters { IsNonbasic self.old.matrix self.old.basics q }
+        requires places { length direction.now ≡ size self.old.matrix }
+        requires direction { IsDirectionOf self.old.matrix self.old.basics q
+            (value_at direction.now) }
+        requires pivot { value_at direction.now p ≢ zero_ℚ }
+        ensures ok { OnOk result (IsAppended self.old p q self.new) }
+        ensures err { OnErr result (self.new ≡ self.old) }
+    {
+        let _size = self.size();
+        let values = direction.values();
+        let entries = entries_but(self.alloc, values, direction.nonzero(), q)?;
+        self.append_entries(p, q, values[p as usize - 1], entries)
+    }
+
+    /// The same, with the pivot and the entries of the new eta.
+    fn append_entries(
+        &mut self,
+        p: u32,
+        q: u32,
+        pivot: Frac,
+        entries: Vec<EtaEntry>,
+    ) -> Result<(), NoMemory>
+        requires { IsNextEta self.old p q pivot entries.items }
+        ensures ok { OnOk result (IsAppended self.old p q self.new) }
+        ensures err { OnErr result (self.new ≡ self.old) }
+    {
+        let _size = self.size();
         if self.etas.len() >= MOST_ETAS {
             return Err(NoMemory);
         }
-        let entries = entries_at(self.alloc, direction, &self.marks)?;
-        let pivot = direction[p as usize - 1];
         let whole = whole_eta(self.alloc, pivot, &entries)?;
         let eta = StoredEta {
             p,
@@ -385,8 +502,7 @@ impl EtaFile {
             whole,
         };
         self.etas.push(eta).map_err(|_| NoMemory)?;
-        self.marks[q as usize - 1] = true;
-        self.marks[p as usize - 1] = false;
+        self.basics.exchange(p, q);
         Ok(())
     }
 
@@ -497,7 +613,7 @@ impl EtaFile {
         ensures { out.new ≡ waypoint self.now.basics (ways_of self.now) way }
     {
         if way == 0 {
-            out.copy_from_slice(&self.marks);
+            out.copy_from_slice(self.basics.marks());
             return;
         }
         self.mark_rows(out);

@@ -1,6 +1,7 @@
 //! An inverse kept as a list of elementary matrices, one for each exchange.
 #![tactic(auto)]
 
+mod basic_set;
 mod by_columns;
 mod carry;
 mod eta;

@@ -1,18 +1,20 @@
 //! Columns that are carried in numbers over one denominator. Where a number doesn't fit, the answer is None, and the column has to be
 //! carried in fractions.
 
-ghost use Rattle.std.specs.Prelude.{◌≡◌, ◌≢◌, ◌≤◌, ℕ, length, map, All, IfOk, IfSome, slice_index_or};
+ghost use Rattle.std.specs.Prelude.{◌≡◌, ◌≢◌, ◌≤◌, length, map, All, IfOk, IfSome};
 ghost use Rattle.exact_values.specs.Rational.{zero_ℚ, one_ℚ};
 ghost use Rattle.whole_vectors.specs.Quotients.{quotients, StandFor};
 ghost use Rattle.eta_file.specs.Entries.{IsEntryWithin, AreApart, IsRowWithin, AreDistinctRows, scaled, IsWholeOf};
-ghost use Rattle.eta_file.specs.Crossings.{IsWithinPlaces, IsSubtracted, IsCrossed, IsScaled, IsLeaving, IsColumnFilled, IsExchanged};
+ghost use Rattle.eta_file.specs.Crossings.{IsWithinPlaces, IsSubtracted, IsCrossed, IsScaled, IsLeaving, IsColumnFilled, IsExchanged, AreZero};
 
-use crate::carry::{clear, fill_column};
+use crate::carry::place_column;
 use crate::eta::{EtaEntry, StoredEta, WholeEta};
 use frac128::Frac;
 use lp_model::{Entry, NoMemory};
 use std::alloc::Global;
-use whole_vectors::{common_multiple, less_product, multiply, product, quotient, reduce, terms};
+use whole_vectors::{
+    common_multiple, less_product, multiply, product, product_by_scale, quotient, reduce, terms,
+};
 
 /// 1 or -1, with which the pivot is positive.
 fn sign_of_pivot(pivot: Frac) -> Frac
@@ -45,9 +47,9 @@ fn scaled_entries(
     ensures { IfOk result (λ made. IfSome made (λ list. list.items ≡ map (scaled scale)
         entries.now)) }
 {
-    let mut list = Vec::new(alloc);
+    let mut list = Vec::with_capacity(alloc, entries.len())?;
     for entry in entries {
-        let Some(rate) = product(entry.rate, scale) else {
+        let Some(rate) = product_by_scale(entry.rate, scale) else {
             return Ok(None);
         };
         list.push(EtaEntry { i: entry.i, rate })
@@ -91,16 +93,18 @@ fn column_scale(column: &[Entry]) -> Option<Frac>
     Some(scale)
 }
 
-/// The direction that the column `j`, whose numbers these are, has where the rows are basic, over the denominator that is given.
+/// The direction that the column `j`, whose numbers these are, has where the rows are basic, over the denominator that is given. `out` is
+/// all 0.
 pub fn begin_whole(column: &[Entry], j: u32, out: &mut [Frac]) -> Option<Frac>
     requires rows { All (IsRowWithin j) column.now }
     requires low { 1 ≤ j }
     requires high { j ≤ length out.old }
     requires distinct { AreDistinctRows column.now }
+    requires zero { AreZero out.old }
     ensures { IfSome result (λ d. StandFor (IsColumnFilled column.now j) d out.new) }
 {
     let scale = column_scale(column)?;
-    fill_column(column, j, out);
+    place_column(column, j, out);
     multiply(out, scale)?;
     Some(scale)
 }
@@ -161,7 +165,7 @@ pub fn cross_whole(eta: &StoredEta, denominator: Frac, out: &mut [Frac]) -> Opti
 fn place_entries(entries: &[EtaEntry], p: u32, out: &mut [Frac])
     requires within { All (IsEntryWithin (length out.old)) entries.now }
     requires apart { AreApart entries.now }
-    requires zero { (k : ℕ) → slice_index_or out.old k zero_ℚ ≡ zero_ℚ }
+    requires zero { AreZero out.old }
     ensures { IsScaled p one_ℚ entries.now out.new }
 {
     for entry in entries {
@@ -171,17 +175,17 @@ fn place_entries(entries: &[EtaEntry], p: u32, out: &mut [Frac])
     }
 }
 
-/// The direction that the leaver of an eta has after it, over the denominator that is given.
+/// The direction that the leaver of an eta has after it, over the denominator that is given. `out` is all 0.
 pub fn leave_whole(eta: &StoredEta, out: &mut [Frac]) -> Option<Frac>
     requires within { IsWithinPlaces (length out.old) eta.now }
     requires apart { AreApart eta.now.entries.items }
     requires whole { IfSome eta.now.whole (IsWholeOf eta.now.pivot eta.now.entries.items) }
+    requires zero { AreZero out.old }
     ensures { IfSome result (λ d. StandFor (IsLeaving eta.now) d out.new) }
 {
     let Some(whole) = &eta.whole else {
         return None;
     };
-    clear(out);
     place_entries(&whole.entries, eta.p, out);
     out[eta.p as usize - 1] = whole.pivot;
     out[eta.q as usize - 1] = whole.scale;

@@ -5,7 +5,8 @@ use Rattle.std.specs.List.{flat_map}
 use Rattle.std.proofs.lemmas.List.{append-nil, map-append}
 use Rattle.std.proofs.lemmas.List.Concat.{flat_map-append}
 use Rattle.job_devices.specs.declared.device.WriteStop.{WriteStop}
-use Rattle.job_devices.specs.Text.{IsFront, Writes}
+use Rattle.card_definitions.specs.Prefixes.{IsPrefix}
+use Rattle.job_devices.specs.Text.{Writes}
 use Rattle.job_devices.proofs.TextLemmas.{writes_then, writes_more, writes_same}
 use Rattle.deck_definitions.specs.Written.{card_text}
 use Rattle.deck_definitions.specs.Transport.{up_to}
@@ -19,16 +20,16 @@ cards_then a b = flat_map-append (λ card. card ++ 10 ∷ []) a b
 one_more : (i : ℕ) → up_to i ++ (i + 1) ∷ [] ≡ up_to (i + 1)
 one_more i = rw (add-one i) refl
 
-front_of_more : (i more : ℕ) → IsFront (up_to i) (up_to (i + more))
-front_of_more i zero = simp unary_clauses ([], append-nil (up_to i))
-front_of_more i (suc more) =
-    let front = front_of_more i more in
+prefix_of_more : (i more : ℕ) → IsPrefix (up_to i) (up_to (i + more))
+prefix_of_more i zero = simp unary_clauses ([], append-nil (up_to i))
+prefix_of_more i (suc more) =
+    let prefix = prefix_of_more i more in
     let last = suc (i + more) ∷ [] in
-    simp unary_clauses (front.0 ++ last, sym (append_assoc (up_to i) front.0 last) ∙ ap (λ w. w ++ last) front.1)
+    simp unary_clauses (prefix.0 ++ last, sym (append_assoc (up_to i) prefix.0 last) ∙ ap (λ w. w ++ last) prefix.1)
 
 -- the numbers up to i are the first of those up to n
-first_numbers : (i n : ℕ) → i ≤ n → IsFront (up_to i) (up_to n)
-first_numbers i n low = let back : i + (n - i) ≡ n = omega (arith, low) in subst (λ k. IsFront (up_to i) (up_to k)) back (front_of_more i (n - i))
+first_numbers : (i n : ℕ) → i ≤ n → IsPrefix (up_to i) (up_to n)
+first_numbers i n low = let back : i + (n - i) ≡ n = omega (arith, low) in subst (λ k. IsPrefix (up_to i) (up_to k)) back (prefix_of_more i (n - i))
 
 -- ---- what is written for each number
 
@@ -43,8 +44,8 @@ numbers_then text goes_on i so_far next = writes_same (sym (goes_on (up_to i) ((
 -- a stop in the text of the next is one in the text of all
 numbers_stop : {P T U : Type 0} {written stopped_at : P → Option (List ℕ)} {faults refusals : P → ℕ} {a b c : P} {stop : WriteStop} {done : U} (text : List ℕ → List ℕ) → GoesOn text → (i n : ℕ) → i < n → Writes written stopped_at faults refusals a b (Ok done) (text (up_to i)) → Writes {T = T} written stopped_at faults refusals b c (Err stop) (text ((i + 1) ∷ [])) → Writes {T = T} written stopped_at faults refusals a c (Err stop) (text (up_to n))
 numbers_stop text goes_on i n inside so_far stopped =
-    let front = first_numbers (i + 1) n (omega (arith, inside)) in
-    writes_same (sym (goes_on (up_to (i + 1)) front.0) ∙ ap text front.1) (writes_more (text front.0) (numbers_then text goes_on i so_far stopped))
+    let prefix = first_numbers (i + 1) n (omega (arith, inside)) in
+    writes_same (sym (goes_on (up_to (i + 1)) prefix.0) ∙ ap text prefix.1) (writes_more (text prefix.0) (numbers_then text goes_on i so_far stopped))
 
 -- ---- a card for each number
 

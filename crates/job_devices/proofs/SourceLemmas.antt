@@ -20,13 +20,13 @@ Consumes-nothing a b c x piece count none p q =
     let Goal : List ℕ → Type 0 = λ w. Consumes a c w in subst Goal same (Consumes-then a b c x (take count piece) p q)
 
 module _ (most : ℕ) where
-  -- what was read as far as it may is a front of it
-  pub front_of_whole : (old new : Option (List ℕ)) → ReadsWhole most old new → ReadsUpTo most old new
-  front_of_whole None new read = ([], omega arith, tt)
-  front_of_whole (Some bytes) None read = absurd read
-  front_of_whole (Some bytes) (Some rest) read = (take most bytes, omega (arith, length-take most bytes), sym (take-append-drop most bytes) ∙ ap (λ w. take most bytes ++ w) (sym read))
+  -- what was read as far as it may is a prefix of it
+  pub prefix_of_whole : (old new : Option (List ℕ)) → ReadsWhole most old new → ReadsUpTo most old new
+  prefix_of_whole None new read = ([], omega arith, tt)
+  prefix_of_whole (Some bytes) None read = absurd read
+  prefix_of_whole (Some bytes) (Some rest) read = (take most bytes, omega (arith, length-take most bytes), sym (take-append-drop most bytes) ∙ ap (λ w. take most bytes ++ w) (sym read))
 
-  -- the kept bytes are the front, up to the limit
+  -- the kept bytes are the prefix up to the limit
   abbrev pub IsKept : Option (List ℕ) → List ℕ → Type 0
   IsKept old bytes = IfSome old (λ left. bytes ≡ take most left)
 

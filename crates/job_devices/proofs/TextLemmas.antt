@@ -6,7 +6,7 @@ use Rattle.std.proofs.lemmas.List.{append-nil, take-append-drop, take_all, lengt
 use Rattle.std.specs.Io.KnownBytes.{Appends, Keeps}
 use Rattle.job_devices.specs.Causes.{Rose}
 use Rattle.std.specs.List.{flat_map}
-use Rattle.job_devices.specs.Text.{AppendsFront, Puts, Writes}
+use Rattle.job_devices.specs.Text.{AppendsPrefix, Puts, Writes}
 use Rattle.job_devices.specs.declared.device.WriteStop.{WriteStop}
 
 pub Appends-then : (a b c : Option (List ℕ)) (x y : List ℕ) → Appends a b x → Appends b c y → Appends a c (x ++ y)
@@ -27,29 +27,29 @@ Appends-nothing None b p = tt
 Appends-nothing (Some xs) None p = absurd p
 Appends-nothing (Some xs) (Some ys) p = p ∙ sym (append-nil xs)
 
--- a front of a text that was appended, where nothing came after it
-pub front_kept : (a b c : Option (List ℕ)) (n : ℕ) (text : List ℕ) → Appends a b (take n text) → Keeps b c → AppendsFront a c text
-front_kept a b c n text p q = (take n text, (drop n text, take-append-drop n text), Appends-keeps a b c (take n text) p q)
+-- a prefix of a text that was appended, where nothing came after it
+pub prefix_kept : (a b c : Option (List ℕ)) (n : ℕ) (text : List ℕ) → Appends a b (take n text) → Keeps b c → AppendsPrefix a c text
+prefix_kept a b c n text p q = (take n text, (drop n text, take-append-drop n text), Appends-keeps a b c (take n text) p q)
 
--- a front of a text is one of that text with more after it
-pub AppendsFront-more : (a b : Option (List ℕ)) (x y : List ℕ) → AppendsFront a b x → AppendsFront a b (x ++ y)
-AppendsFront-more a b x y p = (p.0, (p.1.0 ++ y, sym (append_assoc p.0 p.1.0 y) ∙ ap (λ w. w ++ y) p.1.1), p.2)
+-- a prefix of a text is one of that text with more after it
+pub AppendsPrefix-more : (a b : Option (List ℕ)) (x y : List ℕ) → AppendsPrefix a b x → AppendsPrefix a b (x ++ y)
+AppendsPrefix-more a b x y p = (p.0, (p.1.0 ++ y, sym (append_assoc p.0 p.1.0 y) ∙ ap (λ w. w ++ y) p.1.1), p.2)
 
--- a text, and then a front of the next
-pub AppendsFront-then : (a b c : Option (List ℕ)) (x y : List ℕ) → Appends a b x → AppendsFront b c y → AppendsFront a c (x ++ y)
-AppendsFront-then a b c x y p q =
+-- a text, and then a prefix of the next
+pub AppendsPrefix-then : (a b c : Option (List ℕ)) (x y : List ℕ) → Appends a b x → AppendsPrefix b c y → AppendsPrefix a c (x ++ y)
+AppendsPrefix-then a b c x y p q =
     (x ++ q.0, (q.1.0, append_assoc x q.0 q.1.0 ∙ ap (λ w. x ++ w) q.1.1), Appends-then a b c x q.0 p q.2)
 
 -- a text, and then what a call writes
 pub Puts-then : {T E : Type 0} (a b c : Option (List ℕ)) (r : Result T E) (x y : List ℕ) → Appends a b x → Puts b c r y → Puts a c r (x ++ y)
 Puts-then a b c (Ok v) x y p q = Appends-then a b c x y p q
-Puts-then a b c (Err e) x y p q = AppendsFront-then a b c x y p q
+Puts-then a b c (Err e) x y p q = AppendsPrefix-then a b c x y p q
 
 -- one more piece of the rest, as `&rest[n..]` is written
-pub moves_on : (front rest piece : List ℕ) (n : ℕ) → front ++ rest ≡ piece → (front ++ take n rest) ++ take (length rest - n) (drop n rest) ≡ piece
-moves_on front rest piece n e =
+pub moves_on : (prefix rest piece : List ℕ) (n : ℕ) → prefix ++ rest ≡ piece → (prefix ++ take n rest) ++ take (length rest - n) (drop n rest) ≡ piece
+moves_on prefix rest piece n e =
     rw (take_all (length rest - n) (drop n rest) (omega (arith, length-drop n rest)))
-    (append_assoc front (take n rest) (drop n rest) ∙ ap (λ w. front ++ w) (take-append-drop n rest) ∙ e)
+    (append_assoc prefix (take n rest) (drop n rest) ∙ ap (λ w. prefix ++ w) (take-append-drop n rest) ∙ e)
 
 -- a call that writes a text, and then one that writes the next
 pub writes_then : {P T U : Type 0} {written stopped_at : P → Option (List ℕ)} {faults refusals : P → ℕ} {a b c : P} {r : Result T WriteStop} {done : U} {x y : List ℕ} → Writes written stopped_at faults refusals a b (Ok done) x → Writes written stopped_at faults refusals b c r y → Writes written stopped_at faults refusals a c r (x ++ y)
@@ -85,7 +85,7 @@ writes_then {T = T} {written = written} {stopped_at = stopped_at} {faults = faul
 -- a stop in a text is one in that text with more after it
 pub writes_more : {P T : Type 0} {written stopped_at : P → Option (List ℕ)} {faults refusals : P → ℕ} {a b : P} {stop : WriteStop} {x : List ℕ} (y : List ℕ) → Writes {T = T} written stopped_at faults refusals a b (Err stop) x → Writes {T = T} written stopped_at faults refusals a b (Err stop) (x ++ y)
 writes_more {written = written} {a = a} {b = b} {x = x} y p = record {
-  bytes = AppendsFront-more (written a) (written b) x y p.bytes;
+  bytes = AppendsPrefix-more (written a) (written b) x y p.bytes;
   cause = p.cause;
   stopped = p.stopped;
 }

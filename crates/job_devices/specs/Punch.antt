@@ -1,7 +1,7 @@
 -- What callers see of the punch file.
 use Rattle.std.specs.Prelude.{ℕ, List, Option, Some, None, take}
 use Rattle.std.specs.Io.KnownBytes.{Appends}
-use Rattle.job_devices.specs.Text.{AppendsFront}
+use Rattle.job_devices.specs.Text.{AppendsPrefix}
 use Rattle.job_devices.specs.Stream.{stream_writer}
 use Rattle.job_devices.specs.declared.punch.PunchFile.{PunchFile}
 use Rattle.job_devices.specs.declared.stream.StreamSink.{StreamSink}
@@ -14,9 +14,9 @@ punch_file punch = punch.file
 abbrev pub punch_faults : {R F D : Type 0} → PunchFile R F D → ℕ
 punch_faults punch = punch.faults
 
--- what a call leaves in the file, where that was there before: all that it took, and after a fault a front of it
+-- what a call leaves in the file, where that was there before: all that it took, and after a fault a prefix of it
 abbrev pub FileTakes : {F : Type 0} → (F → Option (List ℕ)) → Option (StreamSink F) → Option (StreamSink F) → Option ℕ → List ℕ → Type 0
 FileTakes contents None now taken piece = Unit
 FileTakes contents (Some before) None taken piece = ⊥
-FileTakes contents (Some before) (Some now) None piece = AppendsFront (contents (stream_writer before)) (contents (stream_writer now)) piece
+FileTakes contents (Some before) (Some now) None piece = AppendsPrefix (contents (stream_writer before)) (contents (stream_writer now)) piece
 FileTakes contents (Some before) (Some now) (Some taken) piece = Appends (contents (stream_writer before)) (contents (stream_writer now)) (take taken piece)

@@ -9,7 +9,7 @@ use Rattle.job_devices.specs.declared.reading.SourceStop.{SourceStop}
 use Rattle.job_devices.specs.declared.reading.SourceStop.TheVariants.{Failed}
 
 abbrev pub ReadsUpTo : ℕ → Option (List ℕ) → Option (List ℕ) → Type 0
-ReadsUpTo most old new = (front : List ℕ) × (length front ≤ most) × Consumes old new front
+ReadsUpTo most old new = (prefix : List ℕ) × (length prefix ≤ most) × Consumes old new prefix
 
 abbrev pub ReadsWhole : ℕ → Option (List ℕ) → Option (List ℕ) → Type 0
 ReadsWhole most None new = Unit {0}

@@ -67,7 +67,7 @@ pub trait Sink {
     /// What was written when a write last stopped, where one has and the sink tells it.
     ghost stopped_at: { Self → Option (List ℕ) };
 
-    /// Appends bytes from the front of the piece and says how many. 0 is only for an empty piece.
+    /// Appends a prefix of the piece and says how long it is. 0 is only for an empty piece.
     ///
     /// A write that stops appends nothing, and the count of its cause has risen.
     fn write(&mut self, piece: &[u8]) -> Result<usize, WriteStop>
@@ -80,7 +80,7 @@ pub trait Sink {
             (written self.new) result };
 }
 
-/// Writes the whole piece, in as many writes as the sink wants. At a stop a front of it is written.
+/// Writes the whole piece, in as many writes as the sink wants. At a stop a prefix of it is written.
 pub fn put_all<P: Sink>(sink: &mut P, piece: &[u8]) -> Result<(), WriteStop>
     ensures { Writes P.written P.stopped_at P.faults P.refusals sink.old sink.new result piece.now }
 {
@@ -92,7 +92,7 @@ pub fn put_all<P: Sink>(sink: &mut P, piece: &[u8]) -> Result<(), WriteStop>
     Ok(())
 }
 
-/// Writes some pieces, one after the other. At a stop a front of all of them is written.
+/// Writes some pieces, one after the other. At a stop a prefix of all of them is written.
 pub fn put_each<P: Sink>(sink: &mut P, pieces: &[&[u8]]) -> Result<(), WriteStop>
     ensures { Writes P.written P.stopped_at P.faults P.refusals sink.old sink.new result
         (text_of_pieces pieces.now) }

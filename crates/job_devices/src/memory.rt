@@ -49,8 +49,8 @@ pub struct SureSink {
     ghost written: { ForSome stopped (λ count. count ≤ length bytes.items) },
 }
 
-// Copies as much of the front as there is room for, but no more than `most` bytes, and says how much.
-fn copy_front(from: &[u8], buf: &mut [u8], most: usize) -> usize
+// Copies as long a prefix as there is room for, but no more than `most` bytes, and says how long it is.
+fn copy_prefix(from: &[u8], buf: &mut [u8], most: usize) -> usize
     ensures count { result ≡ min (min (length from.now) (length buf.old)) most }
     ensures length { length buf.new ≡ length buf.old }
     ensures copied { take result buf.new ≡ take result from.now }
@@ -132,7 +132,7 @@ impl Source for MemorySource {
             self.faults = self.faults.saturating_add(1);
             return Err(Failed);
         }
-        let count = copy_front(&self.bytes[self.at..], buf, self.piece);
+        let count = copy_prefix(&self.bytes[self.at..], buf, self.piece);
         self.at += count;
         Ok(count)
     }
@@ -160,7 +160,7 @@ impl Source for SureSource {
     ghost faults = { λ _. 0 };
 
     fn read(&mut self, buf: &mut [u8]) -> Result<usize, Failed> {
-        let count = copy_front(&self.bytes[self.at..], buf, usize::MAX);
+        let count = copy_prefix(&self.bytes[self.at..], buf, usize::MAX);
         self.at += count;
         Ok(count)
     }

@@ -2,7 +2,7 @@
 ghost use Rattle.std.specs.Prelude.{◌≡◌, ◌≤◌, None, take, length, MatchOption, MatchResult, IfSome, IfOk, is_ok, if◌then◌else◌};
 ghost use Rattle.std.specs.Io.{ReadsAtMost, WritesAtMost};
 ghost use Rattle.std.specs.Io.KnownBytes.{Appends, ReadConsumes, WriteAppends};
-ghost use Rattle.job_devices.specs.Text.{AppendsFront};
+ghost use Rattle.job_devices.specs.Text.{AppendsPrefix};
 
 use crate::{Failed, Sink, Source, WriteStop};
 use std::io::{Read, Write};
@@ -100,7 +100,7 @@ impl<W: Write> Sink for StreamSink<W> {
         ensures writer { MatchResult result
             (λ taken. Appends (W.contents (stream_writer self.old))
             (W.contents (stream_writer self.new)) (take taken piece.now))
-            (λ _. AppendsFront (W.contents (stream_writer self.old))
+            (λ _. AppendsPrefix (W.contents (stream_writer self.old))
             (W.contents (stream_writer self.new)) piece.now) }
         ensures count { stream_write_faults self.new ≡ (if is_ok result then stream_write_faults
             self.old else next_count (stream_write_faults self.old)) }
@@ -120,7 +120,7 @@ fn write_once<W: Write>(writer: &mut W, piece: &[u8]) -> Option<usize>
     ensures bound { IfSome result (λ taken. taken ≤ length piece.now) }
     ensures some { IfSome result (λ taken. taken ≡ 0 → length piece.now ≡ 0) }
     ensures bytes { MatchOption result
-        (AppendsFront (W.contents writer.old) (W.contents writer.new) piece.now)
+        (AppendsPrefix (W.contents writer.old) (W.contents writer.new) piece.now)
         (λ taken. Appends (W.contents writer.old) (W.contents writer.new) (take taken piece.now)) }
 {
     let Ok(taken) = writer.write(piece) else {

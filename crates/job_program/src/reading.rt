@@ -1,6 +1,6 @@
 // The cards and the program of a job.
 ghost use Rattle.std.specs.Prelude.{◌≡◌, IfOk, IfErr, IsErrOf, OnOk};
-ghost use Rattle.card_reader.specs.Reading.{ReadsFront, ReadsJob};
+ghost use Rattle.card_reader.specs.Reading.{ReadsJob, ReadsPrefix};
 ghost use Rattle.job_devices.specs.Causes.{Rose};
 ghost use Rattle.job_program.specs.Stops.{TellsEarlyStop, ArePrepared, HasStopCause};
 
@@ -25,7 +25,7 @@ pub fn prepare<S: Source>(alloc: Global, job: &mut S) -> Result<Prepared, EarlyS
     ensures cause { IfErr result (HasStopCause (Rose (S.faults job.old) (S.faults job.new))
         (ReadsJob (S.left job.old) (S.left job.new))) }
     ensures quiet { (IsErrOf result EarlyStop.ReadFault → ⊥) → S.faults job.new ≡ S.faults job.old }
-    ensures no_further { ReadsFront (S.left job.old) (S.left job.new) }
+    ensures no_further { ReadsPrefix (S.left job.old) (S.left job.new) }
 {
     let cards = read_job(alloc, job)?;
     let program = compile(alloc, &cards)?;

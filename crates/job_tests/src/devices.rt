@@ -94,7 +94,7 @@ fn writes_made(alloc: Global, row: &Row) -> Result<Option<u64>, Fail> {
     Ok(None)
 }
 
-// Whether a fault of the print has left a front of a row's listing, and less than all of it.
+// Whether a fault of the print has left a prefix of a row's listing, and less than all of it.
 fn is_cut_short(row: &Row, answer: &Answer) -> bool {
     let printed = answer.print.bytes();
     answer.status == 25 && row.listing.starts_with(printed) && printed.len() < row.listing.len()

@@ -4,7 +4,7 @@
 --     IsPrintCut bytes lines ..    a prefix of it stands
 --     IsCheckAnswer bytes lines .. what a call answers to a job and a listing, so far as its print tells what it gains
 use Rattle.std.specs.Prelude.{◌≡◌, ℕ, List, [], Option, codes}
-use Rattle.job_devices.specs.Text.{IsFront}
+use Rattle.card_definitions.specs.Prefixes.{IsPrefix}
 use Rattle.walk_definitions.specs.Walker.{Found}
 use Rattle.walk_definitions.specs.Found.{Answers, answer_text, answer_status}
 
@@ -37,7 +37,7 @@ module _ (bytes lines : List ℕ) (failures : CheckFailures) where
     pub text : List ℕ
     pub may_print : MayPrint own text
     pub part : List ℕ
-    pub is_prefix : IsFront part text
+    pub is_prefix : IsPrefix part text
     pub prints : Prints part
 
   -- THE ANSWER. The text stands whole, with its status; or there is no memory, and nothing stands; or the print has failed, or wanted

@@ -3,7 +3,7 @@ ghost use Rattle.std.specs.Prelude.{◌≡◌, ◌≢◌, ◌<◌, List, ℕ, So
 ghost use Rattle.std.specs.Io.KnownBytes.{Appends};
 ghost use Rattle.job_devices.specs.Causes.{Rose};
 ghost use Rattle.job_devices.specs.Reading.{ReadsUpTo, ReadsWhole};
-ghost use Rattle.card_reader.specs.Reading.{ReadsFront, ReadsJob};
+ghost use Rattle.card_reader.specs.Reading.{ReadsJob, ReadsPrefix};
 ghost use Rattle.job_program.specs.Stops.{TellsEarlyStop};
 ghost use Rattle.walk_laws.specs.Proved.{IsTrueListing};
 ghost use Rattle.listing_check.specs.Statuses.{code_of};
@@ -125,7 +125,7 @@ fn check_job<S: Source, L: Source, P: Sink>(
       is_job = λ bytes. S.left job.old ≡ Some bytes;
       is_listing = λ lines. L.left listing.old ≡ Some lines;
     }) P.written P.stopped_at P.faults P.refusals print.old print.new result }
-    ensures job { ReadsFront (S.left job.old) (S.left job.new) }
+    ensures job { ReadsPrefix (S.left job.old) (S.left job.new) }
     ensures listing { ReadsUpTo 64000001 (L.left listing.old) (L.left listing.new) }
 {
     match prepare(alloc, job) {

@@ -7,8 +7,9 @@ use Rattle.std.proofs.lemmas.Bool.{and_parts}
 use Rattle.card_definitions.specs.Words.{padded}
 use Rattle.card_definitions.specs.Numbers.{is_digit}
 use Rattle.problem_definitions.specs.Valid.{IsName}
-use Rattle.name_table.specs.Places.{text_in}
-use Rattle.name_table.specs.Places_laws.{length-padded, name_in_places}
+use Rattle.card_definitions.specs.Places.{text_in}
+use Rattle.card_definitions.proofs.Places.{length-padded}
+use Rattle.problem_definitions.proofs.NamePlaces.{name_in_places}
 use Rattle.listing_definitions.specs.Numbers.{digits}
 use Rattle.listing_definitions.specs.Report.{Line}
 use Rattle.listing_definitions.specs.Text.{name8, values_text, line_text, table_text}

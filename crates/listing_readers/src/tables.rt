@@ -13,7 +13,7 @@ use crate::cursor::Cursor;
 use crate::lines::{code, known_limit, known_number, number, take_head};
 use frac128::Frac;
 use listing_definitions::At;
-use listing_tables::{Sheet, cost, row_count};
+use listing_tables::{Sheet, row_count};
 use lp_model::{Lp, NoMemory};
 use std::alloc::Global;
 
@@ -293,7 +293,7 @@ fn column_values(cursor: &mut Cursor<'_>, lp: &Lp, k: u32) -> Option<Numbers>
         (AnyCode ∷ AnyNumber ∷ Known (Number (cost lp.now (k - lp.now.matrix.rows))) ∷ Known (limit_value (lower_of lp.now k)) ∷ Known (limit_value (upper_of lp.now k)) ∷ AnyNumber ∷ [])
         cursor.old cursor.new result }
 {
-    let cost = cost(lp, k - row_count(lp));
+    let cost = lp.cost(k - row_count(lp));
     column_between(cursor, cost, lp.lower_limit(k), lp.upper_limit(k))
 }
 

@@ -1,15 +1,14 @@
 // A problem with the linear program that is selected from it: names, places and costs of its variables.
 ghost use Rattle.std.specs.Prelude.{◌≡◌, ◌≤◌, ◌-◌, None, false, not, length};
-ghost use Rattle.lp_definitions.specs.LinearProgram.{IsVariable, IsColumn, size, value_at, on_row, cost};
+ghost use Rattle.lp_definitions.specs.LinearProgram.{IsVariable, IsColumn, size, value_at};
 ghost use Rattle.lp_definitions.specs.Basis.{is_basic, status_of};
 ghost use Rattle.simplex_definitions.specs.Moves.{is_fixed, is_below, is_above, is_outside};
-ghost use Rattle.exact_values.specs.Tests.{lt_ℚ};
 ghost use Rattle.listing_tables.specs.Lines.{name_of, at_by, at_of, stands_between};
 ghost use Rattle.listing_tables.specs.Sheets.{IsSheet};
 
 use frac128::Frac;
 use listing_definitions::At;
-use lp_model::{Basis, Entry, Lp, Status};
+use lp_model::{Basis, Lp, Status};
 use name_table::Name;
 use problem_file::Problem;
 
@@ -38,38 +37,20 @@ pub fn name_of(sheet: Sheet<'_>, k: u32) -> Name
     }
 }
 
-// Whether `x` is below `y`.
-fn is_less(x: Frac, y: Frac) -> bool
-    ensures { result ≡ lt_ℚ x y }
-{
-    x.compare(y).is_lt()
-}
-
 // Whether this activity of `k` is outside its limits.
 fn lies_outside(lp: &Lp, activity: Frac, k: u32) -> bool
     requires { IsVariable lp.now.matrix k }
     ensures { result ≡ is_outside lp.now (λ _. activity) k }
 {
     let is_below = match lp.lower_limit(k) {
-        Some(lower) => is_less(activity, lower),
+        Some(lower) => activity.is_less(lower),
         None => false,
     };
     let is_above = match lp.upper_limit(k) {
-        Some(upper) => is_less(upper, activity),
+        Some(upper) => upper.is_less(activity),
         None => false,
     };
     is_below || is_above
-}
-
-// Whether both limits of `k` are there, and equal.
-fn stands_fixed(lp: &Lp, k: u32) -> bool
-    requires { IsVariable lp.now.matrix k }
-    ensures { result ≡ is_fixed lp.now k }
-{
-    match (lp.lower_limit(k), lp.upper_limit(k)) {
-        (Some(lower), Some(upper)) => lower.compare(upper).is_eq(),
-        _ => false,
-    }
 }
 
 // Where a variable of this status stands, as it is printed.
@@ -94,7 +75,7 @@ pub fn at_of(lp: &Lp, basis: &Basis, point: &[Frac], k: u32) -> At
     ensures { result ≡ at_of lp.now basis.now (value_at point.now) k }
 {
     let is_outside = lies_outside(lp, point[k as usize - 1], k);
-    at_by(basis.status(k), is_outside, stands_fixed(lp, k))
+    at_by(basis.status(k), is_outside, lp.is_fixed(k))
 }
 
 /// Where variable `k` stands, as far as the basis alone tells it: a basic is taken to be within its limits.
@@ -103,7 +84,7 @@ pub fn at_in_part(lp: &Lp, basis: &Basis, k: u32) -> At
     requires counted { length basis.now ≡ size lp.now.matrix }
     ensures { result ≡ at_by (status_of basis.now k) false (is_fixed lp.now k) }
 {
-    at_by(basis.status(k), false, stands_fixed(lp, k))
+    at_by(basis.status(k), false, lp.is_fixed(k))
 }
 
 // Whether a status is that of a basic.
@@ -132,27 +113,6 @@ pub fn is_between(lp: &Lp, basis: &Basis, k: u32) -> bool
     ensures { result ≡ stands_between lp.now basis.now k }
 {
     is_basic(basis.status(k)) && k != lp.objective
-}
-
-// The number on this row, and 0 where there is none.
-fn number_on_row(entries: &[Entry], row: u32) -> Frac
-    ensures { result ≡ on_row entries.now row }
-{
-    for entry in entries {
-        if entry.row == row {
-            return entry.value;
-        }
-    }
-    Frac::whole(0)
-}
-
-/// What column `j` costs, where no row is added to the objective.
-pub fn cost(lp: &Lp, j: u32) -> Frac
-    requires column { IsColumn lp.now.matrix j }
-    requires no_change { lp.now.change ≡ None }
-    ensures { result ≡ cost lp.now j }
-{
-    number_on_row(lp.column(j), lp.objective)
 }
 
 /// The activity of the objective row.

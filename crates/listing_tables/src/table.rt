@@ -7,7 +7,7 @@ ghost use Rattle.listing_tables.specs.Tables.{HasLine, line_shown};
 
 use crate::intervals::{high_end, interval_of, low_end};
 use crate::line::{Value, put_line};
-use crate::sheet::{Sheet, at_in_part, at_of, cost, is_at_limit, is_between, name_of};
+use crate::sheet::{Sheet, at_in_part, at_of, is_at_limit, is_between, name_of};
 use frac128::Frac;
 use job_devices::{Sink, WriteStop, put_all};
 use lp_model::{Basis, ParaPart, Point, Prices, RangeReport};
@@ -128,7 +128,7 @@ fn put_column<P: Sink>(
     let values = [
         Value::Code(at_of(lp, standing.basis, point, k)),
         Value::Number(point[place]),
-        Value::Number(cost(lp, k - lp.rows)),
+        Value::Number(lp.cost(k - lp.rows)),
         Value::limit(lp.lower_limit(k)),
         Value::limit(lp.upper_limit(k)),
         Value::Number(prices[place]),
@@ -187,7 +187,7 @@ fn put_limit_column<P: Sink>(
         Value::Number(point[k as usize - 1]),
         low_end(&limit),
         high_end(&limit),
-        Value::Number(cost(lp, k - lp.rows)),
+        Value::Number(lp.cost(k - lp.rows)),
         low_end(&costs),
         high_end(&costs),
     ];
@@ -242,7 +242,7 @@ fn put_between_column<P: Sink>(
     let values = [
         Value::Code(at_of(lp, ranging.basis, point, k)),
         Value::Number(point[k as usize - 1]),
-        Value::Number(cost(lp, k - lp.rows)),
+        Value::Number(lp.cost(k - lp.rows)),
         low_end(&costs),
         high_end(&costs),
     ];

@@ -4,11 +4,7 @@ pub mod Values
 pub mod Sums
 pub mod Columns
 pub mod Sets
-pub mod Faults
-pub mod Distinct
-pub mod Lawful
 pub mod Program
 mod Made
 pub mod Selecting
-pub mod FreeRows
 pub mod ValuesInSets

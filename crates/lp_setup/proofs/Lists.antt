@@ -9,7 +9,8 @@ use Rattle.exact_values.specs.Rational.{ℚ, zero_ℚ}
 use Rattle.problem_definitions.specs.Problem.{Row, Entry}
 use Rattle.problem_definitions.proofs.Groups.{map-map}
 use Rattle.selection_definitions.specs.Limits.{row_limits, value_on}
-use Rattle.lp_setup.specs.Parts.{by_number, side_on, limits_of_rows}
+use Rattle.selection_definitions.specs.Programs.{side_on}
+use Rattle.lp_setup.specs.Parts.{by_number, limits_of_rows}
 
 -- ---- numbered lists
 

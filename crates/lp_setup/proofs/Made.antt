@@ -13,7 +13,8 @@ use Rattle.selection_definitions.specs.Limits.{value_on}
 use Rattle.selection_definitions.specs.Selection.{range_of}
 use Rattle.selection_definitions.specs.Making.{range_steps, is_made}
 use Rattle.selection_definitions.proofs.Making.{made_by_parts}
-use Rattle.lp_setup.specs.Parts.{by_number, side_on, IsRowMade, AreRowsMade}
+use Rattle.selection_definitions.specs.Programs.{side_on}
+use Rattle.lp_setup.specs.Parts.{by_number, IsRowMade, AreRowsMade}
 use Rattle.lp_setup.specs.Combined.{AreColumnsMade}
 use Rattle.lp_setup.proofs.Lists.{length-by_number}
 

@@ -19,7 +19,8 @@ use Rattle.selection_definitions.specs.CombinationSums.{IsCombinationRefusal}
 use Rattle.selection_definitions.specs.Refusals.{IsSelectionRefusal}
 use Rattle.selection_definitions.specs.Selection.{coefficients, program_of_choice, selected}
 use Rattle.lp_model.specs.declared.Stop.TheVariants.{Overflow}
-use Rattle.lp_setup.specs.Parts.{by_number, side_on, limits_of_rows, limits_with, program_with, IsRowRefusal}
+use Rattle.selection_definitions.specs.Programs.{side_on, limits_with, program_with}
+use Rattle.lp_setup.specs.Parts.{by_number, limits_of_rows, IsRowRefusal}
 use Rattle.lp_setup.specs.Combined.{IsMatrixRefusal, IsProgramOverflow}
 use Rattle.lp_setup.proofs.Lists.{map-enumerate, limits-numbered, at-by_number}
 

@@ -6,8 +6,9 @@ use Rattle.problem_definitions.specs.Names.{Name}
 use Rattle.problem_definitions.specs.Problem.{Entry, Problem, has_group}
 use Rattle.problem_definitions.specs.Groups.{items_of}
 use Rattle.problem_definitions.specs.Valid.{AreEntries, IsProblem}
-use Rattle.lp_setup.specs.Parts.{by_number, side_on}
-use Rattle.lp_setup.specs.Changes.{values_in, set_values}
+use Rattle.selection_definitions.specs.Programs.{side_on}
+use Rattle.lp_setup.specs.Parts.{by_number}
+use Rattle.selection_definitions.specs.Changes.{values_in, set_values}
 use Rattle.lp_setup.proofs.Lists.{map-enumerate}
 use Rattle.lp_setup.proofs.Sets.{rhs-entries}
 

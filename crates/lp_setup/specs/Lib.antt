@@ -1,4 +1,3 @@
 pub mod Stops
 pub mod Parts
 pub mod Combined
-pub mod Changes

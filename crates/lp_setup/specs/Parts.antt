@@ -1,41 +1,32 @@
 -- The parts of a selection, each from what it is made of.
 --     by_number f count                        what f gives of the numbers 1 to count
---     side_on items row                        the right-hand side of a row
 --     IsSumRefusal op left right refused       a sum that is refused
 --     IsRangeSumRefusal kind side range refused    the range sum of a row that is refused
 --     limits_of_rows rows sides ranges         the limits of each row
 --     IsRowOverflow rows sides ranges stop     the range sum of one of the rows is refused
 --     AreRowsMade rows sides ranges count      that of none of so many rows is
---     program_with problem ..                  the linear program of an objective row and the items of the sets that apply
-use Rattle.std.specs.Prelude.{◌≡◌, ℕ, ◌+◌, ◌<◌, List, [], ◌∷◌, ◌++◌, Option, Some, None, map, unwrap_or, slice_get, IsTrue}
-use Rattle.std.specs.List.{enumerate_from, range_with_len}
+use Rattle.std.specs.Prelude.{◌≡◌, ℕ, ◌+◌, ◌<◌, List, [], ◌∷◌, Option, Some, map, slice_get, IsTrue}
+use Rattle.std.specs.List.{range_with_len}
 use Rattle.exact_values.specs.Rational.{ℚ, zero_ℚ}
 use Rattle.exact_values.specs.Tests.{magnitude}
 use Rattle.frac128.specs.declared.Op.{Op}
 use Rattle.frac128.specs.declared.Refused.{Refused}
 use Rattle.frac128.specs.Operations.{refuses}
-use Rattle.lp_definitions.specs.declared.Sense.{Sense}
 use Rattle.lp_definitions.specs.declared.Evidence.{Evidence}
-use Rattle.lp_definitions.specs.LinearProgram.{LinearProgram}
 use Rattle.lp_definitions.specs.RatesEvidence.{Names}
 use Rattle.check_definitions.specs.declared.Verdict.TheVariants.{Checked}
 use Rattle.check_definitions.specs.Steps.{verdict_of}
 use Rattle.lp_model.specs.declared.Stop.{Stop}
 use Rattle.lp_model.specs.declared.Stop.TheVariants.{Overflow, NoMemory}
 use Rattle.problem_definitions.specs.declared.RowKind.{RowKind}
-use Rattle.problem_definitions.specs.Problem.{Row, Entry, Bound, Problem}
-use Rattle.selection_definitions.specs.Limits.{Limits, value_on, range_operation, row_limits, column_limits}
-use Rattle.selection_definitions.specs.Selection.{matrix_of}
+use Rattle.problem_definitions.specs.Problem.{Row}
+use Rattle.selection_definitions.specs.Limits.{Limits, range_operation, row_limits}
 use Rattle.selection_definitions.specs.RangeSums.{range_formula}
 use Rattle.selection_definitions.specs.Making.{range_steps}
 
 -- what f gives of each number from 1 to count
 abbrev pub by_number : {X : Type 0} → (ℕ → X) → ℕ → List X
 by_number f count = map (λ place. f (place + 1)) (range_with_len 0 count)
-
--- a row without an item has 0
-abbrev pub side_on : List (Entry ℕ) → ℕ → ℚ
-side_on items row = unwrap_or (value_on items row) zero_ℚ
 
 -- the operation and its operands are these, and they are refused
 pub record IsSumRefusal (op : Op) (left right : ℚ) (refused : Refused) : Type 0 where
@@ -83,23 +74,3 @@ IsRowMade rows sides ranges place =
 
 abbrev pub AreRowsMade : List (Row ℕ) → List ℚ → List (Option ℚ) → ℕ → Type 0
 AreRowsMade rows sides ranges count = (place : ℕ) → place < count → IsRowMade rows sides ranges place
-
--- ---- the program
-
-module _ (problem : Problem ℕ) (objective : ℕ) (rhs ranges : List (Entry ℕ)) (bounds : List (Bound ℕ)) (sense : Sense) where
-  -- the limits of the rows, and then of the columns
-  abbrev pub limits_with : List Limits
-  limits_with =
-      map (λ entry. row_limits entry.1.kind (side_on rhs entry.0) (value_on ranges entry.0)) (enumerate_from 1 problem.rows)
-      ++ map (λ entry. column_limits bounds entry.0) (enumerate_from 1 problem.columns)
-
-  abbrev pub program_with : LinearProgram
-  program_with = record {
-    matrix = matrix_of problem;
-    lower = map (λ limits. limits.lower) limits_with;
-    upper = map (λ limits. limits.upper) limits_with;
-    rhs = map (λ entry. side_on rhs entry.0) (enumerate_from 1 problem.rows);
-    objective = objective;
-    change = None;
-    sense = sense;
-  }

@@ -1,6 +1,6 @@
 // What changes along a parametric run.
 ghost use Rattle.std.specs.Prelude.{◌≡◌, IfOk, IfSome, option_map};
-ghost use Rattle.lp_setup.specs.Changes.{free_row_number, IsFreeIn, set_values as values_of_set};
+ghost use Rattle.selection_definitions.specs.Changes.{free_row_number, IsFreeIn, set_values as values_of_set};
 
 use crate::chosen::{has_free_row, row_number, values_named};
 use crate::parts::right_hand_sides;

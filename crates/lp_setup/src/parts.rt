@@ -5,7 +5,8 @@ ghost use Rattle.lp_definitions.specs.RatesEvidence.{Names};
 ghost use Rattle.problem_definitions.specs.Valid.{AreEntries, AreBounds};
 ghost use Rattle.selection_definitions.specs.Limits.{value_on, column_limits};
 ghost use Rattle.selection_definitions.specs.RangeSums.{range_formula};
-ghost use Rattle.lp_setup.specs.Parts.{by_number, side_on, limits_of_rows, IsRowOverflow, IsRowMade, AreRowsMade};
+ghost use Rattle.selection_definitions.specs.Programs.{side_on};
+ghost use Rattle.lp_setup.specs.Parts.{by_number, limits_of_rows, IsRowOverflow, IsRowMade, AreRowsMade};
 
 use crate::limits::{Limits, bounded, row_limits, unbounded};
 use frac128::{Frac, Refused};

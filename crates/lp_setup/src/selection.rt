@@ -6,7 +6,8 @@ ghost use Rattle.selection_definitions.specs.Choice.{selection_fault};
 ghost use Rattle.selection_definitions.specs.Limits.{value_on, column_limits};
 ghost use Rattle.selection_definitions.specs.Selection.{selected};
 ghost use Rattle.selection_definitions.specs.Making.{is_made};
-ghost use Rattle.lp_setup.specs.Parts.{by_number, side_on, limits_of_rows, program_with, IsRowOverflow, AreRowsMade};
+ghost use Rattle.selection_definitions.specs.Programs.{side_on, program_with};
+ghost use Rattle.lp_setup.specs.Parts.{by_number, limits_of_rows, IsRowOverflow, AreRowsMade};
 ghost use Rattle.lp_setup.specs.Combined.{AreColumnsMade, IsProgramOverflow};
 ghost use Rattle.lp_setup.specs.Stops.{fault_of, IsOverflowOf};
 

@@ -3,7 +3,7 @@ use Rattle.std.proofs.Common.{◌≡◌, ℕ, List, [], ◌++◌, Option, None, 
 use Rattle.std.specs.Io.KnownBytes.{Appends}
 use Rattle.job_devices.proofs.TextLemmas.{Appends-nothing}
 use Rattle.job_devices.specs.Causes.{Rose}
-use Rattle.job_devices.specs.Text.{AppendsFront, Writes}
+use Rattle.job_devices.specs.Text.{AppendsPrefix, Writes}
 use Rattle.job_devices.specs.declared.device.WriteStop.{WriteStop}
 use Rattle.job_devices.specs.declared.device.WriteStop.TheVariants.{Failed, NoMemory}
 use Rattle.deck_definitions.specs.Written.{card_text}
@@ -55,8 +55,8 @@ code_is Memory = refl
 -- ---- the answer
 
 module _ (S : Solving) (job : Job) (failures : Failures) (stop : EarlyStop) (may_end : MayEnd S job failures [] [] (stop_shown stop)) where
-  cut : (status : ℕ) (front back : List ℕ) → front ++ back ≡ ending_text (stop_shown stop) → IsCutShort S job failures (record { status = status; printed = front; punched = [] })
-  cut status front back e = in_end (stop_shown stop) front may_end (back, e) refl (gains_nothing stop)
+  cut : (status : ℕ) (prefix back : List ℕ) → prefix ++ back ≡ ending_text (stop_shown stop) → IsCutShort S job failures (record { status = status; printed = prefix; punched = [] })
+  cut status prefix back e = in_end (stop_shown stop) prefix may_end (back, e) refl (gains_nothing stop)
 
   module _ (old new punch : Option (List ℕ)) (status : Status) where
     -- the end is printed
@@ -64,10 +64,10 @@ module _ (S : Solving) (job : Job) (failures : Failures) (stop : EarlyStop) (may
     ended is text = (ending_text (stop_shown stop), [], text, keeps punch, whole (stop_shown stop) may_end (ap code_of is ∙ code_is stop) refl (gains_nothing stop))
 
     -- the print fails, or wants memory
-    ended_early : (cause : WriteStop) → status ≡ cut_status cause → (cause ≡ Failed → failures.print) → (cause ≡ NoMemory → failures.memory) → AppendsFront old new (ending_text (stop_shown stop)) →
+    ended_early : (cause : WriteStop) → status ≡ cut_status cause → (cause ≡ Failed → failures.print) → (cause ≡ NoMemory → failures.memory) → AppendsPrefix old new (ending_text (stop_shown stop)) →
         IsAnswered S job failures (code_of status) (Appends old new) (Appends punch punch)
-    ended_early Failed is failed wanted front = (front.0, [], front.2, keeps punch, print_fails (failed refl) (ap code_of is) (cut (code_of status) front.0 front.1.0 front.1.1))
-    ended_early NoMemory is failed wanted front = (front.0, [], front.2, keeps punch, print_wants_memory (wanted refl) (ap code_of is) (cut (code_of status) front.0 front.1.0 front.1.1))
+    ended_early Failed is failed wanted prefix = (prefix.0, [], prefix.2, keeps punch, print_fails (failed refl) (ap code_of is) (cut (code_of status) prefix.0 prefix.1.0 prefix.1.1))
+    ended_early NoMemory is failed wanted prefix = (prefix.0, [], prefix.2, keeps punch, print_wants_memory (wanted refl) (ap code_of is) (cut (code_of status) prefix.0 prefix.1.0 prefix.1.1))
 
   pub ending_answer : {P : Type 0} (written stopped_at : P → Option (List ℕ)) (faults refusals : P → ℕ) {old new : P} (punch : Option (List ℕ)) (status : Status) →
       (Rose (faults old) (faults new) → failures.print) → (Rose (refusals old) (refusals new) → failures.memory) → EndsWith written stopped_at faults refusals old new stop status →

@@ -43,8 +43,8 @@ module _ (S : Solving) (job : Job) (some others : Failures) (read : some.read �
   ends _ _ _ (punch_fails bytes program state deck failed is so_far punching) = punch_fails bytes program state deck (punch failed) is so_far punching
 
   cut_short : (answer : Answer) → IsCutShort S job some answer → IsCutShort S job others answer
-  cut_short answer (in_report bytes program state outcome part is so_far step front printed punched) = in_report bytes program state outcome part is so_far step front printed punched
-  cut_short answer (in_end {reports} {cards} ending part may_end front printed punched) = in_end ending part (ends reports cards ending may_end) front printed punched
+  cut_short answer (in_report bytes program state outcome part is so_far step prefix printed punched) = in_report bytes program state outcome part is so_far step prefix printed punched
+  cut_short answer (in_end {reports} {cards} ending part may_end prefix printed punched) = in_end ending part (ends reports cards ending may_end) prefix printed punched
 
   answers : (answer : Answer) → IsAnswer S job some answer → IsAnswer S job others answer
   answers answer (whole {reports} {cards} ending may_end status printed punched) = whole ending (ends reports cards ending may_end) status printed punched

@@ -4,7 +4,7 @@ use Rattle.std.specs.Prelude.{IfSome}
 use Rattle.deck_definitions.specs.Transport.{made_job}
 use Rattle.run_definitions.specs.Answer.{IsProgramOf}
 use Rattle.job_devices.specs.Causes.{Rose}
-use Rattle.job_devices.specs.Text.{AppendsFront}
+use Rattle.job_devices.specs.Text.{AppendsPrefix}
 use Rattle.job_devices.specs.declared.device.WriteStop.{WriteStop}
 use Rattle.job_devices.specs.declared.device.WriteStop.TheVariants.{Failed, NoMemory}
 use Rattle.listing_definitions.specs.Listing.{ending_text}
@@ -31,52 +31,52 @@ module _ (asked : Option Request) (read_failed is_read : Type 0) where
   IsWhy (Control fault) = IsAtHand asked is_read
   IsWhy Memory = Unit {0}
 
-  printed_cause : (print_failed punch_failed : Type 0) (GainsFrontOf : List ℕ → Type 0) (stop : EarlyStop) → IsWhy stop → HasCause asked read_failed is_read print_failed punch_failed GainsFrontOf (status_at stop)
-  printed_cause print_failed punch_failed GainsFrontOf Words is = is
-  printed_cause print_failed punch_failed GainsFrontOf ReadFault is = is
-  printed_cause print_failed punch_failed GainsFrontOf (Card fault) is = is
-  printed_cause print_failed punch_failed GainsFrontOf (Control fault) is = is
-  printed_cause print_failed punch_failed GainsFrontOf Memory is = tt
+  printed_cause : (print_failed punch_failed : Type 0) (GainsPrefixOf : List ℕ → Type 0) (stop : EarlyStop) → IsWhy stop → HasCause asked read_failed is_read print_failed punch_failed GainsPrefixOf (status_at stop)
+  printed_cause print_failed punch_failed GainsPrefixOf Words is = is
+  printed_cause print_failed punch_failed GainsPrefixOf ReadFault is = is
+  printed_cause print_failed punch_failed GainsPrefixOf (Card fault) is = is
+  printed_cause print_failed punch_failed GainsPrefixOf (Control fault) is = is
+  printed_cause print_failed punch_failed GainsPrefixOf Memory is = tt
 
-  after : (GainsFrontOf : List ℕ → Type 0) (stop : EarlyStop) → IsWhy stop → GainsFrontOf (ending_text (stop_shown stop)) → IsPrintedAfter asked read_failed is_read GainsFrontOf
-  after GainsFrontOf Words is front = refused_words is front
-  after GainsFrontOf ReadFault is front = a_read_fault is.0 is.1 front
-  after GainsFrontOf (Card fault) is front = at_hand is
-  after GainsFrontOf (Control fault) is front = at_hand is
-  after GainsFrontOf Memory is front = no_memory front
+  after : (GainsPrefixOf : List ℕ → Type 0) (stop : EarlyStop) → IsWhy stop → GainsPrefixOf (ending_text (stop_shown stop)) → IsPrintedAfter asked read_failed is_read GainsPrefixOf
+  after GainsPrefixOf Words is prefix = refused_words is prefix
+  after GainsPrefixOf ReadFault is prefix = a_read_fault is.0 is.1 prefix
+  after GainsPrefixOf (Card fault) is prefix = at_hand is
+  after GainsPrefixOf (Control fault) is prefix = at_hand is
+  after GainsPrefixOf Memory is prefix = no_memory prefix
 
-  cut_cause : (print_failed punch_failed : Type 0) (GainsFrontOf : List ℕ → Type 0) (stop : EarlyStop) → IsWhy stop → (cause : WriteStop) → (cause ≡ Failed → print_failed) → GainsFrontOf (ending_text (stop_shown stop)) →
-      HasCause asked read_failed is_read print_failed punch_failed GainsFrontOf (cut_status cause)
-  cut_cause print_failed punch_failed GainsFrontOf stop is Failed failed front = (failed refl, after GainsFrontOf stop is front)
-  cut_cause print_failed punch_failed GainsFrontOf stop is NoMemory failed front = tt
+  cut_cause : (print_failed punch_failed : Type 0) (GainsPrefixOf : List ℕ → Type 0) (stop : EarlyStop) → IsWhy stop → (cause : WriteStop) → (cause ≡ Failed → print_failed) → GainsPrefixOf (ending_text (stop_shown stop)) →
+      HasCause asked read_failed is_read print_failed punch_failed GainsPrefixOf (cut_status cause)
+  cut_cause print_failed punch_failed GainsPrefixOf stop is Failed failed prefix = (failed refl, after GainsPrefixOf stop is prefix)
+  cut_cause print_failed punch_failed GainsPrefixOf stop is NoMemory failed prefix = tt
 
   -- of a job whose listing is the end of a stop alone
   pub ending_cause : (punch_failed : Type 0) {P : Type 0} (written stopped_at : P → Option (List ℕ)) (faults refusals : P → ℕ) {old new : P} (stop : EarlyStop) (ended : Status) → IsWhy stop → EndsWith written stopped_at faults refusals old new stop ended →
-      HasCause asked read_failed is_read (Rose (faults old) (faults new)) punch_failed (AppendsFront (written old) (written new)) ended
+      HasCause asked read_failed is_read (Rose (faults old) (faults new)) punch_failed (AppendsPrefix (written old) (written new)) ended
   ending_cause punch_failed written stopped_at faults refusals {old} {new} stop ended is (printed same writes) =
-      subst (HasCause asked read_failed is_read (Rose (faults old) (faults new)) punch_failed (AppendsFront (written old) (written new))) (sym same) (printed_cause _ _ _ stop is)
+      subst (HasCause asked read_failed is_read (Rose (faults old) (faults new)) punch_failed (AppendsPrefix (written old) (written new))) (sym same) (printed_cause _ _ _ stop is)
   ending_cause punch_failed written stopped_at faults refusals {old} {new} stop ended is (cut_off cause same writes) =
-      subst (HasCause asked read_failed is_read (Rose (faults old) (faults new)) punch_failed (AppendsFront (written old) (written new))) (sym same)
+      subst (HasCause asked read_failed is_read (Rose (faults old) (faults new)) punch_failed (AppendsPrefix (written old) (written new))) (sym same)
       (cut_cause _ _ _ stop is cause (λ e. writes.cause.failed (ap (λ s. Err s) e)) writes.bytes)
 
   -- of a job whose program has run
-  pub run_cause : (print_failed punch_failed : Type 0) (GainsFrontOf : List ℕ → Type 0) (ended : Status) → IsAtHand asked is_read → IsStatusOfRun ended → (ended ≡ status.PrintFault → print_failed) → (ended ≡ status.PunchFault → punch_failed) →
-      HasCause asked read_failed is_read print_failed punch_failed GainsFrontOf ended
-  run_cause print_failed punch_failed GainsFrontOf status.Done is own failed stopped = is
-  run_cause print_failed punch_failed GainsFrontOf status.Infeasible is own failed stopped = is
-  run_cause print_failed punch_failed GainsFrontOf status.Unbounded is own failed stopped = is
-  run_cause print_failed punch_failed GainsFrontOf status.Words is own failed stopped = absurd own
-  run_cause print_failed punch_failed GainsFrontOf status.Control is own failed stopped = absurd own
-  run_cause print_failed punch_failed GainsFrontOf status.Verb is own failed stopped = is
-  run_cause print_failed punch_failed GainsFrontOf status.Deck is own failed stopped = is
-  run_cause print_failed punch_failed GainsFrontOf status.Card is own failed stopped = absurd own
-  run_cause print_failed punch_failed GainsFrontOf status.Limit is own failed stopped = is
-  run_cause print_failed punch_failed GainsFrontOf status.Statements is own failed stopped = is
-  run_cause print_failed punch_failed GainsFrontOf status.Overflow is own failed stopped = is
-  run_cause print_failed punch_failed GainsFrontOf status.ReadFault is own failed stopped = absurd own
-  run_cause print_failed punch_failed GainsFrontOf status.PrintFault is own failed stopped = (failed refl, at_hand is)
-  run_cause print_failed punch_failed GainsFrontOf status.PunchFault is own failed stopped = (is, stopped refl)
-  run_cause print_failed punch_failed GainsFrontOf status.Memory is own failed stopped = tt
+  pub run_cause : (print_failed punch_failed : Type 0) (GainsPrefixOf : List ℕ → Type 0) (ended : Status) → IsAtHand asked is_read → IsStatusOfRun ended → (ended ≡ status.PrintFault → print_failed) → (ended ≡ status.PunchFault → punch_failed) →
+      HasCause asked read_failed is_read print_failed punch_failed GainsPrefixOf ended
+  run_cause print_failed punch_failed GainsPrefixOf status.Done is own failed stopped = is
+  run_cause print_failed punch_failed GainsPrefixOf status.Infeasible is own failed stopped = is
+  run_cause print_failed punch_failed GainsPrefixOf status.Unbounded is own failed stopped = is
+  run_cause print_failed punch_failed GainsPrefixOf status.Words is own failed stopped = absurd own
+  run_cause print_failed punch_failed GainsPrefixOf status.Control is own failed stopped = absurd own
+  run_cause print_failed punch_failed GainsPrefixOf status.Verb is own failed stopped = is
+  run_cause print_failed punch_failed GainsPrefixOf status.Deck is own failed stopped = is
+  run_cause print_failed punch_failed GainsPrefixOf status.Card is own failed stopped = absurd own
+  run_cause print_failed punch_failed GainsPrefixOf status.Limit is own failed stopped = is
+  run_cause print_failed punch_failed GainsPrefixOf status.Statements is own failed stopped = is
+  run_cause print_failed punch_failed GainsPrefixOf status.Overflow is own failed stopped = is
+  run_cause print_failed punch_failed GainsPrefixOf status.ReadFault is own failed stopped = absurd own
+  run_cause print_failed punch_failed GainsPrefixOf status.PrintFault is own failed stopped = (failed refl, at_hand is)
+  run_cause print_failed punch_failed GainsPrefixOf status.PunchFault is own failed stopped = (is, stopped refl)
+  run_cause print_failed punch_failed GainsPrefixOf status.Memory is own failed stopped = tt
 
 -- of a job that is read
 pub why : (read_failed is_read : Type 0) (stop : EarlyStop) → HasStopCause read_failed is_read stop → IsWhy (Some request.Read) read_failed is_read stop
@@ -89,14 +89,14 @@ why read_failed is_read Memory cause = tt
 -- ---- the cause of one job is that of another, which ends likewise
 
 module _ (asked other : Option Request) (read_failed is_read other_failed other_read : Type 0) (none : asked ≡ None → other ≡ None)
-    (read : asked ≡ Some request.Read → read_failed → (other ≡ Some request.Read) × other_failed) (hand : IsAtHand asked is_read → IsAtHand other other_read) (print_failed punch_failed : Type 0) (GainsFrontOf : List ℕ → Type 0) where
-  printed_likewise : IsPrintedAfter asked read_failed is_read GainsFrontOf → IsPrintedAfter other other_failed other_read GainsFrontOf
+    (read : asked ≡ Some request.Read → read_failed → (other ≡ Some request.Read) × other_failed) (hand : IsAtHand asked is_read → IsAtHand other other_read) (print_failed punch_failed : Type 0) (GainsPrefixOf : List ℕ → Type 0) where
+  printed_likewise : IsPrintedAfter asked read_failed is_read GainsPrefixOf → IsPrintedAfter other other_failed other_read GainsPrefixOf
   printed_likewise (at_hand is) = at_hand (hand is)
-  printed_likewise (refused_words is front) = refused_words (none is) front
-  printed_likewise (a_read_fault is failed front) = let p = read is failed in a_read_fault p.0 p.1 front
-  printed_likewise (no_memory front) = no_memory front
+  printed_likewise (refused_words is prefix) = refused_words (none is) prefix
+  printed_likewise (a_read_fault is failed prefix) = let p = read is failed in a_read_fault p.0 p.1 prefix
+  printed_likewise (no_memory prefix) = no_memory prefix
 
-  pub likewise : (ended : Status) → HasCause asked read_failed is_read print_failed punch_failed GainsFrontOf ended → HasCause other other_failed other_read print_failed punch_failed GainsFrontOf ended
+  pub likewise : (ended : Status) → HasCause asked read_failed is_read print_failed punch_failed GainsPrefixOf ended → HasCause other other_failed other_read print_failed punch_failed GainsPrefixOf ended
   likewise status.Done is = hand is
   likewise status.Infeasible is = hand is
   likewise status.Unbounded is = hand is
@@ -114,30 +114,30 @@ module _ (asked other : Option Request) (read_failed is_read other_failed other_
   likewise status.Memory is = tt
 
 -- a job that is asked for as another is
-pub same_cause : {asked : Option Request} (request : Request) (read_failed is_read print_failed punch_failed : Type 0) (GainsFrontOf : List ℕ → Type 0) (ended : Status) → asked ≡ Some request →
-    HasCause (Some request) read_failed is_read print_failed punch_failed GainsFrontOf ended → HasCause asked read_failed is_read print_failed punch_failed GainsFrontOf ended
-same_cause request read_failed is_read print_failed punch_failed GainsFrontOf ended is cause =
-    subst (λ (o : Option Request). HasCause o read_failed is_read print_failed punch_failed GainsFrontOf ended) (sym is) cause
+pub same_cause : {asked : Option Request} (request : Request) (read_failed is_read print_failed punch_failed : Type 0) (GainsPrefixOf : List ℕ → Type 0) (ended : Status) → asked ≡ Some request →
+    HasCause (Some request) read_failed is_read print_failed punch_failed GainsPrefixOf ended → HasCause asked read_failed is_read print_failed punch_failed GainsPrefixOf ended
+same_cause request read_failed is_read print_failed punch_failed GainsPrefixOf ended is cause =
+    subst (λ (o : Option Request). HasCause o read_failed is_read print_failed punch_failed GainsPrefixOf ended) (sym is) cause
 
 -- of a job that is read
-pub read_cause : (read_failed is_read print_failed punch_failed : Type 0) (GainsFrontOf : List ℕ → Type 0) (ended : Status) {wanted : Request} → wanted ≡ request.Read →
-    HasCause (Some request.Read) read_failed is_read print_failed punch_failed GainsFrontOf ended → HasCause (Some wanted) read_failed is_read print_failed punch_failed GainsFrontOf ended
-read_cause read_failed is_read print_failed punch_failed GainsFrontOf ended is cause = same_cause request.Read read_failed is_read print_failed punch_failed GainsFrontOf ended (ap (λ (r : Request). Some r) is) cause
+pub read_cause : (read_failed is_read print_failed punch_failed : Type 0) (GainsPrefixOf : List ℕ → Type 0) (ended : Status) {wanted : Request} → wanted ≡ request.Read →
+    HasCause (Some request.Read) read_failed is_read print_failed punch_failed GainsPrefixOf ended → HasCause (Some wanted) read_failed is_read print_failed punch_failed GainsPrefixOf ended
+read_cause read_failed is_read print_failed punch_failed GainsPrefixOf ended is cause = same_cause request.Read read_failed is_read print_failed punch_failed GainsPrefixOf ended (ap (λ (r : Request). Some r) is) cause
 
 -- of a job that is made: nothing is read
-pub made_cause : (read_failed is_read print_failed punch_failed : Type 0) (GainsFrontOf : List ℕ → Type 0) (ended : Status) (size : ℕ) {wanted : Request} → wanted ≡ request.Make size →
-    HasCause (Some (request.Make size)) ⊥ (Unit {0}) print_failed punch_failed GainsFrontOf ended → HasCause (Some wanted) read_failed is_read print_failed punch_failed GainsFrontOf ended
-made_cause read_failed is_read print_failed punch_failed GainsFrontOf ended size is cause =
-    same_cause (request.Make size) read_failed is_read print_failed punch_failed GainsFrontOf ended (ap (λ (r : Request). Some r) is)
+pub made_cause : (read_failed is_read print_failed punch_failed : Type 0) (GainsPrefixOf : List ℕ → Type 0) (ended : Status) (size : ℕ) {wanted : Request} → wanted ≡ request.Make size →
+    HasCause (Some (request.Make size)) ⊥ (Unit {0}) print_failed punch_failed GainsPrefixOf ended → HasCause (Some wanted) read_failed is_read print_failed punch_failed GainsPrefixOf ended
+made_cause read_failed is_read print_failed punch_failed GainsPrefixOf ended size is cause =
+    same_cause (request.Make size) read_failed is_read print_failed punch_failed GainsPrefixOf ended (ap (λ (r : Request). Some r) is)
     (likewise (Some (request.Make size)) (Some (request.Make size)) ⊥ (Unit {0}) read_failed is_read
-    (λ e. e) (λ e failed. absurd failed) (λ here. tt) print_failed punch_failed GainsFrontOf ended cause)
+    (λ e. e) (λ e failed. absurd failed) (λ here. tt) print_failed punch_failed GainsPrefixOf ended cause)
 
 -- of a job that is made, from that of its source, which doesn't fail
-pub source_cause : (read_failed is_read print_failed punch_failed : Type 0) (GainsFrontOf : List ℕ → Type 0) (ended : Status) (size : ℕ) → (read_failed → ⊥) →
-    HasCause (Some request.Read) read_failed is_read print_failed punch_failed GainsFrontOf ended → HasCause (Some (request.Make size)) ⊥ (Unit {0}) print_failed punch_failed GainsFrontOf ended
-source_cause read_failed is_read print_failed punch_failed GainsFrontOf ended size sure cause =
+pub source_cause : (read_failed is_read print_failed punch_failed : Type 0) (GainsPrefixOf : List ℕ → Type 0) (ended : Status) (size : ℕ) → (read_failed → ⊥) →
+    HasCause (Some request.Read) read_failed is_read print_failed punch_failed GainsPrefixOf ended → HasCause (Some (request.Make size)) ⊥ (Unit {0}) print_failed punch_failed GainsPrefixOf ended
+source_cause read_failed is_read print_failed punch_failed GainsPrefixOf ended size sure cause =
     likewise (Some request.Read) (Some (request.Make size)) read_failed is_read ⊥ (Unit {0})
-    (λ e. absurd (cc)) (λ e failed. absurd (sure failed)) (λ here. tt) print_failed punch_failed GainsFrontOf ended cause
+    (λ e. absurd (cc)) (λ e failed. absurd (sure failed)) (λ here. tt) print_failed punch_failed GainsPrefixOf ended cause
 
 -- why the words ask for nothing
 pub why_words : (asked : Option Request) (read_failed is_read : Type 0) (stop : WordsStop) → (stop ≡ words.Refused → asked ≡ None) → IsWhy asked read_failed is_read (stop_of_words stop)

@@ -21,22 +21,22 @@ IsAtHand (Some request.Read) is_read = is_read
 IsAtHand (Some (request.Make size)) is_read = Unit {0}
 
 -- Where a write to the print fails, the whole job is at hand before; unless what was being printed is that the words are refused, that a
--- read has failed, or that there is no memory: then all that the print has gained is a front of that line.
-pub data IsPrintedAfter (asked : Option Request) (read_failed is_read : Type 0) (GainsFrontOf : List ℕ → Type 0) : Type 0 where
-  at_hand : IsAtHand asked is_read → IsPrintedAfter asked read_failed is_read GainsFrontOf
-  refused_words : asked ≡ None → GainsFrontOf (ending_text WordsRefused) → IsPrintedAfter asked read_failed is_read GainsFrontOf
-  a_read_fault : asked ≡ Some request.Read → read_failed → GainsFrontOf (ending_text endings.ReadFault) → IsPrintedAfter asked read_failed is_read GainsFrontOf
-  no_memory : GainsFrontOf (ending_text endings.Memory) → IsPrintedAfter asked read_failed is_read GainsFrontOf
+-- read has failed, or that there is no memory: then all that the print has gained is a prefix of that line.
+pub data IsPrintedAfter (asked : Option Request) (read_failed is_read : Type 0) (GainsPrefixOf : List ℕ → Type 0) : Type 0 where
+  at_hand : IsAtHand asked is_read → IsPrintedAfter asked read_failed is_read GainsPrefixOf
+  refused_words : asked ≡ None → GainsPrefixOf (ending_text WordsRefused) → IsPrintedAfter asked read_failed is_read GainsPrefixOf
+  a_read_fault : asked ≡ Some request.Read → read_failed → GainsPrefixOf (ending_text endings.ReadFault) → IsPrintedAfter asked read_failed is_read GainsPrefixOf
+  no_memory : GainsPrefixOf (ending_text endings.Memory) → IsPrintedAfter asked read_failed is_read GainsPrefixOf
 
 -- The words may be refused. A job that they ask to read is read, and a read may fail; whatever else ends a job comes when the whole job
 -- is at hand, and so does a write to the punch that fails. A write to the print may fail, and memory may be wanted, at any time.
 abbrev pub HasCause : Option Request → Type 0 → Type 0 → Type 0 → Type 0 → (List ℕ → Type 0) → Status → Type 0
-HasCause asked read_failed is_read print_failed punch_failed GainsFrontOf Words = asked ≡ None
-HasCause asked read_failed is_read print_failed punch_failed GainsFrontOf ReadFault = (asked ≡ Some request.Read) × read_failed
-HasCause asked read_failed is_read print_failed punch_failed GainsFrontOf PrintFault = print_failed × IsPrintedAfter asked read_failed is_read GainsFrontOf
-HasCause asked read_failed is_read print_failed punch_failed GainsFrontOf PunchFault = IsAtHand asked is_read × punch_failed
-HasCause asked read_failed is_read print_failed punch_failed GainsFrontOf Memory = Unit {0}
-HasCause asked read_failed is_read print_failed punch_failed GainsFrontOf status = IsAtHand asked is_read
+HasCause asked read_failed is_read print_failed punch_failed GainsPrefixOf Words = asked ≡ None
+HasCause asked read_failed is_read print_failed punch_failed GainsPrefixOf ReadFault = (asked ≡ Some request.Read) × read_failed
+HasCause asked read_failed is_read print_failed punch_failed GainsPrefixOf PrintFault = print_failed × IsPrintedAfter asked read_failed is_read GainsPrefixOf
+HasCause asked read_failed is_read print_failed punch_failed GainsPrefixOf PunchFault = IsAtHand asked is_read × punch_failed
+HasCause asked read_failed is_read print_failed punch_failed GainsPrefixOf Memory = Unit {0}
+HasCause asked read_failed is_read print_failed punch_failed GainsPrefixOf status = IsAtHand asked is_read
 
 -- the bytes of the job, where they are known: those that the source tells, or those of the generated job
 abbrev pub bytes_at_hand : Option Request → Option (List ℕ) → Option (List ℕ)

@@ -3,8 +3,8 @@ ghost use Rattle.std.specs.Prelude.{◌≡◌, ◌≢◌, ◌≤◌, List, ℕ, 
 ghost use Rattle.std.specs.Io.KnownBytes.{Appends};
 ghost use Rattle.job_devices.specs.Causes.{Rose};
 ghost use Rattle.job_devices.specs.Memory.{sure_left};
-ghost use Rattle.job_devices.specs.Text.{AppendsFront};
-ghost use Rattle.card_reader.specs.Reading.{ReadsFront, ReadsJob};
+ghost use Rattle.job_devices.specs.Text.{AppendsPrefix};
+ghost use Rattle.card_reader.specs.Reading.{ReadsJob, ReadsPrefix};
 ghost use Rattle.answer_definitions.specs.Real.{linear_programming};
 ghost use Rattle.deck_definitions.specs.Transport.{made_job};
 ghost use Rattle.run_definitions.specs.Answer.{Job, Made, IsAnswered};
@@ -52,7 +52,7 @@ fn run_source<S: Source, P: Sink, U: Sink>(
         (ReadsJob (S.left job.old) (S.left job.new))
         (Rose (P.faults print.old) (P.faults print.new))
         (Rose (U.faults punch.old) (U.faults punch.new))
-        (AppendsFront (P.written print.old) (P.written print.new))
+        (AppendsPrefix (P.written print.old) (P.written print.new))
         result }
     ensures reported { IsReported
         (counts P.faults P.refusals U.faults U.refusals (S.faults job.old) print.old punch.old)
@@ -60,7 +60,7 @@ fn run_source<S: Source, P: Sink, U: Sink>(
         (code_of result) }
     ensures still { IsStill P.written P.stopped_at P.faults P.refusals print.old print.new ×
         IsStill U.written U.stopped_at U.faults U.refusals punch.old punch.new }
-    ensures no_further { ReadsFront (S.left job.old) (S.left job.new) }
+    ensures no_further { ReadsPrefix (S.left job.old) (S.left job.new) }
     ensures punch { IsPunched (Some Request.Read) (S.left job.old)
         (ReadsJob (S.left job.old) (S.left job.new)) (punch.new ≡ punch.old) result }
 {
@@ -94,7 +94,7 @@ fn run_made<P: Sink, U: Sink>(alloc: Global, size: u32, print: &mut P, punch: &m
     ensures cause { HasCause (Some (Request.Make size)) ⊥ (Unit {0})
         (Rose (P.faults print.old) (P.faults print.new))
         (Rose (U.faults punch.old) (U.faults punch.new))
-        (AppendsFront (P.written print.old) (P.written print.new))
+        (AppendsPrefix (P.written print.old) (P.written print.new))
         result }
     ensures reported { IsReported
         (counts P.faults P.refusals U.faults U.refusals 0 print.old punch.old)
@@ -136,7 +136,7 @@ fn run_request<S: Source, P: Sink, U: Sink>(
         (ReadsJob (S.left job.old) (S.left job.new))
         (Rose (P.faults print.old) (P.faults print.new))
         (Rose (U.faults punch.old) (U.faults punch.new))
-        (AppendsFront (P.written print.old) (P.written print.new))
+        (AppendsPrefix (P.written print.old) (P.written print.new))
         result }
     ensures reported { IsReported
         (counts P.faults P.refusals U.faults U.refusals (S.faults job.old) print.old punch.old)
@@ -144,7 +144,7 @@ fn run_request<S: Source, P: Sink, U: Sink>(
         (code_of result) }
     ensures still { IsStill P.written P.stopped_at P.faults P.refusals print.old print.new ×
         IsStill U.written U.stopped_at U.faults U.refusals punch.old punch.new }
-    ensures no_further { ReadsFront (S.left job.old) (S.left job.new) }
+    ensures no_further { ReadsPrefix (S.left job.old) (S.left job.new) }
     ensures unread { request ≢ Request.Read → job.new ≡ job.old }
     ensures punch { IsPunched (Some request) (S.left job.old)
         (ReadsJob (S.left job.old) (S.left job.new)) (punch.new ≡ punch.old) result }
@@ -255,7 +255,7 @@ pub fn run_job<S: Source, P: Sink, U: Sink>(
         (ReadsJob (S.left job.old) (S.left job.new))
         (Rose (P.faults print.old) (P.faults print.new))
         (Rose (U.faults punch.old) (U.faults punch.new))
-        (AppendsFront (P.written print.old) (P.written print.new))
+        (AppendsPrefix (P.written print.old) (P.written print.new))
         result }
 
     // What the status reports: a fault of the print by 25, and want of memory there by 28; a fault of a read by 24 and one of the
@@ -270,7 +270,7 @@ pub fn run_job<S: Source, P: Sink, U: Sink>(
         IsStill U.written U.stopped_at U.faults U.refusals punch.old punch.new }
 
     // How far the job is read, and what stays the same. Nothing is punched but in the run of the job's program.
-    ensures no_further { ReadsFront (S.left job.old) (S.left job.new) }
+    ensures no_further { ReadsPrefix (S.left job.old) (S.left job.new) }
     ensures unread { requests.asked (map string_bytes words.now) ≢ Some Request.Read →
         job.new ≡ job.old }
     ensures punch { IsPunched (requests.asked (map string_bytes words.now)) (S.left job.old)

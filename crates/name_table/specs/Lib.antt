@@ -1,3 +1,1 @@
-pub mod Places
-pub mod Places_laws
 pub mod Numbers

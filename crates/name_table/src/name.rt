@@ -23,8 +23,8 @@ pub struct Name {
 impl Model for Name {
     ghost use Rattle.problem_definitions.specs.Names.{Name as Text};
     ghost use Rattle.card_definitions.specs.Words.{padded};
-    ghost use Rattle.name_table.specs.Places.{text_in, ArePrintable};
-    ghost use Rattle.name_table.specs.Places_laws.{padded-text_in};
+    ghost use Rattle.card_definitions.specs.Places.{text_in, ArePrintable};
+    ghost use Rattle.card_definitions.proofs.Places.{padded-text_in};
 
     ghost Value = { Text };
 
@@ -39,7 +39,7 @@ impl Model for Name {
 
 impl Name {
     /// The name of these bytes, if they are one.
-    #[tactic(auto, using(crate::specs::Places_laws::placed, crate::specs::Places_laws::name_in_places))]
+    #[tactic(auto, using(problem_definitions::proofs::NamePlaces::placed, problem_definitions::proofs::NamePlaces::name_in_places))]
     pub fn of(bytes: &[u8]) -> Option<Name>
         ensures is_name { IsSome result ↔ IsName bytes.now }
         ensures value { IfSome result (λ name. name ≡ bytes.now) }
@@ -53,7 +53,7 @@ impl Name {
     }
 
     /// The bytes of the name.
-    #[tactic(auto, using(crate::specs::Places_laws::name_stands))]
+    #[tactic(auto, using(problem_definitions::proofs::NamePlaces::name_stands))]
     pub fn bytes(&self) -> &[u8]
         ensures bytes { result.now ≡ self.now }
         ensures is_name { IsName self.now }
@@ -88,7 +88,7 @@ impl Hash for Name {
 
     ghost hash_input = { λ name. fed.slice fed.u8 (padded 8 name) };
 
-    ghost use Rattle.name_table.specs.Places_laws.{places_alike};
+    ghost use Rattle.problem_definitions.proofs.NamePlaces.{places_alike};
 
     ghost respects_eq = { places_alike };
 
@@ -105,7 +105,7 @@ fn is_printable_text(text: &[u8]) -> bool
 }
 
 // Whether the bytes are a name.
-#[tactic(auto, using(crate::specs::Places_laws::untrimmed))]
+#[tactic(auto, using(card_definitions::proofs::Places::untrimmed))]
 fn is_name(bytes: &[u8]) -> bool
     ensures { IsTrue result ↔ IsName bytes.now }
 {

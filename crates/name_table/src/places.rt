@@ -6,7 +6,7 @@ ghost use Rattle.card_definitions.specs.Cards.{is_blank};
 ghost use Rattle.card_definitions.specs.Words.{padded as the_padded};
 
 /// The text with blanks after it.
-#[tactic(auto, using(crate::specs::Places_laws::padded_after))]
+#[tactic(auto, using(card_definitions::proofs::Places::padded_after))]
 pub fn padded<const WIDTH: usize>(text: &[u8]) -> [u8; WIDTH]
     requires { length text.now ≤ WIDTH }
     ensures { result ≡ the_padded WIDTH text.now }

@@ -38,7 +38,7 @@ use Rattle.soundness_laws.specs.Truth.{IsOfProblem, named_by}
 use Rattle.soundness_laws.proofs.ChangeRow.{changes_freely, row_named, set_named}
 use Rattle.soundness_laws.proofs.Moves.{HasProblem, EndsOptimally, Knows}
 use Rattle.soundness_laws.proofs.Ends.{IsProvedBest, shown_is_best}
-use Rattle.soundness_laws.proofs.Selected.{selected_is_lawful}
+use Rattle.selection_laws.proofs.Selected.{selected_is_lawful}
 use Rattle.walk_definitions.specs.Walker.{Pending, Walker}
 use Rattle.own_listing_laws.proofs.Pace.{rebased, IsLike, WaitsFor, WaitsAt, IsMatched, IsFollowed, does, does_stop, prints_looks, punches_looks, waits_on, unless_fault, unless_no_setup, unless_deck_fault, unless_selection_fault, selecting}
 use Rattle.own_listing_laws.proofs.Paths.{IsPathSolver, path_followed}

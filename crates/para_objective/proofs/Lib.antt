@@ -6,7 +6,5 @@ pub mod Kept
 pub mod IntervalFacts
 pub mod RunEvidence
 pub mod FaceFacts
-pub mod FaceWalk
-pub mod ChainWalk
+pub mod FaceStops
 pub mod OpeningFacts
-pub mod Complete

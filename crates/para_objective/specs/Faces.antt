@@ -1,35 +1,18 @@
--- What is done at a break of a run of the objective.
---     family, Face, statement      the run's linear programs, what is done at its breaks, and its statement
+-- What a run of the objective is over, and what is done at a breakpoint of it.
+--     family, Face, statement      the run's linear programs, what is done at its breakpoints, and its statement
 --     IsEndlessPast                the end past theta, from a point and a direction
 --     face_up p change q           whether q rises, by the rates of the change row
---     FaceFound result             what a face turn finds: no mover, an end, or a move; or the call stops
---     FacesReach                   face steps lead from s to now, and there are as many as the count of steps has grown by
---     AnyRun                       each run that stood at s stands at now
---     FacesFound result            what the face steps at a break come to
---     FacesFollow                  where the waypoints lie then
-use Rattle.std.specs.Prelude.{◌≡◌, ◌≢◌, ℕ, ◌+◌, ◌-◌, ◌<◌, ◌≤◌, Bool, List, length, Some, Result, Ok, Err}
-use Rattle.exact_values.specs.Rational.{ℚ, zero_ℚ}
+use Rattle.std.specs.Prelude.{◌≡◌, ℕ, Bool, List, length}
+use Rattle.exact_values.specs.Rational.{ℚ}
 use Rattle.lp_definitions.specs.LinearProgram.{LinearProgram, Vector, size, value_at, IsVariable, for_min}
-use Rattle.lp_definitions.specs.Basis.{Basics, basics_of, IsNonbasic, IsDirectionOf, ArePricesOf, IsOptimalBasis, IsPointOf}
 use Rattle.lp_definitions.specs.declared.Status.{Status}
-use Rattle.lp_model.specs.RatesCalls.{IsRowOf}
 use Rattle.lp_model.specs.declared.reports.ParaEnd.{ParaEnd}
 use Rattle.lp_model.specs.declared.reports.ParaEnd.TheVariants.{Unbounded}
 use Rattle.simplex_definitions.specs.Moves.{goes_up}
-use Rattle.simplex_definitions.specs.Path.{after, last_of}
-use Rattle.simplex_definitions.specs.Chain.{FaceTurn, FaceMoves, FaceDone, FaceEnds, IsFacePath, AtBreak}
+use Rattle.simplex_definitions.specs.Chain.{FaceTurn}
 use Rattle.simplex_definitions.specs.ObjectiveRun.{objective_family, IsObjectiveFace}
-use Rattle.simplex_definitions.specs.Statements.{SolvingStatement, Paraobj, EntersAt}
+use Rattle.simplex_definitions.specs.Statements.{SolvingStatement, Paraobj}
 use Rattle.basis_values.specs.Motions.{motion}
-use Rattle.bounded_primal.specs.Moves.{IsStepBy, move_by}
-use Rattle.bounded_primal.specs.declared.moves.PrimalStop.{PrimalStop}
-use Rattle.bounded_primal.specs.declared.moves.Stopper.{Stopper}
-use Rattle.parametric_run.specs.Calls.{end_of, WaypointsFollowRun, RunOverflows, RunStops}
-use Rattle.parametric_run.specs.Walks.{HasRun, FaceStops}
-use Rattle.para_objective.specs.declared.faces.AfterFaces.{AfterFaces}
-use Rattle.para_objective.specs.declared.faces.AfterFaces.TheVariants as faces
-use Rattle.para_objective.specs.declared.faces.FaceStep.{FaceStep}
-use Rattle.para_objective.specs.declared.faces.FaceStep.TheVariants as turn
 use Rattle.para_objective.specs.declared.parts.ParaObj.{ParaObj}
 
 abbrev pub face_up : LinearProgram → Vector → ℕ → Bool
@@ -51,72 +34,3 @@ module _ (p : LinearProgram) (run : ParaObj) where
 
   abbrev pub statement : SolvingStatement
   statement = Paraobj p run.row run.from
-
-  -- it moves q by what stops it to a basis that is optimal at the break too, and a step is left; z is the point, and d the direction
-  -- of q
-  pub record FaceMovesOn (theta : ℚ) (s : List Status) (z d : Vector) (q : ℕ) (by : Stopper) (steps : ℕ) : Type 0 where
-    pub enters : EntersAt statement (Some theta) s q
-    pub moves : Face theta s (FaceMoves (move_by q by))
-    pub keeps : IsOptimalBasis (family theta) (after s (move_by q by))
-    pub nonbasic : IsNonbasic p.matrix (basics_of s) q
-    pub direction : IsDirectionOf p.matrix (basics_of s) q d
-    pub pivot : d by.p ≢ zero_ℚ
-    pub step : IsStepBy p s z d q by
-    pub was_left : steps < run.limit
-
-  abbrev pub FaceFound : Result FaceStep PrimalStop → ℚ → List Status → ℕ → Vector → Vector → List Basics → List Basics → Type 0
-  FaceFound (Ok turn.Done) theta s steps z d ways now = Face theta s FaceDone
-  FaceFound (Ok (turn.Ends end)) theta s steps z d ways now = Face theta s (FaceEnds (end_of end))
-  FaceFound (Ok (turn.Moves q by)) theta s steps z d ways now = FaceMovesOn theta s z d q by steps
-  FaceFound (Err stop) theta s steps z d ways now =
-      FaceStops family Face statement p.matrix theta s (run.limit - steps) ways now stop
-
-  pub record FacesReach (theta : ℚ) (s now : List Status) (begun steps : ℕ) : Type 0 where
-    pub bases : List (List Status)
-    pub path : IsFacePath family Face theta s bases
-    pub reaches : last_of s bases ≡ now
-    pub taken : begun + length bases ≡ steps
-    pub within : steps ≤ run.limit
-
-  abbrev pub AnyRun : ℚ → List Status → List Status → List Basics → List Basics → ℕ → ℕ → Type 0
-  AnyRun theta s now ways more begun steps =
-      (start : List Status) (before : List Basics) (ends : List ℚ) →
-      HasRun family Face run.from run.to p.matrix start before (AtBreak theta s) ends ways begun →
-      HasRun family Face run.from run.to p.matrix start before (AtBreak theta now) ends more steps
-
-  -- no face step is left at now, which is optimal at the break; z, y and w are its point, its prices and its rates of the change row
-  pub record FacesDone (theta : ℚ) (s now : List Status) (begun steps : ℕ) (z y w : Vector) (ways more : List Basics) : Type 0 where
-    pub reach : FacesReach theta s now begun steps
-    pub done : Face theta now FaceDone
-    pub optimal : IsOptimalBasis (family theta) now
-    pub point : IsPointOf p now z
-    pub prices : ArePricesOf p now y
-    pub change : IsRowOf p.matrix (basics_of now) run.row w
-    pub any : AnyRun theta s now ways more begun steps
-
-  -- the run ends at now, after so many steps
-  pub record FacesEnd (theta : ℚ) (s now : List Status) (begun : ℕ) (end : ParaEnd) (ways more : List Basics) : Type 0 where
-    pub steps : ℕ
-    pub reach : FacesReach theta s now begun steps
-    pub ends : Face theta now (FaceEnds (end_of end))
-    pub any : AnyRun theta s now ways more begun steps
-
-  -- a stop of each run that stood at s, which has come to now
-  abbrev pub FacesStop : ℚ → List Status → List Status → ℕ → List Basics → List Basics → PrimalStop → Type 0
-  FacesStop theta s now begun ways more stop =
-      (start : List Status) (before : List Basics) (ends : List ℚ) →
-      HasRun family Face run.from run.to p.matrix start before (AtBreak theta s) ends ways begun →
-      RunStops family Face run.from run.to start now run.limit
-      (RunOverflows family Face run.from run.to start now run.limit statement p.matrix before more) stop
-
-  abbrev pub FacesFound : Result AfterFaces PrimalStop → ℚ → List Status → List Status → ℕ → Vector → Vector → Vector →
-      List Basics → List Basics → Type 0
-  FacesFound (Ok (faces.Done steps)) theta s now begun z y w ways more = FacesDone theta s now begun steps z y w ways more
-  FacesFound (Ok (faces.Ends end)) theta s now begun z y w ways more = FacesEnd theta s now begun end ways more
-  FacesFound (Err stop) theta s now begun z y w ways more = FacesStop theta s now begun ways more stop
-
-  abbrev pub FacesFollow : ℚ → List Status → List Status → ℕ → List Basics → List Basics → Type 0
-  FacesFollow theta s now begun ways more =
-      (start : List Status) (before : List Basics) (ends : List ℚ) →
-      HasRun family Face run.from run.to p.matrix start before (AtBreak theta s) ends ways begun →
-      WaypointsFollowRun family Face run.from run.to start now run.limit p.matrix before more

@@ -1,5 +1,5 @@
 pub mod Reach
 pub mod Breaks
-pub mod Parts
 pub mod Faces
 pub mod Runs
+pub mod Method

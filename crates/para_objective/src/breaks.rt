@@ -10,7 +10,8 @@ ghost use Rattle.simplex_definitions.specs.Moves.{least};
 ghost use Rattle.simplex_laws.specs.Laws.{IsNonsingularBasis};
 ghost use Rattle.para_objective.specs.Breaks.{is_mover, IsFaceMover};
 
-use crate::choices::{may_lower, worth};
+use crate::choices::worth;
+use bounded_primal::may_lower;
 use frac128::Frac;
 use lp_model::{Basis, Lp};
 

@@ -3,11 +3,12 @@
 
 mod breaks;
 mod choices;
-mod faces;
+mod method;
 mod parts;
 mod reaching;
 mod rows;
 mod run;
+mod turns;
 
 pub use breaks::face_mover;
 pub use parts::ParaObj;

@@ -12,8 +12,9 @@ ghost use Rattle.simplex_laws.specs.Laws.{IsNonsingularBasis};
 ghost use Rattle.ranging.specs.Refusals.{IsRefusal};
 ghost use Rattle.para_objective.specs.Reach.{zero_at, meets, IsLeast, IsWithRate, IsReachOf, IsReachAbove, IsReachFromAny, RateRefused, EndRefused};
 
-use crate::choices::{may_lower, worth};
+use crate::choices::worth;
 use basis_values::plus_product;
+use bounded_primal::may_lower;
 use frac128::{Frac, Refused};
 use lp_model::{Basis, Evidence, Lp};
 

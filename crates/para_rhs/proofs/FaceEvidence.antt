@@ -1,8 +1,8 @@
 -- Evidence of the calls at a break is evidence of the run.
 use Rattle.std.proofs.Common.{◌≡◌, ◌≢◌, ℕ, ◌≤◌, List, true, refl, sym, arith}
-use Rattle.std.specs.Prelude.{Some, None, IsTrue, not, ◌&&◌, ◌||◌, nat_eq}
+use Rattle.std.specs.Prelude.{Some, None, not, ◌&&◌, ◌||◌, nat_eq}
 use Rattle.exact_values.specs.Rational.{ℚ, zero_ℚ}
-use Rattle.simplex_definitions.specs.Statements.{Pararhs, is_between, belongs}
+use Rattle.simplex_definitions.specs.Statements.{Pararhs, is_between}
 use Rattle.lp_definitions.specs.Basis.{Basics, basics_of, IsBasic, IsNonbasic, IsDirectionOf, ArePricesOf, IsPointOf}
 use Rattle.lp_definitions.specs.LinearProgram.{LinearProgram, Vector, IsLinearProgram}
 use Rattle.lp_definitions.specs.Waypoints.{KeepsWaypoints}
@@ -15,7 +15,6 @@ use Rattle.lp_model.specs.declared.Stop.TheVariants as stop
 use Rattle.simplex_laws.specs.Laws.{IsNonsingularBasis}
 use Rattle.simplex_definitions.specs.Chain.{FaceMoves}
 use Rattle.simplex_definitions.specs.RhsRun.{rhs_family, IsSlope, IsRhsFace}
-use Rattle.basis_values.specs.Calls.{PointRefused}
 use Rattle.basis_values.proofs.Covered.{point_refused_later}
 use Rattle.bounded_primal.specs.Moves.{StepRefused, move_by}
 use Rattle.bounded_primal.specs.Stops.{primal_stop_of}
@@ -28,7 +27,7 @@ use Rattle.dual_step.proofs.StepEvidence.{IsOwn}
 use Rattle.dual_step.proofs.StepEvidence as own
 use Rattle.para_rhs.specs.Breaks.{IsFaceLeaver}
 use Rattle.para_rhs.specs.Limits.{is_upper}
-use Rattle.para_rhs.specs.Refusals.{RunRefused}
+use Rattle.para_rhs.specs.Turns.{EntryRefused, by_row, by_ratio}
 use Rattle.para_rhs.specs.declared.breaks.Leaver.{Leaver}
 use Rattle.para_rhs.proofs.FaceFacts.{basic, face_brings}
 use Rattle.para_rhs.proofs.Families.{family_at_zero}
@@ -77,14 +76,6 @@ module _ (p : LinearProgram) (shift : List ℚ) (lawful : IsLinearProgram p) (no
 -- ---- stops of calls at a break
 
 module _ (p : LinearProgram) (shift : List ℚ) (lawful : IsLinearProgram p) (no_change : p.change ≡ None) (theta : ℚ) (s : List Status) (from : ℚ) (left : ℕ) (before now : List Basics) where
-  pub point_stops : (why : Stop) → IfOverflow why (PointRefused p before s now) → FaceStops (rhs_family p shift) (IsRhsFace p shift) (Pararhs p shift from) p.matrix theta s left before now (primal_stop_of why)
-  point_stops (stop.Overflow e) r = of_point p shift lawful no_change s before now e r from (Some theta) left
-  point_stops stop.NoMemory r = tt
-
-  pub motion_stops : (why : Stop) → IfOverflow why (RunRefused p shift s before now) → FaceStops (rhs_family p shift) (IsRhsFace p shift) (Pararhs p shift from) p.matrix theta s left before now (primal_stop_of why)
-  motion_stops (stop.Overflow e) r = r from (Some theta) left
-  motion_stops stop.NoMemory r = tt
-
   module _ (at : IsNonsingularBasis p s) (z v : Vector) (point : IsPointOf p s z) (slope : IsSlope p s shift v) where
     pub return_stops : (mid : List Basics) → KeepsWaypoints p.matrix (basics_of s) before (basics_of s) mid → (q r : ℕ) (to : Status) → IsBasic p.matrix (basics_of s) r → IsNonbasic p.matrix (basics_of s) q →
         IsRhsFace p shift theta s (FaceMoves (record { enters = q; leaves = r; to = to })) → ((d : Vector) → IsDirectionOf p.matrix (basics_of s) q d → d r ≢ zero_ℚ) →
@@ -92,7 +83,11 @@ module _ (p : LinearProgram) (shift : List ℚ) (lawful : IsLinearProgram p) (no
     return_stops mid keeps q r to is out moves pivot (stop.Overflow e) h = of_return p shift lawful no_change theta s at z v point slope from left before now e mid keeps q r to is out moves pivot h
     return_stops mid keeps q r to is out moves pivot stop.NoMemory h = tt
 
-    pub step_stops : (q : ℕ) (by : Stopper) → IsRhsFace p shift theta s (FaceMoves (move_by q by)) → by.to ≢ Bs → 1 ≤ left → (why : Stop) → IfOverflow why (StepRefused p before s q by now) →
-        FaceStops (rhs_family p shift) (IsRhsFace p shift) (Pararhs p shift from) p.matrix theta s left before now (primal_stop_of why)
-    step_stops q by moves apart one_left (stop.Overflow e) h = of_step p shift lawful no_change theta s at z v point slope from left before now e q by moves apart one_left h
-    step_stops q by moves apart one_left stop.NoMemory h = tt
+-- who brings the leaver back
+pub entry_stops : (p : LinearProgram) (shift : List ℚ) (lawful : IsLinearProgram p) (no_change : p.change ≡ None) (theta : ℚ) (s : List Status) (at : IsNonsingularBasis p s)
+    (z v : Vector) (point : IsPointOf p s z) (slope : IsSlope p s shift v) (from : ℚ) (left : ℕ) (before now : List Basics) (l : Leaver) (found : IsFaceLeaver p shift theta s (Some l)) (y : Vector) → ArePricesOf p s y →
+    (why : Stop) → IfOverflow why (EntryRefused p s y l before now) → FaceStops (rhs_family p shift) (IsRhsFace p shift) (Pararhs p shift from) p.matrix theta s left before now (primal_stop_of why)
+entry_stops p shift lawful no_change theta s at z v point slope from left before now l found y priced (stop.Overflow e) (by_row r) = of_point p shift lawful no_change s before now e r from (Some theta) left
+entry_stops p shift lawful no_change theta s at z v point slope from left before now l found y priced (stop.Overflow e) (by_ratio row rowed r) =
+    of_ratio p shift lawful no_change theta s at z v point slope from left before now e l found y row priced rowed r
+entry_stops p shift lawful no_change theta s at z v point slope from left before now l found y priced stop.NoMemory h = tt

@@ -1,7 +1,7 @@
 -- What is done at a break, from what the calls there found.
 use Rattle.std.proofs.Common.{◌≡◌, ◌≢◌, ℕ, Bool, true, false, List, length, refl, sym, ap, subst, ◌∙◌, pos, arith}
-use Rattle.std.specs.Prelude.{Option, Some, None, IsTrue, unwrap_or, ◌&&◌, ◌||◌, not, nat_eq, option_map, if◌then◌else◌}
-use Rattle.exact_values.specs.Rational.{ℚ, zero_ℚ, one_ℚ, neg_ℚ, ◌-ℚ◌, ◌/ℚ◌, ◌≤ℚ◌}
+use Rattle.std.specs.Prelude.{Option, Some, None, IsTrue, unwrap_or, ◌&&◌, ◌||◌, not, option_map, if◌then◌else◌}
+use Rattle.exact_values.specs.Rational.{ℚ, zero_ℚ, ◌-ℚ◌, ◌/ℚ◌, ◌≤ℚ◌}
 use Rattle.exact_values.specs.Tests.{eq_ℚ, le_ℚ}
 use Rattle.exact_values.proofs.Ring.{by_ring2, ◌⊕◌, ◌⊗◌, ◌≐◌, number}
 use Rattle.exact_values.proofs.Tests_laws.{same_from_test, le_from_test}
@@ -19,7 +19,7 @@ use Rattle.lp_laws.specs.Vectors.{along}
 use Rattle.lp_laws.specs.Rates.{exchanged_rate}
 use Rattle.lp_model.specs.RatesCalls.{IsRowOf}
 use Rattle.simplex_definitions.specs.DualRatio.{brings_back, ratio, is_cheapest, cheapest}
-use Rattle.simplex_definitions.specs.Moves.{on_limit, signed}
+use Rattle.simplex_definitions.specs.Moves.{on_limit}
 use Rattle.simplex_definitions.specs.Path.{Move, after, ray_of}
 use Rattle.simplex_laws.specs.Laws.{IsNonsingularBasis}
 use Rattle.simplex_laws.proofs.Numbered.{list_all_true}
@@ -33,7 +33,6 @@ use Rattle.bounded_primal.proofs.SameChoices.{listed_is, row_ray}
 use Rattle.sensitivity_laws.proofs.MovedLimits.{lower_is, upper_is}
 use Rattle.sensitivity_laws.proofs.RightHandSides.{points}
 use Rattle.std.proofs.lemmas.Bool.{and_parts}
-use Rattle.simplex_laws.proofs.Steps.{signed_zero}
 use Rattle.parametric_laws.proofs.Rhs.{to_rhs, rhs_leads}
 use Rattle.para_rhs.specs.Breaks.{IsFaceLeaver}
 use Rattle.dual_step.specs.Cheapest.{brings as may_bring, cheapest_by}

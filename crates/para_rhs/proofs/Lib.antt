@@ -11,9 +11,6 @@ pub mod ReachStops
 pub mod Leavers
 pub mod RatioChoice
 pub mod FaceFacts
-pub mod FaceWalk
 pub mod FaceEvidence
 pub mod IntervalFacts
-pub mod ChainWalk
 pub mod OpeningFacts
-pub mod Complete

@@ -3,6 +3,7 @@ pub mod Refusals
 pub mod Slopes
 pub mod Reach
 pub mod Breaks
-pub mod Parts
+pub mod Turns
 pub mod Faces
 pub mod Runs
+pub mod Method

@@ -3,12 +3,14 @@
 #![tactic(auto)]
 
 mod breaks;
-mod faces;
 mod limits;
+mod method;
 mod parts;
 mod reaching;
 mod run;
 mod slopes;
+mod told;
+mod turns;
 
 pub use breaks::{Leaver, face_leaver};
 pub use dual_step::cheapest;
@@ -16,4 +18,3 @@ pub use limits::{Side, program_at};
 pub use parts::ParaRhs;
 pub use reaching::reach;
 pub use run::para_rhs;
-pub use slopes::slope_of;

@@ -6,10 +6,12 @@ ghost use Rattle.lp_model.specs.RatesCalls.{IfOverflow};
 ghost use Rattle.basis_values.specs.Calls.{HasRates, KeepsRates};
 ghost use Rattle.simplex_definitions.specs.RhsRun.{shift_of, IsSlope};
 ghost use Rattle.para_rhs.specs.Limits.{limit_on};
+ghost use Rattle.para_rhs.specs.Method.{FitsRhs};
 ghost use Rattle.para_rhs.specs.Refusals.{RunRefused};
 ghost use Rattle.para_rhs.specs.Slopes.{shifts_of, slope_program, slope_evidence};
 
 use crate::limits::{Side, limit_on, shift_of};
+use crate::method::RightHandSide;
 use bounded_primal::point_of;
 use frac128::Frac;
 use lp_model::{Basis, Evidence, Lp, NoMemory, Rates, Stop};
@@ -49,7 +51,7 @@ fn shifts_of(
 }
 
 /// The program whose limits are the shifts.
-fn slope_program(alloc: Global, lp: &Lp, shift: &[Frac]) -> Result<Lp, NoMemory>
+pub fn slope_program(alloc: Global, lp: &Lp, shift: &[Frac]) -> Result<Lp, NoMemory>
     requires { length shift.now ≡ lp.now.rows }
     ensures lawful { IsLinearProgram lp.now }
     ensures program { IfOk result (λ program. program ≡ slope_program lp.now shift.now) }
@@ -81,30 +83,32 @@ fn slope_evidence(evidence: &Evidence) -> Evidence
     }
 }
 
-/// Fills `out`, which has a place for each variable, with the slope of the basis: at a nonbasic its shift, and at a basic the sum of
-/// its rates times these. An overflow comes only with evidence of it at this basis.
-pub fn slope_of<R: Rates>(
-    alloc: Global,
-    lp: &Lp,
-    basis: &Basis,
-    rates: &mut R,
-    shift: &[Frac],
-    out: &mut [Frac],
-) -> Result<(), Stop>
-    requires rates { HasRates (R.matrix rates.old) (R.basics rates.old) lp.now basis.now }
-    requires no_change { lp.now.change ≡ None }
-    requires shifts { length shift.now ≡ lp.now.rows }
-    requires places { length out.old ≡ size lp.now.matrix }
-    ensures slope { OnOk result (IsSlope lp.now basis.now shift.now (value_at out.new)) }
-    ensures rates { KeepsRates (R.matrix rates.new) (R.basics rates.new) lp.now basis.now
-        (R.waypoints rates.old) (R.waypoints rates.new) }
-    ensures overflow { IfErr result (λ stop. IfOverflow stop
-        (RunRefused lp.now shift.now basis.now (R.waypoints rates.old) (R.waypoints rates.new))) }
-{
-    let moving = slope_program(alloc, lp, shift)?;
-    match point_of(alloc, &moving, basis, rates, out) {
-        Ok(()) => Ok(()),
-        Err(Stop::Overflow(evidence)) => Err(Stop::Overflow(slope_evidence(&evidence))),
-        Err(Stop::NoMemory) => Err(Stop::NoMemory),
+impl RightHandSide<'_> {
+    /// Fills `out`, which has a place for each variable, with the slope of the basis: at a nonbasic its shift, and at a basic the sum of
+    /// its rates times these. An overflow comes only with evidence of it at this basis.
+    pub fn slope<R: Rates>(
+        &self,
+        alloc: Global,
+        basis: &Basis,
+        rates: &mut R,
+        out: &mut [Frac],
+    ) -> Result<(), Stop>
+        requires fits { FitsRhs self.now.lp.now self.now.shift.now self.now.moving.now }
+        requires rates { HasRates (R.matrix rates.old) (R.basics rates.old)
+            self.now.lp.now basis.now }
+        requires places { length out.old ≡ size self.now.lp.now.matrix }
+        ensures slope { OnOk result (IsSlope self.now.lp.now basis.now self.now.shift.now
+            (value_at out.new)) }
+        ensures rates { KeepsRates (R.matrix rates.new) (R.basics rates.new) self.now.lp.now
+            basis.now (R.waypoints rates.old) (R.waypoints rates.new) }
+        ensures overflow { IfErr result (λ stop. IfOverflow stop
+            (RunRefused self.now.lp.now self.now.shift.now basis.now (R.waypoints rates.old)
+            (R.waypoints rates.new))) }
+    {
+        match point_of(alloc, self.moving, basis, rates, out) {
+            Ok(()) => Ok(()),
+            Err(Stop::Overflow(evidence)) => Err(Stop::Overflow(slope_evidence(&evidence))),
+            Err(Stop::NoMemory) => Err(Stop::NoMemory),
+        }
     }
 }

@@ -8,7 +8,7 @@ use Rattle.exact_values.proofs.Tests_laws.{le_from_lt_fails}
 use Rattle.problem_definitions.specs.Names.{Name}
 use Rattle.problem_definitions.specs.Problem.{Problem, has_free_row, has_group}
 use Rattle.control_definitions.specs.Cells.{Cells}
-use Rattle.lp_setup.specs.Changes.{free_row_number, values_in, set_values}
+use Rattle.selection_definitions.specs.Changes.{free_row_number, values_in, set_values}
 use Rattle.listing_definitions.specs.declared.VerbFault.TheVariants.{ParmaxBelow}
 use Rattle.question_definitions.specs.Answers.{Row, Set}
 use Rattle.answer_definitions.specs.Sweeps.{row_of, shifts_of}

@@ -44,7 +44,7 @@ module _ (a : Matrix) where
       place w (inr (inr within)) = within_by a w (basics_of next) (map basics_of ((xs ++ now ∷ []) ++ next ∷ [])) within (within_last (xs ++ now ∷ []) next)
 
   -- calls at the basis that is reached
-  lie_same : (xs : List (List Status)) (now : List Status) (ways more : List Basics) → KeepsWaypoints a (basics_of now) ways (basics_of now) more →
+  pub lie_same : (xs : List (List Status)) (now : List Status) (ways more : List Basics) → KeepsWaypoints a (basics_of now) ways (basics_of now) more →
       LieIn a ways (xs ++ now ∷ []) → LieIn a more (xs ++ now ∷ [])
   lie_same xs now ways more keeps lie k d below = place (get_or more k d) (keeps.each k d below)
     where

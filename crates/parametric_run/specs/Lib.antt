@@ -3,3 +3,7 @@ pub mod Begun
 pub mod Walks
 pub mod Truth
 pub mod Complete
+pub mod Programs
+pub mod Standing
+pub mod Faces
+pub mod Chains

@@ -3,7 +3,7 @@
 --     MayOpen theta now ways steps     such a run stands at the basis now, from which the next interval begins at theta
 --     FaceStops                        what holds after a call at a break that has stopped
 --     IntervalStops                    the same where an interval begins: no step is made there
-use Rattle.std.specs.Prelude.{◌≡◌, ℕ, ◌≤◌, List, [], ◌∷◌, ◌++◌, length, Option, Some}
+use Rattle.std.specs.Prelude.{◌≡◌, ℕ, List, [], ◌∷◌, ◌++◌, length, Option, Some}
 use Rattle.exact_values.specs.Rational.{ℚ, ◌<ℚ◌}
 use Rattle.lp_definitions.specs.LinearProgram.{Matrix, LinearProgram}
 use Rattle.lp_definitions.specs.Basis.{Basics}

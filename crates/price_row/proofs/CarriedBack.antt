@@ -10,7 +10,7 @@ use Rattle.lp_definitions.specs.Basis.{Basics, is_in, IsBasic, IsNonsingular, Ar
 use Rattle.lp_definitions.specs.RatesEvidence.{multiplier, sum_from}
 use Rattle.lp_laws.specs.Vectors.{functional}
 use Rattle.lp_laws.proofs.Values.{clash}
-use Rattle.lp_laws.proofs.Exchange.{enterer_in, others_stay}
+use Rattle.lp_laws.proofs.Exchange.{enterer_in, leaver_out, others_stay}
 use Rattle.lp_laws.proofs.Combination.{multiplier_vanishes}
 use Rattle.lp_laws.proofs.Opening.{IsNonsingular-row_basics}
 use Rattle.lp_laws.proofs.Ordered.{carried_back}
@@ -80,6 +80,17 @@ module _ (f : Inverse) (passed : Passed f.matrix (row_basics f.matrix) f.etas) (
           let not_q : i ≢ eta.q = λ same. clash (sym inside ∙ ap (is_in w) same ∙ is.enters.1) in
           get_or-set_other xs (p - 1) (i - 1) v zero_ℚ (λ same. other (omega (arith, same, var.0, is.leaves.0.0, p_is)))
           ∙ known.each rate are i var (ap (λ b. is_in b i) next ∙ others_stay f.matrix w w_counted eta.p eta.q is.leaves is.enters i var other not_q ∙ inside)
+
+  pub p_within : IsVariable f.matrix p
+  p_within = subst (λ n. IsVariable f.matrix n) p_is is.leaves.0
+
+  -- what stands at the leaver is of no account
+  pub known_cleared : (r : ℕ) (xs : List ℚ) (v : ℚ) → IsKnown f (k + 1) r xs → IsKnown f (k + 1) r (set xs (p - 1) v)
+  known_cleared r xs v known = record {
+    each = λ rate are i var inside.
+        let other : i ≢ eta.p = λ same. clash (sym inside ∙ ap (λ b. is_in b i) next ∙ ap (is_in (exchanged w eta.p eta.q)) same ∙ leaver_out f.matrix w w_counted eta.p eta.q is.leaves is.enters) in
+        get_or-set_other xs (p - 1) (i - 1) v zero_ℚ (λ same. other (omega (arith, same, var.0, is.leaves.0.0, p_is))) ∙ known.each rate are i var inside;
+  }
 
   module _ (r : ℕ) (basic : IsBasic f.matrix f.basics r) (one : IsNonsingular f.matrix f.basics) (xs : List ℚ) (known : IsKnown f (k + 1) r xs) (rate : ℕ → ℕ → ℚ) (are : AreRates f.matrix f.basics rate) where
     abbrev y : Vector

@@ -3,6 +3,7 @@ use Rattle.std.proofs.Common.{◌≡◌, ◌≢◌, ℕ, zero, suc, ◌+◌, ◌
 use Rattle.std.specs.Prelude.{nat_eq}
 use Rattle.std.proofs.lemmas.List.{get_or_default}
 use Rattle.exact_values.specs.Rational.{ℚ, zero_ℚ, ◌+ℚ◌, ◌*ℚ◌}
+use Rattle.exact_values.proofs.Ring_laws.{zero-mul, add-zero}
 use Rattle.lp_definitions.specs.LinearProgram.{value_at}
 use Rattle.lp_definitions.specs.RatesEvidence.{sum_from}
 use Rattle.lp_definitions.specs.declared.Entry.{Entry}
@@ -44,6 +45,18 @@ module _ (p : ℕ) (xs : List ℚ) (es : List EtaEntry) (n : ℕ) (e : EtaEntry)
   weighted_more other =
       let away : nat_eq e.i p ≡ false = grind (arith, other) in
       next_step ∙ ap (λ t. cond t (sum_from start (weighted p xs (take n es))) (sum_from start (weighted p xs (take n es)) +ℚ value_at xs e.i *ℚ e.rate)) away
+
+  -- where p has 0, its entry adds nothing
+  pub weighted_next : value_at xs p ≡ zero_ℚ → sum_from start (weighted p xs (take (n + 1) es)) ≡ sum_from start (weighted p xs (take n es)) +ℚ value_at xs e.i *ℚ e.rate
+  weighted_next none = at (nat_eq e.i p) refl
+    where
+      at : (same : Bool) → nat_eq e.i p ≡ same → sum_from start (weighted p xs (take (n + 1) es)) ≡ sum_from start (weighted p xs (take n es)) +ℚ value_at xs e.i *ℚ e.rate
+      at true here =
+          let same : e.i ≡ p = grind (arith, here) in
+          weighted_same same
+          ∙ sym (ap (λ v. sum_from start (weighted p xs (take n es)) +ℚ v *ℚ e.rate) (ap (value_at xs) same ∙ none)
+          ∙ ap (λ v. sum_from start (weighted p xs (take n es)) +ℚ v) (zero-mul e.rate) ∙ add-zero (sum_from start (weighted p xs (take n es))))
+      at false away = let other : e.i ≢ p = grind (arith, away) in weighted_more other
 
 products-take : (xs : List ℚ) (c : List Entry) (n : ℕ) (d : Entry) (start : ℚ) → n < length c → sum_from start (products xs (take (suc n) c)) ≡ sum_from start (products xs (take n c)) +ℚ value_at xs (get_or c n d).row *ℚ (get_or c n d).value
 products-take xs [] n d start below = absurd (omega arith)

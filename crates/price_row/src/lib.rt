@@ -11,6 +11,7 @@ ghost use Rattle.price_row.specs.Known.{IsKnown, HasMultipliers, IsFilledFrom, I
 
 mod sums;
 mod whole;
+mod words;
 
 use eta_file::{EtaFile, rate_by_column};
 use frac128::{Frac, Refused};
@@ -19,10 +20,13 @@ use std::alloc::Global;
 use std::marker::Model;
 use sums::{sum_of_column, sum_over};
 use whole::{first_by_whole, row_by_whole};
+use words::{first_by_words, row_by_words};
 
-/// Rows of an inverse that is kept as an eta file, with room for the multipliers of the rows and for a direction.
+/// Rows of an inverse that is kept as an eta file, with room for the multipliers of the rows, in words and in fractions, and for a
+/// direction.
 #[derive(Drop)]
 pub struct PriceRow {
+    words: Vec<i64>,
     multipliers: Vec<Frac>,
     room: Vec<Frac>,
 }
@@ -46,16 +50,17 @@ impl PriceRow {
     {
         let size = lp.number_of_variables();
         Ok(PriceRow {
+            words: vec![in alloc; 0; size as usize]?,
             multipliers: vec![in alloc; Frac::whole(0); size as usize]?,
             room: vec![in alloc; Frac::whole(0); size as usize]?,
         })
     }
 
     /// Fills `out`, which has a place for each variable, with the rates of the basic `i`: its rate at each nonbasic, and 0 at each
-    /// basic. The row is carried backwards through the file, and multiplied with the columns of the deck: in numbers over one
-    /// denominator, or where one of these doesn't fit in fractions. Where an operation on fractions is refused on the way back, the
-    /// multipliers of the rows are had by their directions; where one is refused at a column, its rate is had by its direction. It
-    /// takes no memory.
+    /// basic. The row is carried backwards through the file, and multiplied with the columns of the deck: in whole numbers of one
+    /// machine word over one denominator, or where one isn't such a number in numbers over one denominator, or where one of these
+    /// doesn't fit in fractions. Where an operation on fractions is refused on the way back, the multipliers of the rows are had by
+    /// their directions; where one is refused at a column, its rate is had by its direction. It takes no memory.
     pub fn row(&mut self, file: &EtaFile, i: u32, out: &mut [Frac]) -> Result<(), Stop>
         requires basic { IsBasic file.now.matrix file.now.basics i }
         requires places { length out.old ≡ size file.now.matrix }
@@ -67,6 +72,9 @@ impl PriceRow {
         ensures same { self.new ≡ self.old }
     {
         let _size = file.size();
+        if row_by_words(file, i, &mut self.words, out).is_some() {
+            return Ok(());
+        }
         if row_by_whole(file, i, &mut self.multipliers, out).is_some() {
             return Ok(());
         }
@@ -97,6 +105,10 @@ impl PriceRow {
         ensures same { self.new ≡ self.old }
     {
         let _size = file.size();
+        let quick = first_by_words(file, i, &mut self.words, wanted, up, out);
+        if let Some(found) = quick {
+            return Ok(found);
+        }
         let quick = first_by_whole(file, i, &mut self.multipliers, wanted, up, out);
         if let Some(found) = quick {
             return Ok(found);
@@ -286,6 +298,7 @@ fn fill(file: &EtaFile, row: u32, out: &mut [Frac], room: &mut [Frac]) -> Result
 }
 
 /// Whether the rate, or its opposite where `up` is false, is wanted at the variable of a place.
+#[inline(always)]
 fn is_wanted_at(wanted: &[Wanted], place: u32, up: bool, rate: Frac) -> bool
     requires { place < length wanted.now }
     ensures { result ≡ is_wanted (wanted_at wanted.now (place + 1)) (turned up rate) }

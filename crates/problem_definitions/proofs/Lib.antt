@@ -3,6 +3,7 @@ pub mod Names
 pub mod Groups
 pub mod Each
 pub mod Places
+pub mod NamePlaces
 pub mod LawfulEntries
 pub mod Parts
 pub mod PlainRows

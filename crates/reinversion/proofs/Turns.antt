@@ -59,9 +59,8 @@ last_same f g last same_matrix same_basics h = record {
 }
 
 -- what the fields keep where the file is made anew
-pub form_remade : (a b : Inside) → IsForm a → IsNonsingular a.file.matrix a.file.basics → IsRemade a.file b.file → b.last ≡ a.last → b.price ≡ a.price → b.since ≡ 0 → length b.room.items ≡ length a.room.items → IsForm b
-form_remade a b h one remade same_last same_price none same_room = record {
-  room = same_room ∙ h.room ∙ ap size (sym remade.same_matrix);
+pub form_remade : (a b : Inside) → IsForm a → IsNonsingular a.file.matrix a.file.basics → IsRemade a.file b.file → b.last ≡ a.last → b.price ≡ a.price → b.since ≡ 0 → IsForm b
+form_remade a b h one remade same_last same_price none = record {
   price = same_price ∙ h.price ∙ ap size (sym remade.same_matrix);
   last = subst (λ (x : LastColumn). IsLast b.file x) (sym same_last) (last_same a.file b.file a.last remade.same_matrix remade.same_basics h.last);
   short = record {

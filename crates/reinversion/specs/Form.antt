@@ -29,7 +29,6 @@ pub record IsShort (f : Form) : Type 0 where
   pub bounded : f.kept ≡ false → length f.file.etas ≤ f.file.matrix.rows + f.since
 
 pub record IsForm (a : Inside) : Type 0 where
-  pub room : length a.room.items ≡ size a.file.matrix
   pub price : a.price ≡ size a.file.matrix
   pub last : IsLast a.file a.last
   pub short : IsShort (form_of a)

@@ -1,6 +1,7 @@
 //! The product form: rates that are carried through an eta file, which is made anew from time to time.
 
 ghost use Rattle.std.specs.Prelude.{◌≡◌, ◌≢◌, ◌+◌, ◌<◌, ◌≤◌, ◌^◌, false, length, All, IfOk, OnOk, OnErr};
+ghost use Rattle.exact_values.specs.Rational.{zero_ℚ};
 ghost use Rattle.lp_definitions.specs.LinearProgram.{size, value_at};
 ghost use Rattle.lp_definitions.specs.Basis.{IsBasic, IsNonbasic, IsDirectionOf, exchanged, row_basics};
 ghost use Rattle.lp_definitions.specs.Waypoints.{KeepsWaypoints, waypoint};
@@ -15,7 +16,7 @@ use crate::last_column::LastColumn;
 use crate::rebuild::rebuild;
 use eta_file::EtaFile;
 use frac128::Frac;
-use lp_model::{Engine, Evidence, Lp, NoMemory, Rates, Stop, Wanted};
+use lp_model::{Engine, Evidence, Lp, NoMemory, Rates, SparseVector, Stop, Wanted};
 use price_row::PriceRow;
 use std::alloc::Global;
 use std::marker::Model;
@@ -38,7 +39,6 @@ pub struct ProductForm {
     file: EtaFile,
     last: LastColumn,
     price: PriceRow,
-    room: Vec<Frac>,
     since: u32,
     kept: bool,
 }
@@ -61,12 +61,10 @@ impl ProductForm {
         ensures ways { IfOk result (λ form. All (λ w. w ≡ row_basics lp.now.matrix)
             (ways_of form.file)) }
     {
-        let size = lp.number_of_variables();
         Ok(ProductForm {
             file: EtaFile::new(alloc, lp)?,
             last: LastColumn::new(alloc, lp)?,
             price: PriceRow::new(alloc, lp)?,
-            room: vec![in alloc; Frac::whole(0); size as usize]?,
             since: 0,
             kept: false,
         })
@@ -97,7 +95,7 @@ impl ProductForm {
         ensures err { OnErr result (self.new ≡ self.old) }
     {
         let _size = self.file.size();
-        match rebuild(&self.file, &mut self.room) {
+        match rebuild(&self.file) {
             Ok(file) => {
                 self.file = file;
                 self.since = 0;
@@ -145,7 +143,37 @@ impl ProductForm {
         let _size = self.file.size();
         self.last.carry(&self.file, q)?;
         self.file.append_carried(p, q, &self.last.direction)?;
-        self.last.of = None;
+        self.last.forget();
+        self.since += 1;
+        Ok(())
+    }
+}
+
+impl ProductForm {
+    /// Makes the exchange in the file along the direction of `q`, and counts it.
+    fn exchange_in_file_along(
+        &mut self,
+        p: u32,
+        q: u32,
+        direction: &SparseVector,
+    ) -> Result<(), NoMemory>
+        requires leaves { IsBasic self.old.file.matrix self.old.file.basics p }
+        requires enters { IsNonbasic self.old.file.matrix self.old.file.basics q }
+        requires direction { IsDirectionOf self.old.file.matrix self.old.file.basics q
+            (value_at direction.now) }
+        requires pivot { value_at direction.now p ≢ zero_ℚ }
+        requires places { length direction.now ≡ size self.old.file.matrix }
+        requires not_due { self.old.since + 1 < 50 }
+        ensures ok { OnOk result (IsAppended self.old.file p q self.new.file) }
+        ensures err { OnErr result (self.new ≡ self.old) }
+        ensures counted { OnOk result (self.new.since ≡ self.old.since + 1) }
+        ensures same_matrix { self.new.file.matrix ≡ self.old.file.matrix }
+        ensures waypoints { KeepsWaypoints self.old.file.matrix self.old.file.basics
+            (ways_of self.old.file) self.new.file.basics (ways_of self.new.file) }
+    {
+        let _size = self.file.size();
+        self.file.append_along(p, q, direction)?;
+        self.last.forget();
         self.since += 1;
         Ok(())
     }
@@ -174,6 +202,23 @@ impl Rates for ProductForm {
         self.last.carry(&self.file, j)?;
         out.copy_from_slice(&self.last.direction);
         Ok(())
+    }
+
+    /// Only the places of numbers that aren't 0 are looked at.
+    fn direction(&mut self, j: u32, out: &mut SparseVector) -> Result<(), Stop>
+        requires nonbasic { IsNonbasic self.old.file.matrix self.old.file.basics j }
+        requires places { length out.old ≡ size self.old.file.matrix }
+        requires small { size self.old.file.matrix < 2 ^ 32 }
+        ensures direction { OnOk result (IsDirectionOf self.old.file.matrix self.old.file.basics j
+            (value_at out.new)) }
+        ensures places { OnOk result (length out.new ≡ size self.old.file.matrix) }
+        ensures overflow { ColumnOverflow result self.old.file.matrix self.old.file.basics
+            (ways_of self.old.file) (ways_of self.old.file) }
+        ensures same { self.new ≡ self.old }
+        ensures waypoints { KeepsWaypoints self.old.file.matrix self.old.file.basics
+            (ways_of self.old.file) self.new.file.basics (ways_of self.new.file) }
+    {
+        self.file.direction(j, out)
     }
 
     /// Takes no memory. The row is carried backwards through the file.
@@ -230,6 +275,28 @@ impl Rates for ProductForm {
     {
         self.reinvert_if_due()?;
         self.exchange_in_file(p, q)
+    }
+
+    /// As `exchange`, and the direction isn't carried again.
+    fn exchange_along(&mut self, p: u32, q: u32, direction: &SparseVector) -> Result<(), Stop>
+        requires leaves { IsBasic self.old.file.matrix self.old.file.basics p }
+        requires enters { IsNonbasic self.old.file.matrix self.old.file.basics q }
+        requires direction { IsDirectionOf self.old.file.matrix self.old.file.basics q
+            (value_at direction.now) }
+        requires pivot { value_at direction.now p ≢ zero_ℚ }
+        requires places { length direction.now ≡ size self.old.file.matrix }
+        ensures ok { OnOk result (self.new.file.basics ≡ exchanged self.old.file.basics p q) }
+        ensures err { OnErr result (self.new.file.basics ≡ self.old.file.basics) }
+        ensures turn { OnOk result (IsTurn self.old self.new) }
+        ensures same_matrix { self.new.file.matrix ≡ self.old.file.matrix }
+        ensures waypoints { KeepsWaypoints self.old.file.matrix self.old.file.basics
+            (ways_of self.old.file) self.new.file.basics (ways_of self.new.file) }
+        ensures overflow { ExchangeOverflow result self.old.file.matrix self.old.file.basics p q
+            (ways_of self.old.file) (ways_of self.new.file) }
+    {
+        self.reinvert_if_due()?;
+        self.exchange_in_file_along(p, q, direction)?;
+        Ok(())
     }
 
     fn way_basics(&self, way: u32, out: &mut [bool])

@@ -32,6 +32,14 @@ impl LastColumn {
         })
     }
 
+    /// Makes it none again.
+    pub fn forget(&mut self)
+        ensures none { self.new.of ≡ None }
+        ensures places { length self.new.direction.items ≡ length self.old.direction.items }
+    {
+        self.of = None;
+    }
+
     /// Has the direction of the nonbasic `j` at hand: it is carried through the file, unless it was carried last.
     pub fn carry(&mut self, file: &EtaFile, j: u32) -> Result<(), Stop>
         requires nonbasic { IsNonbasic file.now.matrix file.now.basics j }
@@ -45,7 +53,7 @@ impl LastColumn {
         if self.of == Some(j) {
             return Ok(());
         }
-        self.of = None;
+        self.forget();
         file.column(j, &mut self.direction)?;
         self.of = Some(j);
         Ok(())

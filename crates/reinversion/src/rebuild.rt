@@ -9,7 +9,7 @@ ghost use Rattle.reinversion.specs.Rebuilt.{IsRebuilt, IsRemade, KeptRefused, Is
 use crate::order::{Entering, entering_order};
 use eta_file::EtaFile;
 use frac128::Frac;
-use lp_model::{Evidence, Stop};
+use lp_model::{Evidence, SparseVector, Stop};
 
 /// The evidence, naming no set.
 fn nameless(evidence: Evidence) -> Evidence
@@ -71,7 +71,13 @@ fn leaver(old: &EtaFile, new: &EtaFile, direction: &[Frac], wish: u32) -> u32
 
 /// Makes column `c`, from 1, basic in the new file if it is in the old one and isn't yet in the new one, in place of the row that is
 /// wished for if that may leave.
-fn enter(old: &EtaFile, new: &mut EtaFile, c: u32, wish: u32, room: &mut [Frac]) -> Result<(), Stop>
+fn enter(
+    old: &EtaFile,
+    new: &mut EtaFile,
+    c: u32,
+    wish: u32,
+    room: &mut SparseVector,
+) -> Result<(), Stop>
     requires column { IsColumn old.now.matrix c }
     requires places { length room.old ≡ size old.now.matrix }
     requires rebuilt { IsRebuilt old.now.matrix old.now.basics 0 new.old }
@@ -79,6 +85,7 @@ fn enter(old: &EtaFile, new: &mut EtaFile, c: u32, wish: u32, room: &mut [Frac])
         IsRebuilt old.now.matrix old.now.basics n new.new) }
     ensures entered { OnOk result (is_in old.now.basics (old.now.matrix.rows + c) ≡ true →
         is_in new.new.basics (old.now.matrix.rows + c) ≡ true) }
+    ensures places { OnOk result (length room.new ≡ size old.now.matrix) }
     ensures refused { IfErr result
         (λ stop. IfOverflow stop (KeptRefused old.now.matrix old.now.basics)) }
 {
@@ -91,11 +98,11 @@ fn enter(old: &EtaFile, new: &mut EtaFile, c: u32, wish: u32, room: &mut [Frac])
     if new.is_basic(k) {
         return Ok(());
     }
-    if let Err(stop) = new.column(k, room) {
+    if let Err(stop) = new.direction(k, room) {
         return Err(kept(stop));
     }
-    let p = leaver(old, new, room, wish);
-    new.append_carried(p, k, room)?;
+    let p = leaver(old, new, room.values(), wish);
+    new.append_along(p, k, room)?;
     Ok(())
 }
 
@@ -104,11 +111,12 @@ fn enter_in_order(
     old: &EtaFile,
     new: &mut EtaFile,
     order: &[Entering],
-    room: &mut [Frac],
+    room: &mut SparseVector,
 ) -> Result<(), Stop>
     requires places { length room.old ≡ size old.now.matrix }
     requires rebuilt { IsRebuilt old.now.matrix old.now.basics 0 new.old }
     ensures rebuilt { OnOk result (IsRebuilt old.now.matrix old.now.basics 0 new.new) }
+    ensures places { OnOk result (length room.new ≡ size old.now.matrix) }
     ensures refused { IfErr result
         (λ stop. IfOverflow stop (KeptRefused old.now.matrix old.now.basics)) }
 {
@@ -122,8 +130,7 @@ fn enter_in_order(
 }
 
 /// A new file for the basics of this one. Where the order left a column out, it enters at the end.
-pub fn rebuild(old: &EtaFile, room: &mut [Frac]) -> Result<EtaFile, Stop>
-    requires { length room.old ≡ size old.now.matrix }
+pub fn rebuild(old: &EtaFile) -> Result<EtaFile, Stop>
     ensures remade { IfOk result (IsRemade old.now) }
     ensures refused { IfErr result
         (λ stop. IfOverflow stop (KeptRefused old.now.matrix old.now.basics)) }
@@ -132,9 +139,10 @@ pub fn rebuild(old: &EtaFile, room: &mut [Frac]) -> Result<EtaFile, Stop>
     let rows = old.rows();
     let mut new = old.at_rows()?;
     let order = entering_order(old)?;
-    enter_in_order(old, &mut new, &order, room)?;
+    let mut room = SparseVector::zeros(old.alloc(), size as usize)?;
+    enter_in_order(old, &mut new, &order, &mut room)?;
     for c in 0..size - rows {
-        enter(old, &mut new, c + 1, 0, room)?;
+        enter(old, &mut new, c + 1, 0, &mut room)?;
     }
     let _new_size = new.size();
     Ok(new)

@@ -156,7 +156,7 @@ pub enum Ending<'a> {
     Memory,
 }
 
-/// Writes the text of a report. At a stop a front of it is written.
+/// Writes the text of a report. At a stop a prefix of it is written.
 pub fn text_of<P: Sink>(report: &Report<'_>, print: &mut P) -> Result<(), WriteStop>
     requires { IsReport report.now }
     ensures { Writes P.written P.stopped_at P.faults P.refusals print.old print.new result

@@ -1,3 +1,4 @@
+mod Different
 pub mod CardStep
 pub mod Standing
 pub mod Ends

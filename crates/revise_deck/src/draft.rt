@@ -27,18 +27,18 @@ pub struct ReviseDraft {
 }
 
 impl ReviseDraft {
-    ghost use Rattle.std.specs.Prelude.{◌≡◌, [], ◌∷◌, None, Some, OnOk, IfErr, unwrap_or};
+    ghost use Rattle.std.specs.Prelude.{◌≡◌, [], None, Some, OnOk, IfErr, unwrap_or};
     ghost use Rattle.std.specs.Option.{option_or};
-    ghost use Rattle.card_definitions.specs.Words.{first_fault, named};
+    ghost use Rattle.card_definitions.specs.Words.{named};
     ghost use Rattle.card_reader.specs.Card.{card_bytes};
     ghost use Rattle.deck_definitions.specs.Sections.{section_words, section_word};
     ghost use Rattle.deck_definitions.specs.declared.Style.TheVariants.{FixedFields};
     ghost use Rattle.deck_definitions.specs.DataCards.{style_begun};
-    ghost use Rattle.deck_definitions.specs.Conversion.{form_fault, section_card_fault};
+    ghost use Rattle.deck_definitions.specs.Conversion.{section_card_fault};
     ghost use Rattle.revise_definitions.specs.Revision.{may_come_after};
     ghost use Rattle.deck_cards.specs.Told.{TellsDeckFault};
     ghost use Rattle.deck_cards.specs.Shown.{shown};
-    ghost use Rattle.revise_definitions.specs.Actions.{is_action_card, action_on, anchor_on};
+    ghost use Rattle.revise_definitions.specs.Actions.{action_on, anchor_on};
     ghost use Rattle.revise_definitions.specs.Tests.{action_fault};
     ghost use Rattle.revise_parts.specs.Summary.{under_of, with_card_under, edit_test, edited_by};
     ghost use Rattle.revise_deck.specs.State.{read_at, data_fault, standing_fault, inner_fault, inner_with, problem_with, fault_at, state_with};

@@ -1,17 +1,17 @@
 // A problem with names in place of numbers.
-ghost use Rattle.std.specs.Prelude.{◌≡◌, IfOk, map, option_map};
+ghost use Rattle.std.specs.Prelude.{◌≡◌, IfOk, IfSome, map, option_map};
 ghost use Rattle.problem_definitions.specs.Names.{name_at};
 ghost use Rattle.problem_definitions.specs.Numbering.{entry_by, row_by, bound_by, group_by, by_names};
 ghost use Rattle.problem_definitions.specs.Problem.{group_names};
+ghost use Rattle.revise_deck.specs.Different.{AreDifferentEntries, AreDifferentBounds, AreDifferentRows, AreDifferentGroups};
 
 use deck_cards::name_in;
-use deck_parts::CardStop;
 use name_table::Name;
 use problem_file::{BoundItem, BoundSet, ColumnDecl, DeckEntry, Problem, RowDecl, ValueSet};
 use revise_lists::{
     BoundSets, Bounds, Entries, Groups, NamedBound, NamedEntry, NamedProblem, Rows,
 };
-use std::alloc::Global;
+use std::alloc::{AllocError, Global};
 
 // The name of the row of this number, from 1, or the empty name.
 fn row_name(rows: &[RowDecl], number: u32) -> Name
@@ -57,7 +57,9 @@ fn named_entries(
     alloc: Global,
     rows: &[RowDecl],
     entries: &[DeckEntry],
-) -> Result<Entries, CardStop>
+) -> Result<Entries, AllocError>
+    requires { AreDifferentEntries (map (entry_by (name_at (map (λ row. row.name) rows.now)))
+        entries.now) }
     ensures { IfOk result (λ list. list ≡ map (entry_by (name_at (map (λ row. row.name) rows.now)))
         entries.now) }
 {
@@ -73,7 +75,8 @@ fn named_bounds(
     alloc: Global,
     columns: &[ColumnDecl],
     bounds: &[BoundItem],
-) -> Result<Bounds, CardStop>
+) -> Result<Bounds, AllocError>
+    requires { AreDifferentBounds (map (bound_by (name_at (group_names columns.now))) bounds.now) }
     ensures { IfOk result (λ list. list ≡ map (bound_by (name_at (group_names columns.now)))
         bounds.now) }
 {
@@ -89,7 +92,9 @@ fn named_columns(
     alloc: Global,
     rows: &[RowDecl],
     columns: &[ColumnDecl],
-) -> Result<Groups, CardStop>
+) -> Result<Groups, AllocError>
+    requires { AreDifferentGroups AreDifferentEntries (map (group_by
+        (entry_by (name_at (map (λ row. row.name) rows.now)))) columns.now) }
     ensures { IfOk result (λ list. list ≡ map (group_by
         (entry_by (name_at (map (λ row. row.name) rows.now)))) columns.now) }
 {
@@ -101,7 +106,9 @@ fn named_columns(
 }
 
 // Sets with the names of their rows.
-fn named_sets(alloc: Global, rows: &[RowDecl], sets: &[ValueSet]) -> Result<Groups, CardStop>
+fn named_sets(alloc: Global, rows: &[RowDecl], sets: &[ValueSet]) -> Result<Groups, AllocError>
+    requires { AreDifferentGroups AreDifferentEntries (map (group_by
+        (entry_by (name_at (map (λ row. row.name) rows.now)))) sets.now) }
     ensures { IfOk result (λ list. list ≡ map (group_by
         (entry_by (name_at (map (λ row. row.name) rows.now)))) sets.now) }
 {
@@ -117,7 +124,9 @@ fn named_bound_sets(
     alloc: Global,
     columns: &[ColumnDecl],
     sets: &[BoundSet],
-) -> Result<BoundSets, CardStop>
+) -> Result<BoundSets, AllocError>
+    requires { AreDifferentGroups AreDifferentBounds (map (group_by
+        (bound_by (name_at (group_names columns.now)))) sets.now) }
     ensures { IfOk result (λ list. list ≡ map (group_by
         (bound_by (name_at (group_names columns.now)))) sets.now) }
 {
@@ -133,7 +142,9 @@ fn named_parts(
     alloc: Global,
     rows: &[RowDecl],
     parts: &Option<Vec<DeckEntry>>,
-) -> Result<Option<Entries>, CardStop>
+) -> Result<Option<Entries>, AllocError>
+    requires { IfSome (option_map (map (entry_by (name_at (map (λ row. row.name) rows.now))))
+        (option_map (λ p. p.items) parts.now)) AreDifferentEntries }
     ensures { IfOk result (λ list. list ≡ option_map
         (map (entry_by (name_at (map (λ row. row.name) rows.now))))
         (option_map (λ p. p.items) parts.now)) }
@@ -145,7 +156,8 @@ fn named_parts(
 }
 
 // Rows with names for the rows that they refer to.
-fn named_rows(alloc: Global, rows: &[RowDecl]) -> Result<Rows, CardStop>
+fn named_rows(alloc: Global, rows: &[RowDecl]) -> Result<Rows, AllocError>
+    requires { AreDifferentRows (map (row_by (name_at (map (λ row. row.name) rows.now))) rows.now) }
     ensures { IfOk result (λ list. list ≡ map (row_by (name_at (map (λ row. row.name) rows.now)))
         rows.now) }
 {
@@ -156,8 +168,8 @@ fn named_rows(alloc: Global, rows: &[RowDecl]) -> Result<Rows, CardStop>
     Ok(list)
 }
 
-/// The problem with names in place of numbers. A name that stands twice where names differ is refused; no lawful problem has one.
-pub fn named(alloc: Global, problem: &Problem) -> Result<NamedProblem, CardStop>
+/// The problem with names in place of numbers.
+pub fn named(alloc: Global, problem: &Problem) -> Result<NamedProblem, AllocError>
     ensures { IfOk result (λ named. named ≡ by_names problem.now) }
 {
     let rows = problem.rows();

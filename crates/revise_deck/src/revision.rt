@@ -1,5 +1,5 @@
 // The revision of a problem.
-ghost use Rattle.std.specs.Prelude.{◌≡◌, ◌≤◌, [], None, IfOk, IfErr, length};
+ghost use Rattle.std.specs.Prelude.{◌≡◌, ◌≤◌, None, IfOk, IfErr, length};
 ghost use Rattle.card_definitions.specs.Cards.{live, cards_between};
 ghost use Rattle.problem_definitions.specs.Numbering.{by_names};
 ghost use Rattle.deck_definitions.specs.Conversion.{fault_by};

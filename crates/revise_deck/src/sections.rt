@@ -1,6 +1,5 @@
 // The order of sections, and the cards of actions.
 ghost use Rattle.std.specs.Prelude.{◌≡◌, ◌≤◌, ◌||◌, drop};
-ghost use Rattle.card_definitions.specs.Cards.{is_blank as is_blank_byte};
 ghost use Rattle.card_definitions.specs.Words.{named};
 ghost use Rattle.card_definitions.specs.Fields.{is_blank_column, columns};
 ghost use Rattle.deck_definitions.specs.declared.Style.TheVariants.{FixedFields, FreeFields};

@@ -1,13 +1,16 @@
 -- The number of the items under all names.
-use Rattle.std.proofs.Common.{◌≡◌, ℕ, zero, suc, ◌+◌, ◌-◌, Bool, true, false, cond, List, [], ◌∷◌, Some, length, map, insert, unwrap_or, refl, ap, ◌∙◌, arith}
+use Rattle.std.proofs.Common.{◌≡◌, ℕ, zero, suc, ◌+◌, ◌-◌, ◌*◌, ◌≤◌, Bool, true, false, cond, not, List, [], ◌∷◌, Some, length, map, insert, unwrap_or, refl, ap, sym, ◌∙◌, subst, arith}
 use Rattle.std.specs.List.{sum_by}
 use Rattle.std.specs.Map.{lookup}
+use Rattle.std.proofs.lemmas.List.{length-map}
 use Rattle.std.proofs.lemmas.List.Sums.{sum_by-cons}
 use Rattle.indexmap.specs.IndexMap.{insert_entry, shift_remove_entry}
+use Rattle.card_definitions.specs.Words.{is_empty}
 use Rattle.problem_definitions.specs.Names.{Name, same}
 use Rattle.problem_definitions.specs.Problem.{Group}
 use Rattle.problem_definitions.specs.Groups.{filled}
 use Rattle.deck_parts.specs.Shown.{group_at}
+use Rattle.revise_lists.specs.Shown.{AreShort}
 use Rattle.revise_lists.proofs.NamedValues.{lookup-own}
 
 -- the sets without items have none to count
@@ -70,3 +73,54 @@ module _ {X : Type 0} where
   count_placed es after place name v count more added c a l m =
       let grown : total after ≡ total (insert es place (name, v)) = ap total a in
       omega (arith, c, l, m, grown, total-placed es place (name, v))
+
+  -- ---- counts of 64 bits
+
+  -- so many groups have so many items at most
+  short-total : (groups : List (Group X)) → AreShort groups → sum_by (λ group. length group.items) groups ≤ length groups * 18446744073709551615
+  short-total [] are = omega arith
+  short-total (group ∷ groups) are = omega (arith, are.0, short-total groups are.1, sum_by-cons (λ group. length group.items) group groups)
+
+  -- a count of 128 bits tells how many items stand under all names
+  pub total_fits : (es : List (Name × List X)) (count : ℕ) → AreShort (map group_at es) → count ≡ length es → count ≤ 18446744073709551615 → total es ≤ 340282366920938463426481119284349108225
+  total_fits es count are counts few = omega (arith, short-total (map group_at es) are, length-map es group_at, counts, few)
+
+  short-put : (name : Name) (v : List X) (es : List (Name × List X)) → length v ≤ 18446744073709551615 → AreShort (map group_at es) → AreShort (map group_at (insert_entry same es name v))
+  short-put name v [] short are = (short, tt)
+  short-put name v (e ∷ es) short are = by (same name e.0) (short-put name v es short are.1)
+    where
+      by : (b : Bool) → AreShort (map group_at (insert_entry same es name v)) → AreShort (map group_at (cond b ((e.0, v) ∷ es) (e ∷ insert_entry same es name v)))
+      by true more = (short, are.1)
+      by false more = (are.0, more)
+
+  pub short_put : (name : Name) (v : List X) (es after : List (Name × List X)) (count : ℕ) → AreShort (map group_at es) → after ≡ insert_entry same es name v → count ≡ length (under name after) → count ≤ 18446744073709551615 → AreShort (map group_at after)
+  short_put name v es after count are is counts few =
+      let at : length (under name after) ≡ length v = ap (λ list. length (under name list)) is ∙ ap (λ o. length (unwrap_or o [])) (lookup-own name v es) in
+      let short : length v ≤ 18446744073709551615 = omega (arith, at, counts, few) in
+      subst (λ list. AreShort (map group_at list)) (sym is) (short-put name v es short are)
+
+  short-placed : (es : List (Name × List X)) (place : ℕ) (e : Name × List X) → length e.1 ≤ 18446744073709551615 → AreShort (map group_at es) → AreShort (map group_at (insert es place e))
+  short-placed es zero e short are = (short, are)
+  short-placed [] (suc place) e short are = (short, tt)
+  short-placed (d ∷ es) (suc place) e short are = (are.0, short-placed es place e short are.1)
+
+  pub short_placed : (es after : List (Name × List X)) (place : ℕ) (name : Name) (v : List X) (added : ℕ) → AreShort (map group_at es) → after ≡ insert es place (name, v) → added ≡ length v → added ≤ 18446744073709551615 → AreShort (map group_at after)
+  short_placed es after place name v added are is counts few =
+      let short : length v ≤ 18446744073709551615 = omega (arith, counts, few) in
+      subst (λ list. AreShort (map group_at list)) (sym is) (short-placed es place (name, v) short are)
+
+  pub short-removed : (name : Name) (es : List (Name × List X)) → AreShort (map group_at es) → AreShort (map group_at (shift_remove_entry (same name) es))
+  short-removed name [] are = tt
+  short-removed name (e ∷ es) are = by (same name e.0) (short-removed name es are.1)
+    where
+      by : (b : Bool) → AreShort (map group_at (shift_remove_entry (same name) es)) → AreShort (map group_at (cond b es (e ∷ shift_remove_entry (same name) es)))
+      by true more = are.1
+      by false more = (are.0, more)
+
+  pub short-filled : (groups : List (Group X)) → AreShort groups → AreShort (filled groups)
+  short-filled [] are = tt
+  short-filled (group ∷ groups) are = by (not (is_empty group.items)) (short-filled groups are.1)
+    where
+      by : (b : Bool) → AreShort (filled groups) → AreShort (cond b (group ∷ filled groups) (filled groups))
+      by true more = (are.0, more)
+      by false more = more

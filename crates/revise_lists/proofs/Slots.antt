@@ -224,7 +224,63 @@ free_ends column kind bounds none =
     second true true false h e = absurd (cc e)
     second false a rest h e = absurd (cc h)
 
--- ---- and_parts ends
+-- ---- the bounds before a place
+
+front_place : {X : Type 0} (xs : List X) (limit place : ℕ) (y : X) → slice_get (take limit xs) place ≡ Some y → (slice_get xs place ≡ Some y) × (place < limit)
+front_place xs zero place y at = absurd (cc at)
+front_place [] (suc limit) place y at = absurd (cc at)
+front_place (x ∷ xs) (suc limit) zero y at = (at, omega arith)
+front_place (x ∷ xs) (suc limit) (suc place) y at = let inner = front_place xs limit place y at in (inner.0, omega (arith, inner.1))
+
+there_at : {X : Type 0} (xs : List X) (place : ℕ) (d : X) → place < length xs → slice_get xs place ≡ Some (get_or xs place d)
+there_at [] place d below = absurd (omega (arith, below))
+there_at (x ∷ xs) zero d below = refl
+there_at (x ∷ xs) (suc place) d below = let inner : place < length xs = omega (arith, below) in there_at xs place d inner
+
+module _ (slots : Slots) (place : ℕ) (bound : Bound Name) (at : slice_get slots place ≡ Some (Some bound)) where
+  end_is_free : (end : End) (places : List (Name × ℕ)) → AreNoted end places slots → touches_end end bound.kind ≡ true → list_any (is_at_end end bound.column) (held (take place slots)) ≡ false
+  end_is_free end places notes touches = by (list_any (is_at_end end bound.column) (held (take place slots))) refl
+    where
+      by : (b : Bool) → list_any (is_at_end end bound.column) (held (take place slots)) ≡ b → b ≡ false
+      by false e = refl
+      by true e =
+          let s = place_of (is_at_end end bound.column) (take place slots) e in
+          let other = front_place slots place s.place (Some s.thing) s.at in
+          let one : s.place ≡ place = cc (notes place bound at touches, noted_at end bound.column places slots notes s.place s.thing other.0 s.passes) in
+          absurd (omega (arith, one, other.1))
+
+  -- the bounds before one touch none of its ends
+  apart_before : (uppers lowers : List (Name × ℕ)) → AreNoted Upper uppers slots → AreNoted Lower lowers slots → is_bound_already (held (take place slots)) bound.column bound.kind ≡ false
+  apart_before uppers lowers up low =
+      met_at_ends bound.column bound.kind (held (take place slots))
+      ∙ by (touches_upper bound.kind) (touches_lower bound.kind) (list_any (is_at_end Upper bound.column) (held (take place slots))) (list_any (is_at_end Lower bound.column) (held (take place slots)))
+      (end_is_free Upper uppers up) (end_is_free Lower lowers low)
+    where
+      by : (t u a b : Bool) → (t ≡ true → a ≡ false) → (u ≡ true → b ≡ false) → (t && a || u && b) ≡ false
+      by true true a b f g = rw (f refl, g refl) refl
+      by true false a b f g = rw (f refl) refl
+      by false true a b f g = g refl
+      by false false a b f g = refl
+
+pub still_apart : (slots : Slots) (place : ℕ) (d slot : Option (Bound Name)) (bound : Bound Name) (bounds : List (Bound Name)) (uppers lowers : List (Name × ℕ)) → place < length slots → slot ≡ get_or slots place d → slot ≡ Some bound
+    → bounds ≡ held (take place slots) → AreNoted Upper uppers slots → AreNoted Lower lowers slots → is_bound_already bounds bound.column bound.kind ≡ false
+still_apart slots place d slot bound bounds uppers lowers below e is held_is up low =
+    ap (λ list. is_bound_already list bound.column bound.kind) held_is
+    ∙ apart_before slots place bound (there_at slots place d below ∙ ap (λ s. Some s) (sym e ∙ is)) uppers lowers up low
+
+-- those that a bound doesn't meet are met by none like it
+pub none_met : (column : Name) (kind : BoundKind) (bounds : List (Bound Name)) → is_bound_already (filter (λ other. not (same column other.column && meet kind other.kind)) bounds) column kind ≡ false
+none_met column kind [] = refl
+none_met column kind (bound ∷ bounds) = by (same column bound.column && meet kind bound.kind) refl (none_met column kind bounds)
+  where
+    left : List (Bound Name)
+    left = filter (λ other. not (same column other.column && meet kind other.kind)) bounds
+
+    by : (b : Bool) → (same column bound.column && meet kind bound.kind) ≡ b → is_bound_already left column kind ≡ false → is_bound_already (cond (not b) (bound ∷ left) left) column kind ≡ false
+    by true e more = more
+    by false e more = ap (λ b. b || is_bound_already left column kind) e ∙ more
+
+-- ---- both ends
 
 abbrev free_touches : (kind : BoundKind) → meet Fr kind ≡ true
 free_touches Up = refl

@@ -1,12 +1,12 @@
 -- What the lists of a problem under revision show, in the words of the definitions.
-use Rattle.std.specs.Prelude.{◌≡◌, ℕ, Bool, true, false, ◌&&◌, Option, Some, None, List, [], ◌∷◌, slice_get, if◌then◌else◌}
+use Rattle.std.specs.Prelude.{◌≡◌, ◌≤◌, ℕ, length, Bool, true, false, ◌&&◌, Option, Some, None, List, [], ◌∷◌, slice_get, if◌then◌else◌}
 use Rattle.std.specs.Map.{lookup}
 use Rattle.indexmap.specs.IndexMap.{insert_entry}
 use Rattle.card_definitions.specs.Numbers.{Decimal}
 use Rattle.problem_definitions.specs.declared.BoundKind.{BoundKind}
 use Rattle.problem_definitions.specs.Kinds.{touches_upper, touches_lower}
 use Rattle.problem_definitions.specs.Names.{Name, same}
-use Rattle.problem_definitions.specs.Problem.{Entry, Bound}
+use Rattle.problem_definitions.specs.Problem.{Entry, Bound, Group}
 use Rattle.revise_lists.specs.declared.ends.End.{End}
 use Rattle.revise_lists.specs.declared.ends.End.TheVariants.{Upper, Lower}
 
@@ -46,3 +46,8 @@ AreEmptied old new = (place : ℕ) (bound : Bound Name) → slice_get new place 
 -- the places with one more noted under a column, where the bound at it touches their end
 abbrev pub noted : Bool → Name → ℕ → List (Name × ℕ) → List (Name × ℕ)
 noted touches column place places = if touches then insert_entry same places column place else places
+
+-- a count of 64 bits tells how many items each of these groups has
+abbrev pub AreShort : {X : Type 0} → List (Group X) → Type 0
+AreShort [] = Unit {0}
+AreShort (group ∷ groups) = (length group.items ≤ 18446744073709551615) × AreShort groups

@@ -1,5 +1,5 @@
 // Sets of bounds under revision.
-ghost use Rattle.std.specs.Prelude.{◌≡◌, ◌++◌, ◌∷◌, [], IfOk, OnOk, true, map, not};
+ghost use Rattle.std.specs.Prelude.{◌≡◌, ◌≤◌, ◌++◌, ◌∷◌, [], IfOk, OnOk, true, false, map, length, not};
 ghost use Rattle.card_definitions.specs.Words.{is_empty as is_none_left};
 ghost use Rattle.problem_definitions.specs.Groups.{in_group, in_set, in_all, without_group, filled, items_of};
 ghost use Rattle.problem_definitions.specs.Names.{same, number_in};
@@ -8,6 +8,7 @@ ghost use Rattle.problem_definitions.specs.Problem.{has_group, has_bound, group_
 ghost use Rattle.deck_parts.specs.Shown.{group_at};
 ghost use Rattle.deck_cards.specs.Shown.{shown};
 ghost use Rattle.revise_definitions.specs.Edits.{without_column, delete_items};
+ghost use Rattle.revise_lists.specs.Additions.{CanChangeBounds};
 ghost use Rattle.revise_lists.specs.Changes.{bounds_changed};
 
 use crate::bounds::Bounds;
@@ -15,11 +16,11 @@ use crate::changes::BoundChange;
 use crate::groups::Groups;
 use crate::named::insert_new;
 use deck_cards::{DataCard, is_blank};
-use deck_parts::{CardStop, DeckFaultKind};
 use indexmap::IndexMap;
 use name_table::Name;
+use problem_definitions::MAX_COLUMNS;
 use problem_file::{BoundSet, NoMemory};
-use std::alloc::Global;
+use std::alloc::{AllocError, Global};
 use std::marker::Model;
 
 /// Sets of bounds in order.
@@ -49,7 +50,8 @@ fn change_under(
     change: BoundChange,
     card: &DataCard<'_>,
     sets: &mut IndexMap<Name, Bounds>,
-) -> Result<(), CardStop>
+) -> Result<(), AllocError>
+    requires { CanChangeBounds change (shown card.now) }
     ensures { OnOk result (map group_at sets.new.entries ≡ in_set card.now.name1
         (bounds_changed change (shown card.now)) (map group_at sets.old.entries)) }
 {
@@ -86,24 +88,20 @@ impl BoundSets {
 
     /// The sets with the numbers of their columns.
     pub fn numbered(&self, alloc: Global, columns: &Groups) -> Result<Vec<BoundSet>, NoMemory>
+        requires { length columns.now ≤ MAX_COLUMNS }
         ensures { IfOk result (λ list. list.items ≡ map
             (group_by (bound_by (number_in (group_names columns.now)))) self.now) }
     {
         numbered_sets(alloc, columns, &self.sets)
     }
 
-    /// Adds a set at the end, or refuses a name that a set has.
-    pub fn add(&mut self, name: Name, bounds: Bounds) -> Result<(), CardStop>
+    /// Adds a set of a new name at the end.
+    pub fn add(&mut self, name: Name, bounds: Bounds) -> Result<(), AllocError>
+        requires { has_group self.old name ≡ false }
         ensures { OnOk result (self.new ≡ self.old ++ record { name = name; items = bounds } ∷ []) }
     {
         let last = self.sets.len();
-        insert_new(
-            &mut self.sets,
-            last,
-            name,
-            bounds,
-            DeckFaultKind::BoundTwice,
-        )
+        insert_new(&mut self.sets, last, name, bounds)
     }
 
     /// Changes the bounds of the set in field 2 of a card as it says, or adds a set last that isn't there.
@@ -112,7 +110,8 @@ impl BoundSets {
         alloc: Global,
         change: BoundChange,
         card: &DataCard<'_>,
-    ) -> Result<(), CardStop>
+    ) -> Result<(), AllocError>
+        requires { CanChangeBounds change (shown card.now) }
         ensures { OnOk result (self.new ≡ in_set card.now.name1
             (bounds_changed change (shown card.now)) self.old) }
     {
@@ -127,7 +126,8 @@ impl BoundSets {
         alloc: Global,
         change: BoundChange,
         card: &DataCard<'_>,
-    ) -> Result<(), CardStop>
+    ) -> Result<(), AllocError>
+        requires { CanChangeBounds change (shown card.now) }
         ensures { OnOk result (self.new ≡ in_group card.now.name1
             (bounds_changed change (shown card.now)) self.old) }
     {
@@ -171,7 +171,7 @@ impl BoundSets {
     }
 
     /// Takes out the set in field 2 of a card where field 3 is blank, and else its bounds on the column in field 3.
-    pub fn delete(&mut self, alloc: Global, card: &DataCard<'_>) -> Result<(), CardStop>
+    pub fn delete(&mut self, alloc: Global, card: &DataCard<'_>) -> Result<(), AllocError>
         ensures { OnOk result (self.new ≡ delete_items without_column (shown card.now) self.old) }
     {
         if is_blank(card.name2.bytes()) {
@@ -190,6 +190,7 @@ fn numbered_sets(
     columns: &Groups,
     sets: &IndexMap<Name, Bounds>,
 ) -> Result<Vec<BoundSet>, NoMemory>
+    requires { length columns.now ≤ MAX_COLUMNS }
     ensures { IfOk result (λ list. list.items ≡ map
         (group_by (bound_by (number_in (group_names columns.now)))) (map group_at sets.now.entries)) }
 {

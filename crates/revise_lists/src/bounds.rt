@@ -1,5 +1,5 @@
 // The bounds of a set under revision.
-ghost use Rattle.std.specs.Prelude.{◌≡◌, ℕ, ◌++◌, ◌∷◌, [], ◌&&◌, ◌||◌, true, IfOk, IfSome, OnOk, Some, filter, map, not, length, is_some, slice_get};
+ghost use Rattle.std.specs.Prelude.{◌≡◌, ◌≤◌, ℕ, ◌++◌, ◌∷◌, [], None, ◌&&◌, ◌||◌, true, false, IfOk, IfSome, OnOk, Some, filter, map, not, length, is_some, slice_get};
 ghost use Rattle.std.specs.List.{list_any};
 ghost use Rattle.card_definitions.specs.Words.{is_empty as is_none_left};
 ghost use Rattle.problem_definitions.specs.Kinds.{meet, touches_upper, touches_lower};
@@ -9,22 +9,23 @@ ghost use Rattle.problem_definitions.specs.Problem.{has_bound, group_names};
 ghost use Rattle.deck_definitions.specs.DataCards.{bound_of};
 ghost use Rattle.deck_definitions.specs.Tests.{is_bound_already};
 ghost use Rattle.deck_cards.specs.Shown.{shown};
+ghost use Rattle.deck_parts.specs.Shown.{bound_end_fault};
 ghost use Rattle.revise_definitions.specs.Edits.{put_bound, without_column};
+ghost use Rattle.revise_lists.specs.Additions.{CanChangeBounds};
 ghost use Rattle.revise_lists.specs.Changes.{bounds_changed};
 ghost use Rattle.revise_lists.specs.Shown.{held, is_at_end, is_at_end_there, AreNoted, AreEmptied, noted};
 
 use crate::changes::BoundChange;
 use crate::ends::{End, touches};
-use crate::entries::in_32_bits;
 use crate::groups::Groups;
 use crate::parts::NamedBound;
 use deck_cards::DataCard;
-use deck_parts::{CardStop, DeckFaultKind, bound_value, touches_bottom, touches_top};
+use deck_parts::{bound_value, touches_bottom, touches_top};
 use indexmap::IndexMap;
 use name_table::Name;
-use problem_definitions::BoundKind;
+use problem_definitions::{BoundKind, MAX_COLUMNS};
 use problem_file::{BoundItem, NoMemory};
-use std::alloc::Global;
+use std::alloc::{AllocError, Global};
 use std::marker::Model;
 
 /// Bounds in order. One that is taken out leaves an empty slot, and the slots are closed up once there are as many as `most`. Each
@@ -124,7 +125,7 @@ fn note(
     touches: bool,
     column: Name,
     place: usize,
-) -> Result<(), CardStop>
+) -> Result<(), AllocError>
     ensures { OnOk result (places.new.entries ≡ noted touches column place places.old.entries) }
 {
     if !touches {
@@ -140,7 +141,7 @@ fn add_slot(
     uppers: &mut IndexMap<Name, usize>,
     lowers: &mut IndexMap<Name, usize>,
     bound: NamedBound,
-) -> Result<(), CardStop>
+) -> Result<(), AllocError>
     ensures slots { OnOk result (slots.new.items ≡ slots.old.items ++ Some bound ∷ []) }
     ensures uppers { OnOk result (uppers.new.entries ≡ noted (touches_upper bound.kind) bound.column
         (length slots.old.items) uppers.old.entries) }
@@ -155,16 +156,17 @@ fn add_slot(
 }
 
 // The bound of this type on a card in which no fault was found.
-fn bound_from(kind: BoundKind, card: &DataCard<'_>) -> Result<NamedBound, CardStop>
-    ensures { IfOk result (λ bound. bound ≡ bound_of (shown card.now) kind) }
+fn bound_from(kind: BoundKind, card: &DataCard<'_>) -> NamedBound
+    requires { bound_end_fault (shown card.now) kind ≡ None }
+    ensures { result ≡ bound_of (shown card.now) kind }
 {
     match bound_value(kind, card) {
-        Ok(value) => Ok(NamedBound {
+        Ok(value) => NamedBound {
             kind,
             column: card.name2,
             value,
-        }),
-        Err(fault) => Err(CardStop::Refused(fault)),
+        },
+        Err(_) => unreachable!(),
     }
 }
 
@@ -221,13 +223,11 @@ impl Bounds {
         self.has_met(column, BoundKind::Fr)
     }
 
-    /// Adds a bound at the end, or refuses one that touches an end that another touches. An `Err` leaves no bounds.
-    pub fn add(&mut self, bound: NamedBound) -> Result<(), CardStop>
+    /// Adds a bound at the end, whose ends no other touches. An `Err` leaves no bounds.
+    pub fn add(&mut self, bound: NamedBound) -> Result<(), AllocError>
+        requires { is_bound_already self.old bound.column bound.kind ≡ false }
         ensures { OnOk result (self.new ≡ self.old ++ bound ∷ []) }
     {
-        if self.has_met(&bound.column, bound.kind) {
-            return Err(CardStop::Refused(DeckFaultKind::BoundTwice));
-        }
         match add_slot(&mut self.slots, &mut self.uppers, &mut self.lowers, bound) {
             Ok(()) => Ok(()),
             Err(stop) => {
@@ -274,7 +274,7 @@ impl Bounds {
     }
 
     // The same bounds without an empty slot.
-    fn closed_up(&self, alloc: Global) -> Result<Bounds, CardStop>
+    fn closed_up(&self, alloc: Global) -> Result<Bounds, AllocError>
         ensures { IfOk result (λ bounds. bounds ≡ self.now) }
     {
         let mut bounds = Bounds::new(alloc);
@@ -289,7 +289,7 @@ impl Bounds {
     }
 
     // Closes the slots up if there are too many.
-    fn close_up(&mut self, alloc: Global) -> Result<(), CardStop>
+    fn close_up(&mut self, alloc: Global) -> Result<(), AllocError>
         ensures { OnOk result (self.new ≡ self.old) }
     {
         if self.slots.len() < self.most {
@@ -300,10 +300,11 @@ impl Bounds {
     }
 
     // Puts the bound of this type on a card at the end of those that touch none of its ends.
-    fn put(&mut self, alloc: Global, kind: BoundKind, card: &DataCard<'_>) -> Result<(), CardStop>
+    fn put(&mut self, alloc: Global, kind: BoundKind, card: &DataCard<'_>) -> Result<(), AllocError>
+        requires { bound_end_fault (shown card.now) kind ≡ None }
         ensures { OnOk result (self.new ≡ put_bound (bound_of (shown card.now) kind) self.old) }
     {
-        let bound = bound_from(kind, card)?;
+        let bound = bound_from(kind, card);
         self.remove_met(&card.name2, kind);
         self.close_up(alloc)?;
         self.add(bound)
@@ -315,7 +316,8 @@ impl Bounds {
         alloc: Global,
         change: BoundChange,
         card: &DataCard<'_>,
-    ) -> Result<(), CardStop>
+    ) -> Result<(), AllocError>
+        requires { CanChangeBounds change (shown card.now) }
         ensures { OnOk result (self.new ≡ bounds_changed change (shown card.now) self.old) }
     {
         match change {
@@ -329,6 +331,7 @@ impl Bounds {
 
     /// The bounds with the numbers of their columns.
     pub fn numbered(&self, alloc: Global, columns: &Groups) -> Result<Vec<BoundItem>, NoMemory>
+        requires { length columns.now ≤ MAX_COLUMNS }
         ensures { IfOk result (λ list. list.items ≡ map
             (bound_by (number_in (group_names columns.now))) self.now) }
     {
@@ -337,15 +340,15 @@ impl Bounds {
 }
 
 // A bound with the number of its column.
-fn numbered_bound(columns: &Groups, bound: &NamedBound) -> Result<BoundItem, NoMemory>
-    ensures { IfOk result (λ item. item ≡ bound_by (number_in (group_names columns.now))
-        bound.now) }
+fn numbered_bound(columns: &Groups, bound: &NamedBound) -> BoundItem
+    requires { length columns.now ≤ MAX_COLUMNS }
+    ensures { result ≡ bound_by (number_in (group_names columns.now)) bound.now }
 {
-    Ok(BoundItem {
+    BoundItem {
         kind: bound.kind,
-        column: in_32_bits(columns.number_of(&bound.column))?,
+        column: columns.number_of(&bound.column) as u32,
         value: bound.value,
-    })
+    }
 }
 
 // Adds the bound in a slot, if it isn't empty, with the number of its column.
@@ -354,12 +357,13 @@ fn add_numbered(
     columns: &Groups,
     slot: &Option<NamedBound>,
 ) -> Result<(), NoMemory>
+    requires { length columns.now ≤ MAX_COLUMNS }
     ensures { OnOk result (list.new.items ≡ list.old.items ++ map
         (bound_by (number_in (group_names columns.now))) (held (slot.now ∷ []))) }
 {
     match slot {
         Some(bound) => {
-            let item = numbered_bound(columns, bound)?;
+            let item = numbered_bound(columns, bound);
             list.push(item).map_err(|_| NoMemory)
         }
         None => Ok(()),
@@ -372,6 +376,7 @@ fn numbered_bounds(
     columns: &Groups,
     slots: &[Option<NamedBound>],
 ) -> Result<Vec<BoundItem>, NoMemory>
+    requires { length columns.now ≤ MAX_COLUMNS }
     ensures { IfOk result (λ list. list.items ≡ map (bound_by (number_in (group_names columns.now)))
         (held slots.now)) }
 {

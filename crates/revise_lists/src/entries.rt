@@ -1,13 +1,15 @@
 // The entries of a column, or the items of a set, under revision.
-ghost use Rattle.std.specs.Prelude.{◌≡◌, ◌++◌, ◌∷◌, [], IfOk, OnOk, map, length, option_map};
+ghost use Rattle.std.specs.Prelude.{◌≡◌, ◌≤◌, ◌++◌, ◌∷◌, [], None, false, IfOk, OnOk, map, length, option_map};
 ghost use Rattle.std.specs.Option.{option_to_list};
 ghost use Rattle.card_definitions.specs.Words.{is_empty as is_none_left};
 ghost use Rattle.problem_definitions.specs.Names.{number_in};
 ghost use Rattle.problem_definitions.specs.Numbering.{entry_by};
 ghost use Rattle.problem_definitions.specs.Problem.{has_entry};
-ghost use Rattle.deck_definitions.specs.DataCards.{entry_of, entries_of, parts_on};
+ghost use Rattle.deck_definitions.specs.DataCards.{entry_of, entries_of, parts_on, pairs_of, part_pairs_of};
+ghost use Rattle.deck_definitions.specs.Tests.{value_fault};
 ghost use Rattle.deck_cards.specs.Shown.{shown, pair_shown};
 ghost use Rattle.revise_definitions.specs.Edits.{put_entry, put_entries, without_row};
+ghost use Rattle.revise_lists.specs.Additions.{AreNumbers, AreNew, CanChange};
 ghost use Rattle.revise_lists.specs.Changes.{entries_changed};
 ghost use Rattle.revise_lists.specs.Shown.{entry_on};
 
@@ -17,11 +19,12 @@ use crate::parts::NamedEntry;
 use crate::rows::Rows;
 use deck_cards::{DataCard, PairText, first_pair, first_part, second_pair};
 use deck_fields::Decimal;
-use deck_parts::{CardStop, DeckFaultKind, number_in};
+use deck_parts::number_in;
 use indexmap::IndexMap;
 use name_table::Name;
+use problem_definitions::MAX_ROWS;
 use problem_file::{DeckEntry, NoMemory};
-use std::alloc::Global;
+use std::alloc::{AllocError, Global};
 use std::marker::Model;
 
 /// Numbers on rows, in order.
@@ -45,26 +48,17 @@ impl Model for Entries {
     ghost invariant = { λ entries. IsDistinct same (keys_of entries.values.entries) };
 }
 
-// The entry of a pair, in whose number no fault was found.
-fn entry_from(pair: &PairText<'_>) -> Result<NamedEntry, CardStop>
-    ensures { IfOk result (λ entry. entry ≡ entry_of (pair_shown pair.now)) }
+// The entry of a pair whose number has no fault.
+fn entry_from(pair: &PairText<'_>) -> NamedEntry
+    requires { value_fault pair.now.column pair.now.value.now ≡ None }
+    ensures { result ≡ entry_of (pair_shown pair.now) }
 {
     match number_in(pair.column, pair.value) {
-        Ok(value) => Ok(NamedEntry {
+        Ok(value) => NamedEntry {
             row: pair.row,
             value,
-        }),
-        Err(kind) => Err(CardStop::Refused(kind)),
-    }
-}
-
-// A number of at most 32 bits.
-pub fn in_32_bits(number: usize) -> Result<u32, NoMemory>
-    ensures { IfOk result (λ n. n ≡ number) }
-{
-    match u32::try_from(number) {
-        Ok(number) => Ok(number),
-        Err(_) => Err(NoMemory),
+        },
+        Err(_) => unreachable!(),
     }
 }
 
@@ -99,25 +93,20 @@ impl Entries {
     }
 
     /// Puts an entry in the place of the one on its row, or at the end where there is none.
-    pub fn put(&mut self, entry: NamedEntry) -> Result<(), CardStop>
+    pub fn put(&mut self, entry: NamedEntry) -> Result<(), AllocError>
         ensures { OnOk result (self.new ≡ put_entry self.old entry) }
     {
         self.values.insert(entry.row, entry.value)?;
         Ok(())
     }
 
-    /// Adds an entry at the end, or refuses a row that has one.
-    pub fn add(&mut self, entry: NamedEntry) -> Result<(), CardStop>
+    /// Adds an entry at the end, on a row that has none.
+    pub fn add(&mut self, entry: NamedEntry) -> Result<(), AllocError>
+        requires { has_entry self.old entry.row ≡ false }
         ensures { OnOk result (self.new ≡ self.old ++ entry ∷ []) }
     {
         let last = self.values.len();
-        insert_new(
-            &mut self.values,
-            last,
-            entry.row,
-            entry.value,
-            DeckFaultKind::DuplicateEntry,
-        )
+        insert_new(&mut self.values, last, entry.row, entry.value)
     }
 
     /// Takes out the entry on this row.
@@ -129,6 +118,7 @@ impl Entries {
 
     /// The entries on the numbers of their rows.
     pub fn numbered(&self, alloc: Global, rows: &Rows) -> Result<Vec<DeckEntry>, NoMemory>
+        requires { length rows.now ≤ MAX_ROWS }
         ensures { IfOk result (λ list. list.items ≡ map (entry_by
             (number_in (map (λ row. row.name) rows.now))) self.now) }
     {
@@ -136,45 +126,50 @@ impl Entries {
     }
 
     // Puts the entry of a pair in, if there is one.
-    fn put_if(&mut self, pair: &Option<PairText<'_>>) -> Result<(), CardStop>
+    fn put_if(&mut self, pair: &Option<PairText<'_>>) -> Result<(), AllocError>
+        requires { AreNumbers (option_to_list (option_map pair_shown pair.now)) }
         ensures { OnOk result (self.new ≡ put_entries
             (map entry_of (option_to_list (option_map pair_shown pair.now))) self.old) }
     {
         match pair {
-            Some(pair) => self.put(entry_from(pair)?),
+            Some(pair) => self.put(entry_from(pair)),
             None => Ok(()),
         }
     }
 
     // Adds the entry of a pair at the end, if there is one.
-    fn add_if(&mut self, pair: &Option<PairText<'_>>) -> Result<(), CardStop>
+    fn add_if(&mut self, pair: &Option<PairText<'_>>) -> Result<(), AllocError>
+        requires { AreNew self.old (option_to_list (option_map pair_shown pair.now)) }
         ensures { OnOk result (self.new ≡ self.old ++ map entry_of
             (option_to_list (option_map pair_shown pair.now))) }
     {
         match pair {
-            Some(pair) => self.add(entry_from(pair)?),
+            Some(pair) => self.add(entry_from(pair)),
             None => Ok(()),
         }
     }
 
     // Puts the entries of a card in, one after another.
-    fn put_all(&mut self, card: &DataCard<'_>) -> Result<(), CardStop>
+    fn put_all(&mut self, card: &DataCard<'_>) -> Result<(), AllocError>
+        requires { AreNumbers (pairs_of (shown card.now)) }
         ensures { OnOk result (self.new ≡ put_entries (entries_of (shown card.now)) self.old) }
     {
-        self.put(entry_from(&first_pair(card))?)?;
+        self.put(entry_from(&first_pair(card)))?;
         self.put_if(&second_pair(card))
     }
 
     /// Adds the entries of a card at the end.
-    pub fn append_all(&mut self, card: &DataCard<'_>) -> Result<(), CardStop>
+    pub fn append_all(&mut self, card: &DataCard<'_>) -> Result<(), AllocError>
+        requires { AreNew self.old (pairs_of (shown card.now)) }
         ensures { OnOk result (self.new ≡ self.old ++ entries_of (shown card.now)) }
     {
-        self.add(entry_from(&first_pair(card))?)?;
+        self.add(entry_from(&first_pair(card)))?;
         self.add_if(&second_pair(card))
     }
 
     /// Puts the parts on a card in, one after another.
-    pub fn put_parts(&mut self, card: &DataCard<'_>) -> Result<(), CardStop>
+    pub fn put_parts(&mut self, card: &DataCard<'_>) -> Result<(), AllocError>
+        requires { AreNumbers (part_pairs_of (shown card.now)) }
         ensures { OnOk result (self.new ≡ put_entries (parts_on (shown card.now)) self.old) }
     {
         self.put_if(&first_part(card))?;
@@ -182,7 +177,8 @@ impl Entries {
     }
 
     /// Adds the parts on a card at the end.
-    pub fn append_parts(&mut self, card: &DataCard<'_>) -> Result<(), CardStop>
+    pub fn append_parts(&mut self, card: &DataCard<'_>) -> Result<(), AllocError>
+        requires { AreNew self.old (part_pairs_of (shown card.now)) }
         ensures { OnOk result (self.new ≡ self.old ++ parts_on (shown card.now)) }
     {
         self.add_if(&first_part(card))?;
@@ -190,7 +186,8 @@ impl Entries {
     }
 
     /// Changes the entries as a card says.
-    pub fn change(&mut self, change: EntryChange, card: &DataCard<'_>) -> Result<(), CardStop>
+    pub fn change(&mut self, change: EntryChange, card: &DataCard<'_>) -> Result<(), AllocError>
+        requires { CanChange change (shown card.now) self.old }
         ensures { OnOk result (self.new ≡ entries_changed change (shown card.now) self.old) }
     {
         match change {
@@ -210,13 +207,14 @@ fn numbered_entries(
     rows: &Rows,
     values: &IndexMap<Name, Decimal>,
 ) -> Result<Vec<DeckEntry>, NoMemory>
+    requires { length rows.now ≤ MAX_ROWS }
     ensures { IfOk result (λ list. list.items ≡ map (entry_by
         (number_in (map (λ row. row.name) rows.now))) (map entry_on values.now.entries)) }
 {
     let mut list = Vec::new(alloc);
     for (row, value) in values {
         let entry = DeckEntry {
-            row: in_32_bits(rows.number_of(row))?,
+            row: rows.number_of(row) as u32,
             value: *value,
         };
         list.push(entry).map_err(|_| NoMemory)?;

@@ -1,5 +1,5 @@
 // Columns, and sets of right-hand sides or of ranges, under revision.
-ghost use Rattle.std.specs.Prelude.{◌≡◌, ◌++◌, ◌∷◌, [], IfOk, OnOk, true, map, sum_by, length, insert, unwrap_or, not};
+ghost use Rattle.std.specs.Prelude.{◌≡◌, ◌≤◌, ◌<◌, ◌+◌, ◌^◌, ◌++◌, ◌∷◌, [], IfOk, OnOk, true, false, map, sum_by, length, insert, unwrap_or, not};
 ghost use Rattle.std.specs.List.{IsDistinct, list_any};
 ghost use Rattle.std.specs.Map.{keys_of, lookup};
 ghost use Rattle.std.specs.Option.{option_copied};
@@ -12,25 +12,27 @@ ghost use Rattle.problem_definitions.specs.Problem.{has_group, has_entry, group_
 ghost use Rattle.deck_parts.specs.Shown.{group_at};
 ghost use Rattle.deck_cards.specs.Shown.{shown};
 ghost use Rattle.revise_definitions.specs.Edits.{without_row, delete_items};
+ghost use Rattle.revise_lists.specs.Additions.{CanChange};
 ghost use Rattle.revise_lists.specs.Changes.{entries_changed};
+ghost use Rattle.revise_lists.specs.Shown.{AreShort};
 
 use crate::changes::EntryChange;
 use crate::entries::Entries;
 use crate::named::{insert_new, number_among};
 use crate::rows::Rows;
 use deck_cards::{DataCard, is_blank};
-use deck_parts::{CardStop, DeckFaultKind};
 use indexmap::IndexMap;
 use name_table::Name;
+use problem_definitions::MAX_ROWS;
 use problem_file::{ColumnDecl, NoMemory, ValueSet};
-use std::alloc::Global;
+use std::alloc::{AllocError, Global};
 use std::marker::Model;
 
 /// Columns, or sets, in order, with the number of the items of all of them.
 #[derive(Drop)]
 pub struct Groups {
     groups: IndexMap<Name, Entries>,
-    count: usize,
+    count: u128,
 }
 
 impl Model for Groups {
@@ -40,12 +42,13 @@ impl Model for Groups {
     ghost use Rattle.problem_definitions.specs.Names.{Name as Text, same};
     ghost use Rattle.problem_definitions.specs.Problem.{Entry, Group};
     ghost use Rattle.deck_parts.specs.Shown.{group_at};
+    ghost use Rattle.revise_lists.specs.Shown.{AreShort};
 
     ghost Value = { List (Group (Entry Text)) };
 
     ghost view = { λ groups. map group_at groups.groups.entries };
 
-    ghost invariant = { λ groups. IsDistinct same (keys_of groups.groups.entries) × (groups.count ≡ sum_by (λ group. length group.items) (map group_at groups.groups.entries)) };
+    ghost invariant = { λ groups. IsDistinct same (keys_of groups.groups.entries) × (groups.count ≡ sum_by (λ group. length group.items) (map group_at groups.groups.entries)) × AreShort (map group_at groups.groups.entries) };
 }
 
 // How many items stand under a name.
@@ -74,18 +77,16 @@ fn any_on_row(groups: &IndexMap<Name, Entries>, row: &Name) -> bool
 }
 
 // How many items stand under all names.
-fn count_of_all(groups: &IndexMap<Name, Entries>) -> Result<usize, CardStop>
-    ensures { IfOk result (λ count. count ≡ sum_by (λ group. length group.items)
-        (map group_at groups.now.entries)) }
+fn count_of_all(groups: &IndexMap<Name, Entries>) -> u128
+    ensures count { result ≡ sum_by (λ group. length group.items) (map group_at groups.now.entries) }
+    ensures short { AreShort (map group_at groups.now.entries) }
 {
-    let mut count = 0usize;
+    let _names = groups.len();
+    let mut count = 0u128;
     for (_, items) in groups {
-        match count.checked_add(items.len()) {
-            Some(more) => count = more,
-            None => return Err(CardStop::NoMemory),
-        }
+        count += items.len() as u128;
     }
-    Ok(count)
+    count
 }
 
 // Changes the items under the name in field 2 of a card as it says, where a name that isn't there is added last.
@@ -94,7 +95,9 @@ fn change_under(
     change: EntryChange,
     card: &DataCard<'_>,
     groups: &mut IndexMap<Name, Entries>,
-) -> Result<(), CardStop>
+) -> Result<(), AllocError>
+    requires { CanChange change (shown card.now)
+        (unwrap_or (lookup (same card.now.name1) groups.old.entries) []) }
     ensures { OnOk result (groups.new.entries ≡ insert_entry same groups.old.entries
         card.now.name1 (entries_changed change (shown card.now)
         (unwrap_or (lookup (same card.now.name1) groups.old.entries) []))) }
@@ -109,22 +112,24 @@ fn change_counted(
     change: EntryChange,
     card: &DataCard<'_>,
     groups: &mut IndexMap<Name, Entries>,
-    count: usize,
-) -> Result<usize, CardStop>
-    requires { count ≡ sum_by (λ group. length group.items) (map group_at groups.old.entries) }
+    count: u128,
+) -> Result<u128, AllocError>
+    requires can_change { CanChange change (shown card.now)
+        (items_of card.now.name1 (map group_at groups.old.entries)) }
+    requires count { count ≡ sum_by (λ group. length group.items) (map group_at groups.old.entries) }
+    requires short { AreShort (map group_at groups.old.entries) }
     ensures step { OnOk result (map group_at groups.new.entries ≡ in_set card.now.name1
         (entries_changed change (shown card.now)) (map group_at groups.old.entries)) }
     ensures count { IfOk result (λ count. count ≡ sum_by (λ group. length group.items)
         (map group_at groups.new.entries)) }
     ensures distinct { OnOk result (IsDistinct same (keys_of groups.new.entries)) }
+    ensures short { OnOk result (AreShort (map group_at groups.new.entries)) }
 {
     let before = count_under(groups, &card.name1);
     change_under(alloc, change, card, groups)?;
     let after = count_under(groups, &card.name1);
-    match count.saturating_sub(before).checked_add(after) {
-        Some(count) => Ok(count),
-        None => Err(CardStop::NoMemory),
-    }
+    let _names = groups.len();
+    Ok(count.saturating_sub(before as u128) + after as u128)
 }
 
 // Takes the items on a row out under all names.
@@ -173,9 +178,11 @@ impl Groups {
     }
 
     /// How many items all groups have.
-    pub fn item_count(&self) -> usize
-        ensures { result ≡ sum_by (λ group. length group.items) self.now }
+    pub fn item_count(&self) -> u128
+        ensures count { result ≡ sum_by (λ group. length group.items) self.now }
+        ensures few { result + 1 < 2 ^ 128 }
     {
+        let _names = self.groups.len();
         self.count
     }
 
@@ -213,13 +220,15 @@ impl Groups {
 
     /// The number of the group of this name, from 1, or 0 where it isn't there.
     pub fn number_of(&self, name: &Name) -> usize
-        ensures { result ≡ number_in (group_names self.now) name.now }
+        ensures number { result ≡ number_in (group_names self.now) name.now }
+        ensures within { result ≤ length self.now }
     {
         number_among(&self.groups, name)
     }
 
     /// The groups as columns with the numbers of their rows.
     pub fn columns(&self, alloc: Global, rows: &Rows) -> Result<Vec<ColumnDecl>, NoMemory>
+        requires { length rows.now ≤ MAX_ROWS }
         ensures { IfOk result (λ columns. columns.items ≡ map
             (group_by (entry_by (number_in (map (λ row. row.name) rows.now)))) self.now) }
     {
@@ -228,33 +237,29 @@ impl Groups {
 
     /// The groups as sets with the numbers of their rows.
     pub fn sets(&self, alloc: Global, rows: &Rows) -> Result<Vec<ValueSet>, NoMemory>
+        requires { length rows.now ≤ MAX_ROWS }
         ensures { IfOk result (λ sets. sets.items ≡ map
             (group_by (entry_by (number_in (map (λ row. row.name) rows.now)))) self.now) }
     {
         value_sets(alloc, rows, &self.groups)
     }
 
-    /// Puts a group at this place, or at the end where there are fewer, or refuses a name that a group has.
-    pub fn insert(&mut self, place: usize, name: Name, items: Entries) -> Result<(), CardStop>
+    /// Puts a group of a new name at this place, or at the end where there are fewer.
+    pub fn insert(&mut self, place: usize, name: Name, items: Entries) -> Result<(), AllocError>
+        requires { has_group self.old name ≡ false }
         ensures { OnOk result (self.new ≡ insert self.old place
             (record { name = name; items = items })) }
     {
-        let Some(count) = self.count.checked_add(items.len()) else {
-            return Err(CardStop::NoMemory);
-        };
-        insert_new(
-            &mut self.groups,
-            place,
-            name,
-            items,
-            DeckFaultKind::ColumnSplit,
-        )?;
-        self.count = count;
+        let added = items.len();
+        insert_new(&mut self.groups, place, name, items)?;
+        let _names = self.groups.len();
+        self.count += added as u128;
         Ok(())
     }
 
-    /// Adds a group at the end, or refuses a name that a group has.
-    pub fn add(&mut self, name: Name, items: Entries) -> Result<(), CardStop>
+    /// Adds a group of a new name at the end.
+    pub fn add(&mut self, name: Name, items: Entries) -> Result<(), AllocError>
+        requires { has_group self.old name ≡ false }
         ensures { OnOk result (self.new ≡ self.old ++ record { name = name; items = items } ∷ []) }
     {
         let last = self.len();
@@ -267,7 +272,8 @@ impl Groups {
         alloc: Global,
         change: EntryChange,
         card: &DataCard<'_>,
-    ) -> Result<(), CardStop>
+    ) -> Result<(), AllocError>
+        requires { CanChange change (shown card.now) (items_of card.now.name1 self.old) }
         ensures { OnOk result (self.new ≡ in_set card.now.name1
             (entries_changed change (shown card.now)) self.old) }
     {
@@ -290,7 +296,8 @@ impl Groups {
         alloc: Global,
         change: EntryChange,
         card: &DataCard<'_>,
-    ) -> Result<(), CardStop>
+    ) -> Result<(), AllocError>
+        requires { CanChange change (shown card.now) (items_of card.now.name1 self.old) }
         ensures { OnOk result (self.new ≡ in_group card.now.name1
             (entries_changed change (shown card.now)) self.old) }
     {
@@ -306,25 +313,15 @@ impl Groups {
     {
         let before = count_under(&self.groups, name);
         self.groups.shift_remove(name);
-        self.count = self.count.saturating_sub(before);
+        self.count = self.count.saturating_sub(before as u128);
     }
 
-    /// Takes the items on a row out of all groups. An `Err` leaves no groups.
-    pub fn remove_row(&mut self, row: &Name) -> Result<(), CardStop>
-        ensures { OnOk result (self.new ≡ in_all (without_row row.now) self.old) }
+    /// Takes the items on a row out of all groups.
+    pub fn remove_row(&mut self, row: &Name)
+        ensures { self.new ≡ in_all (without_row row.now) self.old }
     {
         remove_row_in(&mut self.groups, row);
-        match count_of_all(&self.groups) {
-            Ok(count) => {
-                self.count = count;
-                Ok(())
-            }
-            Err(stop) => {
-                self.groups.clear();
-                self.count = 0;
-                Err(stop)
-            }
-        }
+        self.count = count_of_all(&self.groups);
     }
 
     /// Takes out the groups without items.
@@ -335,7 +332,7 @@ impl Groups {
     }
 
     /// Takes out the group in field 2 of a card where field 3 is blank, and else its item on the row in field 3.
-    pub fn delete(&mut self, alloc: Global, card: &DataCard<'_>) -> Result<(), CardStop>
+    pub fn delete(&mut self, alloc: Global, card: &DataCard<'_>) -> Result<(), AllocError>
         ensures { OnOk result (self.new ≡ delete_items without_row (shown card.now) self.old) }
     {
         if is_blank(card.name2.bytes()) {
@@ -354,6 +351,7 @@ fn column_decls(
     rows: &Rows,
     groups: &IndexMap<Name, Entries>,
 ) -> Result<Vec<ColumnDecl>, NoMemory>
+    requires { length rows.now ≤ MAX_ROWS }
     ensures { IfOk result (λ columns. columns.items ≡ map
         (group_by (entry_by (number_in (map (λ row. row.name) rows.now))))
         (map group_at groups.now.entries)) }
@@ -375,6 +373,7 @@ fn value_sets(
     rows: &Rows,
     groups: &IndexMap<Name, Entries>,
 ) -> Result<Vec<ValueSet>, NoMemory>
+    requires { length rows.now ≤ MAX_ROWS }
     ensures { IfOk result (λ sets. sets.items ≡ map
         (group_by (entry_by (number_in (map (λ row. row.name) rows.now))))
         (map group_at groups.now.entries)) }

@@ -1,16 +1,17 @@
 // Lists of things with different names, in which a name is looked up by its hash.
-ghost use Rattle.std.specs.Prelude.{◌≡◌, insert, OnOk, OnErr};
+ghost use Rattle.std.specs.Prelude.{◌≡◌, ◌≤◌, false, insert, length, is_some, OnOk, OnErr};
 ghost use Rattle.std.specs.List.{IsDistinct};
-ghost use Rattle.std.specs.Map.{keys_of};
+ghost use Rattle.std.specs.Map.{keys_of, lookup};
 ghost use Rattle.problem_definitions.specs.Names.{same, number_in};
 
-use deck_parts::{CardStop, DeckFaultKind};
 use indexmap::IndexMap;
 use name_table::Name;
+use std::alloc::AllocError;
 
 // The number of a name, from 1, or 0 where it isn't there.
 pub fn number_among<V>(values: &IndexMap<Name, V>, name: &Name) -> usize
-    ensures { result ≡ number_in (keys_of values.now.entries) name.now }
+    ensures number { result ≡ number_in (keys_of values.now.entries) name.now }
+    ensures within { result ≤ length values.now.entries }
 {
     let _count = values.len();
     match values.get_index_of(name) {
@@ -19,23 +20,20 @@ pub fn number_among<V>(values: &IndexMap<Name, V>, name: &Name) -> usize
     }
 }
 
-// Puts a value under a name at this place, or at the end where there are fewer. A name that has a value is refused as this fault.
+// Puts a value under a name that has none at this place, or at the end where there are fewer.
 pub fn insert_new<V: Drop>(
     values: &mut IndexMap<Name, V>,
     place: usize,
     name: Name,
     value: V,
-    fault: DeckFaultKind,
-) -> Result<(), CardStop>
+) -> Result<(), AllocError>
+    requires { is_some (lookup (same name) values.old.entries) ≡ false }
     ensures placed { OnOk result (values.new.entries ≡ insert values.old.entries place
         (name, value)) }
     ensures refused { OnErr result (values.new.entries ≡ values.old.entries) }
     ensures distinct { IsDistinct same (keys_of values.new.entries) }
 {
     let last = values.len();
-    if values.contains_key(&name) {
-        return Err(CardStop::Refused(fault));
-    }
     values.insert(name, value)?;
     values.move_index(last, place.min(last));
     Ok(())

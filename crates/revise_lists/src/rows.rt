@@ -1,5 +1,5 @@
 // The rows of a problem under revision.
-ghost use Rattle.std.specs.Prelude.{◌≡◌, ◌++◌, ◌∷◌, [], true, map, filter, not, insert, length, take, nat_lt, ◌&&◌, unwrap_or, option_map, IfOk, OnOk};
+ghost use Rattle.std.specs.Prelude.{◌≡◌, ◌≤◌, ◌++◌, ◌∷◌, [], true, false, is_some, map, filter, not, insert, length, take, nat_lt, ◌&&◌, unwrap_or, option_map, IfOk, OnOk};
 ghost use Rattle.std.specs.List.{IsDistinct, position_or_len};
 ghost use Rattle.std.specs.Map.{keys_of};
 ghost use Rattle.std.specs.Option.{option_copied};
@@ -7,21 +7,22 @@ ghost use Rattle.problem_definitions.specs.Names.{same, number_in};
 ghost use Rattle.problem_definitions.specs.Problem.{has_row, has_free_row, has_combination};
 ghost use Rattle.problem_definitions.specs.Parts.{parts_of, with_parts, in_row};
 ghost use Rattle.problem_definitions.specs.Numbering.{entry_by, row_by};
-ghost use Rattle.deck_definitions.specs.DataCards.{parts_on};
+ghost use Rattle.deck_definitions.specs.DataCards.{parts_on, part_pairs_of};
 ghost use Rattle.deck_cards.specs.Shown.{shown};
 ghost use Rattle.revise_definitions.specs.Edits.{modify_row, without_row};
+ghost use Rattle.revise_lists.specs.Additions.{AreNumbers, AreNew};
 ghost use Rattle.revise_lists.specs.Bodies.{row_at, body_with, body_retyped};
 
 use crate::entries::Entries;
 use crate::kinds::kind_on;
 use crate::named::{insert_new, number_among};
 use deck_cards::DataCard;
-use deck_parts::{CardStop, DeckFaultKind, is_free};
+use deck_parts::is_free;
 use indexmap::IndexMap;
 use name_table::Name;
-use problem_definitions::RowKind;
+use problem_definitions::{MAX_ROWS, RowKind};
 use problem_file::{DeckEntry, NoMemory, RowDecl};
-use std::alloc::Global;
+use std::alloc::{AllocError, Global};
 use std::marker::Model;
 
 /// What a row is beside its name: its type, and of a combination its parts.
@@ -33,7 +34,8 @@ pub struct RowBody {
 
 impl RowBody {
     // Adds the parts on a card at the end, where the row is a combination.
-    fn append(&mut self, card: &DataCard<'_>) -> Result<(), CardStop>
+    fn append(&mut self, card: &DataCard<'_>) -> Result<(), AllocError>
+        requires { AreNew (unwrap_or self.old.parts []) (part_pairs_of (shown card.now)) }
         ensures { OnOk result (self.new ≡ body_with (λ parts. parts ++ parts_on (shown card.now))
             self.old) }
     {
@@ -44,7 +46,8 @@ impl RowBody {
     }
 
     // Gives the row the type on a card, if there is such a type, and puts the parts on the card in, where the row is a combination.
-    fn modify(&mut self, card: &DataCard<'_>) -> Result<(), CardStop>
+    fn modify(&mut self, card: &DataCard<'_>) -> Result<(), AllocError>
+        requires { is_some self.old.parts ≡ true → AreNumbers (part_pairs_of (shown card.now)) }
         ensures { OnOk result (self.new ≡ body_retyped (shown card.now) self.old) }
     {
         self.kind = kind_on(card).unwrap_or(self.kind);
@@ -76,6 +79,7 @@ impl Model for Rows {
     ghost use Rattle.std.specs.Map.{keys_of};
     ghost use Rattle.problem_definitions.specs.Names.{Name as Text, same};
     ghost use Rattle.problem_definitions.specs.Problem.{Row};
+    ghost use Rattle.revise_lists.specs.Additions.{AreNumbers, AreNew};
     ghost use Rattle.revise_lists.specs.Bodies.{row_at};
 
     ghost Value = { List (Row Text) };
@@ -141,7 +145,8 @@ impl Rows {
 
     /// The number of the row of this name, from 1, or 0 where it isn't there.
     pub fn number_of(&self, name: &Name) -> usize
-        ensures { result ≡ number_in (map (λ row. row.name) self.now) name.now }
+        ensures number { result ≡ number_in (map (λ row. row.name) self.now) name.now }
+        ensures within { result ≤ length self.now }
     {
         number_among(&self.rows, name)
     }
@@ -167,34 +172,36 @@ impl Rows {
 
     /// The rows as a problem by numbers has them.
     pub fn decls(&self, alloc: Global) -> Result<Vec<RowDecl>, NoMemory>
+        requires { length self.now ≤ MAX_ROWS }
         ensures { IfOk result (λ decls. decls.items ≡ map
             (row_by (number_in (map (λ row. row.name) self.now))) self.now) }
     {
         row_decls(alloc, self, &self.rows)
     }
 
-    /// Puts a row at this place, or at the end where there are fewer, or refuses a name that a row has.
+    /// Puts a row of a new name at this place, or at the end where there are fewer.
     pub fn insert(
         &mut self,
         place: usize,
         kind: RowKind,
         name: Name,
         parts: Option<Entries>,
-    ) -> Result<(), CardStop>
+    ) -> Result<(), AllocError>
+        requires { has_row self.old name ≡ false }
         ensures { OnOk result (self.new ≡ insert self.old place
             (record { kind = kind; name = name; parts = parts })) }
     {
-        insert_new(
-            &mut self.rows,
-            place,
-            name,
-            RowBody { kind, parts },
-            DeckFaultKind::DuplicateRow,
-        )
+        insert_new(&mut self.rows, place, name, RowBody { kind, parts })
     }
 
-    /// Adds a row at the end, or refuses a name that a row has.
-    pub fn add(&mut self, kind: RowKind, name: Name, parts: Option<Entries>) -> Result<(), CardStop>
+    /// Adds a row of a new name at the end.
+    pub fn add(
+        &mut self,
+        kind: RowKind,
+        name: Name,
+        parts: Option<Entries>,
+    ) -> Result<(), AllocError>
+        requires { has_row self.old name ≡ false }
         ensures { OnOk result (self.new ≡ self.old ++ record
             { kind = kind; name = name; parts = parts } ∷ []) }
     {
@@ -203,7 +210,8 @@ impl Rows {
     }
 
     /// Adds the parts on a card to the combination that the card names.
-    pub fn append_parts(&mut self, card: &DataCard<'_>) -> Result<(), CardStop>
+    pub fn append_parts(&mut self, card: &DataCard<'_>) -> Result<(), AllocError>
+        requires { AreNew (parts_of card.now.name1 self.old) (part_pairs_of (shown card.now)) }
         ensures { OnOk result (self.new ≡ in_row card.now.name1
             (λ parts. parts ++ parts_on (shown card.now)) self.old) }
     {
@@ -213,7 +221,9 @@ impl Rows {
     }
 
     /// Gives the row that a card names the type in its field 1, if there is such a type, and a combination the parts on the card.
-    pub fn modify(&mut self, card: &DataCard<'_>) -> Result<(), CardStop>
+    pub fn modify(&mut self, card: &DataCard<'_>) -> Result<(), AllocError>
+        requires { has_combination self.old card.now.name1 ≡ true → AreNumbers
+            (part_pairs_of (shown card.now)) }
         ensures { OnOk result (self.new ≡ modify_row (shown card.now) self.old) }
     {
         let modified = modify_under(&mut self.rows, card);
@@ -239,7 +249,9 @@ fn is_below(place: usize, one: usize, other: usize) -> bool
 }
 
 // Adds the parts on a card to the row in its field 2, if it is a combination that is there.
-fn append_under(rows: &mut IndexMap<Name, RowBody>, card: &DataCard<'_>) -> Result<(), CardStop>
+fn append_under(rows: &mut IndexMap<Name, RowBody>, card: &DataCard<'_>) -> Result<(), AllocError>
+    requires { AreNew (parts_of card.now.name1 (map row_at rows.old.entries))
+        (part_pairs_of (shown card.now)) }
     ensures { OnOk result (map row_at rows.new.entries ≡ in_row card.now.name1
         (λ parts. parts ++ parts_on (shown card.now)) (map row_at rows.old.entries)) }
 {
@@ -250,7 +262,9 @@ fn append_under(rows: &mut IndexMap<Name, RowBody>, card: &DataCard<'_>) -> Resu
 }
 
 // Gives the row in field 2 of a card what the card says, if it is there.
-fn modify_under(rows: &mut IndexMap<Name, RowBody>, card: &DataCard<'_>) -> Result<(), CardStop>
+fn modify_under(rows: &mut IndexMap<Name, RowBody>, card: &DataCard<'_>) -> Result<(), AllocError>
+    requires { has_combination (map row_at rows.old.entries) card.now.name1 ≡ true → AreNumbers
+        (part_pairs_of (shown card.now)) }
     ensures { OnOk result (map row_at rows.new.entries ≡ modify_row (shown card.now)
         (map row_at rows.old.entries)) }
 {
@@ -283,6 +297,7 @@ fn numbered_parts(
     rows: &Rows,
     parts: &Option<Entries>,
 ) -> Result<Option<Vec<DeckEntry>>, NoMemory>
+    requires { length rows.now ≤ MAX_ROWS }
     ensures { IfOk result (λ list. option_map (λ l. l.items) list ≡ option_map
         (map (entry_by (number_in (map (λ row. row.name) rows.now)))) parts.now) }
 {
@@ -294,6 +309,7 @@ fn numbered_parts(
 
 // The row of this name and body, with its parts on the numbers of these rows.
 fn numbered_row(alloc: Global, rows: &Rows, name: Name, body: &RowBody) -> Result<RowDecl, NoMemory>
+    requires { length rows.now ≤ MAX_ROWS }
     ensures { IfOk result (λ decl. decl ≡ row_by (number_in (map (λ row. row.name) rows.now))
         (row_at (name, body.now))) }
 {
@@ -310,6 +326,7 @@ fn row_decls(
     rows: &Rows,
     bodies: &IndexMap<Name, RowBody>,
 ) -> Result<Vec<RowDecl>, NoMemory>
+    requires { length rows.now ≤ MAX_ROWS }
     ensures { IfOk result (λ decls. decls.items ≡ map
         (row_by (number_in (map (λ row. row.name) rows.now))) (map row_at bodies.now.entries)) }
 {

@@ -1,2 +1,3 @@
 pub mod TwoPairs
 pub mod FaultParts
+mod Faultless

@@ -1,27 +1,29 @@
 // The edits of data cards under actions.
-ghost use Rattle.std.specs.Prelude.{◌≡◌, [], OnOk, IfOk, IfErr, insert, None, unwrap_or, option_map};
+ghost use Rattle.std.specs.Prelude.{◌≡◌, [], OnOk, IfOk, insert, None, false, unwrap_or, option_map};
+ghost use Rattle.problem_definitions.specs.Problem.{has_row, has_group};
 ghost use Rattle.problem_definitions.specs.Groups.{in_all, filled};
-ghost use Rattle.deck_definitions.specs.DataCards.{entries_of, parts_on, row_of};
+ghost use Rattle.deck_definitions.specs.DataCards.{entries_of, pairs_of, parts_on, part_pairs_of, row_of};
 ghost use Rattle.deck_cards.specs.Shown.{shown};
 ghost use Rattle.revise_definitions.specs.Edits.{without_row, without_column, delete_row, delete_column, edit_sets, edit_bounds};
-ghost use Rattle.revise_parts.specs.Summary.{row_inserted, column_inserted, rows_edited, columns_edited, edited_by};
+ghost use Rattle.revise_lists.specs.Additions.{AreNew};
+ghost use Rattle.revise_parts.specs.Needs.{IsNewRow, IsNewColumn, HasBound, CanEditRows, CanEditColumns, CanEditSets, CanEditBounds};
+ghost use Rattle.revise_parts.specs.Summary.{edit_test, row_inserted, column_inserted, rows_edited, columns_edited, edited_by};
 
 use crate::places::{next_column_place, next_row_place};
 use crate::under::UnderAction;
 use deck_cards::{DataCard, bound_kind, combination_kind, is_blank, row_kind};
-use deck_parts::{CardStop, Section};
+use deck_parts::Section;
 use name_table::Name;
 use revise_definitions::Action;
 use revise_lists::{BoundChange, BoundSets, Entries, EntryChange, Groups, NamedProblem, Rows};
-use std::alloc::Global;
+use std::alloc::{AllocError, Global};
 
 // Takes the items on a row out of all sets, and the sets that have none left.
-fn remove_row_from_sets(row: &Name, sets: &mut Groups) -> Result<(), CardStop>
-    ensures { OnOk result (sets.new ≡ filled (in_all (without_row row.now) sets.old)) }
+fn remove_row_from_sets(row: &Name, sets: &mut Groups)
+    ensures { sets.new ≡ filled (in_all (without_row row.now) sets.old) }
 {
-    sets.remove_row(row)?;
+    sets.remove_row(row);
     sets.remove_empty();
-    Ok(())
 }
 
 // Takes the bounds on a column out of all sets, and the sets that have none left.
@@ -33,14 +35,13 @@ fn remove_column_from_sets(column: &Name, sets: &mut BoundSets)
 }
 
 // Takes out a row, with its entries and its items.
-fn remove_row(name: Name, problem: &mut NamedProblem) -> Result<(), CardStop>
-    ensures { OnOk result (problem.new ≡ delete_row name problem.old) }
+fn remove_row(name: Name, problem: &mut NamedProblem)
+    ensures { problem.new ≡ delete_row name problem.old }
 {
     problem.rows.remove(&name);
-    problem.columns.remove_row(&name)?;
-    remove_row_from_sets(&name, &mut problem.rhs)?;
-    remove_row_from_sets(&name, &mut problem.ranges)?;
-    Ok(())
+    problem.columns.remove_row(&name);
+    remove_row_from_sets(&name, &mut problem.rhs);
+    remove_row_from_sets(&name, &mut problem.ranges);
 }
 
 // Takes out a column, with its bounds.
@@ -52,7 +53,8 @@ fn remove_column(name: Name, problem: &mut NamedProblem)
 }
 
 // The parts on a card that begins a combination.
-fn parts_of(alloc: Global, card: &DataCard<'_>) -> Result<Entries, CardStop>
+fn parts_of(alloc: Global, card: &DataCard<'_>) -> Result<Entries, AllocError>
+    requires { AreNew [] (part_pairs_of (shown card.now)) }
     ensures { IfOk result (λ parts. parts ≡ parts_on (shown card.now)) }
 {
     let mut parts = Entries::new(alloc);
@@ -66,7 +68,9 @@ fn insert_row_at(
     rows: &mut Rows,
     place: usize,
     card: &DataCard<'_>,
-) -> Result<(), CardStop>
+) -> Result<(), AllocError>
+    requires is_new { has_row rows.old card.now.name1 ≡ false }
+    requires parts { AreNew [] (part_pairs_of (shown card.now)) }
     ensures { OnOk result (rows.new ≡ unwrap_or (option_map (insert rows.old place)
         (row_of (shown card.now))) rows.old) }
 {
@@ -89,7 +93,8 @@ fn insert_row_of(
     under: &UnderAction,
     card: &DataCard<'_>,
     rows: &mut Rows,
-) -> Result<(), CardStop>
+) -> Result<(), AllocError>
+    requires { IsNewRow under.now (shown card.now) rows.old }
     ensures { OnOk result (rows.new ≡ row_inserted action under.now (shown card.now) rows.old) }
 {
     if under.goes_on_row(card) {
@@ -105,7 +110,9 @@ fn insert_new_column(
     place: usize,
     card: &DataCard<'_>,
     columns: &mut Groups,
-) -> Result<(), CardStop>
+) -> Result<(), AllocError>
+    requires is_new { has_group columns.old card.now.name1 ≡ false }
+    requires entries { AreNew [] (pairs_of (shown card.now)) }
     ensures { OnOk result (columns.new ≡ insert columns.old place
         (record { name = card.now.name1; items = entries_of (shown card.now) })) }
 {
@@ -121,7 +128,8 @@ fn insert_column_of(
     under: &UnderAction,
     card: &DataCard<'_>,
     columns: &mut Groups,
-) -> Result<(), CardStop>
+) -> Result<(), AllocError>
+    requires { IsNewColumn under.now (shown card.now) columns.old }
     ensures { OnOk result (columns.new ≡ column_inserted action under.now (shown card.now)
         columns.old) }
 {
@@ -139,13 +147,17 @@ fn edit_rows_of(
     under: &UnderAction,
     card: &DataCard<'_>,
     problem: &mut NamedProblem,
-) -> Result<(), CardStop>
+) -> Result<(), AllocError>
+    requires { CanEditRows action under.now (shown card.now) problem.old.rows }
     ensures { OnOk result (problem.new ≡ rows_edited action under.now (shown card.now)
         problem.old) }
 {
     match action {
         Action::Modify => problem.rows.modify(card),
-        Action::Delete => remove_row(card.name1, problem),
+        Action::Delete => {
+            remove_row(card.name1, problem);
+            Ok(())
+        }
         Action::Before => insert_row_of(alloc, Action::Before, under, card, &mut problem.rows),
         Action::After => insert_row_of(alloc, Action::After, under, card, &mut problem.rows),
     }
@@ -156,7 +168,7 @@ fn delete_column_of(
     alloc: Global,
     card: &DataCard<'_>,
     problem: &mut NamedProblem,
-) -> Result<(), CardStop>
+) -> Result<(), AllocError>
     ensures { OnOk result (problem.new ≡ columns_edited Action.Delete
         (record { anchor = []; there = 0; names = []; last = None; combination = None }) (shown card.now) problem.old) }
 {
@@ -174,7 +186,8 @@ fn edit_columns_of(
     under: &UnderAction,
     card: &DataCard<'_>,
     problem: &mut NamedProblem,
-) -> Result<(), CardStop>
+) -> Result<(), AllocError>
+    requires { CanEditColumns action under.now (shown card.now) problem.old.columns }
     ensures { OnOk result (problem.new ≡ columns_edited action under.now (shown card.now)
         problem.old) }
 {
@@ -194,7 +207,8 @@ fn edit_sets_of(
     action: Action,
     card: &DataCard<'_>,
     sets: &mut Groups,
-) -> Result<(), CardStop>
+) -> Result<(), AllocError>
+    requires { CanEditSets action (shown card.now) }
     ensures { OnOk result (sets.new ≡ edit_sets action (shown card.now) sets.old) }
 {
     match action {
@@ -206,7 +220,8 @@ fn edit_sets_of(
 }
 
 // Puts the bound of a card into its set, if its type is known.
-fn put_bound_of(alloc: Global, card: &DataCard<'_>, sets: &mut BoundSets) -> Result<(), CardStop>
+fn put_bound_of(alloc: Global, card: &DataCard<'_>, sets: &mut BoundSets) -> Result<(), AllocError>
+    requires { HasBound (shown card.now) }
     ensures { OnOk result (sets.new ≡ edit_bounds Action.Modify (shown card.now) sets.old) }
 {
     match bound_kind(card.kind) {
@@ -221,7 +236,8 @@ fn edit_bounds_of(
     action: Action,
     card: &DataCard<'_>,
     sets: &mut BoundSets,
-) -> Result<(), CardStop>
+) -> Result<(), AllocError>
+    requires { CanEditBounds action (shown card.now) }
     ensures { OnOk result (sets.new ≡ edit_bounds action (shown card.now) sets.old) }
 {
     match action {
@@ -229,29 +245,6 @@ fn edit_bounds_of(
         Action::Delete => sets.delete(alloc, card),
         Action::Before => put_bound_of(alloc, card, sets),
         Action::After => put_bound_of(alloc, card, sets),
-    }
-}
-
-// The edit of a card of a section.
-fn edit_section(
-    alloc: Global,
-    section: Section,
-    action: Action,
-    under: &UnderAction,
-    card: &DataCard<'_>,
-    problem: &mut NamedProblem,
-) -> Result<(), CardStop>
-    ensures { OnOk result (problem.new ≡ edited_by section action under.now (shown card.now)
-        problem.old) }
-{
-    match section {
-        Section::Rows => edit_rows_of(alloc, action, under, card, problem),
-        Section::Columns => edit_columns_of(alloc, action, under, card, problem),
-        Section::Rhs => edit_sets_of(alloc, action, card, &mut problem.rhs),
-        Section::Ranges => edit_sets_of(alloc, action, card, &mut problem.ranges),
-        Section::Bounds => edit_bounds_of(alloc, action, card, &mut problem.bounds),
-        Section::Header => Ok(()),
-        Section::Endata => Ok(()),
     }
 }
 
@@ -263,13 +256,18 @@ pub fn edit(
     under: &UnderAction,
     card: &DataCard<'_>,
     problem: &mut NamedProblem,
-) -> Result<(), CardStop>
-    ensures edited { OnOk result (problem.new ≡ edited_by section action under.now (shown card.now)
+) -> Result<(), AllocError>
+    requires { edit_test problem.old section action under.now (shown card.now) ≡ None }
+    ensures { OnOk result (problem.new ≡ edited_by section action under.now (shown card.now)
         problem.old) }
-    ensures stop { IfErr result (λ stop. stop ≡ CardStop.NoMemory) }
 {
-    match edit_section(alloc, section, action, under, card, problem) {
-        Ok(()) => Ok(()),
-        Err(_) => Err(CardStop::NoMemory),
+    match section {
+        Section::Rows => edit_rows_of(alloc, action, under, card, problem),
+        Section::Columns => edit_columns_of(alloc, action, under, card, problem),
+        Section::Rhs => edit_sets_of(alloc, action, card, &mut problem.rhs),
+        Section::Ranges => edit_sets_of(alloc, action, card, &mut problem.ranges),
+        Section::Bounds => edit_bounds_of(alloc, action, card, &mut problem.bounds),
+        Section::Header => Ok(()),
+        Section::Endata => Ok(()),
     }
 }

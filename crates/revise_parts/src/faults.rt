@@ -208,7 +208,7 @@ fn put_pairs_fault(
     ensures { result ≡ puts_fault seen.now Columns (items_of card.now.name1 columns.now)
         (sum_by (λ column. length column.items) columns.now) (pairs_of (shown card.now)) }
 {
-    let count = columns.item_count() as u128;
+    let count = columns.item_count();
     puts_fault_of(
         seen,
         Section::Columns,
@@ -334,7 +334,7 @@ fn added_pairs_fault(
     ensures { result ≡ pairs_fault seen.now Columns (items_of card.now.name1 columns.now)
         (sum_by (λ column. length column.items) columns.now) (pairs_of (shown card.now)) }
 {
-    let count = columns.item_count() as u128;
+    let count = columns.item_count();
     pairs_fault_of(seen, columns.items(&card.name1), count, card)
 }
 

@@ -1,5 +1,5 @@
 // The tests of the pairs of a card.
-ghost use Rattle.std.specs.Prelude.{◌≡◌, ◌≤◌, ◌+◌, ◌^◌, ◌||◌, [], None, Some, if◌then◌else◌, take, option_map, unwrap_or};
+ghost use Rattle.std.specs.Prelude.{◌≡◌, ◌<◌, ◌+◌, ◌^◌, ◌||◌, [], None, Some, if◌then◌else◌, take, option_map, unwrap_or};
 ghost use Rattle.std.specs.Option.{option_or, option_copied, option_to_list};
 ghost use Rattle.problem_definitions.specs.Names.{same};
 ghost use Rattle.problem_definitions.specs.Problem.{has_entry};
@@ -117,7 +117,7 @@ fn part_fault_at(
 
 // The number of entries once one more is put on a row that has one or hasn't.
 fn count_with(count: u128, is_there: bool) -> u128
-    requires { count ≤ 2 ^ 127 }
+    requires { count + 1 < 2 ^ 128 }
     ensures { result ≡ count + (if is_there then 0 else 1) }
 {
     if is_there {
@@ -165,7 +165,7 @@ pub fn puts_fault_of(
     count: u128,
     card: &DataCard<'_>,
 ) -> Option<DeckFaultKind>
-    requires { count ≤ 2 ^ 127 }
+    requires { count + 1 < 2 ^ 128 }
     ensures { result ≡ puts_fault seen.now section (unwrap_or (option_copied items.entry) []) count
         (pairs_of (shown card.now)) }
 {
@@ -190,7 +190,7 @@ pub fn pairs_fault_of(
     count: u128,
     card: &DataCard<'_>,
 ) -> Option<DeckFaultKind>
-    requires { count ≤ 2 ^ 127 }
+    requires { count + 1 < 2 ^ 128 }
     ensures { result ≡ pairs_fault seen.now Columns (unwrap_or (option_copied items.entry) []) count
         (pairs_of (shown card.now)) }
 {

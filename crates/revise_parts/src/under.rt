@@ -1,7 +1,6 @@
 // The data cards under an action.
-ghost use Rattle.std.specs.Prelude.{◌≡◌, ◌+◌, ◌-◌, ◌&&◌, [], None, Some, OnOk, IfSome, min, bytes_eq, length, IfErr, if◌then◌else◌};
+ghost use Rattle.std.specs.Prelude.{◌≡◌, ◌+◌, ◌-◌, ◌&&◌, [], None, Some, OnOk, IfSome, min, length, IfErr, if◌then◌else◌};
 ghost use Rattle.card_definitions.specs.Words.{is_empty};
-ghost use Rattle.problem_definitions.specs.Names.{same};
 ghost use Rattle.deck_definitions.specs.DataCards.{combination_text, is_card_of};
 ghost use Rattle.deck_cards.specs.Shown.{shown};
 ghost use Rattle.revise_parts.specs.Summary.{combination_on, goes_on_from, goes_on_row_from, with_card_under, place_at};

@@ -16,7 +16,7 @@ use Rattle.control_definitions.specs.Program.{Program}
 use Rattle.control_definitions.specs.Compiled.{compiled}
 use Rattle.listing_definitions.specs.Report.{Report}
 use Rattle.listing_definitions.specs.Ending.{Ending, WordsRefused, ControlStop, CardStop, ReadFault, PrintFault, PunchFault, Memory, status_of}
-use Rattle.job_devices.specs.Text.{IsFront}
+use Rattle.card_definitions.specs.Prefixes.{IsPrefix}
 use Rattle.listing_definitions.specs.Listing.{ending_text, reports_text, listing}
 use Rattle.question_definitions.specs.Solving.{Solving}
 use Rattle.run_definitions.specs.State.{State}
@@ -46,10 +46,10 @@ pub record Failures : Type 1 where
   pub punch : Type 0
   pub memory : Type 0
 
--- what the punch has gained by an end: all of a text, or a front of it where its deck may be broken off
+-- what the punch has gained by an end: all of a text, or a prefix of it where its deck may be broken off
 abbrev pub Gains : Ending → List ℕ → List ℕ → Type 0
-Gains PunchFault gained text = IsFront gained text
-Gains Memory gained text = IsFront gained text
+Gains PunchFault gained text = IsPrefix gained text
+Gains Memory gained text = IsPrefix gained text
 Gains _ gained text = gained ≡ text
 
 -- the decks of a job are those of the cards after its program
@@ -102,12 +102,12 @@ module _ (S : Solving) where
   pub data IsCutShort (job : Job) (failures : Failures) (answer : Answer) : Type 0 where
     in_report : (bytes : List ℕ) (program : Program) (state : State) {reports : List Report} {cards : List (List ℕ)} (outcome : Outcome) (part : List ℕ) →
         bytes_of job ≡ Some bytes → IsSoFar bytes reports cards program state → Step S program state outcome →
-        IsFront part (reports_text (printed_by (gain_of outcome))) → answer.printed ≡ reports_text reports ++ part →
+        IsPrefix part (reports_text (printed_by (gain_of outcome))) → answer.printed ≡ reports_text reports ++ part →
         answer.punched ≡ card_text (cards ++ punched_by (gain_of outcome)) → IsCutShort job failures answer
     in_end : {reports : List Report} {cards : List (List ℕ)} (ending : Ending) (part : List ℕ) → MayEnd job failures reports cards ending →
-        IsFront part (ending_text ending) → answer.printed ≡ reports_text reports ++ part → Gains ending answer.punched (card_text cards) → IsCutShort job failures answer
+        IsPrefix part (ending_text ending) → answer.printed ≡ reports_text reports ++ part → Gains ending answer.punched (card_text cards) → IsCutShort job failures answer
 
-  -- What a job may be answered: the status of an end, with the whole listing, and with all that is punched by then, or a front of it
+  -- What a job may be answered: the status of an end, with the whole listing, and with all that is punched by then, or a prefix of it
   -- where the deck in hand isn't whole; or the print has failed, or wanted memory itself, and all is cut short.
   pub data IsAnswer (job : Job) (failures : Failures) (answer : Answer) : Type 0 where
     whole : {reports : List Report} {cards : List (List ℕ)} (ending : Ending) → MayEnd job failures reports cards ending →

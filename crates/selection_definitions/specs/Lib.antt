@@ -2,6 +2,8 @@ pub mod Choice
 pub mod Limits
 pub mod Combinations
 pub mod Selection
+pub mod Programs
+pub mod Changes
 pub mod RangeSums
 pub mod CombinationSums
 pub mod Refusals

@@ -1,6 +1,5 @@
 -- Which variable moves, which way, and what stops it.
 --     least p test                         the least-numbered variable that passes a test
---     is_fixed p k, is_crossed p k         both limits are there, and they are equal, or the lower one is above the upper one
 --     is_below p z k, is_above p z k       k lies below its lower limit, or above its upper one; is_outside: one of the two
 --     may_rise p s k, may_fall p s k       a nonbasic that is not fixed may leave the place at which it stands, upward or downward
 --     entering p s f                       the least-numbered nonbasic that may move so as to lower a quantity; f has its rates
@@ -9,26 +8,15 @@
 use Rattle.std.specs.Prelude.{ℕ, Bool, true, false, not, ◌&&◌, ◌||◌, List, Option, Some, None, if◌then◌else◌, find, option_map}
 use Rattle.std.specs.List.{list_all}
 use Rattle.exact_values.specs.Rational.{ℚ, zero_ℚ, neg_ℚ, ◌-ℚ◌, ◌/ℚ◌}
-use Rattle.exact_values.specs.Tests.{eq_ℚ, le_ℚ, lt_ℚ}
+use Rattle.exact_values.specs.Tests.{le_ℚ, lt_ℚ}
 use Rattle.lp_definitions.specs.LinearProgram.{LinearProgram, Vector, variables, lower_of, upper_of}
 use Rattle.lp_definitions.specs.Basis.{status_of}
+pub use Rattle.lp_definitions.specs.Limits.{on_limits, is_fixed, is_crossed}
 use Rattle.lp_definitions.specs.declared.Status.{Status}
 use Rattle.lp_definitions.specs.declared.Status.TheVariants.{Bs, Ll, Ul, Fr}
 
 abbrev pub least : LinearProgram → (ℕ → Bool) → Option ℕ
 least p test = find test (variables p.matrix)
-
--- both limits are there, and the test holds of them
-abbrev pub on_limits : (ℚ → ℚ → Bool) → Option ℚ → Option ℚ → Bool
-on_limits test None high = false
-on_limits test (Some l) None = false
-on_limits test (Some l) (Some u) = test l u
-
-abbrev pub is_fixed : LinearProgram → ℕ → Bool
-is_fixed p k = on_limits eq_ℚ (lower_of p k) (upper_of p k)
-
-abbrev pub is_crossed : LinearProgram → ℕ → Bool
-is_crossed p k = on_limits (λ l u. lt_ℚ u l) (lower_of p k) (upper_of p k)
 
 -- there is a limit, and the test holds of it
 abbrev pub on_limit : (ℚ → Bool) → Option ℚ → Bool

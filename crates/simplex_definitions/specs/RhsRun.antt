@@ -4,7 +4,7 @@
 --     rhs_face                     what is done at a break
 --     IsRhsFace                    the same as a relation, by the tableau and the slope of the basis
 use Rattle.std.specs.Prelude.{◌≡◌, ℕ, Bool, ◌&&◌, ◌||◌, List, map, Option, Some, None, if◌then◌else◌, nat_le, option_map}
-use Rattle.exact_values.specs.Rational.{ℚ, zero_ℚ, neg_ℚ, ◌+ℚ◌, ◌*ℚ◌}
+use Rattle.exact_values.specs.Rational.{ℚ, zero_ℚ, ◌+ℚ◌, ◌*ℚ◌}
 use Rattle.exact_values.specs.Tests.{eq_ℚ, lt_ℚ}
 use Rattle.lp_definitions.specs.LinearProgram.{Matrix, LinearProgram, Vector, value_at, variables, lower_of, upper_of, KeepsEquations, with_limits}
 use Rattle.lp_definitions.specs.Basis.{basics_of, is_in, IsNonbasic, Tableau, IsTableau}

@@ -2,7 +2,7 @@
 use Rattle.std.proofs.Common.{◌≡◌, ℕ, Bool, true, false, refl, subst}
 use Rattle.std.specs.Prelude.{Option, Some, None, Ok, option_and_then, if◌then◌else◌}
 use Rattle.std.proofs.lemmas.Option.{same_Some}
-use Rattle.lp_setup.proofs.FreeRows.{row_is_free}
+use Rattle.selection_laws.proofs.FreeRows.{row_is_free}
 use Rattle.problem_definitions.specs.Names.{Name}
 use Rattle.problem_definitions.specs.Problem.{Problem, has_free_row, has_group}
 use Rattle.control_definitions.specs.Cells.{Cells}

@@ -116,9 +116,9 @@ module _ (S : Solving) (solving : KnowsSolving S) where
   end_holds _ _ _ (punch_fails bytes program state deck failed is so_far punching) = so_far_holds bytes program so_far.is_program _ _ state so_far.reaches
 
   cut_holds : {job : Job} {failures : Failures} {answer : Answer} (cut : IsCutShort S job failures answer) → HoldInCut S cut
-  cut_holds (in_report bytes program state outcome part is so_far step front printed punched) =
+  cut_holds (in_report bytes program state outcome part is so_far step prefix printed punched) =
       (so_far_holds bytes program so_far.is_program _ _ state so_far.reaches, step_holds bytes program so_far.is_program _ _ state outcome so_far.reaches step)
-  cut_holds (in_end ending part may_end front printed punched) = end_holds _ _ ending may_end
+  cut_holds (in_end ending part may_end prefix printed punched) = end_holds _ _ ending may_end
 
   -- each report of an answer to a job holds of the state in which it was made
   pub answer_holds : {job : Job} {failures : Failures} {answer : Answer} (is : IsAnswer S job failures answer) → HoldInAnswer S is

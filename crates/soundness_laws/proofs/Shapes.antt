@@ -17,7 +17,7 @@ use Rattle.simplex_laws.specs.Laws.{IsNonsingularBasis}
 use Rattle.selection_definitions.specs.Limits.{Limits, row_limits, with_range}
 use Rattle.selection_definitions.specs.Selection.{program_of_choice, selected}
 use Rattle.question_definitions.specs.Answers.{Basis}
-use Rattle.lp_setup.proofs.FreeRows.{is_chosen}
+use Rattle.selection_laws.proofs.Selected.{is_chosen}
 use Rattle.lp_laws.proofs.Alike.{allowed_like, none_like}
 
 -- the same limits are there

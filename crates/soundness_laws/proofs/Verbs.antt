@@ -48,7 +48,8 @@ use Rattle.soundness_laws.proofs.Sweeps.{swept_leads, swept_true}
 use Rattle.soundness_laws.specs.Laws.{KnowsSolving}
 use Rattle.soundness_laws.proofs.ChangeRow.{changes_freely, row_named, set_named, last_is}
 use Rattle.soundness_laws.proofs.Ends.{IsProvedBest, shown_is_best, end_is_true, path_is_true}
-use Rattle.soundness_laws.proofs.Selected.{selected_is_lawful, selected_has_names, selected_without_change, selected_has_no_change}
+use Rattle.selection_laws.proofs.Selected.{selected_is_lawful, selected_without_change}
+use Rattle.soundness_laws.proofs.Selected.{selected_has_names, selected_has_no_change}
 use Rattle.soundness_laws.proofs.Moves.{HasProblem, EndsOptimally, KnowsMark, Knows, Keeps, IsKept, unmarked, HasBases, KnowsBases, without_setup, with_basis, does, may_stop, answered, unless_fault, unless_deck_fault, unless_selection_fault, selecting}
 use Rattle.parametric_laws.proofs.Runs.{last_of-append}
 

@@ -55,9 +55,9 @@ module _ (S : Solving) where
   -- prefix stands
   abbrev pub HoldInCut : {job : Job} {failures : Failures} {answer : Answer} →
       IsCutShort S job failures answer → Type 0
-  HoldInCut (in_report bytes program state outcome part is so_far step front printed punched) =
+  HoldInCut (in_report bytes program state outcome part is so_far step prefix printed punched) =
       HoldSoFar S Holds program _ so_far.reaches × All (Holds state) (printed_by (gain_of outcome))
-  HoldInCut (in_end ending part may_end front printed punched) = HoldInEnd may_end
+  HoldInCut (in_end ending part may_end prefix printed punched) = HoldInEnd may_end
 
   -- of an answer: of the reports of its listing, or of the listing that is cut short
   abbrev pub HoldInAnswer : {job : Job} {failures : Failures} {answer : Answer} →

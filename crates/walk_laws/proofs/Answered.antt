@@ -16,7 +16,7 @@ use Rattle.run_definitions.specs.Verbs.{asks, mark_of, demanded, by_verdict, aft
 use Rattle.run_definitions.specs.Run.{counted}
 use Rattle.soundness_laws.specs.Truth.{PresentProgram, sheet_of, IsTrueOf, IsNotUnbounded}
 use Rattle.soundness_laws.proofs.Moves.{HasProblem}
-use Rattle.soundness_laws.proofs.Selected.{selected_is_lawful, selected_without_change}
+use Rattle.selection_laws.proofs.Selected.{selected_is_lawful, selected_without_change}
 use Rattle.walk_definitions.specs.Reading.{Judged, Right, Fails, Refuses, judged, judged_map}
 use Rattle.walk_definitions.specs.Reading as readings
 use Rattle.walk_definitions.specs.Walker.{Pending, Walker, open_stop, open_pending, open_question, follows, passed, pending_after, noted, answered}

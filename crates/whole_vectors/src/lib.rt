@@ -8,8 +8,12 @@ ghost use Rattle.exact_values.specs.Rational.{zero_ℚ, ◌-ℚ◌, ◌*ℚ◌, 
 ghost use Rattle.frac128.specs.Terms.{Fits};
 ghost use Rattle.whole_vectors.specs.Quotients.{AreProducts, AreQuotients, IsSameOver};
 
+mod word_vectors;
+
 use divisors::gcd;
 use frac128::Frac;
+use word_vectors::{word_multiple, word_product};
+pub use word_vectors::{multiply_words, word, word_fraction, word_quotient, word_sum};
 
 /// A denominator of this size or more is reduced.
 const LARGE: u128 = 1 << 50;
@@ -112,6 +116,49 @@ pub fn terms(x: Frac) -> (Frac, Frac)
     (Frac::whole(x.num()), Frac::whole(x.den()))
 }
 
+/// The product of two numbers, and of two words with no test of what they share.
+#[inline(always)]
+fn number_product(x: Frac, y: Frac) -> Option<Frac>
+    ensures { IfSome result (λ product. product ≡ x *ℚ y) }
+{
+    match word_product(x, y) {
+        Some(product) => Some(product),
+        None => x.mul(y).ok(),
+    }
+}
+
+/// A number over a divisor, and a word over one of which it is a multiple with no test of what they share.
+#[inline(always)]
+fn number_quotient(number: Frac, by: Frac) -> Option<Frac>
+    requires { by ≢ zero_ℚ }
+    ensures { IfSome result (λ quotient. quotient ≡ number /ℚ by) }
+{
+    match word(number) {
+        Some(n) => word_quotient(n, by),
+        None => quotient(number, by),
+    }
+}
+
+/// The product with a word that is a multiple of the denominator.
+fn product_by_multiple(x: Frac, scale: Frac) -> Option<Frac>
+    ensures { IfSome result (λ product. product ≡ x *ℚ scale) }
+{
+    let parts = terms(x);
+    let whole_scale = word(scale)?;
+    let times = word_multiple(whole_scale, parts.1)?;
+    word_product(parts.0, word_fraction(times))
+}
+
+/// The product with a number that is mostly a multiple of the denominator.
+pub fn product_by_scale(x: Frac, scale: Frac) -> Option<Frac>
+    ensures { IfSome result (λ product. product ≡ x *ℚ scale) }
+{
+    match product_by_multiple(x, scale) {
+        Some(product) => Some(product),
+        None => product(x, scale),
+    }
+}
+
 /// Makes each number its product with a factor.
 pub fn multiply(numbers: &mut [Frac], by: Frac) -> Option<()>
     ensures { IfSome result (λ _. AreProducts by numbers.old numbers.new) }
@@ -124,7 +171,7 @@ pub fn multiply(numbers: &mut [Frac], by: Frac) -> Option<()>
         if number.is_zero() {
             continue;
         }
-        numbers[place] = number.mul(by).ok()?;
+        numbers[place] = number_product(number, by)?;
     }
     Some(())
 }
@@ -142,7 +189,7 @@ pub fn divide(numbers: &mut [Frac], by: Frac) -> Option<()>
         if number.is_zero() {
             continue;
         }
-        numbers[place] = quotient(number, by)?;
+        numbers[place] = number_quotient(number, by)?;
     }
     Some(())
 }

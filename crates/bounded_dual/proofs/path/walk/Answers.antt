@@ -17,6 +17,7 @@ returns-in_err-point_of-clause-stops g c =
 
 pub loop-outcome-init : goal.loop-outcome-init
 loop-outcome-init g c = record {
+  places = c.requires.direction_places;
   rates = c.in_ok-point_of.ensures.rates.0;
   point = point_agrees c.args.lp.now c.args.basis.now c.in_ok-point_of.ensures.rates.0.is_basis c.in_ok-point_of.ensures.rates.0.nonsingular (value_at c.point_of.new.out) c.in_ok-point_of.ensures.point;
   kept = λ _. c.in_ok-point_of.ensures.point;
@@ -89,6 +90,7 @@ loop-outcome-preserved g c =
     let moves = rw c.in-Moves.is at c.in_ok-outcome.ensures.turn in
     let next = walk_more c.args.lp.now c.args.basis.now (g.R.Rates.waypoints c.args.rates.now) c.loop-outcome.basis (g.R.Rates.waypoints c.loop-outcome.rates) c.loop-outcome.steps c.loop-outcome.invariant.reached (value_at c.next_turn.new.direction) (value_at c.next_turn.new.row) c.in-Moves.q c.in-Moves.by (c.args.limit - c.loop-outcome.steps) moves c.step_over.new.basis (g.R.Rates.waypoints c.next_turn.new.rates) (g.R.Rates.waypoints c.step_over.new.rates) c.in_ok-kept-in-Moves.ensures.basis c.in_ok-outcome.ensures.rates.1 c.in_ok-kept-in-Moves.ensures.waypoints in
     record {
+      places = c.in_ok-outcome.ensures.direction_places;
       rates = c.in_ok-kept_prices-in-Moves.ensures.rates.0;
       point = c.in_ok-kept-in-Moves.ensures.point;
       kept = c.in_ok-kept-in-Moves.ensures.kept;

@@ -1,6 +1,6 @@
-use Rattle.std.proofs.Common.{◌≡◌, ◌-◌, ◌≤◌}
+use Rattle.std.proofs.Common.{◌≡◌, length, ◌-◌, ◌≤◌}
 use Rattle.std.specs.Prelude.{IsTrue}
-use Rattle.lp_definitions.specs.LinearProgram.{value_at}
+use Rattle.lp_definitions.specs.LinearProgram.{value_at, size}
 use Rattle.lp_definitions.specs.Basis.{IsPointOf, ArePricesOf}
 use Rattle.simplex_definitions.specs.DualPath.{dual_turn}
 use Rattle.basis_values.specs.Calls.{HasRates}
@@ -14,6 +14,7 @@ decreases-loop-outcome g l = l.limit - l.steps
 
 abbrev pub invariant-loop-outcome : goal.invariant-loop-outcome
 invariant-loop-outcome g l = record {
+  places : length l.direction ≡ size l.lp.matrix;
   rates : HasRates (g.R.Rates.matrix l.rates) (g.R.Rates.basics l.rates) l.lp l.basis;
   point : AgreesWithPoint l.lp l.basis (value_at l.point);
   kept : IsTrue (all_kept l.kept) → IsPointOf l.lp l.basis (value_at l.point);

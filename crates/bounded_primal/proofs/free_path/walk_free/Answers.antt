@@ -28,6 +28,7 @@ pub loop-share-init : goal.loop-share-init
 loop-share-init g c = record {
   some = omega (arith, c.open-book.ensures.parts, c.requires.some, c.requires.parts);
   counted = rw c.open-book.ensures.total refl;
+  places = c.requires.direction_places;
   rates = c.in_ok-point_of.ensures.rates.0;
   wants = c.requires.wants;
   point = point_agrees c.args.lp.now c.args.basis.now c.in_ok-point_of.ensures.rates.0.is_basis c.in_ok-point_of.ensures.rates.0.nonsingular (value_at c.point_of.new.out) c.in_ok-point_of.ensures.point;
@@ -95,6 +96,7 @@ loop-share-preserved g c =
     record {
       some = omega (arith, c.add.ensures.parts, c.loop-share.invariant.some);
       counted = c.saturating_add-steps.ensures ∙ counted_more c.loop-share.steps c.loop-share.book.total c.loop-share.invariant.counted ∙ ap counted_steps (sym c.add.ensures.total);
+      places = c.in_ok-outcome.ensures.direction_places;
       rates = c.in_ok-kept-in-Moves.ensures.rates;
       wants = c.renew_wants.ensures;
       point = c.in_ok-kept-in-Moves.ensures.point;

@@ -1,6 +1,6 @@
-use Rattle.std.proofs.Common.{◌≡◌, ◌-◌, ◌<◌}
+use Rattle.std.proofs.Common.{◌≡◌, length, ◌-◌, ◌<◌}
 use Rattle.std.specs.Prelude.{IsTrue}
-use Rattle.lp_definitions.specs.LinearProgram.{value_at}
+use Rattle.lp_definitions.specs.LinearProgram.{value_at, size}
 use Rattle.lp_definitions.specs.Basis.{IsPointOf}
 use Rattle.simplex_definitions.specs.Counts.{counted_steps}
 use Rattle.termination_laws.specs.Laws.{lists_of}
@@ -20,6 +20,7 @@ abbrev pub invariant-loop-share : goal.invariant-loop-share
 invariant-loop-share g l = record {
   some : 0 < l.share.parts;
   counted : l.steps ≡ counted_steps l.book.total;
+  places : length l.direction ≡ size l.lp.matrix;
   rates : HasRates (g.R.Rates.matrix l.rates) (g.R.Rates.basics l.rates) l.lp l.basis;
   wants : AreWants l.lp l.basis l.wanted;
   point : AgreesWithPoint l.lp l.basis (value_at l.point);

@@ -19,6 +19,7 @@ returns-in_err-point_of-clause-stops g c =
 
 pub loop-outcome-init : goal.loop-outcome-init
 loop-outcome-init g c = record {
+  places = c.requires.direction_places;
   rates = c.in_ok-point_of.ensures.rates.0;
   wants = c.requires.wants;
   point = point_agrees c.args.lp.now c.args.basis.now c.in_ok-point_of.ensures.rates.0.is_basis c.in_ok-point_of.ensures.rates.0.nonsingular (value_at c.point_of.new.out) c.in_ok-point_of.ensures.point;
@@ -54,6 +55,7 @@ pub loop-outcome-preserved : goal.loop-outcome-preserved
 loop-outcome-preserved g c =
     let moves = rw c.in-Moves.is at c.in_ok-outcome.ensures.turn in
     record {
+      places = c.in_ok-outcome.ensures.direction_places;
       rates = c.in_ok-kept-in-Moves.ensures.rates;
       wants = c.renew_wants.ensures;
       point = c.in_ok-kept-in-Moves.ensures.point;

@@ -10,8 +10,7 @@ pub place_entries-requires-clause-within : goal.place_entries-requires-clause-wi
 place_entries-requires-clause-within c =
     let eta = c.args.eta.now in
     let is_whole : IsWholeOf eta.pivot eta.entries.items c.in-Some.whole = subst (λ o. IfSome o (IsWholeOf eta.pivot eta.entries.items)) c.in-Some.is c.requires.whole in
-    subst (λ xs. All (IsEntryWithin (length c.clear.new.out)) xs) (sym c.deref.ensures.value)
-    (subst (λ n. All (IsEntryWithin n) c.in-Some.whole.entries.items) (sym c.clear.auto.out) (whole_within eta.pivot eta.entries.items c.in-Some.whole is_whole (length c.args.out.now) c.requires.within.entries))
+    subst (λ xs. All (IsEntryWithin (length c.args.out.now)) xs) (sym c.deref.ensures.value) (whole_within eta.pivot eta.entries.items c.in-Some.whole is_whole (length c.args.out.now) c.requires.within.entries)
 
 pub place_entries-requires-clause-apart : goal.place_entries-requires-clause-apart
 place_entries-requires-clause-apart c =
@@ -23,7 +22,7 @@ pub returns : goal.returns
 returns c =
     let eta = c.args.eta.now in
     let is_whole : IsWholeOf eta.pivot eta.entries.items c.in-Some.whole = subst (λ o. IfSome o (IsWholeOf eta.pivot eta.entries.items)) c.in-Some.is c.requires.whole in
-    let counted : length c.place_entries.new.out ≡ length c.args.out.now = c.place_entries.auto.out ∙ c.clear.auto.out in
+    let counted : length c.place_entries.new.out ≡ length c.args.out.now = c.place_entries.auto.out in
     let scaled : IsScaled eta.p one_ℚ c.in-Some.whole.entries.items c.place_entries.new.out = subst (λ xs. IsScaled eta.p one_ℚ xs c.place_entries.new.out) c.deref.ensures.value c.place_entries.ensures in
     left_whole eta c.in-Some.whole is_whole c.requires.within.apart c.place_entries.new.out
     c.requires.within.p_low (omega (arith, counted, c.requires.within.p_high)) c.requires.within.q_low (omega (arith, counted, c.requires.within.q_high))

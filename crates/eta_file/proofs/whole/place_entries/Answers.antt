@@ -8,7 +8,7 @@ use Rattle.eta_file.proofs.whole.place_entries.Goals as goal
 use Rattle.eta_file.proofs.whole.place_entries.Goals.{then-entry-p, else-entry-p}
 
 pub loop-entry-init : goal.loop-entry-init
-loop-entry-init c k low high other = c.requires.zero (k - 1) ∙ sym (mul-zero one_ℚ)
+loop-entry-init c k low high other = c.requires.zero k low ∙ sym (mul-zero one_ℚ)
 
 pub loop-entry-preserved : goal.loop-entry-preserved
 loop-entry-preserved c =

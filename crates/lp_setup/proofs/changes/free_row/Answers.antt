@@ -1,5 +1,5 @@
 use Rattle.std.proofs.Common.{sym, ◌∙◌}
-use Rattle.lp_setup.proofs.FreeRows.{free_found, free_in}
+use Rattle.selection_laws.proofs.FreeRows.{free_found, free_in}
 use Rattle.lp_setup.proofs.changes.free_row.Goals as goal
 
 pub returns-then-has_free_row-clause-number : goal.returns-then-has_free_row-clause-number

@@ -3,7 +3,8 @@ use Rattle.lp_definitions.specs.LinearProgram.{IsLinearProgram}
 use Rattle.problem_definitions.specs.Problem.{Row}
 use Rattle.selection_definitions.specs.Limits.{Limits, value_on}
 use Rattle.lp_model.specs.Columns.{entries_of}
-use Rattle.lp_setup.specs.Parts.{by_number, side_on, AreRowsMade}
+use Rattle.selection_definitions.specs.Programs.{side_on}
+use Rattle.lp_setup.specs.Parts.{by_number, AreRowsMade}
 use Rattle.lp_setup.proofs.Lists.{length-by_number}
 use Rattle.lp_setup.proofs.Program.{program_made}
 use Rattle.lp_setup.proofs.selection.program.Goals as goal

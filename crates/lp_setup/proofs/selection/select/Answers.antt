@@ -3,9 +3,9 @@ use Rattle.std.proofs.Common.{length, Some, None, true, false, ap, sym, ◌∙�
 use Rattle.problem_definitions.specs.Valid.{AreEntries, AreBounds}
 use Rattle.control_definitions.specs.Program.{SetupOptions}
 use Rattle.selection_definitions.specs.Choice.{Choice}
-use Rattle.lp_setup.specs.Parts.{program_with}
-use Rattle.lp_setup.proofs.Faults.{missing-objective, limited-objective, missing-rhs, missing-range, missing-bound, faultless}
-use Rattle.lp_setup.proofs.Lawful.{free_objective, lawful_program}
+use Rattle.selection_definitions.specs.Programs.{program_with}
+use Rattle.selection_laws.proofs.Faults.{missing-objective, limited-objective, missing-rhs, missing-range, missing-bound, faultless}
+use Rattle.selection_laws.proofs.Lawful.{free_objective, lawful_program}
 use Rattle.lp_setup.proofs.Made.{selection_made}
 use Rattle.lp_setup.proofs.Program.{program_selected, refusal_of_program}
 use Rattle.lp_setup.proofs.Selecting.{number_found, free_found, miss_found, items_found, rhs_found}

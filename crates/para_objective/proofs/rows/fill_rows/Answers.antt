@@ -6,7 +6,7 @@ use Rattle.lp_model.proofs.Stops.{IfOverflow-map}
 use Rattle.basis_values.proofs.TermLaws.{IfErr-map}
 use Rattle.basis_values.proofs.Covered.{point_refused_later}
 use Rattle.basis_values.proofs.PriceLaws.{plain_prices}
-use Rattle.para_objective.proofs.FaceWalk.{on_ok}
+use Rattle.para_objective.proofs.FaceStops.{on_ok}
 use Rattle.basis_values.proofs.Kept.{kept_then}
 use Rattle.para_objective.proofs.rows.fill_rows.Goals as goal
 

@@ -15,10 +15,11 @@ pub leaver-p-requires-clause-some : goal.leaver-p-requires-clause-some
 leaver-p-requires-clause-some c =
     let basic : is_in c.args.old.now.basics (c.args.old.now.matrix.rows + c.args.c) ≡ true =
     ap (λ m. is_in c.args.old.now.basics (m + c.args.c)) (sym c.rows.ensures) ∙ sym c.is_basic.ensures ∙ c.if-not-is_basic.false in
-    let direction : IsDirectionOf c.args.old.now.matrix c.args.new.now.basics (c.args.old.now.matrix.rows + c.args.c) (value_at c.column.new.out) =
-    subst (λ (m : Matrix). IsDirectionOf m c.args.new.now.basics (c.args.old.now.matrix.rows + c.args.c) (value_at c.column.new.out)) c.requires.rebuilt.same_matrix
-    (subst (λ n. IsDirectionOf c.args.new.now.matrix c.args.new.now.basics (n + c.args.c) (value_at c.column.new.out)) c.rows.ensures c.in_default.ensures.direction) in
-    some_leaver c.args.old.now.matrix c.args.old.now.basics c.args.c c.args.new.now c.column.new.out c.size-size.ensures.nonsingular c.requires.column basic c.requires.rebuilt direction
+    let direction : IsDirectionOf c.args.old.now.matrix c.args.new.now.basics (c.args.old.now.matrix.rows + c.args.c) (value_at c.values.result.now) =
+    subst (λ (m : Matrix). IsDirectionOf m c.args.new.now.basics (c.args.old.now.matrix.rows + c.args.c) (value_at c.values.result.now)) c.requires.rebuilt.same_matrix
+    (subst (λ n. IsDirectionOf c.args.new.now.matrix c.args.new.now.basics (n + c.args.c) (value_at c.values.result.now)) c.rows.ensures
+    (subst (λ xs. IsDirectionOf c.args.new.now.matrix c.args.new.now.basics (c.rows.result + c.args.c) (value_at xs)) (sym c.values.ensures) c.in_default.ensures.direction)) in
+    some_leaver c.args.old.now.matrix c.args.old.now.basics c.args.c c.args.new.now c.values.result.now c.size-size.ensures.nonsingular c.requires.column basic c.requires.rebuilt direction
 
 pub returns-clause-keeps : goal.returns-clause-keeps
 returns-clause-keeps c n h =
@@ -26,9 +27,9 @@ returns-clause-keeps c n h =
     ap (λ m. is_in c.args.old.now.basics (m + c.args.c)) (sym c.rows.ensures) ∙ sym c.is_basic.ensures ∙ c.if-not-is_basic.false in
     let out : is_in c.args.new.now.basics (c.args.old.now.matrix.rows + c.args.c) ≡ false =
     ap (λ m. is_in c.args.new.now.basics (m + c.args.c)) (sym c.rows.ensures) ∙ sym c.is_basic-2.ensures ∙ c.if-is_basic.false in
-    let more : IsAppended c.args.new.now c.leaver-p.result (c.args.old.now.matrix.rows + c.args.c) c.append_carried.new.self =
-    subst (λ n. IsAppended c.args.new.now c.leaver-p.result (n + c.args.c) c.append_carried.new.self) c.rows.ensures c.in_ok-append_carried.ensures.ok in
-    rebuilt_more c.args.old.now.matrix c.args.old.now.basics c.args.c c.args.new.now c.append_carried.new.self c.leaver-p.result c.requires.column basic out
+    let more : IsAppended c.args.new.now c.leaver-p.result (c.args.old.now.matrix.rows + c.args.c) c.append_along.new.self =
+    subst (λ n. IsAppended c.args.new.now c.leaver-p.result (n + c.args.c) c.append_along.new.self) c.rows.ensures c.in_ok-append_along.ensures.ok in
+    rebuilt_more c.args.old.now.matrix c.args.old.now.basics c.args.c c.args.new.now c.append_along.new.self c.leaver-p.result c.requires.column basic out
     (c.size-new_size.ensures.nonsingular.counted ∙ ap size c.requires.rebuilt.same_matrix)
     c.leaver-p.ensures.is_row c.leaver-p.ensures.is_basic c.leaver-p.ensures.is_out c.size-new_size.ensures.basics more n h
 
@@ -36,8 +37,8 @@ pub returns-clause-entered : goal.returns-clause-entered
 returns-clause-entered c basic =
     let out : is_in c.args.new.now.basics (c.args.old.now.matrix.rows + c.args.c) ≡ false =
     ap (λ m. is_in c.args.new.now.basics (m + c.args.c)) (sym c.rows.ensures) ∙ sym c.is_basic-2.ensures ∙ c.if-is_basic.false in
-    let more : IsAppended c.args.new.now c.leaver-p.result (c.args.old.now.matrix.rows + c.args.c) c.append_carried.new.self =
-    subst (λ n. IsAppended c.args.new.now c.leaver-p.result (n + c.args.c) c.append_carried.new.self) c.rows.ensures c.in_ok-append_carried.ensures.ok in
-    entered c.args.old.now.matrix c.args.old.now.basics c.args.c c.args.new.now c.append_carried.new.self c.leaver-p.result c.requires.column basic out
+    let more : IsAppended c.args.new.now c.leaver-p.result (c.args.old.now.matrix.rows + c.args.c) c.append_along.new.self =
+    subst (λ n. IsAppended c.args.new.now c.leaver-p.result (n + c.args.c) c.append_along.new.self) c.rows.ensures c.in_ok-append_along.ensures.ok in
+    entered c.args.old.now.matrix c.args.old.now.basics c.args.c c.args.new.now c.append_along.new.self c.leaver-p.result c.requires.column basic out
     (c.size-new_size.ensures.nonsingular.counted ∙ ap size c.requires.rebuilt.same_matrix)
     c.leaver-p.ensures.is_row c.leaver-p.ensures.is_basic c.leaver-p.ensures.is_out c.size-new_size.ensures.basics more

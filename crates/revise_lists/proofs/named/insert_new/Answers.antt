@@ -1,11 +1,7 @@
-use Rattle.std.proofs.Common.{sym, ◌∙◌}
 use Rattle.revise_lists.proofs.NamedValues.{placed}
 use Rattle.revise_lists.proofs.named.insert_new.Goals as goal
-
-pub returns-then-contains_key-clause-distinct : goal.returns-then-contains_key-clause-distinct
-returns-then-contains_key-clause-distinct g c = c.len-last.ensures.unique
 
 pub returns-clause-placed : goal.returns-clause-placed
 returns-clause-placed g c =
     placed c.args.name c.args.value c.args.values.now.entries c.insert.new.self.entries c.move_index.new.self.entries c.args.place c.len-last.result c.min.result
-    (sym c.contains_key.ensures ∙ c.if-contains_key.false) c.in_ok-insert.ensures.entries c.len-last.ensures.len c.min.ensures c.move_index.ensures.entries
+    c.requires c.in_ok-insert.ensures.entries c.len-last.ensures.len c.min.ensures c.move_index.ensures.entries

@@ -1,6 +1,6 @@
 use Rattle.std.proofs.Common.{◌≡◌, length, refl, ap, ◌∙◌}
-use Rattle.name_table.specs.Places.{text_in}
-use Rattle.name_table.specs.Places_laws.{length-padded}
+use Rattle.card_definitions.specs.Places.{text_in}
+use Rattle.card_definitions.proofs.Places.{length-padded}
 use Rattle.deck_fields.proofs.Decimals.{decimal_in_places}
 use Rattle.deck_fields.proofs.decimal.Decimal.new.Goals as goal
 

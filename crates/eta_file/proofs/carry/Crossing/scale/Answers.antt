@@ -1,4 +1,4 @@
-use Rattle.std.proofs.Common.{rules, ◌≡◌, ◌≢◌, ◌-◌, ◌∙◌, sym, ap, Err, length, arith, subst}
+use Rattle.std.proofs.Common.{rules, ◌≡◌, ◌≢◌, ◌∙◌, sym, ap, Err, length, arith, subst}
 use Rattle.exact_values.specs.Rational.{◌*ℚ◌}
 use Rattle.exact_values.proofs.Ring_laws.{mul-zero}
 use Rattle.eta_file.specs.declared.eta.EtaEntry.{EtaEntry}
@@ -8,7 +8,7 @@ use Rattle.eta_file.proofs.carry.Crossing.scale.Goals as goal
 use Rattle.eta_file.proofs.carry.Crossing.scale.Goals.{then-entry-self+in_ok-out, else-entry-self}
 
 pub loop-entry-init : goal.loop-entry-init
-loop-entry-init g c = record { each = λ k low high other. c.requires.zero (k - 1) ∙ sym (mul-zero c.args.reciprocal); cost = omega arith }
+loop-entry-init g c = record { each = λ k low high other. c.requires.zero k low ∙ sym (mul-zero c.args.reciprocal); cost = omega arith }
 
 pub returns-in_err-out-clause-cost : goal.returns-in_err-out-clause-cost
 returns-in_err-out-clause-cost g c =

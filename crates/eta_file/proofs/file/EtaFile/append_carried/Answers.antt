@@ -1,51 +1,28 @@
-use Rattle.std.proofs.Common.{rules, ◌≡◌, ◌<◌, ◌-◌, ◌∙◌, ◌++◌, ◌∷◌, [], length, arith, sym, ap, refl, IfSome}
-use Rattle.lp_definitions.specs.LinearProgram.{size, value_at}
-use Rattle.lp_definitions.specs.Basis.{IsBasic, IsNonbasic}
-use Rattle.eta_file.specs.declared.eta.StoredEta.{StoredEta}
-use Rattle.eta_file.specs.Entries.{IsWholeOf}
-use Rattle.eta_file.specs.Prefixes.{entries_to}
-use Rattle.eta_file.specs.File.{inverse_of}
-use Rattle.eta_file.proofs.FileLaws.{marks_counted, appended, added}
-use Rattle.eta_file.proofs.file.EtaFile.append_carried.Goals as goal
+use Rattle.std.proofs.Common.{◌≡◌, ◌∙◌, length, arith, sym}
+use Rattle.lp_definitions.specs.LinearProgram.{size}
+use Rattle.lp_definitions.specs.Basis.{IsBasic}
 use Rattle.lp_laws.proofs.Places.{value_at_place}
+use Rattle.eta_file.specs.File.{inverse_of}
+use Rattle.eta_file.proofs.FileLaws.{marks_counted}
+use Rattle.eta_file.proofs.file.EtaFile.append_carried.Goals as goal
 
-pub entries_at-requires-clause-places : goal.entries_at-requires-clause-places
-entries_at-requires-clause-places c =
+pub entries_at-requires : goal.entries_at-requires
+entries_at-requires c =
     let f = inverse_of c.self.inside in
     let places : length c.args.direction.now ≡ size f.matrix = rw (← c.self.view_is) at c.requires.places in
-    places ∙ sym (marks_counted f.matrix f.etas f.basics c.self.invariant) ∙ ap length (sym c.deref.ensures.value)
+    places ∙ sym (marks_counted f.matrix f.etas f.basics c.self.invariant)
 
-pub entries_at-requires-clause-small : goal.entries_at-requires-clause-small
-entries_at-requires-clause-small c =
-    let f = inverse_of c.self.inside in
-    let counted = marks_counted f.matrix f.etas f.basics c.self.invariant in
-    rw c.deref.ensures.value (omega (arith, counted, c.self.invariant.lawful.small))
-
-pub index_mut-requires : goal.index_mut-requires
-index_mut-requires c =
-    let f = inverse_of c.self.inside in
-    let counted = marks_counted f.matrix f.etas f.basics c.self.invariant in
-    let enters : IsNonbasic f.matrix f.basics c.args.q = rw (← c.self.view_is) at c.requires.enters in
-    let below : c.args.q - 1 < length f.basics = omega (arith, counted, enters.0.0, enters.0.1) in
-    search (rules, below)
-
-pub invariant_of-self-2 : goal.invariant_of-self-2
-invariant_of-self-2 c =
+pub append_entries-requires : goal.append_entries-requires
+append_entries-requires c =
     let f = inverse_of c.self.inside in
     let leaves : IsBasic f.matrix f.basics c.args.p = rw (← c.self.view_is) at c.requires.leaves in
     let places : length c.args.direction.now ≡ size f.matrix = rw (← c.self.view_is) at c.requires.places in
-    let eta : StoredEta = record { p = c.args.p; q = c.args.q; pivot = c.index-direction-p.result; entries = c.in_ok-entries.entries; whole = c.in_ok-whole.whole } in
-    let pushed : c.push.new.self.items ≡ f.etas ++ (eta ∷ []) = search rules in
-    let entries : c.in_ok-entries.entries.items ≡ entries_to f.basics (value_at c.args.direction.now) (length f.basics) = rw c.deref.ensures.value at c.in_ok-entries.ensures in
-    let whole : IfSome c.in_ok-whole.whole (IsWholeOf c.index-direction-p.result c.in_ok-entries.entries.items) = rw c.deref-2.ensures.value at c.in_ok-whole.ensures in
-    let room : length f.etas < 4294967294 = search rules in
-    rw pushed
-    (appended f.matrix f.etas f.basics c.self.invariant c.args.p c.args.q leaves (rw (← c.self.view_is) at c.requires.enters) c.args.direction.now (rw (← c.self.view_is) at c.requires.direction) c.requires.pivot
-    eta refl refl (value_at_place c.args.direction.now c.args.p c.index-direction-p.result leaves.0.0 (omega (arith, leaves.0.1, places)) c.index-direction-p.is) entries whole room)
-
-pub returns-clause-ok : goal.returns-clause-ok
-returns-clause-ok c =
-    let f = inverse_of c.self.inside in
-    let eta : StoredEta = record { p = c.args.p; q = c.args.q; pivot = c.index-direction-p.result; entries = c.in_ok-entries.entries; whole = c.in_ok-whole.whole } in
-    let pushed : c.push.new.self.items ≡ f.etas ++ (eta ∷ []) = search rules in
-    rw (← c.self.view_is) (added f.matrix f.etas f.basics c.self.invariant c.args.p c.args.q c.push.new.self.items eta pushed refl refl)
+    rw (← c.self.view_is) (record {
+      leaves = leaves;
+      enters = rw (← c.self.view_is) at c.requires.enters;
+      direction = c.args.direction.now;
+      is_direction = rw (← c.self.view_is) at c.requires.direction;
+      apart = c.requires.pivot;
+      is_pivot = value_at_place c.args.direction.now c.args.p c.index-direction-p.result leaves.0.0 (omega (arith, leaves.0.1, places)) c.index-direction-p.is;
+      are_entries = c.in_ok-entries.ensures;
+    })

@@ -11,7 +11,7 @@ pub copy_from_slice-requires : goal.copy_from_slice-requires
 copy_from_slice-requires c =
     let f = inverse_of c.self.inside in
     let places : length c.args.out.now ≡ size f.matrix = rw (← c.self.view_is) at c.requires.places in
-    places ∙ sym (marks_counted f.matrix f.etas f.basics c.self.invariant) ∙ ap length (sym c.deref.ensures.value)
+    places ∙ sym (marks_counted f.matrix f.etas f.basics c.self.invariant) ∙ ap length (sym c.marks.ensures)
 
 pub index-eta-requires : goal.index-eta-requires
 index-eta-requires c =

@@ -1,4 +1,4 @@
-use Rattle.name_table.specs.Places_laws.{padded-text_in}
+use Rattle.card_definitions.proofs.Places.{padded-text_in}
 use Rattle.name_table.proofs.name.NameHash.hash.Goals as goal
 
 pub returns : goal.returns

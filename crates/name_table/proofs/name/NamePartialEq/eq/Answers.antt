@@ -1,5 +1,5 @@
 use Rattle.std.proofs.Common.{◌∙◌}
-use Rattle.name_table.specs.Places_laws.{same_in_places}
+use Rattle.card_definitions.proofs.Places.{same_in_places}
 use Rattle.name_table.proofs.name.NamePartialEq.eq.Goals as goal
 
 pub returns : goal.returns

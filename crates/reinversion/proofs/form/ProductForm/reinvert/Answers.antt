@@ -1,5 +1,4 @@
-use Rattle.std.proofs.Common.{◌∙◌, sym, refl, false}
-use Rattle.std.specs.Vec.{with_items}
+use Rattle.std.proofs.Common.{refl, false}
 use Rattle.eta_file.specs.Inverse.{ways_of}
 use Rattle.reinversion.proofs.Turns.{form_remade}
 use Rattle.reinversion.proofs.form.ProductForm.reinvert.Goals as goal
@@ -7,8 +6,8 @@ use Rattle.lp_laws.proofs.WaypointLaws.{keeps_same}
 
 pub invariant_of-self : goal.invariant_of-self
 invariant_of-self c =
-    form_remade c.self.inside (record c.self.inside { file = c.in-Ok.file; room = with_items c.self.inside.room c.rebuild.new.room; since = 0; kept = false }) c.self.invariant
-    c.size-size.ensures.nonsingular c.in-Ok.ensures.remade refl refl refl (sym (with_items c.self.inside.room c.rebuild.new.room).ok.0 ∙ c.self.inside.room.ok.0)
+    form_remade c.self.inside (record c.self.inside { file = c.in-Ok.file; since = 0; kept = false }) c.self.invariant
+    c.size-size.ensures.nonsingular c.in-Ok.ensures.remade refl refl refl
 
 pub returns-in-Err-Overflow-clause-waypoints : goal.returns-in-Err-Overflow-clause-waypoints
 returns-in-Err-Overflow-clause-waypoints c = rw (← c.self.view_is) (keeps_same c.self.inside.file.matrix c.self.inside.file.basics (ways_of c.self.inside.file))

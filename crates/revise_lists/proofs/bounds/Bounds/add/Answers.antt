@@ -1,6 +1,4 @@
-use Rattle.std.proofs.Common.{Some, [], ◌∷◌, ap, sym, ◌∙◌}
-use Rattle.problem_definitions.specs.Names.{Name}
-use Rattle.problem_definitions.specs.Problem.{Bound}
+use Rattle.std.proofs.Common.{Some, [], ◌∷◌, ap, ◌∙◌}
 use Rattle.deck_definitions.specs.Tests.{is_bound_already}
 use Rattle.revise_lists.specs.declared.ends.End.TheVariants.{Upper, Lower}
 use Rattle.revise_lists.specs.Shown.{held}
@@ -9,7 +7,7 @@ use Rattle.revise_lists.proofs.bounds.Bounds.add.Goals as goal
 
 pub invariant_of-self : goal.invariant_of-self
 invariant_of-self c =
-    let free = free_ends c.args.bound.column c.args.bound.kind (held c.self.inside.slots.items) (ap (λ bounds. is_bound_already bounds c.args.bound.column c.args.bound.kind) c.self.view_is ∙ ap (λ (b : Bound Name). is_bound_already c.args.self.now b.column b.kind) (sym c.bound.view_is) ∙ sym c.has_met.ensures ∙ c.if-has_met.false) in (
+    let free = free_ends c.args.bound.column c.args.bound.kind (held c.self.inside.slots.items) (ap (λ bounds. is_bound_already bounds c.args.bound.column c.args.bound.kind) c.self.view_is ∙ c.requires) in (
       added Upper c.self.inside.uppers.entries c.self.inside.slots.items c.args.bound c.self.invariant.0 free.0 c.add_slot.new.slots.items c.add_slot.new.uppers.entries c.in-Ok.ensures.slots c.in-Ok.ensures.uppers,
       added Lower c.self.inside.lowers.entries c.self.inside.slots.items c.args.bound c.self.invariant.1 free.1 c.add_slot.new.slots.items c.add_slot.new.lowers.entries c.in-Ok.ensures.slots c.in-Ok.ensures.lowers,
     )

@@ -1,7 +1,8 @@
-use Rattle.std.proofs.Common.{map, refl, ap, ◌∙◌}
+use Rattle.std.proofs.Common.{map, refl, ap, sym, subst, ◌∙◌}
 use Rattle.deck_parts.specs.Shown.{group_at}
+use Rattle.revise_lists.specs.Shown.{AreShort}
 use Rattle.revise_lists.proofs.NamedValues.{removed}
-use Rattle.revise_lists.proofs.Counted.{count_removed}
+use Rattle.revise_lists.proofs.Counted.{count_removed, short-removed}
 use Rattle.revise_lists.proofs.groups.Groups.remove.Goals as goal
 
 pub invariant_of-self : goal.invariant_of-self
@@ -9,6 +10,7 @@ invariant_of-self c = (
   c.shift_remove.ensures.unique,
   count_removed c.args.name.now c.self.inside.groups.entries c.shift_remove.new.self.entries c.self.inside.count c.count_under-before.result _ c.self.invariant.1 c.shift_remove.ensures.entries c.count_under-before.ensures.count
       c.saturating_sub-self-inside.ensures,
+  subst (λ es. AreShort (map group_at es)) (sym c.shift_remove.ensures.entries) (short-removed c.args.name.now c.self.inside.groups.entries c.self.invariant.2),
 )
 
 pub returns : goal.returns

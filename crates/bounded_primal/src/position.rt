@@ -1,0 +1,19 @@
+//! Where a path stands.
+
+use crate::kept::Kept;
+use frac128::Frac;
+use lp_model::{Basis, Lp};
+
+/// Where a path stands: its linear program and its basis, the least-numbered basic outside its limits, which is `broken`, how many steps
+/// are made, and how many more may be. The values of `point` that are `kept` are those of the basis's point, and so are those of the
+/// variables with a limit in any case.
+#[derive(Clone, Copy)]
+pub struct Position<'a> {
+    pub lp: &'a Lp,
+    pub basis: &'a Basis,
+    pub point: &'a [Frac],
+    pub kept: Kept,
+    pub broken: Option<u32>,
+    pub steps: u32,
+    pub left: u32,
+}

@@ -1,0 +1,20 @@
+use Rattle.std.proofs.Common.{◌∙◌, ap}
+use Rattle.std.specs.List.{remove}
+use Rattle.eta_file.specs.Listed.{place_in}
+use Rattle.eta_file.proofs.ListedLaws.{leaver_listed, exchanged_listed}
+use Rattle.eta_file.proofs.basic_set.BasicSet.exchange.Goals as goal
+
+pub take_out-requires : goal.take_out-requires
+take_out-requires c =
+    let b = c.self.inside.marks.items in
+    rw c.self.invariant
+    (leaver_listed b c.args.p c.args.q c.requires.p_low (rw (← c.self.view_is) at c.requires.p_high) c.requires.q_low (rw (← c.self.view_is) at c.requires.q_high)
+    (rw (← c.self.view_is) at c.requires.leaves) (rw (← c.self.view_is) at c.requires.enters))
+
+pub invariant_of-self : goal.invariant_of-self
+invariant_of-self c =
+    let b = c.self.inside.marks.items in
+    c.put_in.ensures
+    ∙ exchanged_listed b c.args.p c.args.q c.requires.p_low (rw (← c.self.view_is) at c.requires.p_high) c.requires.q_low (rw (← c.self.view_is) at c.requires.q_high)
+    (rw (← c.self.view_is) at c.requires.leaves) (rw (← c.self.view_is) at c.requires.enters) c.take_out.new.listed.items
+    (c.take_out.ensures.items ∙ ap (λ ks. remove ks (place_in ks c.args.p)) c.self.invariant)

@@ -1,0 +1,118 @@
+//! A face step: which way the mover goes, and what stops it.
+
+ghost use Rattle.std.specs.Prelude.{◌≡◌, ℕ, length, IsTrue, OnOk, IfOk, IfErr};
+ghost use Rattle.lp_definitions.specs.LinearProgram.{size, value_at, IsVariable};
+ghost use Rattle.lp_definitions.specs.Solutions.{IsFeasible};
+ghost use Rattle.lp_definitions.specs.Basis.{basics_of, IsNonbasic, IsDirectionOf, IsPointOf};
+ghost use Rattle.lp_model.specs.RatesCalls.{IfOverflow};
+ghost use Rattle.basis_values.specs.Calls.{HasRates, KeepsRates};
+ghost use Rattle.basis_values.specs.Motions.{may_move, motion};
+ghost use Rattle.bounded_primal.specs.Moves.{stopper_of as stopper_by};
+ghost use Rattle.bounded_primal.specs.Turns.{RunStops};
+ghost use Rattle.parametric_run.specs.Standing.{AreSized};
+ghost use Rattle.para_objective.specs.Faces.{face_up, IsEndlessPast};
+
+use crate::choices::worth;
+use bounded_primal::{Stopper, counted, stopper};
+use frac128::Frac;
+use lp_model::{Basis, Direction, Lp, NoMemory, ParaEnd, Rates, Stop};
+use parametric_run::{Workspace, point_with};
+use std::alloc::Global;
+
+/// Whether a variable with this rate of the change row rises to better it.
+fn rises_by(lp: &Lp, change: &[Frac], q: u32) -> bool
+    requires variable { IsVariable lp.now.matrix q }
+    requires places { length change.now ≡ size lp.now.matrix }
+    ensures { result ≡ face_up lp.now (value_at change.now) q }
+{
+    worth(lp.sense, change[q as usize - 1]).is_less(Frac::whole(0))
+}
+
+/// Whether `q` rises to better the change row.
+pub fn rises(lp: &Lp, workspace: &Workspace, q: u32) -> bool
+    requires variable { IsVariable lp.now.matrix q }
+    requires places { length workspace.now.change.items ≡ size lp.now.matrix }
+    ensures { result ≡ face_up lp.now (value_at workspace.now.change.items) q }
+{
+    rises_by(lp, &workspace.change, q)
+}
+
+/// The speed of `k`, where what has this direction rises or falls.
+fn speed(lp: &Lp, direction: &[Frac], up: bool, k: u32) -> Frac
+    requires variable { IsVariable lp.now.matrix k }
+    requires places { length direction.now ≡ size lp.now.matrix }
+    ensures { result ≡ motion (value_at direction.now) up k }
+{
+    counted(direction[k as usize - 1], up)
+}
+
+/// The speeds of all variables.
+fn speeds(alloc: Global, lp: &Lp, direction: &[Frac], up: bool) -> Result<Direction, NoMemory>
+    requires { length direction.now ≡ size lp.now.matrix }
+    ensures places { IfOk result (λ speeds. length speeds ≡ size lp.now.matrix) }
+    ensures speeds { IfOk result (λ speeds. (k : ℕ) → IsVariable lp.now.matrix k →
+        value_at speeds k ≡ motion (value_at direction.now) up k) }
+{
+    let mut values = Vec::new(alloc);
+    for k in 0..lp.number_of_variables() {
+        values
+            .push(speed(lp, direction, up, k + 1))
+            .map_err(|_| NoMemory)?;
+    }
+    Ok(Direction::new(values))
+}
+
+/// What stops `q`, which moves up or down from the basis's point. The workspace takes the direction of `q`.
+pub fn stopper_of<R: Rates>(
+    lp: &Lp,
+    basis: &Basis,
+    rates: &mut R,
+    workspace: &mut Workspace,
+    q: u32,
+    up: bool,
+) -> Result<Option<Stopper>, Stop>
+    requires rates { HasRates (R.matrix rates.old) (R.basics rates.old) lp.now basis.now }
+    requires sized { AreSized (size lp.now.matrix) workspace.old }
+    requires point { IsPointOf lp.now basis.now (value_at workspace.old.point.items) }
+    requires feasible { IsFeasible lp.now (value_at workspace.old.point.items) }
+    requires nonbasic { IsNonbasic lp.now.matrix (basics_of basis.now) q }
+    requires may { IsTrue (may_move lp.now basis.now up q) }
+    ensures direction { OnOk result (IsDirectionOf lp.now.matrix (basics_of basis.now) q
+        (value_at workspace.new.direction.items)) }
+    ensures stopper { IfOk result (λ found. found ≡ stopper_by lp.now
+        (value_at workspace.new.point.items) (value_at workspace.new.direction.items) up) }
+    ensures others { workspace.new ≡ record workspace.old { direction = workspace.new.direction } }
+    ensures places { length workspace.new.direction.items ≡ length workspace.old.direction.items }
+    ensures rates { KeepsRates (R.matrix rates.new) (R.basics rates.new) lp.now basis.now
+        (R.waypoints rates.old) (R.waypoints rates.new) }
+    ensures overflow { IfErr result (λ stop. IfOverflow stop (RunStops lp.now basis.now
+        (value_at workspace.old.point.items) q up (R.waypoints rates.old)
+        (R.waypoints rates.new))) }
+{
+    workspace.read_direction(lp, basis, rates, q)?;
+    match stopper(lp, basis, &workspace.point, &workspace.direction, q, up) {
+        Ok(found) => Ok(found),
+        Err(evidence) => Err(Stop::Overflow(evidence)),
+    }
+}
+
+/// The end without a bound past `theta`.
+pub fn endless(
+    alloc: Global,
+    lp: &Lp,
+    workspace: &Workspace,
+    up: bool,
+    theta: Frac,
+) -> Result<ParaEnd, NoMemory>
+    requires { length workspace.now.direction.items ≡ size lp.now.matrix }
+    ensures { IfOk result (IsEndlessPast lp.now theta workspace.now.point.items
+        (value_at workspace.now.direction.items) up) }
+{
+    let point = point_with(alloc, &workspace.point)?;
+    let direction = speeds(alloc, lp, &workspace.direction, up)?;
+    Ok(ParaEnd::Unbounded {
+        past: theta,
+        point,
+        direction,
+    })
+}

@@ -1,0 +1,83 @@
+//! The face steps at a breakpoint, until none is left or the run ends.
+
+ghost use Rattle.std.specs.Prelude.{◌≡◌, OnOk, OnErr, IfOk, IfErr};
+ghost use Rattle.lp_definitions.specs.LinearProgram.{size, value_at};
+ghost use Rattle.lp_definitions.specs.Basis.{basics_of, IsOptimalBasis, IsPointOf};
+ghost use Rattle.lp_definitions.specs.Waypoints.{KeepsWaypoints};
+ghost use Rattle.basis_values.specs.Calls.{HasRates};
+ghost use Rattle.simplex_definitions.specs.Path.{after};
+ghost use Rattle.bounded_primal.specs.Moves.{StepOverflow, move_by};
+ghost use Rattle.parametric_run.specs.Faces.{FacesFound, FacesFollow};
+ghost use Rattle.parametric_run.specs.Standing.{AreSized, IsReady, IsWorkspaceOf};
+
+use crate::method::{AfterFaces, FaceStep, Parametric};
+use crate::workspace::{Workspace, take_step_in};
+use bounded_primal::{PrimalStop, Stopper};
+use frac128::Frac;
+use lp_model::{Basis, Rates, Stop};
+use std::alloc::Global;
+
+/// Makes the step `by` of `q`, whose direction the workspace has.
+fn take<M: Parametric, R: Rates>(
+    method: &M,
+    basis: &mut Basis,
+    rates: &mut R,
+    workspace: &mut Workspace,
+    q: u32,
+    by: &Stopper,
+) -> Result<(), Stop>
+    requires rates { HasRates (R.matrix rates.old) (R.basics rates.old)
+        (M.problem method.now).program basis.old }
+    requires sized { AreSized (size (M.problem method.now).program.matrix) workspace.old }
+    requires point { IsPointOf (M.problem method.now).program basis.old
+        (value_at workspace.old.point.items) }
+    requires ready { IsReady (M.problem method.now).program basis.old workspace.old q by.now }
+    ensures basis { OnOk result (basis.new ≡ after basis.old (move_by q by.now)) }
+    ensures sized { AreSized (size (M.problem method.now).program.matrix) workspace.new }
+    ensures point { OnOk result (IsPointOf (M.problem method.now).program basis.new
+        (value_at workspace.new.point.items)) }
+    ensures unchanged { OnErr result (basis.new ≡ basis.old) }
+    ensures rates { HasRates (R.matrix rates.new) (R.basics rates.new)
+        (M.problem method.now).program basis.new }
+    ensures waypoints { KeepsWaypoints (M.problem method.now).program.matrix (basics_of basis.old)
+        (R.waypoints rates.old) (basics_of basis.new) (R.waypoints rates.new) }
+    ensures overflow { StepOverflow result (M.problem method.now).program basis.old q by.now
+        (R.waypoints rates.old) (R.waypoints rates.new) }
+{
+    take_step_in(method.program(), basis, rates, workspace, q, by)
+}
+
+/// Makes the face steps at a breakpoint until none is left or the run ends, with so many steps left to the run. The basis, the rates and
+/// the workspace are those that it has reached; after a stop the basis and the rates are.
+pub fn faces<M: Parametric, R: Rates>(
+    alloc: Global,
+    method: &M,
+    basis: &mut Basis,
+    rates: &mut R,
+    workspace: &mut Workspace,
+    theta: Frac,
+    begun: u32,
+) -> Result<AfterFaces, PrimalStop>
+    requires fits { M.fits method.now }
+    requires rates { HasRates (R.matrix rates.old) (R.basics rates.old)
+        (M.problem method.now).program basis.old }
+    requires workspace { IsWorkspaceOf (M.problem method.now) basis.old workspace.old }
+    requires optimal { IsOptimalBasis ((M.problem method.now).family theta) basis.old }
+    ensures found { FacesFound (M.problem method.now) result theta basis.old basis.new begun
+        workspace.new (R.waypoints rates.old) (R.waypoints rates.new) }
+    ensures rates { HasRates (R.matrix rates.new) (R.basics rates.new)
+        (M.problem method.now).program basis.new }
+    ensures waypoints { FacesFollow (M.problem method.now) theta basis.old basis.new begun
+        (R.waypoints rates.old) (R.waypoints rates.new) }
+{
+    let mut left = begun;
+    'turns: loop {
+        match method.face_turn(alloc, basis, rates, workspace, theta, left)? {
+            FaceStep::Done => return Ok(AfterFaces::Done { left }),
+            FaceStep::Ends(end) => return Ok(AfterFaces::Ends(end)),
+            FaceStep::Moves { q, by } => take(method, basis, rates, workspace, q, &by)?,
+        }
+        left -= 1;
+        method.refresh(alloc, basis, rates, workspace)?;
+    }
+}

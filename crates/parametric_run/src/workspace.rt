@@ -1,0 +1,179 @@
+//! The vectors of a basis.
+
+ghost use Rattle.std.specs.Prelude.{◌≡◌, ℕ, length, replicate, IfOk, IfErr, OnOk, OnErr};
+ghost use Rattle.exact_values.specs.Rational.{zero_ℚ};
+ghost use Rattle.lp_definitions.specs.LinearProgram.{size, value_at};
+ghost use Rattle.lp_definitions.specs.Basis.{basics_of, IsBasic, IsNonbasic, IsDirectionOf, IsPointOf};
+ghost use Rattle.lp_definitions.specs.Waypoints.{KeepsWaypoints};
+ghost use Rattle.lp_model.specs.RatesCalls.{IsRowOf};
+ghost use Rattle.basis_values.specs.Calls.{HasRates, KeepsRates};
+ghost use Rattle.basis_values.specs.Stops.{PointOverflow};
+ghost use Rattle.simplex_definitions.specs.Path.{after};
+ghost use Rattle.bounded_primal.specs.Moves.{StepOverflow, move_by};
+ghost use Rattle.parametric_run.specs.Standing.{AreSized, IsReady};
+
+use bounded_primal::{Stopper, take_step};
+use frac128::Frac;
+use lp_model::{Basis, Lp, NoMemory, Point, Prices, Rates, Stop};
+use std::alloc::Global;
+
+/// The vectors of a basis, each with a place for each variable: its point at 0, its prices, and how it moves with the parameter; and
+/// those of the variables that move at a breakpoint, a row and a direction.
+#[derive(Drop)]
+pub struct Workspace {
+    pub point: Vec<Frac>,
+    pub prices: Vec<Frac>,
+    pub change: Vec<Frac>,
+    pub row: Vec<Frac>,
+    pub direction: Vec<Frac>,
+}
+
+impl Workspace {
+    /// The vectors of a basis with this point; the others are yet to be filled.
+    pub fn with_point(alloc: Global, point: Vec<Frac>) -> Result<Workspace, NoMemory>
+        ensures sized { IfOk result (AreSized (length point.items)) }
+        ensures point { IfOk result (λ workspace. workspace.point ≡ point) }
+    {
+        let size = point.len();
+        Ok(Workspace {
+            point,
+            prices: zeroed(alloc, size)?,
+            change: zeroed(alloc, size)?,
+            row: zeroed(alloc, size)?,
+            direction: zeroed(alloc, size)?,
+        })
+    }
+
+    /// Fills the row with the rates of the basic `i`.
+    pub fn read_row<R: Rates>(
+        &mut self,
+        lp: &Lp,
+        basis: &Basis,
+        rates: &mut R,
+        i: u32,
+    ) -> Result<(), Stop>
+        requires rates { HasRates (R.matrix rates.old) (R.basics rates.old) lp.now basis.now }
+        requires basic { IsBasic lp.now.matrix (basics_of basis.now) i }
+        requires places { length self.old.row.items ≡ size lp.now.matrix }
+        ensures row { OnOk result
+            (IsRowOf lp.now.matrix (basics_of basis.now) i (value_at self.new.row.items)) }
+        ensures others { self.new ≡ record self.old { row = self.new.row } }
+        ensures places { length self.new.row.items ≡ length self.old.row.items }
+        ensures rates { KeepsRates (R.matrix rates.new) (R.basics rates.new) lp.now basis.now
+            (R.waypoints rates.old) (R.waypoints rates.new) }
+        ensures overflow { PointOverflow result lp.now basis.now
+            (R.waypoints rates.old) (R.waypoints rates.new) }
+    {
+        rates.row(i, &mut self.row)
+    }
+
+    /// Fills the direction with that of the nonbasic `j`.
+    pub fn read_direction<R: Rates>(
+        &mut self,
+        lp: &Lp,
+        basis: &Basis,
+        rates: &mut R,
+        j: u32,
+    ) -> Result<(), Stop>
+        requires rates { HasRates (R.matrix rates.old) (R.basics rates.old) lp.now basis.now }
+        requires nonbasic { IsNonbasic lp.now.matrix (basics_of basis.now) j }
+        requires places { length self.old.direction.items ≡ size lp.now.matrix }
+        ensures direction { OnOk result (IsDirectionOf lp.now.matrix (basics_of basis.now) j
+            (value_at self.new.direction.items)) }
+        ensures others { self.new ≡ record self.old { direction = self.new.direction } }
+        ensures places { length self.new.direction.items ≡ length self.old.direction.items }
+        ensures rates { KeepsRates (R.matrix rates.new) (R.basics rates.new) lp.now basis.now
+            (R.waypoints rates.old) (R.waypoints rates.new) }
+        ensures overflow { PointOverflow result lp.now basis.now
+            (R.waypoints rates.old) (R.waypoints rates.new) }
+    {
+        rates.column(j, &mut self.direction)
+    }
+}
+
+/// So many zeros.
+fn zeroed(alloc: Global, size: usize) -> Result<Vec<Frac>, NoMemory>
+    ensures { IfOk result (λ values. values.items ≡ replicate size zero_ℚ) }
+{
+    let values = vec![in alloc; Frac::whole(0); size].map_err(|_| NoMemory)?;
+    Ok(values)
+}
+
+/// A 0 for each variable.
+pub fn zeros(alloc: Global, lp: &Lp) -> Result<Vec<Frac>, NoMemory>
+    ensures { IfOk result (λ values. values.items ≡ replicate (size lp.now.matrix) zero_ℚ) }
+{
+    zeroed(alloc, lp.number_of_variables() as usize)
+}
+
+/// A copy.
+pub fn copied(alloc: Global, values: &[Frac]) -> Result<Vec<Frac>, NoMemory>
+    ensures { IfOk result (λ copy. copy.items ≡ values.now) }
+{
+    let copy = Vec::from_slice(alloc, values)?;
+    Ok(copy)
+}
+
+/// The point with these values.
+pub fn point_with(alloc: Global, values: &[Frac]) -> Result<Point, NoMemory>
+    ensures { IfOk result (λ point. point ≡ values.now) }
+{
+    let values = copied(alloc, values)?;
+    Ok(Point::new(values))
+}
+
+/// The prices with these values.
+pub fn prices_with(alloc: Global, values: &[Frac]) -> Result<Prices, NoMemory>
+    ensures { IfOk result (λ prices. prices ≡ values.now) }
+{
+    let values = copied(alloc, values)?;
+    Ok(Prices::new(values))
+}
+
+/// The rates of a point that stands still.
+pub fn still_point(alloc: Global, lp: &Lp) -> Result<Point, NoMemory>
+    ensures { IfOk result (λ rates. rates ≡ replicate (size lp.now.matrix) zero_ℚ) }
+{
+    let values = zeros(alloc, lp)?;
+    Ok(Point::new(values))
+}
+
+/// The rates of prices that stand still.
+pub fn still_prices(alloc: Global, lp: &Lp) -> Result<Prices, NoMemory>
+    ensures { IfOk result (λ rates. rates ≡ replicate (size lp.now.matrix) zero_ℚ) }
+{
+    let values = zeros(alloc, lp)?;
+    Ok(Prices::new(values))
+}
+
+/// Makes the step `by` of `q`, whose direction the workspace has: the basis, the rates and the point go over to the next basis. After a
+/// stop the basis is as before.
+pub fn take_step_in<R: Rates>(
+    lp: &Lp,
+    basis: &mut Basis,
+    rates: &mut R,
+    workspace: &mut Workspace,
+    q: u32,
+    by: &Stopper,
+) -> Result<(), Stop>
+    requires rates { HasRates (R.matrix rates.old) (R.basics rates.old) lp.now basis.old }
+    requires sized { AreSized (size lp.now.matrix) workspace.old }
+    requires point { IsPointOf lp.now basis.old (value_at workspace.old.point.items) }
+    requires ready { IsReady lp.now basis.old workspace.old q by.now }
+    ensures basis { OnOk result (basis.new ≡ after basis.old (move_by q by.now)) }
+    ensures sized { AreSized (size lp.now.matrix) workspace.new }
+    ensures point { OnOk result (IsPointOf lp.now basis.new (value_at workspace.new.point.items)) }
+    ensures unchanged { OnErr result (basis.new ≡ basis.old) }
+    ensures rates { HasRates (R.matrix rates.new) (R.basics rates.new) lp.now basis.new }
+    ensures waypoints { KeepsWaypoints lp.now.matrix (basics_of basis.old) (R.waypoints rates.old)
+        (basics_of basis.new) (R.waypoints rates.new) }
+    ensures overflow { StepOverflow result lp.now basis.old q by.now (R.waypoints rates.old)
+        (R.waypoints rates.new) }
+{
+    let Workspace {
+        point,
+        direction,
+        ..
+    } = workspace;
+    take_step(lp, basis, rates, point, direction, q, by)
+}
