@@ -10,7 +10,7 @@ ghost use Rattle.basis_deck_definitions.specs.Writing.{is_up, is_raised as raise
 ghost use Rattle.basis_deck.specs.Punching.{rows_from, exchanges_from, limits_from, IsNextRow};
 
 use basis_values::stands_basic;
-use bcd_out::{DataCard, column_name, put_card, put_name, row_name};
+use bcd_out::{WrittenCard, column_name, put_card, put_name, row_name};
 use job_devices::{Sink, WriteStop, put_all};
 use lp_model::{Basis, Lp, Status};
 use problem_file::Problem;
@@ -80,7 +80,7 @@ fn put_exchange<U: Sink>(
         (line (exchange_card problem.now lp.now basis.now (column, row))) }
 {
     let _size = lp.number_of_variables();
-    let card = DataCard {
+    let card = WrittenCard {
         kind: exchange_code(basis.status(row)),
         name1: column_name(problem.columns(), column - lp.rows),
         name2: row_name(problem.rows(), row),
@@ -131,7 +131,7 @@ fn put_limit<U: Sink>(
     ensures { Writes U.written U.stopped_at U.faults U.refusals sink.old sink.new result
         (line (limit_card problem.now lp.now column)) }
 {
-    let card = DataCard {
+    let card = WrittenCard {
         kind: b"UL",
         name1: column_name(problem.columns(), column - lp.rows),
         name2: b"",

@@ -20,9 +20,9 @@ static BLANKS: [u8; NAME_PLACES] = [b' '; NAME_PLACES];
 // A card up to the end of field 4.
 type Columns = ArrayVec<u8, 36>;
 
-/// What stands in the fields 1 to 4 of a data card.
+/// What stands in the fields 1 to 4 of a data card that is written.
 #[derive(Clone, Copy, Debug)]
-pub struct DataCard<'a> {
+pub struct WrittenCard<'a> {
     pub kind: &'a [u8],
     pub name1: &'a [u8],
     pub name2: &'a [u8],
@@ -51,7 +51,7 @@ fn fill_padded(columns: &mut Columns, width: usize, text: &[u8])
 }
 
 // The columns of a data card.
-fn columns(card: DataCard<'_>) -> Columns
+fn columns(card: WrittenCard<'_>) -> Columns
     requires kind { length card.kind.now ≤ 2 }
     requires name1 { length card.name1.now ≤ 8 }
     requires name2 { length card.name2.now ≤ 8 }
@@ -93,7 +93,7 @@ fn put_columns<P: Sink>(punch: &mut P, columns: &Columns) -> Result<(), WriteSto
 
 /// Writes a data card.
 #[tactic(auto, unfolding(deck_definitions::specs::Written::data_card))]
-pub fn put_card<P: Sink>(punch: &mut P, card: DataCard<'_>) -> Result<(), WriteStop>
+pub fn put_card<P: Sink>(punch: &mut P, card: WrittenCard<'_>) -> Result<(), WriteStop>
     requires kind { length card.kind.now ≤ 2 }
     requires name1 { length card.name1.now ≤ 8 }
     requires name2 { length card.name2.now ≤ 8 }

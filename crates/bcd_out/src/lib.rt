@@ -6,6 +6,6 @@ mod count;
 mod deck;
 mod sections;
 
-pub use card::{DataCard, put_card, put_name};
+pub use card::{WrittenCard, put_card, put_name};
 pub use deck::deck_of;
 pub use sections::{column_name, row_name};

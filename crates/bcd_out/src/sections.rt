@@ -9,7 +9,8 @@ ghost use Rattle.deck_definitions.specs.Written.{data_card, row_kind_text, bound
 ghost use Rattle.job_devices.specs.Text.{Writes};
 ghost use Rattle.bcd_out.specs.Lines.{line, plain_line, part_line, combination_lines, row_lines, first_plain, entry_line, zero_line, entry_lines, column_lines, bound_line, number_text, bound_lines, section_lines};
 
-use crate::card::{DataCard, put_card};
+use crate::card::{WrittenCard, put_card};
+use deck_cards::combination_word;
 use job_devices::{Sink, WriteStop, put_all, put_each};
 use name_table::Name;
 use problem_file::{
@@ -26,19 +27,6 @@ fn row_kind_word(kind: RowKind) -> &'static [u8]
         RowKind::G => b"G",
         RowKind::L => b"L",
         RowKind::E => b"E",
-    }
-}
-
-// The word of a combination's type.
-fn combination_word(kind: RowKind) -> &'static [u8]
-    ensures word { result.now ≡ combination_text kind }
-    ensures short { length result.now ≤ 2 }
-{
-    match kind {
-        RowKind::N => b"DN",
-        RowKind::G => b"DG",
-        RowKind::L => b"DL",
-        RowKind::E => b"DE",
     }
 }
 
@@ -82,7 +70,7 @@ pub fn column_name(columns: &[ColumnDecl], number: u32) -> &[u8]
 fn put_plain_row<P: Sink>(punch: &mut P, kind: RowKind, name: Name) -> Result<(), WriteStop>
     ensures { Writes P.written P.stopped_at P.faults P.refusals punch.old punch.new result (plain_line kind name) }
 {
-    let card = DataCard {
+    let card = WrittenCard {
         kind: row_kind_word(kind),
         name1: name.bytes(),
         name2: b"",
@@ -96,7 +84,7 @@ fn put_bare_combination<P: Sink>(punch: &mut P, kind: RowKind, name: Name) -> Re
     ensures { Writes P.written P.stopped_at P.faults P.refusals punch.old punch.new result
         (line (data_card (combination_text kind) name [] [])) }
 {
-    let card = DataCard {
+    let card = WrittenCard {
         kind: combination_word(kind),
         name1: name.bytes(),
         name2: b"",
@@ -115,7 +103,7 @@ fn put_part<P: Sink>(
     ensures { Writes P.written P.stopped_at P.faults P.refusals punch.old punch.new result
         (part_line (map (λ row. row.name) rows.now) kind name part) }
 {
-    let card = DataCard {
+    let card = WrittenCard {
         kind: combination_word(kind),
         name1: name.bytes(),
         name2: row_name(rows, part.row),
@@ -187,7 +175,7 @@ fn put_entry<P: Sink>(
     ensures { Writes P.written P.stopped_at P.faults P.refusals punch.old punch.new result
         (entry_line (map (λ row. row.name) rows.now) name entry) }
 {
-    let card = DataCard {
+    let card = WrittenCard {
         kind: b"",
         name1: name.bytes(),
         name2: row_name(rows, entry.row),
@@ -226,7 +214,7 @@ fn put_zero<P: Sink>(punch: &mut P, rows: &[RowDecl], name: Name) -> Result<(), 
     let Some(row) = plain_row(rows) else {
         return put_all(punch, b"");
     };
-    let card = DataCard {
+    let card = WrittenCard {
         kind: b"",
         name1: name.bytes(),
         name2: row.name.bytes(),
@@ -312,7 +300,7 @@ fn put_bound<P: Sink>(
         Some(value) => value.text(),
         None => b"",
     };
-    let card = DataCard {
+    let card = WrittenCard {
         kind: bound_kind_word(bound.kind),
         name1: name.bytes(),
         name2: column_name(columns, bound.column),

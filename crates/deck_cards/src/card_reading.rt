@@ -1,12 +1,12 @@
 // Data cards read from cards.
-ghost use Rattle.std.specs.Prelude.{◌≡◌, ◌≤◌, None, Some, length, IfOk, OnOk, IfErr, option_map};
+ghost use Rattle.std.specs.Prelude.{◌≡◌, None, Some, IfOk, OnOk, IfErr, option_map};
 ghost use Rattle.std.specs.Option.{option_to_list};
 ghost use Rattle.card_definitions.specs.Fields.{Fixed, reading_of};
 ghost use Rattle.card_reader.specs.Card.{card_bytes};
 ghost use Rattle.problem_definitions.specs.Valid.{IsName};
 ghost use Rattle.deck_definitions.specs.declared.Style.TheVariants.{FreeFields};
 ghost use Rattle.deck_definitions.specs.Conversion.{gaps_fault, form_fault};
-ghost use Rattle.deck_definitions.specs.DataCards.{form_on, pair_if};
+ghost use Rattle.deck_definitions.specs.DataCards.{form_on, is_card_of, pair_if};
 ghost use Rattle.deck_definitions.proofs.CardTexts.{IsReading};
 ghost use Rattle.deck_fields.specs.Readings.{fields_shown};
 ghost use Rattle.deck_fields.specs.WordsShown.{IsColumn};
@@ -14,11 +14,12 @@ ghost use Rattle.deck_cards.specs.Shown.{shown, pair_shown};
 
 use crate::data_card::{DataCard, PairText};
 use crate::free_card::free_fields;
-use crate::words::is_blank;
+use crate::words::{combination_word, is_blank, is_word};
 use card_reader::Card;
 use deck_definitions::{DeckFaultKind, Section, Style};
 use deck_fields::{Fields, fields};
 use name_table::Name;
+use problem_definitions::RowKind;
 
 /// The name in a field that holds one.
 pub fn name_in(field: &[u8]) -> Name
@@ -95,6 +96,13 @@ pub fn read_data_card<'a>(
         Style::FixedFields => read_fixed_card(card),
         Style::FreeFields => read_free_card(card, section, deletes),
     }
+}
+
+/// Whether a card has the type and the name of the combination of this kind and name.
+pub fn is_card_of(kind: RowKind, name: &Name, card: &DataCard<'_>) -> bool
+    ensures { result ≡ is_card_of kind name.now (shown card.now) }
+{
+    is_word(combination_word(kind), card.kind) && *name == card.name1
 }
 
 // The pair in fields 3 and 4.

@@ -143,11 +143,9 @@ fn fields_given(section: Section, word: &[u8], count: u8) -> Option<&'static [u8
     match section {
         Section::Rows => row_fields(combines(word), count),
         Section::Columns => column_fields(count),
-        Section::Rhs => set_fields(count),
-        Section::Ranges => set_fields(count),
+        Section::Rhs | Section::Ranges => set_fields(count),
         Section::Bounds => bound_fields(takes_number(word), count),
-        Section::Header => None,
-        Section::Endata => None,
+        Section::Header | Section::Endata => None,
     }
 }
 
@@ -184,12 +182,7 @@ fn fields_deleted(section: Section, count: u8) -> Option<&'static [u8]>
 {
     match section {
         Section::Rows => deleted_row_fields(count),
-        Section::Columns => deleted_item_fields(count),
-        Section::Rhs => deleted_item_fields(count),
-        Section::Ranges => deleted_item_fields(count),
-        Section::Bounds => deleted_item_fields(count),
-        Section::Header => deleted_item_fields(count),
-        Section::Endata => deleted_item_fields(count),
+        _ => deleted_item_fields(count),
     }
 }
 

@@ -1,7 +1,6 @@
 // The fields of the data cards of free decks.
 ghost use Rattle.std.specs.Prelude.{◌≡◌, ◌∷◌, [], None, Some, if◌then◌else◌, IfOk, OnOk, IfErr};
 ghost use Rattle.std.specs.List.{list_any};
-ghost use Rattle.card_definitions.specs.Words.{first_fault, ◌⟹◌};
 ghost use Rattle.card_definitions.specs.Fields.{reading_of};
 ghost use Rattle.card_reader.specs.Card.{card_bytes};
 ghost use Rattle.deck_definitions.specs.declared.DeckFaultKind.TheVariants.{LongName, LongNumber};

@@ -14,7 +14,7 @@ mod style;
 mod words;
 
 pub use card_reading::{
-    first_pair, first_part, name_in, read_data_card, read_fixed_card, second_pair,
+    first_pair, first_part, is_card_of, name_in, read_data_card, read_fixed_card, second_pair,
 };
 pub use card_stop::CardStop;
 pub use data_card::{DataCard, PairText};
@@ -22,6 +22,6 @@ pub use reader::{Draft, read_cards};
 pub use sections::{SectionOrder, begins_section, is_header, is_last, next_section, rank_of};
 pub use style::{header_style, style_begun};
 pub use words::{
-    bound_kind, combination_kind, first_word, has_value, is_blank, is_columns, is_ranges, is_word,
-    row_kind, section_named,
+    bound_kind, combination_kind, combination_word, first_word, has_value, is_blank, is_columns,
+    is_ranges, is_word, row_kind, section_named,
 };

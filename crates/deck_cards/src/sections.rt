@@ -74,13 +74,7 @@ pub fn next_section<O: SectionOrder>(
     let Some(before) = before else {
         return match next {
             Some(Section::Header) => Ok(Section::Header),
-            Some(Section::Rows) => Err(CardStop::Refused(DeckFaultKind::SectionOrder)),
-            Some(Section::Columns) => Err(CardStop::Refused(DeckFaultKind::SectionOrder)),
-            Some(Section::Rhs) => Err(CardStop::Refused(DeckFaultKind::SectionOrder)),
-            Some(Section::Ranges) => Err(CardStop::Refused(DeckFaultKind::SectionOrder)),
-            Some(Section::Bounds) => Err(CardStop::Refused(DeckFaultKind::SectionOrder)),
-            Some(Section::Endata) => Err(CardStop::Refused(DeckFaultKind::SectionOrder)),
-            None => Err(CardStop::Refused(DeckFaultKind::SectionOrder)),
+            _ => Err(CardStop::Refused(DeckFaultKind::SectionOrder)),
         };
     };
     let Some(section) = next else {

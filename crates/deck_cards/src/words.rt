@@ -4,7 +4,7 @@ ghost use Rattle.problem_definitions.specs.Kinds.{takes_value};
 ghost use Rattle.std.specs.List.{position_or_len};
 ghost use Rattle.card_definitions.specs.Cards.{is_blank as is_blank_byte};
 ghost use Rattle.card_definitions.specs.Words.{is_empty, named};
-ghost use Rattle.deck_definitions.specs.DataCards.{row_kinds, combination_kinds, is_row_type, bound_kinds};
+ghost use Rattle.deck_definitions.specs.DataCards.{row_kinds, combination_kinds, combination_text, is_row_type, bound_kinds};
 ghost use Rattle.deck_definitions.specs.Sections.{section_word, section_words, is_section};
 ghost use Rattle.deck_definitions.specs.declared.Section.TheVariants.{Columns, Ranges};
 
@@ -76,6 +76,19 @@ pub fn combination_kind(word: &[u8]) -> Option<RowKind>
     }
 }
 
+/// The word that is the type of a combination.
+pub fn combination_word(kind: RowKind) -> &'static [u8]
+    ensures word { result.now ≡ combination_text kind }
+    ensures short { length result.now ≤ 2 }
+{
+    match kind {
+        RowKind::N => b"DN",
+        RowKind::G => b"DG",
+        RowKind::L => b"DL",
+        RowKind::E => b"DE",
+    }
+}
+
 // Whether a word names a type of combinations.
 pub fn combines(word: &[u8]) -> bool
     ensures { result ≡ is_some (named combination_kinds word.now) }
@@ -126,12 +139,8 @@ pub fn has_value(kind: BoundKind) -> bool
     ensures { result ≡ takes_value kind }
 {
     match kind {
-        BoundKind::Up => true,
-        BoundKind::Lo => true,
-        BoundKind::Fx => true,
-        BoundKind::Fr => false,
-        BoundKind::Mi => false,
-        BoundKind::Pl => false,
+        BoundKind::Up | BoundKind::Lo | BoundKind::Fx => true,
+        BoundKind::Fr | BoundKind::Mi | BoundKind::Pl => false,
     }
 }
 

@@ -1,6 +1,5 @@
 // A number with the text that it was read from.
-ghost use Rattle.std.specs.Prelude.{◌≡◌, Ok};
-ghost use Rattle.card_definitions.specs.Numbers.{number_of};
+ghost use Rattle.std.specs.Prelude.{◌≡◌};
 ghost use Rattle.problem_definitions.specs.Valid.{IsDecimal};
 
 use frac128::Frac;

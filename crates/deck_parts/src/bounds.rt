@@ -65,12 +65,8 @@ pub fn touches_top(kind: BoundKind) -> bool
     ensures { result ≡ touches_upper kind }
 {
     match kind {
-        BoundKind::Up => true,
-        BoundKind::Lo => false,
-        BoundKind::Fx => true,
-        BoundKind::Fr => true,
-        BoundKind::Mi => false,
-        BoundKind::Pl => true,
+        BoundKind::Up | BoundKind::Fx | BoundKind::Fr | BoundKind::Pl => true,
+        BoundKind::Lo | BoundKind::Mi => false,
     }
 }
 
@@ -79,12 +75,8 @@ pub fn touches_bottom(kind: BoundKind) -> bool
     ensures { result ≡ touches_lower kind }
 {
     match kind {
-        BoundKind::Up => false,
-        BoundKind::Lo => true,
-        BoundKind::Fx => true,
-        BoundKind::Fr => true,
-        BoundKind::Mi => true,
-        BoundKind::Pl => false,
+        BoundKind::Lo | BoundKind::Fx | BoundKind::Fr | BoundKind::Mi => true,
+        BoundKind::Up | BoundKind::Pl => false,
     }
 }
 
@@ -93,12 +85,6 @@ fn is_touched(matters: bool, columns: &IndexSet<Name>, column: &Name) -> bool
     ensures { result ≡ (matters && list_any (same column.now) columns.now.keys) }
 {
     matters && columns.contains(column)
-}
-
-fn either(first: bool, second: bool) -> bool
-    ensures { result ≡ (first || second) }
-{
-    first || second
 }
 
 // Marks a column whose end is touched, and tells whether it was marked already.
@@ -133,7 +119,7 @@ fn mark_ends(
 {
     let upper = mark(uppers, column, touches_top(kind))?;
     let lower = mark(lowers, column, touches_bottom(kind))?;
-    Ok(either(upper, lower))
+    Ok(upper || lower)
 }
 
 // Adds a bound to the parts, or refuses one that touches an end that is touched.
@@ -199,10 +185,8 @@ impl Bounds {
     pub fn has(&self, column: &Name, kind: BoundKind) -> bool
         ensures { result ≡ is_bound_already self.now column.now kind }
     {
-        either(
-            is_touched(touches_top(kind), &self.uppers, column),
-            is_touched(touches_bottom(kind), &self.lowers, column),
-        )
+        is_touched(touches_top(kind), &self.uppers, column)
+            || is_touched(touches_bottom(kind), &self.lowers, column)
     }
 
     /// The bounds with the numbers of their columns.

@@ -20,6 +20,7 @@ pub use bounds::{touches_bottom, touches_top};
 pub use deck_cards::CardStop;
 pub use deck_definitions::{DeckFaultKind, Section};
 pub use groups::Groups;
+pub use numbers::number_among;
 pub use pairs::number_in;
 pub use row_cards::{has_more, take_row_card};
 pub use rows::{Rows, is_free};

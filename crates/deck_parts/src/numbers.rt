@@ -15,7 +15,7 @@ pub fn number_from<V>(names: &IndexMap<Name, V>, place: usize, name: &Name) -> u
     if stands_at(names, place, name) {
         return place as u32 + 1;
     }
-    number_among(names, name)
+    number_among(names, name) as u32
 }
 
 // Whether a name stands at this place among these, from 0.
@@ -32,13 +32,14 @@ fn stands_at<V>(names: &IndexMap<Name, V>, place: usize, name: &Name) -> bool
     }
 }
 
-// The number of a name among these, from 1, or 0 where it isn't there.
-fn number_among<V>(names: &IndexMap<Name, V>, name: &Name) -> u32
-    requires { length names.now.entries ≤ 100000 }
-    ensures { result ≡ number_in (keys_of names.now.entries) name.now }
+/// The number of a name among these, from 1, or 0 where it isn't there.
+pub fn number_among<V>(names: &IndexMap<Name, V>, name: &Name) -> usize
+    ensures number { result ≡ number_in (keys_of names.now.entries) name.now }
+    ensures within { result ≤ length names.now.entries }
 {
+    let _count = names.len();
     match names.get_index_of(name) {
-        Some(place) => place as u32 + 1,
+        Some(place) => place + 1,
         None => 0,
     }
 }

@@ -1,8 +1,8 @@
 // The cards of ROWS.
 ghost use Rattle.std.specs.Prelude.{◌≡◌, ◌++◌, ◌∷◌, [], None, Some, true, false, not, OnOk, IfErr};
-ghost use Rattle.card_definitions.specs.Words.{is_empty, named};
+ghost use Rattle.card_definitions.specs.Words.{is_empty};
 ghost use Rattle.problem_definitions.specs.Problem.{plain_row, combination, has_row};
-ghost use Rattle.deck_definitions.specs.DataCards.{row_kinds, combination_kinds, part_pairs_of, parts_on, goes_on_last, with_row};
+ghost use Rattle.deck_definitions.specs.DataCards.{part_pairs_of, parts_on, goes_on_last, with_row};
 ghost use Rattle.deck_definitions.specs.Tests.{filled_from_3, row_fault};
 ghost use Rattle.deck_cards.specs.Told.{TellsDeckFault};
 ghost use Rattle.deck_cards.specs.Shown.{shown};

@@ -5,7 +5,7 @@ ghost use Rattle.card_definitions.specs.Words.{◌⟹◌};
 ghost use Rattle.problem_definitions.specs.Kinds.{is_free_kind};
 ghost use Rattle.problem_definitions.specs.Problem.{has_row, has_free_row, has_combination};
 ghost use Rattle.problem_definitions.specs.Numbering.{entry_by, row_by};
-ghost use Rattle.deck_definitions.specs.DataCards.{combination_text, is_card_of, goes_on_last};
+ghost use Rattle.deck_definitions.specs.DataCards.{goes_on_last};
 ghost use Rattle.deck_cards.specs.Shown.{shown};
 ghost use Rattle.deck_cards.specs.Told.{TellsDeckFault};
 ghost use Rattle.deck_parts.specs.Shown.{row_number};
@@ -14,7 +14,7 @@ ghost use Rattle.deck_parts.specs.RowShown.{row_at};
 use crate::additions::add_new;
 use crate::entries::Entries;
 use crate::numbers::number_from;
-use deck_cards::{CardStop, DataCard, is_word};
+use deck_cards::{CardStop, DataCard, is_card_of};
 use deck_definitions::DeckFaultKind;
 use indexmap::IndexMap;
 use name_table::Name;
@@ -153,28 +153,6 @@ impl Rows {
     }
 }
 
-// The word for the type of a combination.
-fn combination_word(kind: RowKind) -> &'static [u8]
-    ensures { result.now ≡ combination_text kind }
-{
-    match kind {
-        RowKind::N => b"DN",
-        RowKind::G => b"DG",
-        RowKind::L => b"DL",
-        RowKind::E => b"DE",
-    }
-}
-
-// Whether a card has the type and the name of the combination of this type and name.
-fn is_card_of(kind: RowKind, name: &Name, card: &DataCard<'_>) -> bool
-    ensures { result ≡ is_card_of kind name.now (shown card.now) }
-{
-    if !is_word(combination_word(kind), card.kind) {
-        return false;
-    }
-    *name == card.name1
-}
-
 // The parts of a row, if it is a combination, with the numbers of their rows.
 fn numbered_parts(
     alloc: Global,
@@ -219,8 +197,6 @@ pub fn is_free(kind: RowKind) -> bool
 {
     match kind {
         RowKind::N => true,
-        RowKind::G => false,
-        RowKind::L => false,
-        RowKind::E => false,
+        RowKind::G | RowKind::L | RowKind::E => false,
     }
 }

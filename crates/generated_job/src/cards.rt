@@ -8,7 +8,7 @@ ghost use Rattle.job_devices.specs.Text.{Writes};
 ghost use Rattle.bcd_out.specs.Lines.{line};
 
 use crate::names::{destination, route, source};
-use bcd_out::{DataCard, put_card};
+use bcd_out::{WrittenCard, put_card};
 use itoa::Buffer;
 use job_devices::{Sink, WriteStop};
 
@@ -20,7 +20,7 @@ fn put_item<P: Sink>(text: &mut P, name: &[u8], row: &[u8], value: u32) -> Resul
         (line (made.item_card name.now row.now value)) }
 {
     let mut digits = Buffer::new();
-    let card = DataCard {
+    let card = WrittenCard {
         kind: b"",
         name1: name,
         name2: row,
@@ -44,7 +44,7 @@ pub fn put_source_row<P: Sink>(text: &mut P, number: u32) -> Result<(), WriteSto
     ensures { Writes P.written P.stopped_at P.faults P.refusals text.old text.new result
         (line (row_card (plain_row L (made.source number)))) }
 {
-    let card = DataCard {
+    let card = WrittenCard {
         kind: b"L",
         name1: &source(number),
         name2: b"",
@@ -59,7 +59,7 @@ pub fn put_destination_row<P: Sink>(text: &mut P, number: u32) -> Result<(), Wri
     ensures { Writes P.written P.stopped_at P.faults P.refusals text.old text.new result
         (line (row_card (plain_row G (made.destination number)))) }
 {
-    let card = DataCard {
+    let card = WrittenCard {
         kind: b"G",
         name1: &destination(number),
         name2: b"",

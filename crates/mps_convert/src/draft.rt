@@ -182,8 +182,9 @@ impl DeckDraft {
             Section::Bounds => {
                 take_bound_card(self.alloc, &self.columns, &mut self.bounds, card)
             }
-            Section::Header => Err(CardStop::Refused(DeckFaultKind::SectionOrder)),
-            Section::Endata => Err(CardStop::Refused(DeckFaultKind::SectionOrder)),
+            Section::Header | Section::Endata => {
+                Err(CardStop::Refused(DeckFaultKind::SectionOrder))
+            }
         }
     }
 

@@ -1,6 +1,7 @@
 // A problem under revision, card by card.
 ghost use Rattle.std.specs.Prelude.{◌≡◌, [], None, Some, OnOk, IfErr};
 
+use crate::numbering::renumbered;
 use crate::sections::{action_fault_of, action_of, anchor_of, comes_after, is_action, is_deletion};
 use card_reader::Card;
 use deck_cards::{
@@ -9,6 +10,8 @@ use deck_cards::{
 };
 use deck_definitions::Style;
 use deck_parts::{DeckFaultKind, Section};
+use name_table::Name;
+use problem_file::{NoMemory, Problem};
 use revise_definitions::Action;
 use revise_lists::NamedProblem;
 use revise_parts::{UnderAction, edit, edit_fault_of};
@@ -27,10 +30,12 @@ pub struct ReviseDraft {
 }
 
 impl ReviseDraft {
-    ghost use Rattle.std.specs.Prelude.{◌≡◌, [], None, Some, OnOk, IfErr, unwrap_or};
+    ghost use Rattle.std.specs.Prelude.{◌≡◌, [], None, Some, IfOk, OnOk, IfErr, unwrap_or};
     ghost use Rattle.std.specs.Option.{option_or};
     ghost use Rattle.card_definitions.specs.Words.{named};
     ghost use Rattle.card_reader.specs.Card.{card_bytes};
+    ghost use Rattle.problem_definitions.specs.Numbering.{numbered};
+    ghost use Rattle.problem_definitions.specs.Valid.{IsProblem};
     ghost use Rattle.deck_definitions.specs.Sections.{section_words, section_word};
     ghost use Rattle.deck_definitions.specs.declared.Style.TheVariants.{FixedFields};
     ghost use Rattle.deck_definitions.specs.DataCards.{style_begun};
@@ -65,11 +70,13 @@ impl ReviseDraft {
         }
     }
 
-    /// The problem after the cards so far.
-    pub fn problem(&self) -> &NamedProblem
-        ensures { result.now ≡ self.now.problem }
+    /// The problem after the cards so far, under this name and with numbers in place of names.
+    pub fn problem(&self, name: Name) -> Result<Problem, NoMemory>
+        requires { IsProblem (numbered (record self.now.problem { name = name })) }
+        ensures { IfOk result (λ problem. problem ≡ numbered
+            (record self.now.problem { name = name })) }
     {
-        &self.problem
+        renumbered(self.alloc, &self.problem, name)
     }
 
     // Takes a data card of this section under this action.

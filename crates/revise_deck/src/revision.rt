@@ -11,7 +11,6 @@ ghost use Rattle.revise_deck.specs.Revision.{Refuses};
 
 use crate::draft::ReviseDraft;
 use crate::naming::named;
-use crate::numbering::renumbered;
 use card_reader::Cards;
 use deck_cards::read_cards;
 use deck_fields::DeckStop;
@@ -22,7 +21,6 @@ use std::alloc::Global;
 
 // The problem of a deck that was read without a fault.
 fn problem_of(
-    alloc: Global,
     old: &Problem,
     draft: &ReviseDraft,
     cards: &Cards,
@@ -44,8 +42,7 @@ fn problem_of(
 {
     let _ = old.name();
     let own = problem_name(cards, first, last, name);
-    let shown = draft.problem();
-    match renumbered(alloc, shown, own) {
+    match draft.problem(own) {
         Ok(problem) => Ok(problem),
         Err(_) => Err(DeckStop::NoMemory),
     }
@@ -75,5 +72,5 @@ pub fn revise(
     };
     let mut draft = ReviseDraft::new(alloc, problem);
     read_cards(&mut draft, cards, first, last)?;
-    problem_of(alloc, old, &draft, cards, first, last, name)
+    problem_of(old, &draft, cards, first, last, name)
 }

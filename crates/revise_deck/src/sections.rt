@@ -135,10 +135,8 @@ fn puts_in(action: Action) -> bool
     ensures { result ≡ inserts action }
 {
     match action {
-        Action::Modify => false,
-        Action::Delete => false,
-        Action::Before => true,
-        Action::After => true,
+        Action::Modify | Action::Delete => false,
+        Action::Before | Action::After => true,
     }
 }
 
@@ -147,13 +145,8 @@ fn takes_new(section: Section) -> bool
     ensures { result ≡ (is_section Rows section || is_section Columns section) }
 {
     match section {
-        Section::Header => false,
-        Section::Rows => true,
-        Section::Columns => true,
-        Section::Rhs => false,
-        Section::Ranges => false,
-        Section::Bounds => false,
-        Section::Endata => false,
+        Section::Rows | Section::Columns => true,
+        _ => false,
     }
 }
 
@@ -163,12 +156,7 @@ fn finds_anchor(seen: &NamedProblem, section: Section, anchor: &Name) -> bool
 {
     match section {
         Section::Rows => seen.rows.has(anchor),
-        Section::Header => seen.columns.has(anchor),
-        Section::Columns => seen.columns.has(anchor),
-        Section::Rhs => seen.columns.has(anchor),
-        Section::Ranges => seen.columns.has(anchor),
-        Section::Bounds => seen.columns.has(anchor),
-        Section::Endata => seen.columns.has(anchor),
+        _ => seen.columns.has(anchor),
     }
 }
 

@@ -72,13 +72,6 @@ fn any_held(slots: &[Option<NamedBound>]) -> bool
     slots.iter().any(|slot| slot.is_some())
 }
 
-// Whether one of two tests holds.
-fn either(first: bool, second: bool) -> bool
-    ensures { result ≡ (first || second) }
-{
-    first || second
-}
-
 // The place of the bound that touches this end of a column.
 fn find_end(
     slots: &[Option<NamedBound>],
@@ -210,10 +203,8 @@ impl Bounds {
     fn has_met(&self, column: &Name, kind: BoundKind) -> bool
         ensures { result ≡ is_bound_already self.now column.now kind }
     {
-        either(
-            self.has_end_if(touches_top(kind), End::Upper, column),
-            self.has_end_if(touches_bottom(kind), End::Lower, column),
-        )
+        self.has_end_if(touches_top(kind), End::Upper, column)
+            || self.has_end_if(touches_bottom(kind), End::Lower, column)
     }
 
     /// Whether a bound stands on this column.

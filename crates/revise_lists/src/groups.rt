@@ -18,9 +18,10 @@ ghost use Rattle.revise_lists.specs.Shown.{AreShort};
 
 use crate::changes::EntryChange;
 use crate::entries::Entries;
-use crate::named::{insert_new, number_among};
+use crate::named::insert_new;
 use crate::rows::Rows;
 use deck_cards::{DataCard, is_blank};
+use deck_parts::number_among;
 use indexmap::IndexMap;
 use name_table::Name;
 use problem_definitions::MAX_ROWS;

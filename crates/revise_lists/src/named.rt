@@ -1,24 +1,12 @@
 // Lists of things with different names, in which a name is looked up by its hash.
-ghost use Rattle.std.specs.Prelude.{◌≡◌, ◌≤◌, false, insert, length, is_some, OnOk, OnErr};
+ghost use Rattle.std.specs.Prelude.{◌≡◌, false, insert, is_some, OnOk, OnErr};
 ghost use Rattle.std.specs.List.{IsDistinct};
 ghost use Rattle.std.specs.Map.{keys_of, lookup};
-ghost use Rattle.problem_definitions.specs.Names.{same, number_in};
+ghost use Rattle.problem_definitions.specs.Names.{same};
 
 use indexmap::IndexMap;
 use name_table::Name;
 use std::alloc::AllocError;
-
-// The number of a name, from 1, or 0 where it isn't there.
-pub fn number_among<V>(values: &IndexMap<Name, V>, name: &Name) -> usize
-    ensures number { result ≡ number_in (keys_of values.now.entries) name.now }
-    ensures within { result ≤ length values.now.entries }
-{
-    let _count = values.len();
-    match values.get_index_of(name) {
-        Some(place) => place + 1,
-        None => 0,
-    }
-}
 
 // Puts a value under a name that has none at this place, or at the end where there are fewer.
 pub fn insert_new<V: Drop>(

@@ -15,9 +15,9 @@ ghost use Rattle.revise_lists.specs.Bodies.{row_at, body_with, body_retyped};
 
 use crate::entries::Entries;
 use crate::kinds::kind_on;
-use crate::named::{insert_new, number_among};
+use crate::named::insert_new;
 use deck_cards::DataCard;
-use deck_parts::is_free;
+use deck_parts::{is_free, number_among};
 use indexmap::IndexMap;
 use name_table::Name;
 use problem_definitions::{MAX_ROWS, RowKind};

@@ -212,10 +212,8 @@ fn edit_sets_of(
     ensures { OnOk result (sets.new ≡ edit_sets action (shown card.now) sets.old) }
 {
     match action {
-        Action::Modify => sets.change_or_add(alloc, EntryChange::Put, card),
         Action::Delete => sets.delete(alloc, card),
-        Action::Before => sets.change_or_add(alloc, EntryChange::Put, card),
-        Action::After => sets.change_or_add(alloc, EntryChange::Put, card),
+        _ => sets.change_or_add(alloc, EntryChange::Put, card),
     }
 }
 
@@ -241,10 +239,8 @@ fn edit_bounds_of(
     ensures { OnOk result (sets.new ≡ edit_bounds action (shown card.now) sets.old) }
 {
     match action {
-        Action::Modify => put_bound_of(alloc, card, sets),
         Action::Delete => sets.delete(alloc, card),
-        Action::Before => put_bound_of(alloc, card, sets),
-        Action::After => put_bound_of(alloc, card, sets),
+        _ => put_bound_of(alloc, card, sets),
     }
 }
 
@@ -267,7 +263,6 @@ pub fn edit(
         Section::Rhs => edit_sets_of(alloc, action, card, &mut problem.rhs),
         Section::Ranges => edit_sets_of(alloc, action, card, &mut problem.ranges),
         Section::Bounds => edit_bounds_of(alloc, action, card, &mut problem.bounds),
-        Section::Header => Ok(()),
-        Section::Endata => Ok(()),
+        Section::Header | Section::Endata => Ok(()),
     }
 }

@@ -1,11 +1,10 @@
 // The data cards under an action.
 ghost use Rattle.std.specs.Prelude.{◌≡◌, ◌+◌, ◌-◌, ◌&&◌, [], None, Some, OnOk, IfSome, min, length, IfErr, if◌then◌else◌};
 ghost use Rattle.card_definitions.specs.Words.{is_empty};
-ghost use Rattle.deck_definitions.specs.DataCards.{combination_text, is_card_of};
 ghost use Rattle.deck_cards.specs.Shown.{shown};
 ghost use Rattle.revise_parts.specs.Summary.{combination_on, goes_on_from, goes_on_row_from, with_card_under, place_at};
 
-use deck_cards::{DataCard, combination_kind, is_blank, is_word};
+use deck_cards::{DataCard, combination_kind, is_blank, is_card_of};
 use deck_parts::CardStop;
 use indexmap::IndexSet;
 use name_table::Name;
@@ -31,25 +30,6 @@ impl Model for UnderAction {
     ghost Value = { Under };
 
     ghost view = { λ under. record { anchor = under.anchor; there = under.there; names = under.names.keys; last = under.last; combination = under.combination } };
-}
-
-// The word that is the type of a combination.
-fn combination_text(kind: RowKind) -> &'static [u8]
-    ensures { result.now ≡ combination_text kind }
-{
-    match kind {
-        RowKind::N => b"DN",
-        RowKind::G => b"DG",
-        RowKind::L => b"DL",
-        RowKind::E => b"DE",
-    }
-}
-
-// Whether a card has the type and the name of the combination of this kind and name.
-fn is_card_of(kind: RowKind, name: &Name, card: &DataCard<'_>) -> bool
-    ensures { result ≡ is_card_of kind name.now (shown card.now) }
-{
-    is_word(combination_text(kind), card.kind) && *name == card.name1
 }
 
 // The type and the name on a card of ROWS, if it makes a combination or goes on with one.
@@ -152,9 +132,7 @@ pub fn place_for(action: Action, anchor: &Name, there: usize, count: usize, numb
 {
     match action {
         Action::After => place_after(anchor, there, count, number),
-        Action::Modify => place_before(anchor, there, number).min(count),
-        Action::Delete => place_before(anchor, there, number).min(count),
-        Action::Before => place_before(anchor, there, number).min(count),
+        _ => place_before(anchor, there, number).min(count),
     }
 }
 

@@ -79,8 +79,7 @@ fn columns_fault_of(
     match action {
         Action::Modify => modified_column_fault(seen, card),
         Action::Delete => deleted_column_fault(seen, card),
-        Action::Before => inserted_column_fault(seen, under.goes_on(card), card),
-        Action::After => inserted_column_fault(seen, under.goes_on(card), card),
+        Action::Before | Action::After => inserted_column_fault(seen, under.goes_on(card), card),
     }
 }
 
@@ -94,10 +93,8 @@ fn rhs_fault_of(
     ensures { result ≡ edit_test seen.now Rhs action under.now (shown card.now) }
 {
     match action {
-        Action::Modify => modified_set_fault(seen, Section::Rhs, card),
         Action::Delete => deleted_set_fault(seen, &seen.rhs, card),
-        Action::Before => modified_set_fault(seen, Section::Rhs, card),
-        Action::After => modified_set_fault(seen, Section::Rhs, card),
+        _ => modified_set_fault(seen, Section::Rhs, card),
     }
 }
 
@@ -111,10 +108,8 @@ fn ranges_fault_of(
     ensures { result ≡ edit_test seen.now Ranges action under.now (shown card.now) }
 {
     match action {
-        Action::Modify => modified_set_fault(seen, Section::Ranges, card),
         Action::Delete => deleted_set_fault(seen, &seen.ranges, card),
-        Action::Before => modified_set_fault(seen, Section::Ranges, card),
-        Action::After => modified_set_fault(seen, Section::Ranges, card),
+        _ => modified_set_fault(seen, Section::Ranges, card),
     }
 }
 
@@ -128,10 +123,8 @@ fn bounds_fault_of(
     ensures { result ≡ edit_test seen.now Bounds action under.now (shown card.now) }
 {
     match action {
-        Action::Modify => modified_bounds_fault(seen, card),
         Action::Delete => deleted_bounds_fault(seen, card),
-        Action::Before => modified_bounds_fault(seen, card),
-        Action::After => modified_bounds_fault(seen, card),
+        _ => modified_bounds_fault(seen, card),
     }
 }
 
@@ -151,7 +144,6 @@ pub fn edit_fault_of(
         Section::Rhs => rhs_fault_of(seen, action, under, card),
         Section::Ranges => ranges_fault_of(seen, action, under, card),
         Section::Bounds => bounds_fault_of(seen, action, under, card),
-        Section::Header => Some(DeckFaultKind::SectionOrder),
-        Section::Endata => Some(DeckFaultKind::SectionOrder),
+        Section::Header | Section::Endata => Some(DeckFaultKind::SectionOrder),
     }
 }
