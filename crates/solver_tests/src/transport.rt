@@ -5,6 +5,7 @@ ghost use Rattle.std.specs.Prelude.{◌≡◌, IfOk};
 use crate::decks::{TESTPROB, program_of};
 use crate::texts::values_text;
 use bounded_primal::{opening, primal};
+use eta_file::EtaFile;
 use frac128::Frac;
 use lp_model::{Engine, Lp, Outcome, Sense};
 use price_row::PriceRow;
@@ -134,24 +135,30 @@ fn a_path_ends_with_a_short_file(rt: HostRuntime) -> Result<(), Fail> {
     Ok(())
 }
 
-/// The row of the cost, carried back through the file at the end of the path.
-fn cost_row(alloc: Global, deck: &[u8]) -> Result<String, Fail> {
-    let lp = program_of(alloc, deck, Sense::Min)?;
-    let (_, _, rates) = solved::<ProductForm>(alloc, &lp)?;
-    let file = rates.file();
+/// The row of the cost, carried back through the file.
+fn cost_row(alloc: Global, lp: &Lp, file: &EtaFile) -> Result<String, Fail>
+    requires { file.now.matrix ≡ lp.now.matrix }
+{
     let size = file.size();
     if size < 1 || !file.is_basic(1) {
         return Err(Fail::from("no basic"));
     }
     let mut out = vec![in alloc; Frac::whole(0); size as usize]?;
-    let mut room = PriceRow::new(alloc, &lp)?;
+    let mut room = PriceRow::new(alloc, lp)?;
     room.row(file, 1, &mut out)?;
     Ok(values_text(alloc, &out)?)
 }
 
+/// The same at the end of the path of a deck.
+fn cost_row_of(alloc: Global, deck: &[u8]) -> Result<String, Fail> {
+    let lp = program_of(alloc, deck, Sense::Min)?;
+    let (_, _, rates) = solved::<ProductForm>(alloc, &lp)?;
+    cost_row(alloc, &lp, rates.file())
+}
+
 #[test]
 fn the_row_of_the_cost_has_the_prices(rt: HostRuntime) -> Result<(), Fail> {
-    let row = cost_row(rt.alloc(), TESTPROB)?;
+    let row = cost_row_of(rt.alloc(), TESTPROB)?;
     assert_eq!(rt; row.as_str(), " 0 0 1 8 0 12 0");
     Ok(())
 }
