@@ -424,7 +424,7 @@ impl EtaFile {
         out.put_around(values, before, j, after)
     }
 
-    /// Makes `out` the direction of the nonbasic `j`, and counts nothing. Only the places of numbers that aren't 0 are looked at.
+    /// Makes `out` the direction of the nonbasic `j`, and counts nothing. It is cleared by its list; the new one is taken of the basics and `j`.
     pub fn direction(&self, j: u32, out: &mut SparseVector) -> Result<(), Stop>
         requires nonbasic { IsNonbasic self.now.matrix self.now.basics j }
         requires places { length out.old ≡ size self.now.matrix }

@@ -204,7 +204,7 @@ impl Rates for ProductForm {
         Ok(())
     }
 
-    /// Only the places of numbers that aren't 0 are looked at.
+    /// The direction is carried into `out` itself, and none is kept for an exchange.
     fn direction(&mut self, j: u32, out: &mut SparseVector) -> Result<(), Stop>
         requires nonbasic { IsNonbasic self.old.file.matrix self.old.file.basics j }
         requires places { length out.old ≡ size self.old.file.matrix }
