@@ -70,7 +70,7 @@ module _ (xs : List ℚ) where
   past_end i above = get_or_past xs (i - 1) zero_ℚ (omega (arith, above))
 
   -- all variables from n on are candidates
-  all_from : (n left : ℕ) → n + left ≡ suc (length xs) → CoverNonzeroFrom xs n (numbers_from n left)
+  pub all_from : (n left : ℕ) → n + left ≡ suc (length xs) → CoverNonzeroFrom xs n (numbers_from n left)
   all_from n zero e = no_more_listed (λ i above. past_end i (omega (arith, above, e)))
   all_from n (suc left) e = next_listed (record {
     from = (omega arith);

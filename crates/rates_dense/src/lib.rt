@@ -16,7 +16,7 @@ mod line;
 mod opening;
 
 use frac128::Frac;
-use line::{Line, fill_quotients};
+use line::{Exchange, Line, fill_quotients};
 use lp_model::{Engine, Entry, Evidence, Lp, NoMemory, Rates, Stop};
 use opening::{opening_lines, opening_marks, opening_slots};
 use std::alloc::Global;
@@ -49,17 +49,17 @@ impl Model for Dense {
     ghost invariant = { IsTable };
 }
 
-/// Lists the slots of the lines that an exchange of `p` for `q` changes, and says how many there are.
-fn list_changing(lines: &[Line], p: u32, q: u32, changing: &mut [usize]) -> usize
-    requires q_low { 1 ≤ q }
-    requires q_high { All (λ line. q ≤ length line.rates.items) lines.now }
+/// Lists the slots of the lines that the exchange changes, and says how many there are.
+fn list_changing(lines: &[Line], exchange: &Exchange, changing: &mut [usize]) -> usize
+    requires q_low { 1 ≤ exchange.now.q }
+    requires q_high { All (λ line. exchange.now.q ≤ length line.rates.items) lines.now }
     requires room { length changing.old ≡ length lines.now }
     ensures within { result ≤ length lines.now }
-    ensures listed { AreChanging p q lines.now (take result changing.new) }
+    ensures listed { AreChanging exchange.now.p exchange.now.q lines.now (take result changing.new) }
 {
     let mut count = 0;
     for (slot, line) in lines.iter().enumerate() {
-        if !line.changes(p, q) {
+        if !line.changes(exchange) {
             continue;
         }
         changing[count] = slot;
@@ -68,27 +68,26 @@ fn list_changing(lines: &[Line], p: u32, q: u32, changing: &mut [usize]) -> usiz
     count
 }
 
-/// Makes the lines that change ready for an exchange of `p` for `q`, at the variables of the list.
+/// Makes the lines that change ready for the exchange, at the variables of the list.
 fn prepare_lines(
     lines: &mut [Line],
     changing: &[usize],
-    p: u32,
-    q: u32,
+    exchange: &Exchange,
     quotients: &[Frac],
     changed: &[u32],
 ) -> Result<(), Evidence>
-    requires q_low { 1 ≤ q }
-    requires q_high { q ≤ length quotients.now }
-    requires changing { AreChanging p q lines.old changing.now }
+    requires q_low { 1 ≤ exchange.now.q }
+    requires q_high { exchange.now.q ≤ length quotients.now }
+    requires changing { AreChanging exchange.now.p exchange.now.q lines.old changing.now }
     requires variables { AreNumbers (length quotients.now) changed.now }
     requires listed { length changed.now ≤ length quotients.now }
     requires places { All (HasPlaces (length quotients.now)) lines.old }
     ensures same { LineByLine SameRates lines.old lines.new }
-    ensures ready { OnOk result (All (IsReady p q quotients.now changed.now) lines.new) }
-    ensures refused { IfErr result (SomeLineRefused p q quotients.now lines.old) }
+    ensures ready { OnOk result (All (IsReady exchange.now.p exchange.now.q quotients.now changed.now) lines.new) }
+    ensures refused { IfErr result (SomeLineRefused exchange.now.p exchange.now.q quotients.now lines.old) }
 {
     for slot in changing {
-        lines[*slot].prepare(p, q, quotients, changed)?;
+        lines[*slot].prepare(exchange, quotients, changed)?;
     }
     Ok(())
 }
@@ -98,20 +97,19 @@ fn commit_lines(
     lines: &mut [Line],
     changing: &[usize],
     size: usize,
-    p: u32,
-    q: u32,
+    exchange: &Exchange,
     changed: &[u32],
 )
-    requires q_low { 1 ≤ q }
-    requires q_high { q ≤ size }
-    requires changing { AreChanging p q lines.old changing.now }
+    requires q_low { 1 ≤ exchange.now.q }
+    requires q_high { exchange.now.q ≤ size }
+    requires changing { AreChanging exchange.now.p exchange.now.q lines.old changing.now }
     requires variables { AreNumbers size changed.now }
     requires listed { length changed.now ≤ size }
     requires places { All (HasPlaces size) lines.old }
-    ensures { LineByLine (IsCommitted p q changed.now) lines.old lines.new }
+    ensures { LineByLine (IsCommitted exchange.now.p exchange.now.q changed.now) lines.old lines.new }
 {
     for slot in changing {
-        lines[*slot].commit(p, q, changed);
+        lines[*slot].commit(exchange, changed);
     }
 }
 
@@ -145,37 +143,36 @@ fn take_rates(lines: &[Line], j: u32, out: &mut [Frac])
     }
 }
 
-/// Makes the lines after an exchange of `p`, whose line has this slot, for `q`. `quotients` is room for the leaver's rates over the
+/// Makes the lines after the exchange of `p`, whose line has this slot, for `q`. `quotients` is room for the leaver's rates over the
 /// pivot, `changed` for the numbers of those that aren't 0, and `changing` for the slots of the lines that change.
 fn exchange_lines(
     lines: &mut [Line],
     slot: usize,
-    p: u32,
-    q: u32,
+    exchange: &Exchange,
     quotients: &mut [Frac],
     changed: &mut [u32],
     changing: &mut [usize],
 ) -> Result<(), Evidence>
-    requires q_low { 1 ≤ q }
-    requires q_high { q ≤ length quotients.old }
+    requires q_low { 1 ≤ exchange.now.q }
+    requires q_high { exchange.now.q ≤ length quotients.old }
     requires small { length quotients.old < 2 ^ 32 }
     requires room { length changed.old ≡ length quotients.old }
     requires slots { length changing.old ≡ length lines.old }
     requires places { All (HasPlaces (length quotients.old)) lines.old }
     requires slot { slot < length lines.old }
-    requires pivot { HoldsAt (λ leaver. value_at leaver.rates.items q ≢ zero_ℚ) lines.old slot }
+    requires pivot { HoldsAt (λ leaver. value_at leaver.rates.items exchange.now.q ≢ zero_ℚ) lines.old slot }
     ensures quotients { OnOk result
-        (HoldsAt (λ leaver. AreQuotients p q leaver.rates.items quotients.new) lines.old slot) }
-    ensures lines { OnOk result (LineByLine (IsExchanged p q quotients.new) lines.old lines.new) }
+        (HoldsAt (λ leaver. AreQuotients exchange.now.p exchange.now.q leaver.rates.items quotients.new) lines.old slot) }
+    ensures lines { OnOk result (LineByLine (IsExchanged exchange.now.p exchange.now.q quotients.new) lines.old lines.new) }
     ensures err { OnErr result (LineByLine SameRates lines.old lines.new) }
-    ensures refused { IfErr result (LinesRefused p q lines.old slot) }
+    ensures refused { IfErr result (LinesRefused exchange.now.p exchange.now.q lines.old slot) }
 {
-    let count = fill_quotients(&lines[slot].rates, p, q, quotients, changed)?;
+    let count = fill_quotients(&lines[slot].rates, exchange, quotients, changed)?;
     let changed = &changed[..count];
-    let count = list_changing(lines, p, q, changing);
+    let count = list_changing(lines, exchange, changing);
     let changing = &changing[..count];
-    prepare_lines(lines, changing, p, q, quotients, changed)?;
-    commit_lines(lines, changing, quotients.len(), p, q, changed);
+    prepare_lines(lines, changing, exchange, quotients, changed)?;
+    commit_lines(lines, changing, quotients.len(), exchange, changed);
     Ok(())
 }
 
@@ -250,11 +247,11 @@ impl Rates for Dense {
     {
         let slot = self.slots[p as usize - 1];
         let lines = &mut self.lines;
+        let exchange = Exchange { p, q };
         if let Err(evidence) = exchange_lines(
             lines,
             slot as usize,
-            p,
-            q,
+            &exchange,
             &mut self.quotients,
             &mut self.changed,
             &mut self.changing,

@@ -54,6 +54,13 @@ fn product_by_unit(x: Frac, y: Frac) -> Option<Frac>
     by_unit(y, x)
 }
 
+/// An exchange: `q` becomes basic in place of `p`.
+#[derive(Clone, Copy)]
+pub struct Exchange {
+    pub p: u32,
+    pub q: u32,
+}
+
 /// An exchange of `p` for `q`, and the rate of `i` at `j` that it changes.
 #[derive(Clone, Copy)]
 struct Cell {
@@ -188,22 +195,22 @@ impl Cell {
 /// where that isn't 0, and says how many there are.
 pub fn fill_quotients(
     rates: &[Frac],
-    p: u32,
-    q: u32,
+    exchange: &Exchange,
     quotients: &mut [Frac],
     changed: &mut [u32],
 ) -> Result<usize, Evidence>
-    requires q_low { 1 ≤ q }
-    requires q_high { q ≤ length rates.now }
+    requires q_low { 1 ≤ exchange.now.q }
+    requires q_high { exchange.now.q ≤ length rates.now }
     requires small { length rates.now < 2 ^ 32 }
     requires room { length quotients.old ≡ length rates.now }
     requires list { length changed.old ≡ length rates.now }
-    requires pivot { value_at rates.now q ≢ zero_ℚ }
-    ensures filled { OnOk result (IsFilled quotients.new (quotient_at p q rates.now)) }
+    requires pivot { value_at rates.now exchange.now.q ≢ zero_ℚ }
+    ensures filled { OnOk result (IsFilled quotients.new (quotient_at exchange.now.p exchange.now.q rates.now)) }
     ensures within { IfOk result (λ count. count ≤ length quotients.new) }
     ensures listed { IfOk result (λ count. AreChanged (take count changed.new) quotients.new) }
-    ensures refused { IfErr result (QuotientRefused p q rates.now) }
+    ensures refused { IfErr result (QuotientRefused exchange.now.p exchange.now.q rates.now) }
 {
+    let Exchange { p, q } = *exchange;
     let pivot = rates[q as usize - 1];
     let mut count = 0;
     for (k, rate) in rates.iter().enumerate() {
@@ -224,11 +231,12 @@ pub fn fill_quotients(
 }
 
 /// The entering variable's rates at the variables of the list, from the quotients.
-fn fill_entering(p: u32, q: u32, quotients: &[Frac], changed: &[u32], next: &mut [Frac])
+fn fill_entering(exchange: &Exchange, quotients: &[Frac], changed: &[u32], next: &mut [Frac])
     requires variables { AreNumbers (length quotients.now) changed.now }
     requires room { length changed.now ≤ length next.old }
-    ensures { IsFilledAt changed.now next.new (entering_rate p q quotients.now) }
+    ensures { IsFilledAt changed.now next.new (entering_rate exchange.now.p exchange.now.q quotients.now) }
 {
+    let Exchange { p, q } = *exchange;
     for (place, number) in changed.iter().enumerate() {
         let j = *number;
         let quotient = quotients[j as usize - 1];
@@ -246,21 +254,21 @@ fn fill_entering(p: u32, q: u32, quotients: &[Frac], changed: &[u32], next: &mut
 fn fill_staying(
     rates: &[Frac],
     i: u32,
-    p: u32,
-    q: u32,
+    exchange: &Exchange,
     quotients: &[Frac],
     changed: &[u32],
     next: &mut [Frac],
 ) -> Result<(), Evidence>
-    requires q_low { 1 ≤ q }
-    requires q_high { q ≤ length rates.now }
+    requires q_low { 1 ≤ exchange.now.q }
+    requires q_high { exchange.now.q ≤ length rates.now }
     requires places { length quotients.now ≡ length rates.now }
     requires variables { AreNumbers (length quotients.now) changed.now }
     requires room { length changed.now ≤ length next.old }
     ensures filled { OnOk result (IsFilledAt changed.now next.new
-        (staying_rate p q quotients.now rates.now)) }
-    ensures refused { IfErr result (StayingRefused i p q quotients.now rates.now) }
+        (staying_rate exchange.now.p exchange.now.q quotients.now rates.now)) }
+    ensures refused { IfErr result (StayingRefused i exchange.now.p exchange.now.q quotients.now rates.now) }
 {
+    let Exchange { p, q } = *exchange;
     let factor = rates[q as usize - 1];
     for (place, number) in changed.iter().enumerate() {
         let j = *number;
@@ -310,47 +318,45 @@ impl Line {
         self.rates[j as usize - 1] = rate;
     }
 
-    /// Whether an exchange of `p` for `q` changes the line: it is the leaver's, or its rate at `q` isn't 0.
-    pub fn changes(&self, p: u32, q: u32) -> bool
-        requires q_low { 1 ≤ q }
-        requires q_high { q ≤ length self.now.rates.items }
-        ensures stays { result ≡ false → IsUnchanged p q self.now }
-        ensures moves { result ≡ true → IsUnchanged p q self.now → ⊥ }
+    /// Whether the exchange changes the line: it is the leaver's, or its rate at `q` isn't 0.
+    pub fn changes(&self, exchange: &Exchange) -> bool
+        requires q_low { 1 ≤ exchange.now.q }
+        requires q_high { exchange.now.q ≤ length self.now.rates.items }
+        ensures stays { result ≡ false → IsUnchanged exchange.now.p exchange.now.q self.now }
+        ensures moves { result ≡ true → IsUnchanged exchange.now.p exchange.now.q self.now → ⊥ }
     {
-        self.basic == p || !self.rates[q as usize - 1].is_zero()
+        self.basic == exchange.p || !self.rates[exchange.q as usize - 1].is_zero()
     }
 
-    /// Makes ready the rates that an exchange of `p` for `q` changes, at the variables of the list.
+    /// Makes ready the rates that the exchange changes, at the variables of the list.
     pub fn prepare(
         &mut self,
-        p: u32,
-        q: u32,
+        exchange: &Exchange,
         quotients: &[Frac],
         changed: &[u32],
     ) -> Result<(), Evidence>
-        requires q_low { 1 ≤ q }
-        requires q_high { q ≤ length quotients.now }
+        requires q_low { 1 ≤ exchange.now.q }
+        requires q_high { exchange.now.q ≤ length quotients.now }
         requires variables { AreNumbers (length quotients.now) changed.now }
         requires listed { length changed.now ≤ length quotients.now }
         requires places { length self.old.rates.items ≡ length quotients.now }
         requires room { length self.old.next.items ≡ length quotients.now }
         ensures same { SameRates self.old self.new }
-        ensures ready { OnOk result (IsReady p q quotients.now changed.now self.new) }
-        ensures stays { OnErr result (self.old.basic ≢ p) }
-        ensures refused { IfErr result (StayingRefused self.old.basic p q quotients.now
+        ensures ready { OnOk result (IsReady exchange.now.p exchange.now.q quotients.now changed.now self.new) }
+        ensures stays { OnErr result (self.old.basic ≢ exchange.now.p) }
+        ensures refused { IfErr result (StayingRefused self.old.basic exchange.now.p exchange.now.q quotients.now
             self.old.rates.items) }
     {
-        if self.basic == p {
-            fill_entering(p, q, quotients, changed, &mut self.next);
+        if self.basic == exchange.p {
+            fill_entering(exchange, quotients, changed, &mut self.next);
             Ok(())
-        } else if self.rates[q as usize - 1].is_zero() {
+        } else if self.rates[exchange.q as usize - 1].is_zero() {
             Ok(())
         } else {
             fill_staying(
                 &self.rates,
                 self.basic,
-                p,
-                q,
+                exchange,
                 quotients,
                 changed,
                 &mut self.next,
@@ -359,17 +365,17 @@ impl Line {
     }
 
     /// Takes the rates that were made ready.
-    pub fn commit(&mut self, p: u32, q: u32, changed: &[u32])
-        requires q_low { 1 ≤ q }
-        requires q_high { q ≤ length self.old.rates.items }
+    pub fn commit(&mut self, exchange: &Exchange, changed: &[u32])
+        requires q_low { 1 ≤ exchange.now.q }
+        requires q_high { exchange.now.q ≤ length self.old.rates.items }
         requires variables { AreNumbers (length self.old.rates.items) changed.now }
         requires room { length changed.now ≤ length self.old.next.items }
-        ensures { IsCommitted p q changed.now self.old self.new }
+        ensures { IsCommitted exchange.now.p exchange.now.q changed.now self.old self.new }
     {
-        if self.basic == p {
-            self.basic = q;
+        if self.basic == exchange.p {
+            self.basic = exchange.q;
             take_over(changed, &self.next, &mut self.rates);
-        } else if !self.rates[q as usize - 1].is_zero() {
+        } else if !self.rates[exchange.q as usize - 1].is_zero() {
             take_over(changed, &self.next, &mut self.rates);
         }
     }

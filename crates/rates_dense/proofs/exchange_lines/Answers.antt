@@ -10,7 +10,7 @@ returns-in_err-count-clause-refused c =
     let is_err : c.from_residual.result ≡ Err c.in_err-count.field-0.0 = search rules in
     rw is_err
     (at_leaver
-    (held_at (λ (leaver : Line). QuotientRefused c.args.p c.args.q leaver.rates.items c.in_err-count.field-0.0)
+    (held_at (λ (leaver : Line). QuotientRefused c.args.exchange.now.p c.args.exchange.now.q leaver.rates.items c.in_err-count.field-0.0)
     c.args.lines.now c.args.slot c.index-lines-slot.result c.requires.slot (rw c.deref.ensures.value at c.in_err-count.ensures.refused)))
 
 pub returns-in_err-prepare_lines-clause-refused : goal.returns-in_err-prepare_lines-clause-refused
@@ -18,14 +18,14 @@ returns-in_err-prepare_lines-clause-refused c =
     let is_err : c.from_residual-in_err-prepare_lines.result ≡ Err c.in_err-prepare_lines.field-0.0 = search rules in
     rw is_err
     (at_another c.fill_quotients.new.quotients
-    (held_at (λ (leaver : Line). AreQuotients c.args.p c.args.q leaver.rates.items c.fill_quotients.new.quotients)
+    (held_at (λ (leaver : Line). AreQuotients c.args.exchange.now.p c.args.exchange.now.q leaver.rates.items c.fill_quotients.new.quotients)
     c.args.lines.now c.args.slot c.index-lines-slot.result c.requires.slot
     (rw (← c.deref.ensures.value) (record { counted = search rules; filled = c.in_ok-count.ensures.filled })))
     c.in_err-prepare_lines.ensures.refused)
 
 pub returns-clause-quotients : goal.returns-clause-quotients
 returns-clause-quotients c =
-    held_at (λ (leaver : Line). AreQuotients c.args.p c.args.q leaver.rates.items c.fill_quotients.new.quotients)
+    held_at (λ (leaver : Line). AreQuotients c.args.exchange.now.p c.args.exchange.now.q leaver.rates.items c.fill_quotients.new.quotients)
     c.args.lines.now c.args.slot c.index-lines-slot.result c.requires.slot
     (rw (← c.deref.ensures.value) (record { counted = search rules; filled = c.in_ok-count.ensures.filled }))
 
