@@ -7,14 +7,14 @@ ghost use Rattle.lp_definitions.specs.Basis.{basics_of, ArePricesOf};
 ghost use Rattle.lp_model.specs.RatesCalls.{IsRowOf};
 ghost use Rattle.basis_values.specs.Calls.{HasRates, KeepsRates};
 ghost use Rattle.basis_values.specs.Stops.{PointOverflow};
-ghost use Rattle.basis_values.specs.Prices.{ChangedRefused, SomeChangedRefused, AreChanged, price_formula};
+ghost use Rattle.basis_values.specs.Prices.{SomeChangedRefused, AreChanged, price_formula};
 
-use crate::formula::{Formula, plus_product};
+use crate::formula::Formula;
 use frac128::Frac;
 use lp_model::{Basis, Change, Evidence, Lp, NoMemory, Rates, Stop};
 use std::alloc::Global;
 
-/// Formula 17 at `j`.
+/// Formula 17: the price of `j`, which is the rate of the objective row plus theta times that of the change row.
 fn formula(j: u32, theta: Frac) -> Formula
     ensures { result ≡ price_formula j theta }
 {
@@ -26,31 +26,6 @@ fn formula(j: u32, theta: Frac) -> Formula
         j,
         term: 0,
         theta,
-    }
-}
-
-/// The rate of the objective row at `j`, plus theta times that of the change row, by the plain operations.
-fn plainly_changed(rate: Frac, theta: Frac, change: Frac, j: u32) -> Result<Frac, Evidence>
-    ensures value { IfOk result (λ price. price ≡ rate +ℚ theta *ℚ change) }
-    ensures refused { IfErr result (ChangedRefused theta change rate j) }
-    ensures needed { OnErr result (change ≢ zero_ℚ) }
-{
-    let product = formula(j, theta).product(theta, change)?;
-    formula(j, theta).sum(rate, product)
-}
-
-/// The same, also where only the plain operations are refused.
-fn changed(rate: Frac, theta: Frac, change: Frac, j: u32) -> Result<Frac, Evidence>
-    ensures value { IfOk result (λ price. price ≡ rate +ℚ theta *ℚ change) }
-    ensures refused { IfErr result (ChangedRefused theta change rate j) }
-    ensures needed { OnErr result (change ≢ zero_ℚ) }
-{
-    match plainly_changed(rate, theta, change, j) {
-        Ok(price) => Ok(price),
-        Err(evidence) => match plus_product(rate, theta, change) {
-            Some(price) => Ok(price),
-            None => Err(evidence),
-        },
     }
 }
 
@@ -66,7 +41,7 @@ fn add_changes(theta: Frac, change: &[Frac], prices: &mut [Frac]) -> Result<(), 
     for k in 0..prices.len() {
         let rate = prices[k];
         let added = change[k];
-        let price = changed(rate, theta, added, k as u32 + 1)?;
+        let price = formula(k as u32 + 1, theta).sum_with_product(rate, theta, added)?;
         prices[k] = price;
     }
     Ok(())
