@@ -5,7 +5,8 @@ ghost use Rattle.exact_values.specs.Rational.{◌+ℚ◌, ◌*ℚ◌};
 ghost use Rattle.lp_definitions.specs.LinearProgram.{size, value_at, IsVariable, IsLinearProgram};
 ghost use Rattle.lp_definitions.specs.Basis.{basics_of, is_in, IsBasis, IsPointOf};
 ghost use Rattle.lp_laws.specs.Points.{standing};
-ghost use Rattle.basis_values.specs.Calls.{HasRates, KeepsRates};
+ghost use Rattle.lp_model.specs.RatesCalls.{IfOverflow};
+ghost use Rattle.basis_values.specs.Calls.{HasRates, KeepsRates, PointRefused};
 ghost use Rattle.basis_values.specs.Stops.{PointOverflow};
 ghost use Rattle.basis_values.specs.Formulas.{IsTermRefusal};
 ghost use Rattle.basis_values.specs.Points.{ColumnTermRefused, IsSoFar, AreAdded, nonbasics_to, term_of};
@@ -13,7 +14,7 @@ ghost use Rattle.basis_values.specs.Points.{ColumnTermRefused, IsSoFar, AreAdded
 use crate::choices::stands_basic;
 use crate::formula::Formula;
 use frac128::Frac;
-use lp_model::{Basis, Evidence, Lp, NoMemory, Rates, Status, Stop};
+use lp_model::{Basis, Evidence, Lp, NoMemory, Point, Rates, Status, Stop};
 use std::alloc::Global;
 
 /// The value of a nonbasic, and 0 at a basic.
@@ -222,4 +223,25 @@ pub fn point_of<R: Rates>(
     add_directions(lp, basis, rates, &mut column, &mut point)?;
     out.copy_from_slice(&point);
     Ok(())
+}
+
+/// The basis's point, in a vector of its own.
+pub fn point_at<R: Rates>(
+    alloc: Global,
+    lp: &Lp,
+    basis: &Basis,
+    rates: &mut R,
+) -> Result<Point, Stop>
+    requires rates { HasRates (R.matrix rates.old) (R.basics rates.old) lp.now basis.now }
+    ensures places { IfOk result (λ point. length point ≡ size lp.now.matrix) }
+    ensures point { IfOk result (λ point. IsPointOf lp.now basis.now (value_at point)) }
+    ensures rates { KeepsRates (R.matrix rates.new) (R.basics rates.new) lp.now basis.now
+        (R.waypoints rates.old) (R.waypoints rates.new) }
+    ensures overflow { IfErr result (λ stop. IfOverflow stop
+        (PointRefused lp.now (R.waypoints rates.old) basis.now (R.waypoints rates.new))) }
+{
+    let size = lp.number_of_variables() as usize;
+    let mut values = vec![in alloc; Frac::whole(0); size].map_err(|_| NoMemory)?;
+    point_of(alloc, lp, basis, rates, &mut values)?;
+    Ok(Point::new(values))
 }
