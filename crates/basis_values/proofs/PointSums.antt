@@ -20,7 +20,8 @@ use Rattle.lp_laws.proofs.Statuses.{basic_from}
 use Rattle.lp_laws.proofs.Uniqueness.{is_in-basics_of, one_direction}
 use Rattle.simplex_definitions.specs.Formulas.{nonbasics, PointFormula, f10_product, f10_sum}
 use Rattle.basis_values.specs.Calls.{PointRefused}
-use Rattle.basis_values.specs.Points.{nonbasics_to, with_term, sum_at, IsSoFar, AreAdded, TermRefused, of_product, of_sum, ColumnTermRefused}
+use Rattle.basis_values.specs.Points.{nonbasics_to, with_term, sum_at, IsSoFar, AreAdded, ColumnTermRefused, term_of}
+use Rattle.basis_values.specs.Formulas.{IsTermRefusal, of_product, of_sum}
 use Rattle.basis_values.proofs.Existence.{rates_exist}
 use Rattle.basis_values.proofs.Refusals.{stops_at_basis}
 use Rattle.basis_values.proofs.RatesStops.{tableau_of, IsTableau-of, of_point}
@@ -232,14 +233,14 @@ module _ (p : LinearProgram) (s : List Status) (basis : IsBasis p s) where
           next : slice_get (nonbasics p.matrix (basics_of s)) (length (nonbasics_to (basics_of s) n)) ≡ Some (suc n)
           next = next_is (basics_of s) p.matrix n (omega (arith, out.0.1)) out.1
 
-          by_term : TermRefused (d r.i) (z (suc n)) (z r.i) r.i (suc n) (length (nonbasics_to (basics_of s) n)) e → PointFormula p s (tableau_of p s basis nonsingular rate) e
+          by_term : IsTermRefusal (term_of r.i (suc n) (length (nonbasics_to (basics_of s) n))) (z r.i) (d r.i) (z (suc n)) e → PointFormula p s (tableau_of p s basis nonsingular rate) e
           by_term (of_product refused) = f10_product r.i (suc n) (length (nonbasics_to (basics_of s) n)) refused.names is_basic_i next (rw (rate_at r.i is_basic_i.0, value_is) at refused.refuses)
           by_term (of_sum refused) = f10_sum r.i (suc n) (length (nonbasics_to (basics_of s) n)) refused.names is_basic_i next (rw (sum_is r.i is_basic_i, rate_at r.i is_basic_i.0, value_is) at refused.refuses)
 
       facts : ColumnTermRefused (basics_of s) d (z (suc n)) z (suc n) (length (nonbasics_to (basics_of s) n)) (size p.matrix) e → (e.formula ≡ 10) × (e.way ≡ 0) × (e.theta ≡ zero_ℚ)
       facts r = by_term r.refused
         where
-          by_term : TermRefused (d r.i) (z (suc n)) (z r.i) r.i (suc n) (length (nonbasics_to (basics_of s) n)) e → (e.formula ≡ 10) × (e.way ≡ 0) × (e.theta ≡ zero_ℚ)
+          by_term : IsTermRefusal (term_of r.i (suc n) (length (nonbasics_to (basics_of s) n))) (z r.i) (d r.i) (z (suc n)) e → (e.formula ≡ 10) × (e.way ≡ 0) × (e.theta ≡ zero_ℚ)
           by_term (of_product refused) = (refused.names.is_formula, refused.no_way, refused.is_theta)
           by_term (of_sum refused) = (refused.names.is_formula, refused.no_way, refused.is_theta)
 

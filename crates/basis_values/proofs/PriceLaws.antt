@@ -17,7 +17,8 @@ use Rattle.simplex_definitions.specs.Formulas.{ObjectiveFormula, f17_product, f1
 use Rattle.simplex_definitions.specs.Statements.{thetas_of}
 use Rattle.simplex_definitions.specs.Evidence.{ShowsRefusal, by_objective, names_waypoint}
 use Rattle.basis_values.specs.Calls.{job_of, is_of_point, PointRefused}
-use Rattle.basis_values.specs.Prices.{AreChanged, ChangedRefused, of_product, of_sum, SomeChangedRefused}
+use Rattle.basis_values.specs.Formulas.{IsTermRefusal, of_product, of_sum}
+use Rattle.basis_values.specs.Prices.{AreChanged, SomeChangedRefused, price_formula}
 use Rattle.basis_values.proofs.Refusals.{IsTableau-changed}
 use Rattle.basis_values.proofs.RatesStops.{tableau_of, IsTableau-of}
 
@@ -106,7 +107,7 @@ module _ (p : LinearProgram) (s : List Status) where
         h_is : h r.j ≡ of_objective.rate c.row r.j
         h_is = of_change.entries r.j is ∙ ap (λ m. cond m zero_ℚ (of_change.rate c.row r.j)) out ∙ one_table p.matrix (basics_of s) of_change.rate of_objective.rate nonsingular of_change.are_rates of_objective.are_rates c.row r.j basic.0 (is, out)
 
-        by_term : ChangedRefused c.theta (h r.j) (o r.j) r.j e → Facts
+        by_term : IsTermRefusal (price_formula r.j c.theta) (o r.j) c.theta (h r.j) e → Facts
         by_term (of_product refused) = record {
           is_formula = refused.names.is_formula;
           no_way = refused.no_way;

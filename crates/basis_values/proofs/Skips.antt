@@ -1,5 +1,5 @@
 -- What an operation gives that need not be made, and the walk of a search.
-use Rattle.std.proofs.Common.{◌≡◌, ◌≢◌, ℕ, ◌+◌, ◌-◌, ◌<◌, List, length, get_or, ◌≤◌, ◌⊎◌, inl, inr, Bool, true, false, sym, ◌∙◌, ap, arith}
+use Rattle.std.proofs.Common.{◌≡◌, ◌≢◌, ℕ, ◌+◌, ◌<◌, List, length, get_or, ◌≤◌, ◌⊎◌, inl, inr, Bool, true, false, sym, ◌∙◌, ap, subst, arith}
 use Rattle.std.specs.Prelude.{eqb, Option, Some, None, IfSome}
 use Rattle.std.specs.Option.{SomeIff}
 use Rattle.std.proofs.lemmas.Bool.Decides.{eqb_tells}
@@ -27,13 +27,17 @@ lowers_at p s xs up k x r below is signed_is = ap (λ (u : ℚ). lowers p s (λ 
 
 -- ---- a search that goes up by one
 
+-- a fact of each number up to k, and of the next
+pub and_next : (P : ℕ → Type 0) (k : ℕ) → ((j : ℕ) → 1 ≤ j → j ≤ k → P j) → P (k + 1) → (j : ℕ) → 1 ≤ j → j ≤ k + 1 → P j
+and_next P k before here j low high = at (eqb_tells j (k + 1))
+  where
+    at : (((eqb j (k + 1) ≡ true) × (j ≡ k + 1)) ⊎ ((eqb j (k + 1) ≡ false) × (j ≢ k + 1))) → P j
+    at (inl same) = subst P (sym same.1) here
+    at (inr other) = let apart = other.1 in before j low (omega (arith, high, apart))
+
 module _ (p : LinearProgram) (test : ℕ → Bool) where
   pub one_more : (k : ℕ) → ((j : ℕ) → 1 ≤ j → j ≤ k → test j ≡ false) → test (k + 1) ≡ false → (j : ℕ) → 1 ≤ j → j ≤ k + 1 → test j ≡ false
-  one_more k before here j low high = at (eqb_tells j (k + 1))
-    where
-      at : (((eqb j (k + 1) ≡ true) × (j ≡ k + 1)) ⊎ ((eqb j (k + 1) ≡ false) × (j ≢ k + 1))) → test j ≡ false
-      at (inl same) = ap test same.1 ∙ here
-      at (inr other) = let apart = other.1 in before j low (omega (arith, high, apart))
+  one_more k before here = and_next (λ j. test j ≡ false) k before here
 
   pub found_least : (k : ℕ) → k < size p.matrix → ((j : ℕ) → 1 ≤ j → j ≤ k → test j ≡ false) → test (k + 1) ≡ true → Some (k + 1) ≡ least p test
   found_least k below before here =

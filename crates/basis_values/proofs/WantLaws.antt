@@ -1,11 +1,11 @@
 -- What lets a nonbasic lower a quantity is what the path's choice asks.
-use Rattle.std.proofs.Common.{◌≡◌, ◌≢◌, ℕ, ◌+◌, ◌-◌, ◌<◌, ◌≤◌, List, [], ◌∷◌, ◌++◌, length, set, get_or, Bool, true, false, ◌⊎◌, inl, inr, refl, sym, ◌∙◌, ap, arith}
+use Rattle.std.proofs.Common.{◌≡◌, ◌≢◌, ℕ, ◌+◌, ◌-◌, ◌<◌, ◌≤◌, List, [], ◌∷◌, ◌++◌, length, set, Bool, true, false, ◌⊎◌, inl, inr, refl, sym, ◌∙◌, ap, arith}
 use Rattle.std.specs.Prelude.{eqb, Option, Some, None, not, ◌&&◌, ◌||◌, if◌then◌else◌}
 use Rattle.std.proofs.lemmas.Bool.Decides.{eqb_tells}
 use Rattle.std.proofs.lemmas.List.{get_or-set_same, get_or-set_other, length-set, get_or_append_left, get_or_push}
 use Rattle.exact_values.specs.Rational.{ℚ, zero_ℚ}
 use Rattle.exact_values.specs.Tests.{lt_ℚ}
-use Rattle.lp_definitions.specs.LinearProgram.{LinearProgram, Vector, size, IsVariable}
+use Rattle.lp_definitions.specs.LinearProgram.{LinearProgram, Vector, IsVariable}
 use Rattle.lp_definitions.specs.Basis.{status_of, with_status, IsBasis}
 use Rattle.lp_definitions.specs.declared.Status.{Status}
 use Rattle.lp_definitions.specs.declared.Status.TheVariants.{Bs, Ll, Ul, Fr}
@@ -120,3 +120,7 @@ wants_more p s ws k w counted each w_is j low high = at (eqb_tells j (k + 1))
         let place : length ws ≡ j - 1 = omega (arith, counted, same.1) in
         get_or_push ws w Nothing (j - 1) place ∙ w_is ∙ ap (want_of p s) (sym same.1)
     at (inr other) = let apart = other.1 in get_or_append_left ws (w ∷ []) Nothing (j - 1) (omega (arith, counted, apart, low, high)) ∙ each j low (omega (arith, apart, high))
+
+-- a rate is wanted just where it lets the variable lower the quantity
+pub wanted_lowers : (p : LinearProgram) (s : List Status) (v : ℚ) (k : ℕ) → is_wanted (want_of p s k) v ≡ lowers p s (λ _. v) k
+wanted_lowers p s v k = wanted_from (status_of s k) (is_fixed p k) v

@@ -1,8 +1,10 @@
 -- A refused operation of a formula at the basis itself.
 --     IsRefusal f op left right e  the evidence has the formula with its numbers, and the operation with its operands
+--     IsTermRefusal f sum x y e    the product of x and y is refused, or the sum with it
 use Rattle.std.specs.Prelude.{◌≡◌}
-use Rattle.exact_values.specs.Rational.{ℚ}
+use Rattle.exact_values.specs.Rational.{ℚ, ◌*ℚ◌}
 use Rattle.frac128.specs.declared.Op.{Op}
+use Rattle.frac128.specs.declared.Op.TheVariants.{Add, Mul}
 use Rattle.lp_definitions.specs.RatesEvidence.{Names, Refuses}
 use Rattle.lp_definitions.specs.declared.Evidence.{Evidence}
 use Rattle.basis_values.specs.declared.formula.Formula.{Formula}
@@ -12,3 +14,7 @@ pub record IsRefusal (f : Formula) (op : Op) (left right : ℚ) (e : Evidence) :
   pub no_way : e.way ≡ 0
   pub is_theta : e.theta ≡ f.theta
   pub refuses : Refuses e op left right
+
+pub data IsTermRefusal (f : Formula) (sum x y : ℚ) (e : Evidence) : Type 0 where
+  of_product : IsRefusal f Mul x y e → IsTermRefusal f sum x y e
+  of_sum : IsRefusal f Add sum (x *ℚ y) e → IsTermRefusal f sum x y e

@@ -3,14 +3,13 @@
 --     sum_at b f n                 the sum of f over them
 --     IsSoFar a b v n z            z has the values v at the nonbasics, and at the basics their sums over the first n variables
 --     added_at b d v z k           z with v times d added at the basic k
---     TermRefused                  a product or a sum of that is refused
+--     ColumnTermRefused            a product or a sum of that is refused
 use Rattle.std.specs.Prelude.{◌≡◌, ℕ, zero, suc, ◌≤◌, Bool, true, not, filter, if◌then◌else◌, List}
 use Rattle.exact_values.specs.Rational.{ℚ, zero_ℚ, ◌+ℚ◌, ◌*ℚ◌}
-use Rattle.frac128.specs.declared.Op.TheVariants.{Add, Mul}
 use Rattle.lp_definitions.specs.LinearProgram.{Matrix, Vector, numbers_from}
 use Rattle.lp_definitions.specs.Basis.{Basics, is_in, IsBasic, IsNonbasic, AreRates}
 use Rattle.lp_definitions.specs.declared.Evidence.{Evidence}
-use Rattle.basis_values.specs.Formulas.{IsRefusal}
+use Rattle.basis_values.specs.Formulas.{IsTermRefusal}
 use Rattle.basis_values.specs.declared.formula.Formula.{Formula}
 
 abbrev pub nonbasics_to : Basics → ℕ → List ℕ
@@ -35,11 +34,6 @@ added_at b d v z k = if is_in b k then z k +ℚ d k *ℚ v else z k
 abbrev pub term_of : ℕ → ℕ → ℕ → Formula
 term_of i j term = record { number = 10; p = 0; q = 0; i = i; j = j; term = term; theta = zero_ℚ }
 
--- the term of i is refused, or the sum with it
-pub data TermRefused (rate value sum : ℚ) (i j term : ℕ) (e : Evidence) : Type 0 where
-  of_product : IsRefusal (term_of i j term) Mul rate value e → TermRefused rate value sum i j term e
-  of_sum : IsRefusal (term_of i j term) Add sum (rate *ℚ value) e → TermRefused rate value sum i j term e
-
 -- v times d is added at the first n variables
 abbrev pub AreAdded : Basics → Vector → ℚ → Vector → ℕ → Vector → Type 0
 AreAdded b d v z n w = (k : ℕ) → 1 ≤ k → k ≤ n → w k ≡ added_at b d v z k
@@ -50,4 +44,4 @@ pub record ColumnTermRefused (b : Basics) (d : Vector) (v : ℚ) (z : Vector) (j
   pub low : 1 ≤ i
   pub high : i ≤ n
   pub basic : is_in b i ≡ true
-  pub refused : TermRefused (d i) v (z i) i j term e
+  pub refused : IsTermRefusal (term_of i j term) (z i) (d i) v e

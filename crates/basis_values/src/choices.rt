@@ -5,10 +5,11 @@ ghost use Rattle.exact_values.specs.Rational.{ℚ};
 ghost use Rattle.exact_values.specs.Tests.{lt_ℚ};
 ghost use Rattle.lp_definitions.specs.LinearProgram.{size, value_at, for_min, IsVariable};
 ghost use Rattle.lp_definitions.specs.Basis.{basics_of, is_in};
-ghost use Rattle.simplex_definitions.specs.Moves.{least, is_crossed, is_fixed, is_below, is_above, is_outside, lowers, entering, signed};
+ghost use Rattle.simplex_definitions.specs.Moves.{least, is_crossed, is_below, is_above, is_outside, lowers, entering, signed};
 ghost use Rattle.basis_values.specs.Motions.{motion};
 ghost use Rattle.basis_values.specs.Prices.{worth_by};
 
+use crate::wants::want_of;
 use frac128::Frac;
 use lp_model::{Basis, Lp, Sense, Status};
 
@@ -16,7 +17,7 @@ use lp_model::{Basis, Lp, Sense, Status};
 pub fn is_less(x: Frac, y: Frac) -> bool
     ensures { result ≡ lt_ℚ x y }
 {
-    x.compare(y).is_lt()
+    x.is_less(y)
 }
 
 /// The value as it counts upward or downward.
@@ -32,7 +33,7 @@ fn crosses(lp: &Lp, k: u32) -> bool
     ensures { result ≡ is_crossed lp.now k }
 {
     match (lp.lower_limit(k), lp.upper_limit(k)) {
-        (Some(lower), Some(upper)) => is_less(upper, lower),
+        (Some(lower), Some(upper)) => upper.is_less(lower),
         _ => false,
     }
 }
@@ -56,7 +57,7 @@ pub fn lies_below(lp: &Lp, point: &[Frac], k: u32) -> bool
     ensures { result ≡ is_below lp.now (value_at point.now) k }
 {
     match lp.lower_limit(k) {
-        Some(lower) => is_less(point[k as usize - 1], lower),
+        Some(lower) => point[k as usize - 1].is_less(lower),
         None => false,
     }
 }
@@ -68,7 +69,7 @@ fn lies_above(lp: &Lp, point: &[Frac], k: u32) -> bool
     ensures { result ≡ is_above lp.now (value_at point.now) k }
 {
     match lp.upper_limit(k) {
-        Some(upper) => is_less(upper, point[k as usize - 1]),
+        Some(upper) => upper.is_less(point[k as usize - 1]),
         None => false,
     }
 }
@@ -107,31 +108,13 @@ pub fn outside(lp: &Lp, basis: &Basis, point: &[Frac]) -> Option<u32>
     None
 }
 
-/// Whether both limits are there, and equal.
-pub fn stands_fixed(lp: &Lp, k: u32) -> bool
-    requires { IsVariable lp.now.matrix k }
-    ensures { result ≡ is_fixed lp.now k }
-{
-    match (lp.lower_limit(k), lp.upper_limit(k)) {
-        (Some(lower), Some(upper)) => lower.compare(upper).is_eq(),
-        _ => false,
-    }
-}
-
 /// Whether `k` may move so as to lower a quantity that has this rate at it.
 pub fn may_lower(lp: &Lp, basis: &Basis, rate: Frac, k: u32) -> bool
     requires variable { IsVariable lp.now.matrix k }
     requires counted { length basis.now ≡ size lp.now.matrix }
     ensures { result ≡ lowers lp.now basis.now (λ _. rate) k }
 {
-    let zero = Frac::whole(0);
-    let moves = match basis.status(k) {
-        Status::Bs => false,
-        Status::Ll => is_less(rate, zero),
-        Status::Ul => is_less(zero, rate),
-        Status::Fr => is_less(rate, zero) || is_less(zero, rate),
-    };
-    moves && !stands_fixed(lp, k)
+    want_of(lp, basis, k).is_met(true, rate)
 }
 
 /// The least-numbered nonbasic that may move so as to lower a quantity with these rates, or, where they don't count up, one with

@@ -4,12 +4,13 @@
 ghost use Rattle.std.specs.Prelude.{◌≡◌, ◌≢◌, ◌↔◌, IsTrue, IfOk, IfErr, IfSome, OnErr};
 ghost use Rattle.exact_values.specs.Rational.{zero_ℚ, one_ℚ, ◌+ℚ◌, ◌-ℚ◌, ◌*ℚ◌, ◌/ℚ◌};
 ghost use Rattle.lp_definitions.specs.RatesEvidence.{Names};
-ghost use Rattle.basis_values.specs.Formulas.{IsRefusal};
+ghost use Rattle.basis_values.specs.Formulas.{IsRefusal, IsTermRefusal};
 
 use frac128::{Frac, Op, Refused};
 use lp_model::Evidence;
 
-/// A formula with its numbers, and the value of the parameter.
+/// A formula with its numbers, of which one that it does not use is 0: the variable `p` that leaves, `q` that enters or moves, the basic
+/// or row `i`, the nonbasic `j`, and `term`, how many terms are added before or the number of a limit; and the value of the parameter.
 #[derive(Clone, Copy)]
 pub struct Formula {
     pub number: u8,
@@ -37,7 +38,7 @@ pub fn plus_product(sum: Frac, x: Frac, y: Frac) -> Option<Frac>
 
 impl Formula {
     /// Evidence that an operation is refused.
-    fn evidence(self, refused: Refused) -> Evidence
+    pub fn evidence(self, refused: Refused) -> Evidence
         ensures names { Names result self.number self.p self.q self.i self.j self.term }
         ensures no_way { result.way ≡ 0 }
         ensures theta { result.theta ≡ self.theta }
@@ -113,5 +114,30 @@ impl Formula {
             return Ok(left);
         }
         left.div(right).map_err(|refused| self.evidence(refused))
+    }
+
+    /// The sum with the product, by the plain operations.
+    fn plain_sum_with_product(&self, sum: Frac, x: Frac, y: Frac) -> Result<Frac, Evidence>
+        ensures value { IfOk result (λ more. more ≡ sum +ℚ x *ℚ y) }
+        ensures refused { IfErr result (IsTermRefusal self.now sum x y) }
+        ensures needed { OnErr result (y ≢ zero_ℚ) }
+    {
+        let product = self.product(x, y)?;
+        self.sum(sum, product)
+    }
+
+    /// The sum with the product, also where only the plain operations are refused.
+    pub fn sum_with_product(&self, sum: Frac, x: Frac, y: Frac) -> Result<Frac, Evidence>
+        ensures value { IfOk result (λ more. more ≡ sum +ℚ x *ℚ y) }
+        ensures refused { IfErr result (IsTermRefusal self.now sum x y) }
+        ensures needed { OnErr result (y ≢ zero_ℚ) }
+    {
+        match self.plain_sum_with_product(sum, x, y) {
+            Ok(more) => Ok(more),
+            Err(evidence) => match plus_product(sum, x, y) {
+                Some(more) => Ok(more),
+                None => Err(evidence),
+            },
+        }
     }
 }

@@ -15,6 +15,6 @@ pub use choices::{
     stands_basic, wrong_price,
 };
 pub use formula::{Formula, plus_product};
-pub use point::point_of;
-pub use prices::{fill_prices, prices_of};
+pub use point::{point_at, point_of};
+pub use prices::{fill_prices, prices_at, prices_of};
 pub use wants::{renew_wants, wants_of};

@@ -5,14 +5,16 @@ ghost use Rattle.exact_values.specs.Rational.{◌+ℚ◌, ◌*ℚ◌};
 ghost use Rattle.lp_definitions.specs.LinearProgram.{size, value_at, IsVariable, IsLinearProgram};
 ghost use Rattle.lp_definitions.specs.Basis.{basics_of, is_in, IsBasis, IsPointOf};
 ghost use Rattle.lp_laws.specs.Points.{standing};
-ghost use Rattle.basis_values.specs.Calls.{HasRates, KeepsRates};
+ghost use Rattle.lp_model.specs.RatesCalls.{IfOverflow};
+ghost use Rattle.basis_values.specs.Calls.{HasRates, KeepsRates, PointRefused};
 ghost use Rattle.basis_values.specs.Stops.{PointOverflow};
-ghost use Rattle.basis_values.specs.Points.{TermRefused, ColumnTermRefused, IsSoFar, AreAdded, nonbasics_to, term_of};
+ghost use Rattle.basis_values.specs.Formulas.{IsTermRefusal};
+ghost use Rattle.basis_values.specs.Points.{ColumnTermRefused, IsSoFar, AreAdded, nonbasics_to, term_of};
 
 use crate::choices::stands_basic;
-use crate::formula::{Formula, plus_product};
+use crate::formula::Formula;
 use frac128::Frac;
-use lp_model::{Basis, Evidence, Lp, NoMemory, Rates, Status, Stop};
+use lp_model::{Basis, Evidence, Lp, NoMemory, Point, Rates, Status, Stop};
 use std::alloc::Global;
 
 /// The value of a nonbasic, and 0 at a basic.
@@ -42,104 +44,69 @@ fn places(alloc: Global, lp: &Lp, basis: &Basis) -> Result<Vec<Frac>, NoMemory>
     Ok(values)
 }
 
-/// Formula 10 of the sum of `i`, at the nonbasic `j` before which so many others stand.
-fn formula(i: u32, j: u32, term: u32) -> Formula
-    ensures { result ≡ term_of i j term }
-{
-    Formula {
-        number: 10,
-        p: 0,
-        q: 0,
-        i,
-        j,
-        term,
-        theta: Frac::whole(0),
+/// A variable whose direction is added if it is nonbasic: how many nonbasics stand before it, and its value.
+#[derive(Clone, Copy)]
+struct Summand {
+    j: u32,
+    before: u32,
+    value: Frac,
+}
+
+impl Summand {
+    /// Formula 10 of the sum of `i`, at this variable.
+    fn formula(&self, i: u32) -> Formula
+        ensures { result ≡ term_of i self.now.j self.now.before }
+    {
+        Formula {
+            number: 10,
+            p: 0,
+            q: 0,
+            i,
+            j: self.j,
+            term: self.before,
+            theta: Frac::whole(0),
+        }
+    }
+
+    /// What `i` comes to, whose rate this is: a basic's sum with the rate times the value, and a nonbasic's value as it is.
+    fn added_to(&self, basis: &Basis, sum: Frac, rate: Frac, i: u32) -> Result<Frac, Evidence>
+        requires low { 1 ≤ i }
+        requires high { i ≤ length basis.now }
+        ensures value { IfOk result (λ more. more ≡ (if is_in (basics_of basis.now) i then sum +ℚ
+            rate *ℚ self.now.value else sum)) }
+        ensures basic { OnErr result (is_in (basics_of basis.now) i ≡ true) }
+        ensures refused { IfErr result (IsTermRefusal (term_of i self.now.j self.now.before) sum
+            rate self.now.value) }
+    {
+        if stands_basic(basis, i) {
+            self.formula(i).sum_with_product(sum, rate, self.value)
+        } else {
+            Ok(sum)
+        }
     }
 }
 
-/// The sum with the rate times the value, by the plain operations.
-fn plainly_with_term(
-    sum: Frac,
-    rate: Frac,
-    value: Frac,
-    i: u32,
-    j: u32,
-    term: u32,
-) -> Result<Frac, Evidence>
-    ensures value { IfOk result (λ more. more ≡ sum +ℚ rate *ℚ value) }
-    ensures refused { IfErr result (TermRefused rate value sum i j term) }
-{
-    let product = formula(i, j, term).product(rate, value)?;
-    formula(i, j, term).sum(sum, product)
-}
-
-/// The same, also where only the plain operations are refused.
-fn with_term(
-    sum: Frac,
-    rate: Frac,
-    value: Frac,
-    i: u32,
-    j: u32,
-    term: u32,
-) -> Result<Frac, Evidence>
-    ensures value { IfOk result (λ more. more ≡ sum +ℚ rate *ℚ value) }
-    ensures refused { IfErr result (TermRefused rate value sum i j term) }
-{
-    match plainly_with_term(sum, rate, value, i, j, term) {
-        Ok(more) => Ok(more),
-        Err(evidence) => match plus_product(sum, rate, value) {
-            Some(more) => Ok(more),
-            None => Err(evidence),
-        },
-    }
-}
-
-/// What a variable comes to: a basic's sum with its term, and a nonbasic's value as it is.
-fn with_own_term(
-    basis: &Basis,
-    sum: Frac,
-    rate: Frac,
-    value: Frac,
-    i: u32,
-    j: u32,
-    term: u32,
-) -> Result<Frac, Evidence>
-    requires low { 1 ≤ i }
-    requires high { i ≤ length basis.now }
-    ensures value { IfOk result (λ more. more ≡ (if is_in (basics_of basis.now) i then sum +ℚ rate
-        *ℚ value else sum)) }
-    ensures basic { OnErr result (is_in (basics_of basis.now) i ≡ true) }
-    ensures refused { IfErr result (TermRefused rate value sum i j term) }
-{
-    if stands_basic(basis, i) {
-        with_term(sum, rate, value, i, j, term)
-    } else {
-        Ok(sum)
-    }
-}
-
-/// Adds the column, times the value of `j`, at the basics.
+/// Adds the column, times the value, at the basics.
 fn add_multiple(
     basis: &Basis,
     column: &[Frac],
-    value: Frac,
-    j: u32,
-    term: u32,
+    summand: &Summand,
     point: &mut [Frac],
 ) -> Result<(), Evidence>
     requires small { length basis.now < 2 ^ 32 }
     requires column { length column.now ≡ length basis.now }
     requires places { length point.old ≡ length basis.now }
-    ensures added { OnOk result (AreAdded (basics_of basis.now) (value_at column.now) value
+    ensures added { OnOk result (AreAdded (basics_of basis.now) (value_at column.now) summand.now.value
         (value_at point.old) (length basis.now) (value_at point.new)) }
     ensures refused { IfErr result (ColumnTermRefused (basics_of basis.now) (value_at column.now)
-        value (value_at point.old) j term (length basis.now)) }
+        summand.now.value (value_at point.old) summand.now.j summand.now.before
+        (length basis.now)) }
 {
     for k in 0..point.len() {
         let i = k as u32 + 1;
         let sum = point[k];
         let rate = column[k];
-        let more = with_own_term(basis, sum, rate, value, i, j, term)?;
+        let more = summand.added_to(basis, sum, rate, i)?;
         point[k] = more;
     }
     Ok(())
@@ -161,41 +128,40 @@ fn counted_on(basis: &Basis, count: u32, k: u32) -> u32
     }
 }
 
-/// Adds the direction of `j`, times its value, if it is nonbasic. `term` nonbasics stand before it, and `column` is room for the
-/// direction.
+/// Adds the variable's direction, times its value, if it is nonbasic. `column` is room for the direction.
 fn add_direction<R: Rates>(
     lp: &Lp,
     basis: &Basis,
     rates: &mut R,
-    j: u32,
-    term: u32,
+    summand: &Summand,
     column: &mut [Frac],
     point: &mut [Frac],
 ) -> Result<(), Stop>
     requires rates { HasRates (R.matrix rates.old) (R.basics rates.old) lp.now basis.now }
     requires lawful { IsLinearProgram lp.now }
-    requires variable { IsVariable lp.now.matrix j }
-    requires term { term ≡ length (nonbasics_to (basics_of basis.now) (j - 1)) }
+    requires variable { IsVariable lp.now.matrix summand.now.j }
+    requires before { summand.now.before ≡ length (nonbasics_to (basics_of basis.now)
+        (summand.now.j - 1)) }
+    requires value { summand.now.value ≡ value_at point.old summand.now.j }
     requires column { length column.old ≡ size lp.now.matrix }
     requires places { length point.old ≡ size lp.now.matrix }
     requires so_far { IsSoFar lp.now.matrix (basics_of basis.now) (standing lp.now basis.now)
-        (j - 1) (value_at point.old) }
+        (summand.now.j - 1) (value_at point.old) }
     ensures so_far { OnOk result (IsSoFar lp.now.matrix (basics_of basis.now)
-        (standing lp.now basis.now) j (value_at point.new)) }
+        (standing lp.now basis.now) summand.now.j (value_at point.new)) }
     ensures rates { KeepsRates (R.matrix rates.new) (R.basics rates.new) lp.now basis.now
         (R.waypoints rates.old) (R.waypoints rates.new) }
     ensures overflow { PointOverflow result lp.now basis.now (R.waypoints rates.old)
         (R.waypoints rates.new) }
 {
-    if stands_basic(basis, j) {
+    if stands_basic(basis, summand.j) {
         return Ok(());
     }
-    let value = point[j as usize - 1];
-    if value.is_zero() {
+    if summand.value.is_zero() {
         return Ok(());
     }
-    rates.column(j, column)?;
-    match add_multiple(basis, column, value, j, term, point) {
+    rates.column(summand.j, column)?;
+    match add_multiple(basis, column, summand, point) {
         Ok(()) => Ok(()),
         Err(evidence) => Err(Stop::Overflow(evidence)),
     }
@@ -223,7 +189,12 @@ fn add_directions<R: Rates>(
 {
     let mut nonbasics = 0;
     for k in 0..lp.number_of_variables() {
-        add_direction(lp, basis, rates, k + 1, nonbasics, column, point)?;
+        let summand = Summand {
+            j: k + 1,
+            before: nonbasics,
+            value: point[k as usize],
+        };
+        add_direction(lp, basis, rates, &summand, column, point)?;
         nonbasics = counted_on(basis, nonbasics, k);
     }
     Ok(())
@@ -252,4 +223,25 @@ pub fn point_of<R: Rates>(
     add_directions(lp, basis, rates, &mut column, &mut point)?;
     out.copy_from_slice(&point);
     Ok(())
+}
+
+/// The basis's point, in a vector of its own.
+pub fn point_at<R: Rates>(
+    alloc: Global,
+    lp: &Lp,
+    basis: &Basis,
+    rates: &mut R,
+) -> Result<Point, Stop>
+    requires rates { HasRates (R.matrix rates.old) (R.basics rates.old) lp.now basis.now }
+    ensures places { IfOk result (λ point. length point ≡ size lp.now.matrix) }
+    ensures point { IfOk result (λ point. IsPointOf lp.now basis.now (value_at point)) }
+    ensures rates { KeepsRates (R.matrix rates.new) (R.basics rates.new) lp.now basis.now
+        (R.waypoints rates.old) (R.waypoints rates.new) }
+    ensures overflow { IfErr result (λ stop. IfOverflow stop
+        (PointRefused lp.now (R.waypoints rates.old) basis.now (R.waypoints rates.new))) }
+{
+    let size = lp.number_of_variables() as usize;
+    let mut values = vec![in alloc; Frac::whole(0); size].map_err(|_| NoMemory)?;
+    point_of(alloc, lp, basis, rates, &mut values)?;
+    Ok(Point::new(values))
 }

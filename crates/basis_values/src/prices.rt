@@ -4,17 +4,17 @@ ghost use Rattle.std.specs.Prelude.{◌≡◌, ◌≢◌, ◌<◌, ◌^◌, Some
 ghost use Rattle.exact_values.specs.Rational.{zero_ℚ, ◌+ℚ◌, ◌*ℚ◌};
 ghost use Rattle.lp_definitions.specs.LinearProgram.{size, value_at, IsLinearProgram};
 ghost use Rattle.lp_definitions.specs.Basis.{basics_of, ArePricesOf};
-ghost use Rattle.lp_model.specs.RatesCalls.{IsRowOf};
-ghost use Rattle.basis_values.specs.Calls.{HasRates, KeepsRates};
+ghost use Rattle.lp_model.specs.RatesCalls.{IsRowOf, IfOverflow};
+ghost use Rattle.basis_values.specs.Calls.{HasRates, KeepsRates, PointRefused};
 ghost use Rattle.basis_values.specs.Stops.{PointOverflow};
-ghost use Rattle.basis_values.specs.Prices.{ChangedRefused, SomeChangedRefused, AreChanged, price_formula};
+ghost use Rattle.basis_values.specs.Prices.{SomeChangedRefused, AreChanged, price_formula};
 
-use crate::formula::{Formula, plus_product};
+use crate::formula::Formula;
 use frac128::Frac;
-use lp_model::{Basis, Change, Evidence, Lp, NoMemory, Rates, Stop};
+use lp_model::{Basis, Change, Evidence, Lp, NoMemory, Prices, Rates, Stop};
 use std::alloc::Global;
 
-/// Formula 17 at `j`.
+/// Formula 17: the price of `j`, which is the rate of the objective row plus theta times that of the change row.
 fn formula(j: u32, theta: Frac) -> Formula
     ensures { result ≡ price_formula j theta }
 {
@@ -26,31 +26,6 @@ fn formula(j: u32, theta: Frac) -> Formula
         j,
         term: 0,
         theta,
-    }
-}
-
-/// The rate of the objective row at `j`, plus theta times that of the change row, by the plain operations.
-fn plainly_changed(rate: Frac, theta: Frac, change: Frac, j: u32) -> Result<Frac, Evidence>
-    ensures value { IfOk result (λ price. price ≡ rate +ℚ theta *ℚ change) }
-    ensures refused { IfErr result (ChangedRefused theta change rate j) }
-    ensures needed { OnErr result (change ≢ zero_ℚ) }
-{
-    let product = formula(j, theta).product(theta, change)?;
-    formula(j, theta).sum(rate, product)
-}
-
-/// The same, also where only the plain operations are refused.
-fn changed(rate: Frac, theta: Frac, change: Frac, j: u32) -> Result<Frac, Evidence>
-    ensures value { IfOk result (λ price. price ≡ rate +ℚ theta *ℚ change) }
-    ensures refused { IfErr result (ChangedRefused theta change rate j) }
-    ensures needed { OnErr result (change ≢ zero_ℚ) }
-{
-    match plainly_changed(rate, theta, change, j) {
-        Ok(price) => Ok(price),
-        Err(evidence) => match plus_product(rate, theta, change) {
-            Some(price) => Ok(price),
-            None => Err(evidence),
-        },
     }
 }
 
@@ -66,7 +41,7 @@ fn add_changes(theta: Frac, change: &[Frac], prices: &mut [Frac]) -> Result<(), 
     for k in 0..prices.len() {
         let rate = prices[k];
         let added = change[k];
-        let price = changed(rate, theta, added, k as u32 + 1)?;
+        let price = formula(k as u32 + 1, theta).sum_with_product(rate, theta, added)?;
         prices[k] = price;
     }
     Ok(())
@@ -153,4 +128,25 @@ pub fn prices_of<R: Rates>(
     fill_prices(lp, basis, rates, &mut change, &mut prices)?;
     out.copy_from_slice(&prices);
     Ok(())
+}
+
+/// The basis's prices, in a vector of their own.
+pub fn prices_at<R: Rates>(
+    alloc: Global,
+    lp: &Lp,
+    basis: &Basis,
+    rates: &mut R,
+) -> Result<Prices, Stop>
+    requires rates { HasRates (R.matrix rates.old) (R.basics rates.old) lp.now basis.now }
+    ensures places { IfOk result (λ prices. length prices ≡ size lp.now.matrix) }
+    ensures prices { IfOk result (λ prices. ArePricesOf lp.now basis.now (value_at prices)) }
+    ensures rates { KeepsRates (R.matrix rates.new) (R.basics rates.new) lp.now basis.now
+        (R.waypoints rates.old) (R.waypoints rates.new) }
+    ensures overflow { IfErr result (λ stop. IfOverflow stop
+        (PointRefused lp.now (R.waypoints rates.old) basis.now (R.waypoints rates.new))) }
+{
+    let size = lp.number_of_variables() as usize;
+    let mut values = vec![in alloc; Frac::whole(0); size].map_err(|_| NoMemory)?;
+    prices_of(alloc, lp, basis, rates, &mut values)?;
+    Ok(Prices::new(values))
 }

@@ -6,7 +6,7 @@ ghost use Rattle.simplex_definitions.specs.Moves.{step_length};
 ghost use Rattle.basis_values.specs.Motions.{motion};
 ghost use Rattle.basis_values.specs.Reach.{StepLengthRefused, IsAhead, Yields, sooner, reach_formula};
 
-use crate::choices::{counted, is_less};
+use crate::choices::counted;
 use crate::formula::{Formula, plus_product};
 use frac128::Frac;
 use lp_model::{Evidence, Lp};
@@ -40,6 +40,20 @@ pub fn formula(number: u8, q: u32, k: u32, term: u32) -> Formula
     }
 }
 
+/// Formula 6: the limit of the variable `k` with this number, less the variable's value.
+pub fn distance_formula(k: u32, term: u32) -> Formula
+    ensures { result ≡ reach_formula 6 0 k term }
+{
+    formula(6, 0, k, term)
+}
+
+/// Formula 7: such a distance over the rate of `k`, where `q` moves.
+pub fn length_formula(q: u32, k: u32, term: u32) -> Formula
+    ensures { result ≡ reach_formula 7 q k term }
+{
+    formula(7, q, k, term)
+}
+
 /// The limit ahead of `k`, which moves at this speed.
 fn limit_before(lp: &Lp, speed: Frac, k: u32) -> Option<Ahead>
     requires { IsVariable lp.now.matrix k }
@@ -49,13 +63,13 @@ fn limit_before(lp: &Lp, speed: Frac, k: u32) -> Option<Ahead>
         return None;
     }
     let zero = Frac::whole(0);
-    if is_less(zero, speed) {
+    if zero.is_less(speed) {
         let upper = lp.upper_limit(k)?;
         Some(Ahead {
             term: 2,
             limit: upper,
         })
-    } else if is_less(speed, zero) {
+    } else if speed.is_less(zero) {
         let lower = lp.lower_limit(k)?;
         Some(Ahead {
             term: 1,
@@ -101,7 +115,7 @@ pub fn nearer(nearest: Option<Reach>, length: Option<Frac>, k: u32) -> Option<Re
         (None, length) => length.map(|length| Reach { p: k, length }),
         (Some(nearest), None) => Some(nearest),
         (Some(nearest), Some(length)) => {
-            if is_less(length, nearest.length) {
+            if length.is_less(nearest.length) {
                 Some(Reach { p: k, length })
             } else {
                 Some(nearest)
@@ -126,11 +140,11 @@ pub fn yields(lp: &Lp, point: &[Frac], direction: &[Frac], up: bool, first: &Rea
     let Some(place) = plus_product(point[k as usize - 1], first.length, speed) else {
         return false;
     };
-    let rises = is_less(Frac::whole(0), speed);
+    let rises = Frac::whole(0).is_less(speed);
     let (place, limit) = (counted(place, rises), counted(ahead.limit, rises));
     if k < first.p {
-        is_less(place, limit)
+        place.is_less(limit)
     } else {
-        !is_less(limit, place)
+        !limit.is_less(place)
     }
 }

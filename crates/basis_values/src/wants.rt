@@ -4,17 +4,16 @@ ghost use Rattle.std.specs.Prelude.{◌≡◌, IfOk, length};
 ghost use Rattle.lp_definitions.specs.LinearProgram.{size, IsVariable};
 ghost use Rattle.basis_values.specs.Wants.{want_of, AreWants, AreWantsBut};
 
-use crate::choices::stands_fixed;
 use lp_model::{Basis, Lp, NoMemory, Status, Wanted};
 use std::alloc::Global;
 
 /// The sign of a quantity's rate at `k` that lets `k` lower it.
-fn want_of(lp: &Lp, basis: &Basis, k: u32) -> Wanted
+pub fn want_of(lp: &Lp, basis: &Basis, k: u32) -> Wanted
     requires variable { IsVariable lp.now.matrix k }
     requires counted { length basis.now ≡ size lp.now.matrix }
     ensures { result ≡ want_of lp.now basis.now k }
 {
-    if stands_fixed(lp, k) {
+    if lp.is_fixed(k) {
         return Wanted::Nothing;
     }
     match basis.status(k) {

@@ -2,7 +2,7 @@
 
 ghost use Rattle.std.specs.Prelude.{◌≡◌, ◌&&◌};
 ghost use Rattle.exact_values.specs.Rational.{zero_ℚ, compare_ℚ};
-ghost use Rattle.exact_values.specs.Tests.{lt_ℚ, eq_ℚ};
+ghost use Rattle.exact_values.specs.Tests.{eq_ℚ};
 ghost use Rattle.lp_definitions.specs.LinearProgram.{for_min};
 ghost use Rattle.check_definitions.specs.Checks.{is_not_below, is_not_above, is_at, is_crossed, by_sign};
 
@@ -16,18 +16,12 @@ pub fn is_equal(x: Frac, y: Frac) -> bool
     x == y
 }
 
-pub fn is_less(x: Frac, y: Frac) -> bool
-    ensures { result ≡ lt_ℚ x y }
-{
-    x < y
-}
-
 /// The value is not below the lower limit and not above the upper one.
 pub fn is_within(lower: Option<Frac>, upper: Option<Frac>, value: Frac) -> bool
     ensures { result ≡ (is_not_below lower value && is_not_above upper value) }
 {
-    lower.is_none_or(|limit| !is_less(value, limit))
-        && upper.is_none_or(|limit| !is_less(limit, value))
+    lower.is_none_or(|limit| !value.is_less(limit))
+        && upper.is_none_or(|limit| !limit.is_less(value))
 }
 
 /// The limit is there, and it is the value.
@@ -42,7 +36,7 @@ pub fn is_crossed_by(lower: Option<Frac>, upper: Option<Frac>) -> bool
     ensures { result ≡ is_crossed lower upper }
 {
     match (lower, upper) {
-        (Some(low), Some(high)) => is_less(high, low),
+        (Some(low), Some(high)) => high.is_less(low),
         _ => false,
     }
 }

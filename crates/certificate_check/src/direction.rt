@@ -6,7 +6,7 @@ ghost use Rattle.check_definitions.specs.Steps.{verdict_of};
 ghost use Rattle.check_definitions.specs.Checks.{free_to_move, free_direction, improving};
 ghost use Rattle.certificate_check.specs.Results.{verdict_from};
 
-use crate::comparisons::{counted_for, holds_by_sign, is_less};
+use crate::comparisons::{counted_for, holds_by_sign};
 use crate::stops::{Stopped, compare};
 use crate::sums::{objective, value_of};
 use frac128::Frac;
@@ -44,5 +44,5 @@ pub fn direction_improves(lp: &Lp, direction: &[Frac]) -> Result<(), Stopped>
     ensures { verdict_from result ≡ verdict_of (improving lp.now (value_at direction.now)) }
 {
     let change = counted_for(lp.sense, objective(lp, direction)?);
-    compare(is_less(change, Frac::whole(0)), 5, 0)
+    compare(change.is_less(Frac::whole(0)), 5, 0)
 }

@@ -8,7 +8,7 @@ ghost use Rattle.certificate_check.specs.Results.{verdict_from};
 
 use crate::comparisons::{counted_for, holds_by_sign, is_equal, stands_at};
 use crate::stops::{Stopped, compare};
-use crate::sums::{column_sum, cost, subtract, value_of};
+use crate::sums::{column_sum, combined_cost, subtract, value_of};
 use frac128::Frac;
 use lp_model::Lp;
 
@@ -20,7 +20,7 @@ fn is_reduced_cost(lp: &Lp, prices: &[Frac], column: u32) -> Result<(), Stopped>
 {
     let variable = lp.rows + column;
     let entries = lp.column(column);
-    let cost = cost(lp, entries)?;
+    let cost = combined_cost(lp, entries)?;
     let sum = column_sum(Frac::whole(0), entries, prices)?;
     let reduced = subtract(cost, sum)?;
     compare(is_equal(reduced, value_of(prices, variable)), 3, variable)

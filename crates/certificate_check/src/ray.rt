@@ -8,7 +8,7 @@ ghost use Rattle.check_definitions.specs.Steps.{comparison, verdict_of, sum_step
 ghost use Rattle.check_definitions.specs.Checks.{ray_column, ray_columns, ray_limits, ray_sum, multiplied, multiplied_among, limit_product};
 ghost use Rattle.certificate_check.specs.Results.{verdict_from, Leads};
 
-use crate::comparisons::{is_equal, is_less};
+use crate::comparisons::is_equal;
 use crate::stops::{Stopped, compare};
 use crate::sums::{add_product, column_sum, value_of};
 use frac128::Frac;
@@ -41,7 +41,7 @@ fn limit_met(lp: &Lp, multiplier: Frac, k: u32) -> Option<Frac>
     requires { IsVariable lp.now.matrix k }
     ensures { result ≡ (if lt_ℚ zero_ℚ multiplier then upper_of lp.now k else lower_of lp.now k) }
 {
-    if is_less(Frac::whole(0), multiplier) {
+    if Frac::whole(0).is_less(multiplier) {
         lp.upper_limit(k)
     } else {
         lp.lower_limit(k)
@@ -105,5 +105,5 @@ pub fn limits_contradict(lp: &Lp, ray: &[Frac]) -> Result<(), Stopped>
         (ray_limits lp.now w zero_ℚ (multiplied lp.now w) ++ ray_sum lp.now w) }
 {
     let sum = limit_sum(lp, ray)?;
-    compare(is_less(sum, Frac::whole(0)), 3, 0)
+    compare(sum.is_less(Frac::whole(0)), 3, 0)
 }

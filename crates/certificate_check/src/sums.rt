@@ -75,7 +75,7 @@ pub fn row_sum(lp: &Lp, values: &[Frac], row: u32) -> Result<Frac, Refused>
 }
 
 /// The column's number on the objective row, and theta times its number on the change row if there is one.
-pub fn cost(lp: &Lp, column: &[Entry]) -> Result<Frac, Refused>
+pub fn combined_cost(lp: &Lp, column: &[Entry]) -> Result<Frac, Refused>
     ensures { Gives result (combined_steps lp.now (λ i. on_row column.now i))
         (combined lp.now (λ i. on_row column.now i)) }
 {

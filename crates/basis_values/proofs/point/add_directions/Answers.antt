@@ -1,7 +1,8 @@
-use Rattle.std.proofs.Common.{◌≡◌, ℕ, Err, refl, rules, subst, arith}
+use Rattle.std.proofs.Common.{◌≡◌, ℕ, Err, refl, rules, sym, subst, arith}
 use Rattle.lp_definitions.specs.LinearProgram.{value_at, size}
 use Rattle.lp_definitions.specs.Basis.{basics_of}
 use Rattle.lp_laws.specs.Points.{standing}
+use Rattle.lp_laws.proofs.Places.{value_next}
 use Rattle.lp_model.proofs.Stops.{IfOverflow-map}
 use Rattle.basis_values.specs.Points.{IsSoFar}
 use Rattle.basis_values.proofs.PointSums.{so_far-begins, so_far-ends}
@@ -16,6 +17,9 @@ loop-k-init g c = record {
   few = omega arith;
   so_far = so_far-begins c.args.lp.now c.args.basis.now c.requires.rates.is_basis (value_at c.args.point.now) c.requires.begins;
 }
+
+pub add_direction-requires-clause-value : goal.add_direction-requires-clause-value
+add_direction-requires-clause-value g c = sym (value_next c.loop-k.point c.loop-k.k c.index-point-k.result (omega arith) c.index-point-k.is)
 
 pub returns-in_err-add_direction-clause-rates : goal.returns-in_err-add_direction-clause-rates
 returns-in_err-add_direction-clause-rates g c = kept_then c.loop-k.invariant.rates c.add_direction.ensures.rates

@@ -1,7 +1,9 @@
 use Rattle.std.proofs.Common.{◌≡◌, ◌+◌, Err, rules, sym, ◌∙◌, subst, arith}
 use Rattle.exact_values.specs.Rational.{ℚ}
 use Rattle.lp_definitions.specs.LinearProgram.{value_at}
-use Rattle.basis_values.specs.Prices.{ChangedRefused}
+use Rattle.basis_values.specs.Formulas.{IsTermRefusal}
+use Rattle.basis_values.specs.Prices.{price_formula}
+use Rattle.basis_values.specs.declared.formula.Formula.{Formula}
 use Rattle.basis_values.proofs.prices.add_changes.Goals as goal
 use Rattle.lp_laws.proofs.Places.{value_next}
 
@@ -15,6 +17,7 @@ returns-in_err-price-clause-refused c =
       low = omega arith;
       high = omega arith;
       changes = λ e. c.in_err-price.ensures.needed (change_is ∙ e);
-      refused = subst (λ (x : ℚ). ChangedRefused c.args.theta x (value_at c.args.prices.now (c.loop-k.k + 1)) (c.loop-k.k + 1) c.in_err-price.field-0.0) change_is
-          (subst (λ (x : ℚ). ChangedRefused c.args.theta c.index-change-k.result x (c.loop-k.k + 1) c.in_err-price.field-0.0) rate_is c.in_err-price.ensures.refused);
+      refused = subst (λ (x : ℚ). IsTermRefusal (price_formula (c.loop-k.k + 1) c.args.theta) (value_at c.args.prices.now (c.loop-k.k + 1)) c.args.theta x c.in_err-price.field-0.0) change_is
+          (subst (λ (x : ℚ). IsTermRefusal (price_formula (c.loop-k.k + 1) c.args.theta) x c.args.theta c.index-change-k.result c.in_err-price.field-0.0) rate_is
+          (subst (λ (f : Formula). IsTermRefusal f c.index-prices-k.result c.args.theta c.index-change-k.result c.in_err-price.field-0.0) c.formula.ensures c.in_err-price.ensures.refused));
     })

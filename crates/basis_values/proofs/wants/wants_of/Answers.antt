@@ -1,4 +1,4 @@
-use Rattle.std.proofs.Common.{◌≡◌, ◌++◌, ◌∷◌, [], ◌+◌, ℕ, ◌≤◌, rules, arith, vec_len, subst, sym}
+use Rattle.std.proofs.Common.{◌≡◌, ◌++◌, ◌∷◌, [], ◌+◌, ℕ, ◌≤◌, rules, subst, sym}
 use Rattle.std.specs.Prelude.{List}
 use Rattle.lp_model.specs.Wanted.{wanted_at}
 use Rattle.lp_model.specs.declared.wanted.Wanted.{Wanted}
