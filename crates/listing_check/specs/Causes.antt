@@ -1,4 +1,4 @@
--- Why a check ends with a status, told by what its devices count and how far they are read.
+-- Why a check ends with a status, by what its devices count and how far they are read.
 --     IsWhy without_words .. own          why a line of this status is due
 --     HasCheckCause without_words .. status   why a check ends with a status
 use Rattle.std.specs.Prelude.{◌≡◌, ℕ, ◌<◌}

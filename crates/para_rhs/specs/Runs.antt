@@ -20,7 +20,7 @@ use Rattle.parametric_run.specs.Truth.{IsTrueReported}
 use Rattle.para_rhs.specs.Faces.{family, Face, statement}
 use Rattle.para_rhs.specs.declared.parts.ParaRhs.{ParaRhs}
 
--- the stop of the path at the first value, as that of a run: its evidence is reported of that value
+-- the stop of the path at the first value, as that of a run: its evidence is of that value
 abbrev pub reported_at : ℚ → PrimalStop → PrimalStop
 reported_at theta Limit = Limit
 reported_at theta (Overflow e) = Overflow (record e { theta = theta })

@@ -145,8 +145,8 @@ fn take_rates(lines: &[Line], j: u32, out: &mut [Frac])
     }
 }
 
-/// Makes the lines after an exchange of `p`, whose line has this slot, for `q`. `quotients` is room for the leaver's rates over the
-/// pivot, `changed` for the numbers of those that aren't 0, and `changing` for the slots of the lines that change.
+/// Makes the lines after an exchange of `p`, whose line has this slot, for `q`. `quotients` is workspace for the leaver's rates over
+/// the pivot, `changed` for the numbers of those that aren't 0, and `changing` for the slots of the lines that change.
 fn exchange_lines(
     lines: &mut [Line],
     slot: usize,
@@ -245,7 +245,7 @@ impl Rates for Dense {
         ensures err { OnErr result (self.new ≡ self.old) }
         ensures overflow { ExchangeOverflow result self.old.matrix self.old.basics p q [] [] }
 
-        // an overflow by a formula of this exchange, at the present basics, and never running out of memory
+        // an overflow by a formula of this exchange, at the present basics; memory never runs out
         ensures own { IfErr result (IsOwnOverflow p q) }
     {
         let slot = self.slots[p as usize - 1];

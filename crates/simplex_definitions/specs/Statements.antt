@@ -83,7 +83,7 @@ PathMoves = RuleMoves turn
 abbrev pub PathEnters : LinearProgram → List Status → ℕ → Type 0
 PathEnters p s q = (t : Tableau) × IsTableau p s t × (crossed p s t ≡ None) × (entering_variable p s t (outside p s t) ≡ Some q)
 
--- break is the value at which a parametric run takes face steps, if it is at one
+-- breakpoint is the value at which a parametric run takes face steps, if it is at one
 abbrev pub MovesAt : SolvingStatement → Option ℚ → List Status → Move → Type 0
 MovesAt (Primal p) breakpoint s m = PathMoves p s m
 MovesAt (Dual p) breakpoint s m = RuleMoves dual_turn p s m

@@ -92,7 +92,7 @@ module _ (sheet : Sheet) (parametric_run : ParametricRun) (s now : Basis) (befor
     pub goes_on : IsParametricRun (sheet_view sheet) s parametric_run ParametricRunLimit
     pub is_now : basis_of goes_on.place ≡ now
 
-  -- the limit stops only a run that goes on, and running out of memory stops it anywhere; Overflows is what is said of an overflow
+  -- the limit stops only a run that goes on, and memory may run out anywhere; Overflows is what is said of an overflow
   abbrev pub ParametricRunStops : (Evidence → Type 0) → PrimalStop → Type 0
   ParametricRunStops Overflows Limit = PassesLimit
   ParametricRunStops Overflows (Overflow e) = Overflows e
