@@ -1,7 +1,7 @@
 -- What a program's run has printed and punched, and how it may be answered.
 --     Leads state turn             executing a statement of the program leads there
 --     Steps result                 a statement leads somewhere, with its report printed and its deck punched; or it is cut off
---     CanEnd reports punched ending     the run ends so by itself, because memory ran out, or because the punch takes no more
+--     CanEnd reports punched ending    the run ends so by itself, because memory ran out, or because the punch takes no more
 --     IsCut ..                     the print has stopped in a report or in the lines of an end
 --     Runs result                  the run ends, with its reports printed and its decks punched; or it is cut off
 --     IsRunAnswer status ..        what a run may be answered

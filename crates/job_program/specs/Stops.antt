@@ -1,6 +1,6 @@
 -- Why the program of a job isn't run.
---     stop_view stop              the end of the listing
---     ReportsEarlyStop known stop    what a stop says of a job
+--     stop_view stop               the end of the listing
+--     ReportsEarlyStop known stop  what a stop says of a job
 --     ArePrepared known prepared   the cards and the program are those of a job
 --     HasStopCause .. stop         why a job that is read is stopped
 use Rattle.std.specs.Prelude.{◌≡◌, ℕ, List, Option, None, Some, Err, IfSome}

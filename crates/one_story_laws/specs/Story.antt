@@ -1,7 +1,7 @@
 -- When two reports tell the same.
 --     SameObjective, SameVerdict   two verdicts leave one mark, and optimal ones have one objective
 --     SameClose end other          two parametric runs end at the same value, and in the same way
---     ReportsSame report other       two reports tell the same
+--     ReportsSame report other     two reports tell the same
 --     TellSame reports others      so do those of two lists, one by one
 --     IsOfNoBasis report           it isn't of RANGE, PUNCH or INSERT
 --     IsCutEnding ending           a run was cut off: by the limit on steps, by a price that is wrong for DUAL, or by an overflow

@@ -1,8 +1,8 @@
 -- A run of the right-hand side, as code makes it.
---     reported_at theta stop           a stop of the path at theta, as that of a run
+--     reported_at theta stop       a stop of the path at theta, as that of a run
 --     Overflows e                  why a call stops by an overflow
 --     RhsEnds, RhsStops, RhsFollows     what the whole call promises
---     RhsOverflowFree                the run that the whole call has to answer
+--     RhsOverflowFree              the run that the whole call has to answer
 use Rattle.std.specs.Prelude.{◌⊎◌, List, []}
 use Rattle.exact_values.specs.Rational.{ℚ}
 use Rattle.lp_definitions.specs.LinearProgram.{LinearProgram}

@@ -5,7 +5,7 @@
 --     IsTrueOf sheet verdict       what a verdict says of a linear program
 --     ShowsDeck, ShowsBasis ..     what PUNCH and INSERT print is of the deck of the present basis, and of a deck
 --                                  that gives a basis
---     ReportsOfRun ..                what PARAOBJ or PARARHS prints is of the run that the cells ask for
+--     ReportsOfRun ..              what PARAOBJ or PARARHS prints is of the run that the cells ask for
 --     ShowsOpening, ShowsChain     a verdict of its opening path; its intervals and its end
 --     Holds state report           a report that is made in a state holds of it
 --     ShowsDependency ..           the lines of a singular basis show the first dependency of its columns

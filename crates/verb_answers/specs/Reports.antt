@@ -1,5 +1,5 @@
 -- What the path from a basis answers, in the words of the definitions of runs.
---     sheet_view sheet                    the problem and the linear program
+--     sheet_view sheet                     the problem and the linear program
 --     most_steps p limit                   how many steps a path may take
 --     IsCheckedSo p outcome verdict        the verdict is that of the outcome's check
 --     IsReached sheet s now limit report   the path from s ends at now, and the report tells its end and the check of it

@@ -1,12 +1,12 @@
 -- What a parametric run from the present basis answers, in the words of the definitions of runs.
---     end_view sheet parametric_run report bases   the report of a run that has gone over these bases, as an end of the run
+--     end_view sheet parametric_run report bases    the report of a run that has gone over these bases, as an end of the run
 --     IsOpening report                     the report of an opening that isn't optimal
 --     IsOpeningChecked p report refused    the check of an opening that isn't optimal, in the linear program at the first value
 --     IsPrintable sheet report             the report can be printed
 --     IsAnswered                           the run from s has ended at now, and the report tells its end
 --     RunOverflowsThere                    the run has come to now, where it may stop with this evidence
 --     LimitOverflows                       it may stop there with evidence of a limit at the first value, which has no place
---     ParametricRunStops                           what holds after a call that has stopped
+--     ParametricRunStops                   what holds after a call that has stopped
 use Rattle.std.specs.Prelude.{◌≡◌, ◌≤◌, List, [], ◌∷◌, ◌++◌, map, length, Option, None, Some}
 use Rattle.frac128.specs.declared.Refused.{Refused}
 use Rattle.lp_definitions.specs.LinearProgram.{LinearProgram}
