@@ -6,7 +6,7 @@ use problem_file::Problem;
 use std::alloc::Global;
 use std::test::Fail;
 
-// The problem of TESTPROB, or none where memory is wanted on the way. Another stop fails.
+// The problem of TESTPROB, or none where memory runs out on the way. Another stop fails.
 fn converted(alloc: Global) -> Result<Option<Problem>, Fail> {
     let Ok(mut source) = SureSource::new(alloc, TESTPROB) else {
         return Ok(None);

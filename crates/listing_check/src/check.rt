@@ -149,12 +149,12 @@ pub fn check_listing<S: Source, L: Source, P: Sink>(
 ) -> CheckStatus
     // The theorem. An attested listing is that of a run of the job's program in which the answers of linear programming are those that
     // passed their tests, and each report says the truth of the state in which it was made: a SOLUTION OPTIMAL is a feasible point
-    // that no feasible point improves, with prices that prove it; a verdict holds; and what is printed of a parametric run is right at
+    // such that none is better, with prices that prove it; a verdict holds; and what is printed of a parametric run is right at
     // every value of the parameter.
     ensures truth { result ≡ CheckStatus.Attested → (bytes lines : List ℕ) → S.left job.old ≡ Some bytes →
         L.left listing.old ≡ Some lines → IsTrueListing bytes lines }
 
-    // Which status, and what stands. Without words, and unless a read or the print fails or memory is wanted, the line and the status are
+    // Which status, and what stands. Without words, and unless a read or the print fails or memory runs out, the line and the status are
     // those of what the listing is found to be, and of each job and each listing one thing is found.
     ensures answer { (bytes lines : List ℕ) → length words.now ≡ 0 → S.left job.old ≡ Some bytes →
         L.left listing.old ≡ Some lines →

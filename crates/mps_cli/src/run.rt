@@ -178,7 +178,7 @@ pub fn run_job<S: Source, P: Sink, U: Sink>(
 ) -> Status
     // The headline. The printed bytes are the listing of a run of this job's control program, or of its early stop; or the print
     // has stopped in a report or in the lines of an end, and all before stands with a prefix of it. Each report of this run holds
-    // of the state in which it was made: a SOLUTION OPTIMAL is a feasible point that no feasible point improves, with prices that
+    // of the state in which it was made: a SOLUTION OPTIMAL is a feasible point such that none is better, with prices that
     // prove it; a verdict OPTIMAL has the objective of such a point; a verdict of infeasibility prints a crossed variable or a
     // ray, and one of unboundedness a feasible point with a direction, and these prove it; RANGE prints where the basis stays
     // optimal; at every value in an interval of PARAOBJ or PARARHS the printed point is best and the printed prices prove it, each

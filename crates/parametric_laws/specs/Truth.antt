@@ -1,4 +1,4 @@
--- What a parametric run tells of the linear programs of its family, at each value of the parameter.
+-- What a parametric run shows of the linear programs of its family, at each value of the parameter.
 --     IsSolvedBy p z y             z is best in p, and the prices y prove it
 --     IsTruePart family max part   the interval shows a best point and its dual certificate at each value in it
 --     AreJoined from parts         the first interval begins at from, each other one where the last ended
@@ -83,7 +83,7 @@ pub record IsTrueRun (family : ℚ → LinearProgram) (from max : ℚ) (parts : 
   pub long : AreLongPast parts
   pub closes : IsTrueEnd family max (last_end from parts) end
 
--- a failed opening tells the verdict on the program of the first value
+-- a failed opening reports the verdict on the program of the first value
 abbrev pub IsTrueFailure : LinearProgram → PathEnding → Type 0
 IsTrueFailure p (EndsOptimal z y) = ⊥
 IsTrueFailure p (EndsCrossed k) = IsCrossed p k × IsInfeasible p

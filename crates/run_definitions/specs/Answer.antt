@@ -81,7 +81,7 @@ module _ (S : Solving) where
     pub step : Step S program state (Goes (Punches report deck) after)
 
   -- How a job may end: as it does by itself; or since the words are refused, a read of the job or a write to the punch has failed, or
-  -- memory is wanted, and then the reports are those so far. The cards are all that is punched by then, with the deck of the statement
+  -- memory runs out, and then the reports are those so far. The cards are all that is punched by then, with the deck of the statement
   -- in hand.
   pub data MayEnd (job : Job) (failures : Failures) : List Report → List (List ℕ) → Ending → Type 0 where
     words_refused : job ≡ WithoutBytes → MayEnd job failures [] [] WordsRefused

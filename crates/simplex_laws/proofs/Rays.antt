@@ -1,4 +1,4 @@
--- What an infeasible end tells: its ray is a proof.
+-- What an infeasible end shows: its ray is a proof.
 use Rattle.std.proofs.Common.{◌≡◌, ◌≢◌, ℕ, suc, ◌+◌, ◌⊎◌, inl, inr, Bool, true, false, List, refl, sym, ap, ap₂, subst, ◌∙◌, arith, pos, cond}
 use Rattle.std.specs.Prelude.{Option, Some, None, not, ◌&&◌, ◌||◌, unwrap_or, if◌then◌else◌, nat_eq, eqb}
 use Rattle.std.proofs.lemmas.Bool.Decides.{eqb_tells}

@@ -16,7 +16,7 @@ use Rattle.answer_definitions.specs.ParametricRuns.{row_of, family_of, sheet_at,
 use Rattle.answer_definitions.specs.Verdicts.{IsVerdict}
 use Rattle.parametric_laws.specs.Truth.{IsTrueRun, IsTrueFailure}
 
--- a run that hasn't ended within its limit tells of no bases
+-- a run that hasn't ended within its limit names no bases
 abbrev pub gone_over : ParametricRunEnd → List Basis
 gone_over (Opening bases verdict check) = bases
 gone_over (Chained bases intervals end) = bases

@@ -56,7 +56,7 @@ pub record PresentProgram (setup : Option Present) (cells : Cells) : Type 0 wher
 abbrev pub sheet_of : {setup : Option Present} {cells : Cells} → PresentProgram setup cells → Sheet
 sheet_of program = record { problem = program.present.problem; lp = program.lp }
 
--- The lines are those of the present basis: its point is feasible, no feasible point improves it, and its
+-- The lines are those of the present basis: its point is feasible, no feasible point is better, and its
 -- prices, which are printed, prove that.
 pub record ShowsBest (setup : Option Present) (cells : Cells) (lines : SolutionLines) : Type 0 where
   pub program : PresentProgram setup cells

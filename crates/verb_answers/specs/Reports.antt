@@ -2,7 +2,7 @@
 --     sheet_view sheet                     the problem and the linear program
 --     most_steps p limit                   how many steps a path may take
 --     IsCheckedSo p outcome verdict        the verdict is that of the outcome's check
---     IsReached sheet s now limit report   the path from s ends at now, and the report tells its end and the check of it
+--     IsReached sheet s now limit report   the path from s ends at now, and the report shows its end and the check of it
 --     PathStops sheet s now limit ..       the path from s has come to now, where this stops it
 --     IsDualReached, DualPathStops         those of the dual path, which begins with right prices
 use Rattle.std.specs.Prelude.{◌≡◌, ℕ, ◌≤◌, List, [], ◌∷◌, ◌++◌, length, Option, None, Some, unwrap_or}

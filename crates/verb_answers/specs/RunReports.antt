@@ -3,7 +3,7 @@
 --     IsOpening report                     the report of an opening that isn't optimal
 --     IsOpeningChecked p report refused    the check of an opening that isn't optimal, in the linear program at the first value
 --     IsPrintable sheet report             the report can be printed
---     IsAnswered                           the run from s has ended at now, and the report tells its end
+--     IsAnswered                           the run from s has ended at now, and the report shows its end
 --     RunOverflowsThere                    the run has come to now, where it may stop with this evidence
 --     LimitOverflows                       it may stop there with evidence of a limit at the first value, which has no place
 --     ParametricRunStops                   what holds after a call that has stopped
