@@ -165,7 +165,7 @@ named_by cells (Row name) = cells.xchrow
 named_by cells (Set name) = cells.xchcol
 
 -- The parametric run of a verb in the linear program that is selected of the setup with these cells: from
--- XPARAM to XPARMAX, with what changes as the cells name it. Something is reported of it.
+-- XPARAM to XPARMAX, with what changes as the cells name it. Tells is what is said of it.
 pub record ReportsOfRun (setup : Option Present) (cells : Cells) (solver : Solver) (Tells : Sheet → ParametricRun → Type 0) : Type 0 where
   pub program : PresentProgram setup cells
   pub parametric_run : ParametricRun
