@@ -161,8 +161,8 @@ fn counted_on(basis: &Basis, count: u32, k: u32) -> u32
     }
 }
 
-/// Adds the direction of `j`, times its value, if it is nonbasic. `term` nonbasics stand before it, and `column` is workspace for
-/// the direction.
+/// Adds the direction of `j`, times its value, if it is nonbasic. `term` nonbasics stand before it, and `column` is room for the
+/// direction.
 fn add_direction<R: Rates>(
     lp: &Lp,
     basis: &Basis,

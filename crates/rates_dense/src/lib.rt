@@ -145,8 +145,8 @@ fn take_rates(lines: &[Line], j: u32, out: &mut [Frac])
     }
 }
 
-/// Makes the lines after an exchange of `p`, whose line has this slot, for `q`. `quotients` is workspace for the leaver's rates over
-/// the pivot, `changed` for the numbers of those that aren't 0, and `changing` for the slots of the lines that change.
+/// Makes the lines after an exchange of `p`, whose line has this slot, for `q`. `quotients` is room for the leaver's rates over the
+/// pivot, `changed` for the numbers of those that aren't 0, and `changing` for the slots of the lines that change.
 fn exchange_lines(
     lines: &mut [Line],
     slot: usize,
