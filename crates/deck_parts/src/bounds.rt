@@ -87,7 +87,7 @@ fn is_touched(matters: bool, columns: &IndexSet<Name>, column: &Name) -> bool
     matters && columns.contains(column)
 }
 
-// Marks a column whose end is touched, and says whether it was marked already.
+// Marks a column whose end is touched, and tells whether it was marked already.
 fn mark(columns: &mut IndexSet<Name>, column: Name, touches: bool) -> Result<bool, CardStop>
     ensures was_marked { IfOk result (λ was_marked. was_marked ≡
         (touches && list_any (same column) columns.old.keys)) }
@@ -101,7 +101,7 @@ fn mark(columns: &mut IndexSet<Name>, column: Name, touches: bool) -> Result<boo
     Ok(!is_new)
 }
 
-// Marks the ends of a column that a bound of this type touches, and says whether one of them was marked already.
+// Marks the ends of a column that a bound of this type touches, and tells whether one of them was marked already.
 fn mark_ends(
     uppers: &mut IndexSet<Name>,
     lowers: &mut IndexSet<Name>,

@@ -52,7 +52,7 @@ fn lesser(best: Frac, other: Frac) -> Frac
     best
 }
 
-/// The lesser of `best` and the theta at which the combined rate is 0. Where a product shows that `best` is the lesser, no quotient is
+/// The lesser of `best` and the theta at which the combined rate is 0. Where a product tells that `best` is the lesser, no quotient is
 /// made.
 fn nearer(best: Frac, price: Frac, rate: Frac) -> Result<Frac, Refused>
     requires { rate ≢ zero_ℚ }
