@@ -1,18 +1,21 @@
 #!/usr/bin/env bash
-# Times whole jobs, from their bytes to their listings: PRIMAL on transportation problems of 10, 20 .. 60 sources and as many
-# destinations, on the problems of 8, 10 and 12 queens, on a sparse problem of 300 rows and 350 columns, and on a problem of the greatest
-# size, 1,000 rows and 5,000 columns, whose path ends where it begins; and the transportation of 60 by 60 with RANGE. Prints the steps
-# and the objective, the least processor time of five runs, in seconds, and the peak memory. Then it prints how many of fifty problems of
-# 15 rows and 30 columns, with numbers of two decimals, end without an overflow, and how long the fifty take together; and it times
-# SOLUTION of a problem of 1,000 rows and 5,000 columns; a parametric run on it, up to 0.1 and up to 0.3, which is 22 and 99
-# intervals; and, where one in twenty of the right-hand sides has changed since an optimum, PRIMAL from the opening basis against
-# PRIMAL and DUAL from the basis of that optimum, which INSERT takes.
-# Usage: scripts/bench_path.sh [--instructions] [PROGRAM], which is the proved mps360 where none is named; with --instructions it counts
-# the instructions of one run of each by valgrind, in place of time and memory; or scripts/bench_path.sh --dense N, --queens N,
-# --transportation N, --sparse or --wide, which print a deck: the N-th of the fifty, that of N queens, that of N sources and N
-# destinations, the sparse one, and the one of the parametric run.
+# Times whole jobs, from their bytes to their listings, in four parts. Prints where each path ends, the least processor time of five
+# runs, in seconds, the peak memory (no less than Python's own, some 14 MB), and the time of a step.
+#   paths   PRIMAL on transportation problems of 10, 20 .. 60 sources and as many destinations, on the problems of 8, 10 and 12 queens, on
+#           a sparse problem of 300 rows and 350 columns, and on a problem of the greatest size, 1,000 rows and 5,000 columns, whose
+#           path ends where it begins; and the transportation of 60 by 60 with RANGE
+#   dense   how many of fifty problems of 15 rows and 30 columns, with numbers of two decimals, end without an overflow, and the
+#           processor time of all fifty together, once
+#   wide    PRIMAL on a problem of 1,000 rows and 5,000 columns, alone and with SOLUTION; and a parametric run on it, up to 0.1 and up to
+#           0.3, which is 22 and 99 intervals
+#   bases   where one in twenty of the right-hand sides has changed since an optimum, PRIMAL from the opening basis against PRIMAL and
+#           DUAL from the basis of that optimum, which INSERT takes
+# Usage: scripts/bench_path.sh [--instructions] [--part NAME] [PROGRAM], which is the proved mps360 where none is named; with
+# --instructions it counts the instructions of one run of each by valgrind, in place of time and memory (the part dense has none); or
+# scripts/bench_path.sh --dense N, --queens N, --transportation N, --sparse or --wide, which print a deck: the N-th of the fifty, that of
+# N queens, that of N sources and N destinations, the sparse one, and the one of the part wide.
 set -eu
-case ${1:-} in -h | --help) sed -n '2,13s/^# //p' "$0"; exit 0 ;; esac
+case ${1:-} in -h | --help) sed -n '2,16s/^# //p' "$0"; exit 0 ;; esac
 here=$(cd "$(dirname "$0")" && pwd)
 deck=$(mktemp)
 counts=$(mktemp)
@@ -119,8 +122,8 @@ queens() {
     }'
 }
 
-# 999 rows that hold every column down, and 5,000 columns with eight entries of 1 to 3; every 25th has a negative cost. The row CHANGE
-# changes the cost.
+# 998 rows that hold every column down, the objective and the row CHANGE, which changes it; and 5,000 columns with eight entries of 1 to 3
+# in those rows, of which every 25th has a negative cost.
 wide() {
     awk -v seed=11 '
         function below(n) { seed = (seed * 16807) % 2147483647; return seed % n }
@@ -166,17 +169,27 @@ case ${1:-} in
 --transportation) transport "$2"; exit 0 ;;
 --sparse) sparse; exit 0 ;;
 --wide) wide; exit 0 ;;
---instructions) counting=yes; shift ;;
-*) counting= ;;
 esac
+counting=
+parts="paths dense wide bases"
+while :; do
+    case ${1:-} in
+    --instructions) counting=yes; shift ;;
+    --part) parts=${2:?--part needs a name}; shift 2 ;;
+    *) break ;;
+    esac
+done
+for part in $parts; do
+    case $part in paths | dense | wide | bases) ;; *) echo "bench_path.sh: there is no part $part" >&2; exit 64 ;; esac
+done
 program=${1:-$("$here/program.sh")}
 
-# What a program comes to on the deck, with its time and its memory, or with its instructions.
+# What the program comes to on the present deck, with its time and its memory, or with its instructions.
 measured() {
     if [ -z "$counting" ]; then
-        python3 "$here/timed.py" "$deck" "$@"
+        python3 "$here/timed.py" "$deck" "$program"
     else
-        last=$(valgrind --tool=callgrind --callgrind-out-file=/dev/null "$@" <"$deck" 2>"$counts" | tail -1)
+        last=$(valgrind --tool=callgrind --callgrind-out-file=/dev/null "$program" <"$deck" 2>"$counts" | tail -1)
         echo "$last: $(sed -n 's/.*refs: *//p' "$counts") instructions"
     fi
 }
@@ -191,9 +204,9 @@ greatest() {
     }'
 }
 
-# A job of the deck that the words after -- make, with the statements before it.
+# A job of the deck that the words after -- make, with the statements before it, and without a limit on steps.
 job() {
-    printf '         %s\n' PROGRAM CONVERT
+    printf '         %s\n' PROGRAM "MOVE(XITERLIM,'NONE')" CONVERT
     while [ "$1" != -- ]; do
         printf '         %s\n' "$1"
         shift
@@ -208,40 +221,66 @@ path_end() {
     "$program" <"$deck" | grep -o 'OPTIMAL STEPS.*OBJECTIVE [^ ]*'
 }
 
+# The path of the present deck under this name, and what it takes, all and for each step.
+path() {
+    local end line
+    end=$(path_end)
+    line=$(measured)
+    awk -v name="$1" -v end="$end" -v line="$line" 'BEGIN {
+        split(end, words, " ")
+        steps = words[3]
+        n = split(line, of, ": ")
+        number = of[n]
+        gsub(",", "", number)
+        each = ""
+        if (steps > 0) each = line ~ /instructions/ ? sprintf(", %.0f a step", number / steps) : sprintf(", %.3f ms a step", 1000 * number / steps)
+        printf "%s, %s: %s%s\n", name, end, of[n], each
+    }'
+}
+
 # The job of PRIMAL on the deck that the words make, and perhaps one statement more, after its name.
 solved() {
     local name=$1 more=$2
     shift 2
     job SETUP PRIMAL ${more:+"$more"} -- "$@" >"$deck"
-    echo "$name${more:+ with $more}, $(path_end):"
-    measured "$program"
+    path "$name${more:+ with $more}"
 }
 
-for size in 10 20 30 40 50 60; do solved "transportation $size by $size" "" transport "$size"; done
-solved "transportation 60 by 60" RANGE transport 60
-for size in 8 10 12; do solved "$size queens" "" queens "$size"; done
-solved "the sparse problem" "" sparse
-solved "the greatest size" "" greatest
-TIMEFORMAT=%U
-spent=$({ time for seed in $(seq 50); do job SETUP PRIMAL -- dense "$seed" | "$program" || true; done >"$counts"; } 2>&1)
-ended=$((50 - $(grep -c OVERFLOW "$counts" || true)))
-echo "fifty problems with numbers of two decimals: $ended end without an overflow, $spent s"
+bench_paths() {
+    for size in 10 20 30 40 50 60; do solved "transportation $size by $size" "" transport "$size"; done
+    solved "transportation 60 by 60" RANGE transport 60
+    for size in 8 10 12; do solved "$size queens" "" queens "$size"; done
+    solved "the sparse problem" "" sparse
+    solved "the greatest size" "" greatest
+}
 
-job SETUP PRIMAL SOLUTION -- wide >"$deck"
-echo "1,000 rows and 5,000 columns, SOLUTION, $("$program" <"$deck" | wc -l) lines:"
-measured "$program"
-for most in 0.1 0.3; do
-    job "MOVE(XCHROW,'CHANGE')" "MOVE(XPARMAX,$most)" SETUP PARAOBJ -- wide >"$deck"
-    echo "1,000 rows and 5,000 columns, PARAOBJ up to $most, $("$program" <"$deck" | wc -l) lines:"
-    measured "$program"
-done
-for problem in "transport 40" "transport 60" sparse; do
-    # (words of a command)
-    job SETUP PRIMAL PUNCH -- $problem >"$deck"
-    (cd "$folder" && rm -f PUNCH && "$program" <"$deck" >"$counts")
-    for way in PRIMAL "INSERT PRIMAL" "INSERT DUAL"; do
-        { job "MOVE(XRHS,'NEXT')" SETUP $way -- replanned $problem && cat "$folder/PUNCH"; } >"$deck"
-        echo "$problem, one in twenty of the right-hand sides changed, $way, $(path_end):"
-        measured "$program"
+bench_dense() {
+    for seed in $(seq 50); do job SETUP PRIMAL -- dense "$seed" >"$folder/dense$seed"; done
+    TIMEFORMAT=%U
+    spent=$({ time for seed in $(seq 50); do "$program" <"$folder/dense$seed" || true; done >"$counts"; } 2>&1)
+    ended=$((50 - $(grep -c OVERFLOW "$counts" || true)))
+    echo "fifty problems with numbers of two decimals: $ended end without an overflow, $spent s"
+}
+
+bench_wide() {
+    solved "1,000 rows and 5,000 columns" "" wide
+    solved "1,000 rows and 5,000 columns" SOLUTION wide
+    for most in 0.1 0.3; do
+        job "MOVE(XCHROW,'CHANGE')" "MOVE(XPARMAX,$most)" SETUP PARAOBJ -- wide >"$deck"
+        echo "1,000 rows and 5,000 columns, PARAOBJ up to $most, $("$program" <"$deck" | wc -l) lines: $(measured)"
     done
-done
+}
+
+bench_bases() {
+    for problem in "transport 40" "transport 60" sparse; do
+        # (words of a command)
+        job SETUP PRIMAL PUNCH -- $problem >"$deck"
+        (cd "$folder" && rm -f PUNCH && "$program" <"$deck" >"$counts")
+        for way in PRIMAL "INSERT PRIMAL" "INSERT DUAL"; do
+            { job "MOVE(XRHS,'NEXT')" SETUP $way -- replanned $problem && cat "$folder/PUNCH"; } >"$deck"
+            path "$problem, one in twenty of the right-hand sides changed, $way"
+        done
+    done
+}
+
+for part in $parts; do "bench_$part"; done

@@ -424,7 +424,7 @@ def spelled(rng, value, width=12):
     return rng.choice([form for form in forms if len(form) <= width])
 
 
-ENDLESS = ("1e20", "1e30", "1E+30", "Inf", "infinity", "1e31", "9.9e99")
+INFINITE = ("1e20", "1e30", "1E+30", "Inf", "infinity", "1e31", "9.9e99")
 
 
 class Random:
@@ -558,7 +558,7 @@ class Random:
     def limited(self, column):
         rng, low = self.rng, decimal(self.rng, -9, 5)
         high, zero = low + decimal(rng, 0, 9), Fraction(0)
-        kinds = ["none", "UP", "LO", "both", "FX", "FR", "MI", "MI UP", "PL", "endless", "negative", "twice"]
+        kinds = ["none", "UP", "LO", "both", "FX", "FR", "MI", "MI UP", "PL", "infinite", "negative", "twice"]
         kind = rng.choice(kinds + ["BV", "LI", "UI", "LI UI"] * self.relax)
         if column in self.marked and kind in ("LO", "MI", "LI"):
             kind = "both"
@@ -585,9 +585,9 @@ class Random:
             self.bound("MI", column)
             self.bound("UP", column, low)
             return None, low
-        if kind == "endless":
-            self.bound("UP", column, rng.choice(ENDLESS))
-            self.bound("LO", column, "-" + rng.choice(ENDLESS))
+        if kind == "infinite":
+            self.bound("UP", column, rng.choice(INFINITE))
+            self.bound("LO", column, "-" + rng.choice(INFINITE))
             return None, None
         if kind == "negative":
             self.negative = self.negative or rng.choice(("keep", "free", "free", "free"))
@@ -625,17 +625,17 @@ class Random:
 
     def make_row(self, row, kind, at):
         rng, slack = self.rng, abs(decimal(self.rng, 0, 3)) + Fraction(1, 100)
-        span, endless = slack + abs(decimal(rng, 0, 3)), False
+        span, infinite = slack + abs(decimal(rng, 0, 3)), False
         limit = at + slack if kind == "L" else at - slack if kind == "G" else at
         limit = Fraction(0) if rng.random() < 0.1 else limit
         if limit or rng.random() < 0.5:
             self.rhs[row], self.rhs_texts[row] = limit, self.number(limit)
         low, high = (None, limit) if kind == "L" else (limit, None) if kind == "G" else (limit, limit)
         if rng.random() < 0.4:
-            endless = kind != "E" and rng.random() < 0.3
+            infinite = kind != "E" and rng.random() < 0.3
             signed = span * rng.choice((1, -1))
-            self.ranges[row], self.range_texts[row] = signed, rng.choice(ENDLESS) if endless else self.number(signed)
-            if not endless:
+            self.ranges[row], self.range_texts[row] = signed, rng.choice(INFINITE) if infinite else self.number(signed)
+            if not infinite:
                 low, high = {"L": (limit - span, limit), "G": (limit, limit + span), "E": (limit + min(signed, 0), limit + max(signed, 0))}[kind]
         self.row_limits[row] = low, high
 

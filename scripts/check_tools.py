@@ -170,7 +170,7 @@ def try_measures(folder):
     check(f"timed.py: {timed}", re.fullmatch(r"END 0: 0\.\d{3} s, \d+\.\d MB\n", timed))
 
 
-SWEEPS = {
+PARAMETRIC = {
     "paraobj-two-intervals": ((0, -8), (1, -8), (5, -20), "the run ends at 5"),
     "paraobj-unbounded-past": ((0, 0), (1, 0), "no bound past 1"),
     "pararhs-two-intervals": ((0, 1), (2, 3), (5, 9), "the run ends at 5"),
@@ -178,7 +178,7 @@ SWEEPS = {
     "pararhs-point-interval": ((0, 1), "the run ends at 0"),
 }
 # A listing of examples/, the run of it that is drawn, and what is drawn: the last run without a number.
-EXAMPLE_SWEEPS = (
+EXAMPLE_PARAMETRIC = (
     ("paraobj", (), ((0, 0), (2, 0), (15, 208)), "no bound past 15"),
     ("pararhs", ("--run", "1"), ((0, 90), (10, 120), (15, 145)), "the run ends at 15"),
     ("pararhs", (), ((15, 145), (18, 160)), "no plan past 18"),
@@ -192,9 +192,9 @@ def drawn_points(told):
 
 def try_plots(folder):
     script, picture = SCRIPTS / "plot_parametric.py", folder / "picture.svg"
-    sweeps = [(SCRIPTS / "known" / f"{name}.listing", (), tuple(points), end) for name, (*points, end) in SWEEPS.items()]
-    sweeps += [(runner.TOP / "examples" / f"{name}.listing", *wanted) for name, *wanted in EXAMPLE_SWEEPS]
-    for listing, words, points, end in sweeps:
+    runs = [(SCRIPTS / "known" / f"{name}.listing", (), tuple(points), end) for name, (*points, end) in PARAMETRIC.items()]
+    runs += [(runner.TOP / "examples" / f"{name}.listing", *wanted) for name, *wanted in EXAMPLE_PARAMETRIC]
+    for listing, words, points, end in runs:
         told = call(script, *words, listing).stdout.decode()
         check(f"plot_parametric.py: {listing.name} {words}: {told}", drawn_points(told) == points and told.splitlines()[-1] == end)
         call(script, *words, "--svg", "-o", picture, input=listing.read_bytes())
@@ -447,12 +447,12 @@ def try_streams(folder):
     check("explain - -", call(SCRIPTS / "explain", "-", "-").returncode == 64)
     piped = call("bash", "-c", f"exec {SCRIPTS}/explain <(cat {job}) <(cat {listing})").stdout
     check("explain: pipes", piped == wanted)
-    bad, sweep = folder / "escapes.listing", (runner.TOP / "examples/pararhs.listing").read_bytes()
+    bad, parametric = folder / "escapes.listing", (runner.TOP / "examples/pararhs.listing").read_bytes()
     bad.write_bytes((runner.TOP / "examples/endless.listing").read_bytes().replace(b"PROFIT  ", b"\x1b[2J\x9bX\x07 "))
     told = call(SCRIPTS / "explain", job, bad)
     check(f"explain: escapes of a terminal: {told.stdout}", b"\\x1b[2J\\x9bX" in told.stdout and not re.search(rb"[\x00-\x09\x0b-\x1f\x7f]|\xc2[\x80-\x9f]", told.stdout))
     for words in ((), ("--svg",)):
-        told = call(SCRIPTS / "plot_parametric.py", *words, input=sweep.replace(b"CHANGE MORE", b"CHANGE M\x1b[2J"))
+        told = call(SCRIPTS / "plot_parametric.py", *words, input=parametric.replace(b"CHANGE MORE", b"CHANGE M\x1b[2J"))
         check(f"plot_parametric.py {words}: escapes", told.returncode == 0 and b"\\x1b[2J" in told.stdout and b"\x1b" not in told.stdout)
 
 

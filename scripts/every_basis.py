@@ -4,7 +4,7 @@ the verdicts at its breaks, between them and past its end, a deck that is writte
 INSERT is about by the rows' equations solved anew, the activity of a combination by those of its parts. random_jobs.py --itself runs it.
 
 Where a linear program has a feasible point, it has one at which each nonbasic variable stands at a limit, or at 0 where it has none; and
-where it has a best one, one of these is best. It has none where some direction that keeps all limits betters the objective."""
+where it has a best one, one of these is best. It has none where some direction that keeps all limits improves the objective."""
 import copy, itertools, math
 from fractions import Fraction
 import expected_bases, expected_listing

@@ -414,7 +414,7 @@ class Run:
         else:
             values = problem.sets["RHS"][change]
             changes = expected_postoptimal.OfLimits(self.lp, [values.get(name, Fraction(0)) for name in problem.rows] + [Fraction(0)] * self.lp.n)
-        run = expected_postoptimal.Sweep(self.table, changes, self.limit())
+        run = expected_postoptimal.ParametricRun(self.table, changes, self.limit())
         opening, steps = run.opening(cells["XPARAM"])
         if opening[0] != "OPTIMAL":
             if opening[0] != "LIMIT":

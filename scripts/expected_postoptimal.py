@@ -99,7 +99,7 @@ class OfObjective:
 
     def face_step(self, table, theta):
         """what follows at the break: None, the end of the run, or the exchange. The least-numbered nonbasic enters whose combined price is 0 and
-        that betters the change row's activity."""
+        that improves the change row's activity."""
         price, change, better = table.rates_of(self.program(theta).worth()), table.rates_of({self.row: 1}), self.lp.better()
         q = table.entering(lambda k: 0 if price[k] else better * change[k])
         if q is None:
@@ -161,7 +161,7 @@ class OfLimits:
         return p, min(ratios)[1], to
 
 
-class Sweep:
+class ParametricRun:
     "a parametric run over a table, in so many steps at most"
     def __init__(self, table, changes, most):
         self.table, self.changes, self.most, self.steps = table, changes, most, 0

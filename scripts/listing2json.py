@@ -33,7 +33,7 @@ NUMBER = r"-?\d{1,4000}(?:/[1-9]\d{0,3999})?"
 MAY_BE_NONE = ("lower", "upper", "limit_low", "limit_high", "cost_low", "cost_high", "factor_low", "factor_high")
 VERDICT = re.compile(
     rf"(PRIMAL|DUAL|PARAOBJ|PARARHS) (OPTIMAL|INFEASIBLE|UNBOUNDED) STEPS (\d{{1,20}}) (?:OBJECTIVE ({NUMBER})|CROSSED (\d{{1,20}})|RAY) (CHECKED|UNCHECKED .*)$")
-SWEEP = re.compile(rf"(PARAOBJ|PARARHS) FROM ({NUMBER}) CHANGE (.*)$")
+PARAMETRIC = re.compile(rf"(PARAOBJ|PARARHS) FROM ({NUMBER}) CHANGE (.*)$")
 INTERVAL = re.compile(rf"INTERVAL (\d{{1,20}}) FROM ({NUMBER}) TO ({NUMBER})$")
 SWEPT = re.compile(rf"(?:PARAOBJ|PARARHS) (ENDS AT|UNBOUNDED PAST|INFEASIBLE PAST) ({NUMBER})$")
 TABLE = re.compile(r"( *\d{1,9}) (.{8}) (.+)$")
@@ -85,7 +85,7 @@ def parse(text):
             at += 1
         return taken
 
-    def sweep(found):
+    def parametric(found):
         "a parametric run: its intervals, and how it ends"
         nonlocal at
         report = {"report": "parametric", "by": found[1].lower(), "from": found[2], "change": found[3], "intervals": []}
@@ -119,8 +119,8 @@ def parse(text):
             reports.append({"report": punched[1].rstrip().lower(), "name": punched[2].rstrip(), "cards": int(punched[3])})
         elif inserted := re.match(r"INSERT  (.{8}) BASIC (\d{1,20})$", line):
             reports.append({"report": "insert", "name": inserted[1].rstrip(), "basic": int(inserted[2])})
-        elif found := SWEEP.match(line):
-            reports.append(sweep(found))
+        elif found := PARAMETRIC.match(line):
+            reports.append(parametric(found))
         elif setup:
             reports.append({"report": "setup", "name": setup[1].rstrip(), "sense": setup[2]})
         elif verdict:

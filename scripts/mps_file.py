@@ -43,7 +43,7 @@ FIRST_REMARK = {"ROWS": 2, "COLUMNS": 1, "RHS": 1, "RANGES": 1, "BOUNDS": 2}
 NUMBER = re.compile(r"([+-]?)(?:([0-9]+)(?:\.([0-9]*))?|\.([0-9]+))(?:[EeDd]([+-]?[0-9]+))?")
 # the NAME line of a free deck of a job; the name stands in columns 15 to 22
 FREE_DECK = re.compile(r"NAME.{18}  FREE")
-ENDLESS = re.compile(r"[+-]?inf(inity)?", re.I)
+INFINITE = re.compile(r"[+-]?inf(inity)?", re.I)
 
 
 class Refused(Exception):
@@ -148,7 +148,7 @@ class Model:
 
 def number(word):
     "the exact value of a word; plus or minus infinity, as a float, where it says so"
-    if ENDLESS.fullmatch(word):
+    if INFINITE.fullmatch(word):
         return float("-inf" if word[0] == "-" else "inf")
     found = NUMBER.fullmatch(word) if len(word) <= LONGEST_NUMBER else None
     if not found:
@@ -422,8 +422,8 @@ class Reader:
         except Refused as cause:
             cause.word = place
             raise
-        endless = abs(value) >= self.reading.infinity and self.section not in ("ROWS", "COLUMNS")
-        if self.exact or endless or isinstance(value, float) or text_of(value) is not None:
+        infinite = abs(value) >= self.reading.infinity and self.section not in ("ROWS", "COLUMNS")
+        if self.exact or infinite or isinstance(value, float) or text_of(value) is not None:
             return value
         if self.section == "RHS" and self.model.rows[line.words[place - 1]] == "N":
             return value
@@ -603,7 +603,7 @@ class Reader:
         elif self.model.rows[row] == "E":
             raise Refused("an infinite range on an E row", at)
         else:
-            self.note("endless range")
+            self.note("infinite range")
 
     def bound_parts(self, line):
         "the type of a bound, and the places of set, column and number, None where there is none"
@@ -652,7 +652,7 @@ class Reader:
             return value
         if (value > 0) != (kind in ("UP", "UI")) or kind == "FX":
             raise Refused(f"a bound {kind} of {line.words[at][:30]} is infinite, and leaves no number", at)
-        self.note("endless bound")
+        self.note("infinite bound")
         return None
 
     def touch(self, limits, end, value, at):
@@ -726,8 +726,8 @@ class Reader:
         model, told = self.model, self.model.said
         sentences = {"after": "what follows ENDATA isn't read", "header": "what follows the name of a section isn't read",
                      "range on N": "a range on an N row says nothing, and is left out",
-                     "endless range": f"a range of {decimal_text(self.reading.infinity)} and more is none, and is left out",
-                     "endless bound": f"a bound of {decimal_text(self.reading.infinity)} and more is no limit",
+                     "infinite range": f"a range of {decimal_text(self.reading.infinity)} and more is none, and is left out",
+                     "infinite bound": f"a bound of {decimal_text(self.reading.infinity)} and more is no limit",
                      "past": f"what stands past column {LAST_COLUMN} isn't read",
                      "maximizing": "a remark speaks of maximizing, and remarks aren't read; --max does so",
                      "negative keep": "a negative UP alone: the lower limit stays at 0, so there is no plan",

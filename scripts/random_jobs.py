@@ -45,7 +45,7 @@ def solving(name):
                       f"{name}NOT:SOLUTION", f"{name}END:TITLE('NEXT')")
 
 
-def sweeping(chance, verb, change):
+def parametric_run(chance, verb, change):
     "a parametric run, after which the next one goes on; more have a plan where it begins near 0"
     first = chance.choice((0, 0, -1, -0.5, 1, chance.randint(-9, 9)))
     return statements(change, f"MOVE(XPARAM,{first})", f"MOVE(XPARMAX,{first + chance.choice((0, 1, 5, 20, 999))})", f"MVADR(XDONFS,{verb}N)",
@@ -324,8 +324,8 @@ def job(seed, is_parametric, revises, has_bases, has_free, has_faults, has_combi
     if len(names) == 2:
         program += statements("MOVE(XRHS,'B2')") + solving("B")
     if is_parametric:
-        program += sweeping(chance, "PARAOBJ", "MOVE(XCHROW,'CHG')")
-        program += sweeping(chance, "PARARHS", f"MOVE(XCHCOL,'{max(names)}')") if names else []
+        program += parametric_run(chance, "PARAOBJ", "MOVE(XCHROW,'CHG')")
+        program += parametric_run(chance, "PARARHS", f"MOVE(XCHCOL,'{max(names)}')") if names else []
     cards, revised = deck.cards(), revising(chance, deck, combines) if revises else ([], [], setup)
     if has_bases:
         more, basis = keeping(setup, cards, names)

@@ -1,6 +1,6 @@
 #!/usr/bin/env bash
 # Converts TESTPROB with its 1st, 2nd, .. allocation refused, up to the first run that has them all: each of those before must
-# end with want of memory, and that one with the whole problem. With arguments only these allocations are refused.
+# end because memory runs out, and that one with the whole problem. With arguments only these allocations are refused.
 # There were 56 of them when this was written, and a run takes half a minute.
 # usage: try_memory.sh [NUMBER..]
 set -u

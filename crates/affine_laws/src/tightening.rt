@@ -93,7 +93,7 @@ fn is_within(high: bool, first: Frac, second: Frac) -> bool
     is_at_most(second, first)
 }
 
-/// The nearer of an end and that of a bound. A product tells it where it can be made, and else the quotient. The product of an end
+/// The nearer of an end and that of a bound. A product decides where it can be made, and else the quotient. The product of an end
 /// of 0 is never refused: where 0 meets the bound, no quotient is made.
 fn nearer(kept: Option<End>, high: bool, bound: &Bound) -> Result<Option<End>, Refused>
     requires slope { bound.now.slope ≢ zero_ℚ }

@@ -1,5 +1,5 @@
 -- What SOLUTION and RANGE print of a basis.
---     IsSolutionOf sheet s lines        the lines of SOLUTION
+--     IsSolutionOf sheet s lines   the lines of SOLUTION
 --     IsRanged sheet s lines       the lines of RANGE
 use Rattle.std.specs.Prelude.{◌≡◌, ℕ, ◌-◌, not, ◌&&◌, List, [], ◌∷◌, ◌++◌, Some, None, filter, find, nat_eq}
 use Rattle.exact_values.specs.Rational.{◌-ℚ◌}

@@ -142,7 +142,7 @@ fn leaver(lp: &Lp, basis: &Basis, direction: &[Frac], later: &[u32]) -> Option<u
     found
 }
 
-// Makes the column `k` basic, if the basis has it. `direction` is room for its direction, and `later` counts the columns from it on.
+// Makes the column `k` basic, if the basis has it. `direction` is workspace for its direction, `later` counts the columns from it on.
 fn enter<E: Engine>(
     engine: &mut E,
     lp: &Lp,

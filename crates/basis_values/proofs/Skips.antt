@@ -12,7 +12,7 @@ use Rattle.simplex_definitions.specs.Moves.{least, lowers, signed}
 use Rattle.simplex_laws.proofs.Searches.{least_is, least_none}
 use Rattle.basis_values.specs.Motions.{motion}
 
--- a value that is had at all
+-- a value that could be computed
 pub value_computed : (o : Option ℚ) (P : Type 0) (v w : ℚ) → SomeIff o P v → v ≡ w → IfSome o (λ x. x ≡ w)
 value_computed None P v w h e = tt
 value_computed (Some x) P v w h e = h.1 ∙ e

@@ -1,9 +1,9 @@
 -- The search for what stops a motion, variable by variable.
---     sooner nearest step_length k        k, if it reaches a limit before what is nearest so far
+--     sooner nearest step_length k    k, if it reaches a limit before what is nearest so far
 --     IsNearest f n nearest        what reaches a limit first of the variables up to n, where f has the lengths
 --     Yields f r k                 r reaches a limit no later than k, and sooner where k has the smaller number
 --     Reaches f n r                r is one of the variables up to n, and reaches a limit after its length
---     StepLengthRefused                  the distance of k to the limit ahead is refused, or that over the rate of k
+--     StepLengthRefused            the distance of k to the limit ahead is refused, or that over the rate of k
 use Rattle.std.specs.Prelude.{◌≡◌, ◌≢◌, ℕ, ◌≤◌, ◌<◌, Bool, true, false, Option, Some, None, option_map, if◌then◌else◌}
 use Rattle.exact_values.specs.Rational.{ℚ, zero_ℚ, one_ℚ, ◌-ℚ◌}
 use Rattle.frac128.specs.declared.Op.TheVariants.{Sub, Div}

@@ -143,7 +143,7 @@ pub fn is_minimized(lp: &Lp) -> bool
     }
 }
 
-/// The least-numbered nonbasic at which the basis's price is wrong: it may move so as to better the objective.
+/// The least-numbered nonbasic at which the basis's price is wrong: it may move so as to improve the objective.
 pub fn wrong_price(lp: &Lp, basis: &Basis, prices: &[Frac]) -> Option<u32>
     requires counted { length basis.now ≡ size lp.now.matrix }
     requires places { length prices.now ≡ size lp.now.matrix }

@@ -47,7 +47,7 @@ fn add_changes(theta: Frac, change: &[Frac], prices: &mut [Frac]) -> Result<(), 
     Ok(())
 }
 
-/// Adds the rates of the change row, theta times, to those of the objective row. `change` is room for them.
+/// Adds the rates of the change row, theta times, to those of the objective row. `change` is workspace for them.
 fn add_change_row<R: Rates>(
     lp: &Lp,
     basis: &Basis,
@@ -79,7 +79,7 @@ fn add_change_row<R: Rates>(
     }
 }
 
-/// Fills `prices` with the objective's rates. `change` is room for the rates of the change row.
+/// Fills `prices` with the objective's rates. `change` is workspace for the rates of the change row.
 pub fn fill_prices<R: Rates>(
     lp: &Lp,
     basis: &Basis,

@@ -1,4 +1,4 @@
--- What the first wanted rate of a row tells: what brings a basic back, and what improves the objective.
+-- What the first wanted rate of a row shows: which nonbasic brings a basic back, and which one improves the objective.
 use Rattle.std.proofs.Common.{◌≡◌, ℕ, List, Bool, sym, ap, ◌∙◌, subst, arith}
 use Rattle.std.specs.Prelude.{Option, Some, None, not, option_map}
 use Rattle.exact_values.specs.Rational.{ℚ}

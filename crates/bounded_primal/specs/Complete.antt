@@ -1,6 +1,6 @@
 -- Completeness of the solving calls: where the path ends and nothing stops a call on it, the call answers this end.
 --     HasNoEvidence p s limit before     wherever a call may be on the path, no evidence of an overflow holds
---     EndsOverflowFree ..                  the path ends within the limit of the call, and no evidence holds on the way
+--     EndsOverflowFree ..                the path ends within the limit of the call, and no evidence holds on the way
 --     EndsFreely ..                      the path ends, after however many steps, and no evidence holds on the way
 --     IsEndOr stop ..                    the answer is that end, at the basis where the path ends; or the call stops so
 --     IsEndOrMemory ..                   the answer is that end, or there is no memory

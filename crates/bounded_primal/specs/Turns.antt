@@ -2,9 +2,9 @@
 --     IsUncrossed p                no variable is crossed
 --     least_outside p s z          the least-numbered basic outside its limits
 --     ray_from xs r below          the multipliers that show why r cannot come back, from the rates xs of r
---     IsRestoring p s r below xs q  q is what brings r back, if something does
---     entering_variable_by p s y               the variable that improves the objective, by the prices y, and whether it rises
---     IsEnteringVariableFound p s xs m        m is that variable at the basis s, if there is one
+--     IsRestoring p s r below xs q    q is what brings r back, if something does
+--     entering_variable_by p s y   the variable that improves the objective, by the prices y, and whether it rises
+--     IsEnteringVariableFound p s xs m    m is that variable at the basis s, if there is one
 --     RuleEndsHere rule            the path by a rule ends at s, after so many steps; EndsHere: that of the simplex method
 --     EvidenceAt                   the evidence of a turn at s, whatever path led there
 --     TurnFound result             the path ends at s, or moves a variable, or the call stops

@@ -80,7 +80,7 @@ fn nearest_computed(lp: &Lp, point: &[Frac], direction: &[Frac], q: u32, up: boo
     nearest
 }
 
-/// Whether each variable tells by its place that `first` reaches a limit first.
+/// Whether the place of each variable shows that `first` reaches a limit first.
 fn is_first(lp: &Lp, point: &[Frac], direction: &[Frac], up: bool, first: &Reach) -> bool
     requires point_places { length point.now ≡ size lp.now.matrix }
     requires direction_places { length direction.now ≡ size lp.now.matrix }

@@ -291,7 +291,7 @@ fn entering_variable_by_prices<R: Rates>(
     }
 }
 
-/// The same where there is no change row: the prices are the rates of the objective, and no more of them are had than are needed.
+/// The same where there is no change row: the prices are the rates of the objective, and no more of them are computed than are needed.
 fn entering_variable_by_row<R: Rates>(
     lp: &Lp,
     basis: &Basis,

@@ -60,7 +60,7 @@ job_fault-within job cards short few all =
     ap (λ t. first_fault ((t ⟹ TooLong) ∷ map card_fault (numbered_cards (cards_of job)))) (or_from (nat_lt 16400000 (length job)) (nat_lt 200000 (length (cards_of job))) size count)
     ∙ ap fault_of_cards (sym all)
 
--- the answer that tells a fault
+-- the answer that reports a fault
 pub tells_fault : (fault : CardFault) (stop : ReadStop) (found : Option CardFault) → stop ≡ stop_of fault → found ≡ Some fault → ReportsCardFault stop found
 tells_fault fault stop found same e = let Goal : ReadStop → Type 0 = λ s. ReportsCardFault s found in subst Goal (sym same) (each fault e)
   where

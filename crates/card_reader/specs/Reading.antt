@@ -29,7 +29,7 @@ ReadsJob old new = ReadsWhole read_limit old new
 abbrev pub ReadsPrefix : Option (List ℕ) → Option (List ℕ) → Type 0
 ReadsPrefix old new = ReadsUpTo read_limit old new
 
--- how far a job was read that isn't given: a fault of the source or running out of memory may come before the end
+-- how far a job was read that isn't given: the source may fail, or memory run out, before the end
 abbrev pub ReadsAtStop : ReadStop → Option (List ℕ) → Option (List ℕ) → Type 0
 ReadsAtStop ReadFault old new = ReadsPrefix old new
 ReadsAtStop NoMemory old new = ReadsPrefix old new
@@ -51,7 +51,7 @@ abbrev pub Ends : {T : Type 0} → Result T ReadStop → Option (List ℕ) → T
 Ends (Ok cards) new = IsAtEnd new
 Ends (Err stop) new = EndsAtStop stop new
 
--- the stop tells the fault that was found; a fault of the source or running out of memory may come in its place
+-- the stop reports the fault that was found; instead of that, the source may fail or memory run out
 abbrev pub ReportsCardFault : ReadStop → Option CardFault → Type 0
 ReportsCardFault ReadFault found = Unit {0}
 ReportsCardFault NoMemory found = Unit {0}
@@ -59,7 +59,7 @@ ReportsCardFault TooLong found = found ≡ Some fault.TooLong
 ReportsCardFault (CardTooLong number) found = found ≡ Some (fault.CardTooLong number)
 ReportsCardFault (NotPrintable number) found = found ≡ Some (fault.NotPrintable number)
 
--- Where the job is known, `Ok` says that its cards have no fault, and else the stop tells the fault.
+-- Where the job is known, `Ok` says that its cards have no fault, and else the stop reports the fault.
 abbrev pub Judges : {T : Type 0} → Result T ReadStop → Option (List ℕ) → Type 0
 Judges (Ok cards) known = IfSome known (λ job. job_fault job ≡ None)
 Judges (Err stop) known = IfSome known (λ job. ReportsCardFault stop (job_fault job))

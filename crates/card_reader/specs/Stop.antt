@@ -1,4 +1,4 @@
--- The answers that tell a fault of the cards, and that a source stopped.
+-- The answers that report a fault of the cards, and that a source stopped.
 use Rattle.card_definitions.specs.declared.CardFault.{CardFault}
 use Rattle.card_definitions.specs.declared.CardFault.TheVariants.{TooLong, NotPrintable, CardTooLong}
 use Rattle.job_devices.specs.declared.reading.SourceStop.{SourceStop}

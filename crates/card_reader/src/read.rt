@@ -12,8 +12,8 @@ use card_definitions::MAX_JOB_BYTES;
 use job_devices::{Source, read_up_to};
 use std::alloc::Global;
 
-// The bytes of the source, and one at most after those that a job may have. A fault of the source and running out of memory
-// stop it, and nothing else.
+// The bytes of the source, and one at most after those that a job may have. It stops where the source fails or memory runs out,
+// and nowhere else.
 fn read_bytes<S: Source>(alloc: Global, source: &mut S) -> Result<Vec<u8>, ReadStop>
     ensures bytes { IfOk result (λ bytes. IfSome (S.left source.old)
         (λ job. bytes.items ≡ take read_limit job)) }
@@ -31,8 +31,8 @@ fn read_bytes<S: Source>(alloc: Global, source: &mut S) -> Result<Vec<u8>, ReadS
 
 /// Reads the job to its end and cuts it into cards. Of a job that is too long, no byte after 16,400,001 is read.
 ///
-/// A fault of the source is reported first, then a job that is too long, then the first card with a fault. Running out of memory
-/// may come before any of these.
+/// A fault of the source is reported first, then a job that is too long, then the first card with a fault. Memory may run out
+/// before any of these.
 pub fn read_job<S: Source>(alloc: Global, source: &mut S) -> Result<Cards, ReadStop>
     ensures cards { IfOk result (λ cards. IfSome (S.left source.old)
         (λ job. cards ≡ cards_of job)) }

@@ -22,7 +22,7 @@ use Rattle.control_compiler.specs.Settled.{lacks_label, settled, settled_program
 use Rattle.control_compiler.specs.Valid.{IsProgram}
 use Rattle.control_compiler.proofs.Named.{HoldsLaw, HoldsPosition, HoldsLimit, lacking, missing_reported, statements_reported, positions_within, limits_within}
 
--- the first statement as it is shown
+-- the first statement that passes, among the views of statements
 find_view : (p : Verb (List ℕ) → Bool) (statements : List (read.Statement (List ℕ)))
     → option_map (λ (statement : read.Statement (List ℕ)). statement.card) (find (λ (statement : read.Statement (List ℕ)). p (viewed statement.verb)) statements)
     ≡ option_map (λ (statement : Statement (List ℕ)). statement.card) (find (λ (statement : Statement (List ℕ)). p statement.verb) (map statement_view statements))

@@ -69,7 +69,7 @@ fn is_placed(labels: &Labels, label: &Option<Name>) -> bool
 impl Draft {
     ghost use Rattle.control_compiler.specs.After.{IsAfter, Takes};
 
-    /// Takes one more card of the program, and tells whether it is PEND.
+    /// Takes one more card of the program, and says whether it is PEND.
     pub fn take(&mut self, number: u32, card: &[u8]) -> Result<bool, CompileStop>
         requires { length self.old.statements.items ≤ 5000 }
         ensures { (cards : List Card) → IsAfter cards self.old → length cards ≡ length

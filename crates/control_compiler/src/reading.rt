@@ -48,7 +48,7 @@ fn begin(alloc: Global, cards: &Cards, number: u32) -> Result<Draft, CompileStop
     })
 }
 
-// Takes the card after this number, unless it is skipped, and tells whether it is PEND.
+// Takes the card after this number, unless it is skipped, and says whether it is PEND.
 fn pass(draft: &mut Draft, cards: &Cards, number: u32) -> Result<bool, CompileStop>
     requires within { number < length cards.now }
     requires room { number < 4294967295 }

@@ -1,4 +1,4 @@
--- What is found, told with its report, and what a statement comes to by it.
+-- What is found, with its report, and what a statement comes to by it.
 use Rattle.std.proofs.Common.{◌≡◌, ℕ, List, [], Option, Some, Result, Ok, Err, refl, sym, subst}
 use Rattle.std.specs.Prelude.{MatchResult}
 use Rattle.job_devices.proofs.TextLemmas.{writes_nothing}

@@ -30,7 +30,7 @@ module _ (before now : Counts) where
 
   -- WHAT THE STATUS REPORTS. Where the print has failed, the status is 25, and where it has found no memory, 28. Where a read has failed,
   -- it is 24, where the punch has failed, 26, and where the punch has found no memory, 28; unless the print has stopped as well, and
-  -- the status tells that. A count has grown where it is greater than before; so one that stands still at the last value of a u64 claims
+  -- the status reports that. A count has grown where it is greater than before; so one that stands still at the last value of a u64 claims
   -- nothing.
   pub record IsReported (status : ℕ) : Type 0 where
     pub print_fault : before.print < now.print → status ≡ 25

@@ -1,10 +1,10 @@
 -- What PARAOBJ and PARARHS find, and what is left.
 --     refusal_of stop              why a statement does nothing, where nothing is asked for
---     parametric_run_view parametric_run            the run as code holds it, in the words of runs
---     Serves problem p parametric_run       the run can be made in the linear program p
+--     parametric_run_view parametric_run    the run as code holds it, in the words of runs
+--     Serves problem p parametric_run    the run can be made in the linear program p
 --     IsRunOverflow result         what a refused operation of a run comes to
---     ParametricRunFinds gain finding      the run from a basis ends so, or is stopped so
---     ParametricRuns gain finding          the verb finds this with a setup, and has this to print
+--     ParametricRunFinds gain finding    the run from a basis ends so, or is stopped so
+--     ParametricRuns gain finding  the verb finds this with a setup, and has this to print
 --     cells_left finding cells     the cells after it
 use Rattle.std.specs.Prelude.{◌≡◌, ◌≢◌, ◌⊎◌, ℕ, List, [], ◌∷◌, ◌++◌, Option, None, Result, Ok, option_map}
 use Rattle.exact_values.specs.Rational.{ℚ, ◌≤ℚ◌}

@@ -1,7 +1,7 @@
 -- What a program's run has printed and punched, and how it may be answered.
 --     Leads state turn             executing a statement of the program leads there
 --     Steps result                 a statement leads somewhere, with its report printed and its deck punched; or it is cut off
---     CanEnd reports punched ending     the run ends so by itself, because memory runs out, or since the punch takes no more
+--     CanEnd reports punched ending    the run ends so by itself, because memory ran out, or because the punch takes no more
 --     IsCut ..                     the print has stopped in a report or in the lines of an end
 --     Runs result                  the run ends, with its reports printed and its decks punched; or it is cut off
 --     IsRunAnswer status ..        what a run may be answered
@@ -56,7 +56,7 @@ module _ (S : Solving) (program : Program) (cards : List (List ℕ)) where
 
   module _ (punch_failed punch_wanted : Type 0) where
     -- The run ends so by itself; or it has come so far, and there is no memory; or it has come to a statement that punches a deck, and
-    -- the punch runs out of memory itself, or has failed. Then that deck is the last of the cards.
+    -- the punch has run out of memory itself, or has failed. Then that deck is the last of the cards.
     pub data CanEnd : List Report → List (List ℕ) → Ending → Type 0 where
       by_itself : {reports : List Report} {punched : List (List ℕ)} {ending : Ending} →
           IsRun S program (decks_after program cards) reports punched ending → CanEnd reports punched ending
@@ -81,8 +81,8 @@ module _ (S : Solving) (program : Program) (cards : List (List ℕ)) where
           IsCut old new punch_old punch_new
 
   -- What a run may be answered: the status of an end, with the whole listing, and with all that is punched by then, or a prefix of it
-  -- where the deck in hand isn't whole; or the print has failed, or ran out of memory itself, and has stopped in a report or in the lines of
-  -- an end.
+  -- where the deck in hand isn't whole; or the print has failed, or run out of memory itself, and has stopped in a report or in the
+  -- lines of an end.
   pub data IsRunAnswer (print_failed print_wanted punch_failed punch_wanted : Type 0) (status : ℕ) (old new punch_old punch_new : Option (List ℕ)) : Type 0 where
     whole : {reports : List Report} {punched : List (List ℕ)} {ending : Ending} → CanEnd punch_failed punch_wanted reports punched ending →
         status ≡ status_of ending → Appends old new (listing reports ending) → GainsBy ending punch_old punch_new (card_text punched) →
@@ -122,7 +122,7 @@ module _ (S : Solving) (program : Program) (cards : List (List ℕ)) where
     Steps position old new (Err (halt.Punch stop)) = (executed : ℕ) (state : State) → executed < max_executed → Represents cards old position executed state → IsDeckCut state stop
     Steps position old new (Err halt.NoMemory) = (print_new ≡ print_old) × (punch_new ≡ punch_old)
 
-    -- how the run can end, where the punch has failed or ran out of memory only as its counts tell
+    -- how the run can end, where the punch has failed or run out of memory only as its counts say
     abbrev pub CanEndNow : List Report → List (List ℕ) → Ending → Type 0
     CanEndNow = CanEnd (Rose (punch_faults punch_old) (punch_faults punch_new)) (Rose (punch_refusals punch_old) (punch_refusals punch_new))
 

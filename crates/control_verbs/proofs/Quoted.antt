@@ -9,7 +9,7 @@ use Rattle.control_verbs.specs.Pieces.{after_quote, before_quote}
 same_byte : (byte : ℕ) → eqb byte byte ≡ true
 same_byte byte = eq-eqb byte byte refl
 
--- two lists with the same front are equal where what follows is
+-- two lists with the same prefix are equal where what follows is
 bytes_eq-front : (m : ℕ) (xs ys : List ℕ) → bytes_eq xs (take m xs ++ ys) ≡ bytes_eq (drop m xs) ys
 bytes_eq-front zero xs ys = refl
 bytes_eq-front (suc m) [] ys = refl

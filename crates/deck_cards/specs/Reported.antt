@@ -1,4 +1,4 @@
--- What a card that isn't taken tells.
+-- What is reported of a card that isn't taken.
 use Rattle.std.specs.Prelude.{◌≡◌, Option, Some}
 use Rattle.deck_definitions.specs.declared.DeckFaultKind.{DeckFaultKind}
 use Rattle.deck_cards.specs.declared.card_stop.CardStop.{CardStop}

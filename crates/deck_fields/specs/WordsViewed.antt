@@ -17,7 +17,7 @@ absent = record { column = 0; text = [] }
 abbrev pub IsColumn : ℕ → Type 0
 IsColumn column = (1 ≤ column) × (column ≤ 80)
 
--- The words of a card are shown by their count, and by the first seven of them; one that isn't there has column 0 and no byte.
+-- The view of a card's words is their count, and the first seven of them; one that isn't there has column 0 and no byte.
 pub record ShowsWords (found : Words) (card : List ℕ) : Type 0 where
   pub count : found.count ≡ length (words card)
   pub each : (k : ℕ) → (d : Word) → k < 7 → word_view (get_or found.words k d) ≡ unwrap_or (slice_get (words card) k) absent

@@ -135,7 +135,7 @@ fn exponent_digits_of(text: &[u8]) -> &[u8]
     digits_in_front(after_sign(exponent_of(text)))
 }
 
-// How many bytes from the front on have the form of a number.
+// How long the longest prefix is that has the form of a number.
 fn formed_length_of(text: &[u8]) -> usize
     ensures value { result ≡ formed_length text.now }
     ensures bound { result ≤ length text.now }

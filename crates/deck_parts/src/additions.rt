@@ -9,7 +9,7 @@ use indexmap::IndexMap;
 use indexmap::map::Entry;
 use name_table::Name;
 
-// Puts a value at the end under a name that has none, and tells whether it had none. A value that is there stays.
+// Puts a value at the end under a name that has none, and says whether it had none. A value that is there stays.
 pub fn add_new<V: Drop>(
     values: &mut IndexMap<Name, V>,
     name: Name,

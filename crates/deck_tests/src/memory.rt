@@ -6,7 +6,7 @@ use problem_file::Problem;
 use std::alloc::Global;
 use std::test::Fail;
 
-// The problem of TESTPROB, or none where memory is wanted on the way. Another stop fails.
+// The problem of TESTPROB, or none where memory runs out on the way. Another stop fails.
 fn converted(alloc: Global) -> Result<Option<Problem>, Fail> {
     let Ok(mut source) = SureSource::new(alloc, TESTPROB) else {
         return Ok(None);
@@ -42,7 +42,8 @@ fn counts(problem: &Problem) -> (usize, usize, usize) {
     )
 }
 
-// With enough memory the whole problem, and otherwise running out of memory: `scripts/try_memory.sh` has each allocation fail once.
+// With enough memory the whole problem, and otherwise the answer that memory ran out: `scripts/try_memory.sh` has each allocation fail
+// once.
 #[test]
 fn testprob_is_converted_or_memory_is_wanted(rt: HostRuntime) -> Result<(), Fail> {
     let Some(problem) = converted(rt.alloc())? else {

@@ -1,4 +1,4 @@
--- An interval is told by its values, if it has one; and so are lists of intervals.
+-- An interval is determined by its values, if it has one; and so are lists of intervals.
 use Rattle.std.proofs.Common.{◌≡◌, ℕ, List, [], ◌∷◌, map, refl, sym, ap, ap₂, subst, ◌∙◌, pos}
 use Rattle.std.specs.Prelude.{◌↔◌, Option, Some, None, IfSome, All}
 use Rattle.std.specs.List.{AllByRecursion}

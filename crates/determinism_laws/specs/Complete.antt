@@ -1,7 +1,7 @@
 -- Completeness: a job is answered as its run, where this meets no evidence of an overflow; unless a
--- device fails or memory is wanted. A program that gives up doesn't keep this promise.
+-- device fails or memory runs out. A program that gives up doesn't keep this promise.
 --     IsAnswerOfRun bytes status ..   the status, and what print and punch gain, are those of the run
---     IsCutOff failures status        a device has failed or memory is wanted, and the status tells so
+--     IsCutOff failures status        a device has failed or memory has run out, and the status says so
 --     IsComplete job ..               the promise
 --     IsBrokenOff bytes status ..     the status is 20, and a run that stops with an overflow is the
 --                                     beginning of another one
@@ -16,7 +16,7 @@ use Rattle.run_definitions.specs.Answer.{Job, bytes_of, Failures, IsJobRun}
 use Rattle.determinism_laws.specs.Laws.{IsOverflow, AreSame, Continues, MeetsNoEvidence}
 
 -- A read of the job has failed, and the status is 24; or a write to the print, and it is 25; or a
--- write to the punch, and it is 26; or it is 28: memory is wanted.
+-- write to the punch, and it is 26; or it is 28: memory runs out.
 pub data IsCutOff (failures : Failures) (status : ℕ) : Type 0 where
   read_failed : failures.read → status ≡ status_of ReadFault → IsCutOff failures status
   print_failed : failures.print → status ≡ status_of PrintFault → IsCutOff failures status
@@ -41,7 +41,7 @@ module _ (S : Solving) where
     pub punch_gains : PunchGains (card_text cards)
 
   -- COMPLETENESS. Where no evidence of an overflow holds at any moment of the run of a job's bytes,
-  -- the job is answered as this run; or it is cut off, since a device fails or memory is wanted.
+  -- the job is answered as this run; or it is cut off, since a device fails or memory runs out.
   abbrev pub IsComplete : Job → Failures → ℕ → (List ℕ → Type 0) → (List ℕ → Type 0) → Type 0
   IsComplete job failures status PrintGains PunchGains = (bytes : List ℕ) →
       bytes_of job ≡ Some bytes → MeetsNoEvidence S bytes →
@@ -62,7 +62,7 @@ module _ (S : Solving) where
 
   -- WHAT A STATUS DECIDES. Take any run of the job's bytes that doesn't stop with an overflow. The status
   -- is that of its end, the print gains its whole listing, and the punch all its cards; or the status is
-  -- 20, and this run was broken off; or a device fails or memory is wanted. So each of 0, 1, 2, 8, 10, 12,
+  -- 20, and this run was broken off; or a device fails or memory runs out. So each of 0, 1, 2, 8, 10, 12,
   -- 13, 16 and 17 is answered exactly where the run ends so, and yields to nothing else.
   abbrev pub IsDecided : Job → Failures → ℕ → (List ℕ → Type 0) → (List ℕ → Type 0) → Type 0
   IsDecided job failures status PrintGains PunchGains = (bytes : List ℕ) (reports : List Report)

@@ -50,7 +50,7 @@ fn is_at_most(x: Frac, y: Frac) -> bool
     !y.is_less(x)
 }
 
-/// Whether the ratio of `best` is at most that of `other`, where a 0 or two products tell it.
+/// Whether the ratio of `best` is at most that of `other`, where a 0 or two products decide it.
 fn by_products(best: &Candidate, other: &Candidate) -> Option<bool>
     requires best { best.now.rate ≢ zero_ℚ }
     requires other { other.now.rate ≢ zero_ℚ }
@@ -71,7 +71,7 @@ fn by_products(best: &Candidate, other: &Candidate) -> Option<bool>
     Some(is_at_most(own, others))
 }
 
-/// Whether the ratio of `best` is at most that of `other`. Quotients are made only where products don't tell it.
+/// Whether the ratio of `best` is at most that of `other`. Quotients are made only where products don't decide it.
 fn keeps(best: &Candidate, other: &Candidate, r: u32) -> Result<bool, Evidence>
     requires best { best.now.rate ≢ zero_ℚ }
     requires other { other.now.rate ≢ zero_ℚ }

@@ -1,4 +1,4 @@
--- What rates by columns keep: a file, and room for a direction.
+-- What rates by columns keep: a file, and workspace for a direction.
 use Rattle.std.specs.Prelude.{◌≡◌, length}
 use Rattle.lp_definitions.specs.LinearProgram.{size}
 use Rattle.eta_file.specs.Inverse.{Inverse}

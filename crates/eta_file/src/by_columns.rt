@@ -13,7 +13,7 @@ use lp_model::{Engine, Lp, NoMemory, Rates, Stop};
 use std::alloc::Global;
 use std::marker::Model;
 
-/// A set of basics with an eta file of it. A row is had column by column.
+/// A set of basics with an eta file of it. A row is computed column by column.
 #[derive(Drop)]
 pub struct ByColumns {
     file: EtaFile,
@@ -55,7 +55,7 @@ impl ByColumns {
     }
 }
 
-/// The rate of `i` at `k`, and 0 where `k` is basic, by the direction of `k`, with room for it. It takes no memory.
+/// The rate of `i` at `k`, and 0 where `k` is basic, by the direction of `k`, which `workspace` takes. It takes no memory.
 pub fn rate_by_column(file: &EtaFile, i: u32, k: u32, workspace: &mut [Frac]) -> Result<Frac, Stop>
     requires low { IsVariable file.now.matrix i }
     requires high { IsVariable file.now.matrix k }
@@ -72,7 +72,7 @@ pub fn rate_by_column(file: &EtaFile, i: u32, k: u32, workspace: &mut [Frac]) ->
     Ok(workspace[i as usize - 1])
 }
 
-/// Fills `out` with the rates of the basic `i`, by the column of each nonbasic, with room for it. It takes no memory.
+/// Fills `out` with the rates of the basic `i`, by the column of each nonbasic, which `workspace` takes. It takes no memory.
 fn row_by_columns(
     file: &EtaFile,
     i: u32,

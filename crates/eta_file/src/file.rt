@@ -523,7 +523,7 @@ impl EtaFile {
         self.append_in(p, q, &mut workspace)
     }
 
-    /// The same, with room for the direction of `q`.
+    /// The same; `workspace` takes the direction of `q`.
     pub fn append_in(&mut self, p: u32, q: u32, workspace: &mut [Frac]) -> Result<(), Stop>
         requires leaves { IsBasic self.old.matrix self.old.basics p }
         requires enters { IsNonbasic self.old.matrix self.old.basics q }

@@ -29,7 +29,7 @@ pub record StandAtBoth (p q : LinearProgram) (z w y : Vector) : Type 0 where
   pub lower : (k : ℕ) → IsVariable p.matrix k → zero_ℚ <ℚ for_min p.sense (y k) → (lower_of p k ≡ Some (z k)) × (lower_of q k ≡ Some (w k))
   pub upper : (k : ℕ) → IsVariable p.matrix k → for_min p.sense (y k) <ℚ zero_ℚ → (upper_of p k ≡ Some (z k)) × (upper_of q k ≡ Some (w k))
 
--- The point and the prices are best and proving at both ends, and the prices of each end stand at both. Without the last, a price that
+-- At both ends the point is best and the prices prove it, and the prices of each end stand at both. Without the last, a price that
 -- changes its sign between the ends could stand at one limit at the first and at the other at the last, and so nowhere between.
 pub record IsProvedAtEnds (family : ℚ → LinearProgram) (part : Part) : Type 0 where
   pub forward : part.from ≤ℚ part.to

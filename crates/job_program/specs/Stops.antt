@@ -1,6 +1,6 @@
 -- Why the program of a job isn't run.
---     stop_view stop              the end of the listing
---     ReportsEarlyStop known stop    what a stop says of a job
+--     stop_view stop               the end of the listing
+--     ReportsEarlyStop known stop  what a stop says of a job
 --     ArePrepared known prepared   the cards and the program are those of a job
 --     HasStopCause .. stop         why a job that is read is stopped
 use Rattle.std.specs.Prelude.{◌≡◌, ℕ, List, Option, None, Some, Err, IfSome}
@@ -46,8 +46,8 @@ abbrev pub stop_of_compiling : CompileStop → EarlyStop
 stop_of_compiling (compiling.Fault fault) = Control fault
 stop_of_compiling compiling.NoMemory = Memory
 
--- Where the job is known, the stop tells the fault of its cards, or else the fault of its program. A fault of the source or want of
--- memory may come in its place. The words have nothing to do with the job.
+-- Where the job is known, the stop reports the fault of its cards, or else the fault of its program. Instead of that, the source may
+-- fail or memory run out. The words have nothing to do with the job.
 abbrev pub ReportsEarlyStop : Option (List ℕ) → EarlyStop → Type 0
 ReportsEarlyStop known Words = ⊥
 ReportsEarlyStop known ReadFault = Unit {0}

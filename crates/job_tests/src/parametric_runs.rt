@@ -1,7 +1,7 @@
 // Worked jobs with parametric runs, with the status and the listing of each.
 use crate::rows::Row;
 
-/// Runs along the parameter, to their last value or past a breakpoint, and those that are refused.
+/// Parametric runs, to their last value or past a breakpoint, and those that are refused.
 pub const PARAMETRIC: [Row; 8] = [
     Row {
         name: "paraobj two intervals",

@@ -1,4 +1,4 @@
--- A point and prices that pass are best and proving.
+-- A point that passes is best, and the prices that pass with it are its dual certificate.
 use Rattle.std.proofs.Common.{◌≡◌, ℕ, List, [], ◌∷◌}
 use Rattle.std.specs.List.{flat_map}
 use Rattle.lp_definitions.specs.LinearProgram.{LinearProgram, Vector, IsLinearProgram}

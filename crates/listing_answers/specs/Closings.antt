@@ -2,7 +2,7 @@
 --     IsValueRead, IsEndRead       a value after a text was read; the run ends at a value, or the cursor stays where it is
 --     row_close_in, set_close_in   how runs of the objective and of the right-hand side close
 --     Closes                       what closes the run says what the report says
---     closing_test, improving_test the test of it, and a part of it
+--     closing_test, improving_test    the test of it, and a part of it
 use Rattle.std.specs.Prelude.{◌≡◌, ℕ, List, [], ◌∷◌, Option, Some, None, length, codes, option_map}
 use Rattle.std.specs.Option.{option_or}
 use Rattle.exact_values.specs.Rational.{ℚ, zero_ℚ, ◌+ℚ◌, ◌*ℚ◌}

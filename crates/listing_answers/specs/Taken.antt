@@ -1,8 +1,8 @@
 -- What a reader of answers comes to.
---     IsConclusion, IsParametricRunAnswer  what is handed on of the answer to a path and to a parametric run
---     IsOpened                     the mark of an opening
---     Taken Shows judged new result    an answer was taken, of which so much is shown; or it isn't of its form or fails a test; or an
---                                  operation of a test is refused; or there is no memory
+--     IsConclusion, IsParametricRunAnswer    what is handed on of the answer to a path and to a parametric run
+--     IsOpened                               the mark of an opening
+--     Taken Shows judged new result          an answer was taken, of which so much is shown; or it isn't of its form or fails a test; or an
+--                                            operation of a test is refused; or there is no memory
 use Rattle.std.specs.Prelude.{◌≡◌, ℕ, List, Result, Ok, Err}
 use Rattle.listing_definitions.specs.declared.Mark.{Mark}
 use Rattle.listing_definitions.specs.Report.{PathVerdict, OptimalAt, CrossedAt, InfeasibleBy, UnboundedBy, Check}

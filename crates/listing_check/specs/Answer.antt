@@ -1,5 +1,5 @@
 -- What a check may answer to a job and a listing: the promise that the checker keeps.
---     words_text, ..               the lines that tell of no listing
+--     words_text, ..               the lines that speak of no listing
 --     MayPrint bytes lines ..      what is printed, and the status with it
 --     IsPrintCut bytes lines ..    a prefix of it stands
 --     IsCheckAnswer bytes lines .. what a call answers to a job and a listing, so far as its print tells what it gains
@@ -17,7 +17,7 @@ read_fault_text = codes "STOP 24 READ FAULT\n"
 abbrev pub listing_fault_text : List ℕ
 listing_fault_text = codes "STOP 27 LISTING FAULT\n"
 
--- what has failed in a call: a read of the job, one of the listing, a write to the print; or the print has ran out of memory
+-- what has failed in a call: a read of the job, one of the listing, a write to the print; or the print has run out of memory
 pub record CheckFailures : Type 1 where
   pub job : Type 0
   pub listing : Type 0

@@ -1,4 +1,4 @@
--- Why a check ends with a status, told by what its devices count and how far they are read.
+-- Why a check ends with a status, by what its devices count and how far they are read.
 --     IsWhy without_words .. own          why a line of this status is due
 --     HasCheckCause without_words .. status   why a check ends with a status
 use Rattle.std.specs.Prelude.{◌≡◌, ℕ, ◌<◌}
@@ -16,7 +16,7 @@ pub record Circumstances : Type 1 where
 
 module _ (c : Circumstances) where
   -- Words are refused before anything is read. Without words the job is read, and a read may fail; then the listing is, and a read may
-  -- fail; and what else is reported comes when both are read whole.
+  -- fail; and all else comes when both are read whole.
   abbrev pub IsWhy : CheckStatus → Type 0
   IsWhy Words = 0 < c.words
   IsWhy ReadFault = (c.words ≡ 0) × c.job_fails

@@ -24,7 +24,7 @@ module _ (before now : Counts) where
     print_wants_memory : status ≡ 28 → Rose before.print_memory now.print_memory → StopsAtPrint status
 
   -- WHAT THE STATUS REPORTS. Where the print has failed, the status is 25, and where it has found no memory, 28. Where a read of the job
-  -- has failed, it is 24, and where one of the listing has, 27; unless the print has stopped as well, and the status tells that. A count
+  -- has failed, it is 24, and where one of the listing has, 27; unless the print has stopped as well, and the status reports that. A count
   -- has grown where it is greater than before; so one that stands still at the last value of a u64 claims nothing.
   pub record IsReported (status : ℕ) : Type 0 where
     pub print_fault : before.print < now.print → status ≡ 25

@@ -137,9 +137,9 @@ fn check_job<S: Source, L: Source, P: Sink>(
 /// Attests the listing of a job, or says at which line it can't.
 ///
 /// The words are those after the program's name, and there may be none: nothing is read then. Else the job is read to its end, or as far
-/// as byte 16,400,001, and then the listing, as far as byte 64,000,001. One line is printed, which tells what the listing is found to be
-/// where the walk along the job's program ends; and the status tells it too. After a fault of the print, or where the print runs out of memory,
-/// nothing more is printed. Running out of memory may end a check at any time.
+/// as byte 16,400,001, and then the listing, as far as byte 64,000,001. One line is printed, which says what the listing is found to be
+/// where the walk along the job's program ends; and the status says it too. After a fault of the print, or where the print runs out of
+/// memory, nothing more is printed. Memory may run out at any time, which ends a check.
 pub fn check_listing<S: Source, L: Source, P: Sink>(
     alloc: Global,
     words: &[String],
@@ -149,12 +149,12 @@ pub fn check_listing<S: Source, L: Source, P: Sink>(
 ) -> CheckStatus
     // The theorem. An attested listing is that of a run of the job's program in which the answers of linear programming are those that
     // passed their tests, and each report says the truth of the state in which it was made: a SOLUTION OPTIMAL is a feasible point
-    // that no feasible point improves, with prices that prove it; a verdict holds; and what is printed of a parametric run is right at
+    // such that none is better, with prices that prove it; a verdict holds; and what is printed of a parametric run is right at
     // every value of the parameter.
     ensures truth { result ≡ CheckStatus.Attested → (bytes lines : List ℕ) → S.left job.old ≡ Some bytes →
         L.left listing.old ≡ Some lines → IsTrueListing bytes lines }
 
-    // Which status, and what stands. Without words, and unless a read or the print fails or memory is wanted, the line and the status are
+    // Which status, and what stands. Without words, and unless a read or the print fails or memory runs out, the line and the status are
     // those of what the listing is found to be, and of each job and each listing one thing is found.
     ensures answer { (bytes lines : List ℕ) → length words.now ≡ 0 → S.left job.old ≡ Some bytes →
         L.left listing.old ≡ Some lines →
@@ -185,8 +185,8 @@ pub fn check_listing<S: Source, L: Source, P: Sink>(
         })
         result }
 
-    // What the status reports: a fault of the print by 25, and running out of memory there by 28; a fault of a read of the job by 24 and one of
-    // the listing by 27, unless the print stops as well and the status is that of its stop.
+    // What the status reports: a fault of the print by 25, and that it ran out of memory by 28; a fault of a read of the job by 24 and
+    // one of the listing by 27, unless the print stops as well and the status is that of its stop.
     ensures reported { IsReported
         (record {
           job = S.faults job.old;

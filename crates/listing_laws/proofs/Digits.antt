@@ -1,4 +1,4 @@
--- What the digits of a number and the text of a fraction tell.
+-- What the digits of a number and the text of a fraction determine.
 use Rattle.std.proofs.Common.{◌≡◌, ℕ, zero, suc, ◌+◌, ◌-◌, ◌/◌, ◌%◌, ◌<◌, Bool, true, false, not, ◌&&◌, ◌||◌, ◌==◌, if◌then◌else◌, List, [], ◌∷◌, ◌++◌, map, ℤ, pos, negsuc, refl, ap, ap₂, sym, ◌∙◌, arith}
 use Rattle.std.specs.List.{list_all, list_any}
 use Rattle.std.specs.Int.Digits.{digits_of, number_from_digits}

@@ -1,4 +1,4 @@
--- What the words of a listing, and what stands before them, tell.
+-- What the words of a listing, and what stands before them, determine.
 use Rattle.std.proofs.Common.{◌≡◌, ℕ, Bool, true, false, not, ◌==◌, List, [], ◌∷◌, ◌++◌, codes, refl, ap, sym, ◌∙◌, take, arith}
 use Rattle.std.specs.Prelude.{bytes_eq}
 use Rattle.std.specs.List.{list_all}

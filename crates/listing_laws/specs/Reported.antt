@@ -1,4 +1,4 @@
--- What the texts of values, lines and tables tell.
+-- What the texts of values, lines, tables and reports determine.
 use Rattle.std.specs.Prelude.{◌≡◌, ℕ, Bool, false, ◌||◌, List, [], ◌∷◌, ◌++◌, ◌==◌, All}
 use Rattle.card_definitions.specs.Numbers.{is_digit}
 use Rattle.problem_definitions.specs.Valid.{IsName}

@@ -1,4 +1,4 @@
-//! What the texts of a listing tell: values, lines, tables and reports with equal texts are equal. The function here does nothing. It
+//! What the texts of a listing determine: values, lines, tables and reports with equal texts are equal. The function here does nothing. It
 //! promises the laws, so that the check proves them.
 #![tactic(auto)]
 

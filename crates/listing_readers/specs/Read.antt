@@ -1,6 +1,6 @@
 -- What a reader answers, and what is left after it.
 --     taken ok rest           so much is left, where a text was taken
---     sheet_view sheet       the problem and the linear program
+--     sheet_view sheet        the problem and the linear program
 use Rattle.std.specs.Prelude.{ℕ, Bool, List, Option, Some, None, if◌then◌else◌}
 use Rattle.listing_tables.specs.declared.sheet.Sheet.{Sheet}
 use Rattle.question_definitions.specs.Answers as questions

@@ -1,6 +1,6 @@
 -- The lines of tables, one by one.
 --     HasLine sheet table k        all that stands in the line of variable k is there
---     line_view sheet table k     the text of the line of variable k
+--     line_view sheet table k      the text of the line of variable k
 use Rattle.std.specs.Prelude.{◌≡◌, ◌<◌, ◌≤◌, ℕ, Bool, List, [], None, length, if◌then◌else◌}
 use Rattle.exact_values.specs.Rational.{zero_ℚ}
 use Rattle.exact_values.specs.Tests.{eq_ℚ}

@@ -1,5 +1,5 @@
 -- How the walk along a listing ends.
---     found_view found            what is found, in the words of the walk
+--     found_view found                         what is found, in the words of the walk
 --     IsFoundBy program cards listing found    the walk comes to this
 use Rattle.std.specs.Prelude.{◌≡◌, ℕ, ◌-◌, List, drop}
 use Rattle.card_definitions.specs.Cards.{Card, numbered_cards}

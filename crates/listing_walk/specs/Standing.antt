@@ -1,7 +1,7 @@
 -- Where the walk stands.
---     IsReady, IsSolved, IsView   what SETUP keeps, without a basis
+--     IsReady, IsSolved, IsView    what SETUP keeps, without a basis
 --     Faces place walker           this is left of the listing, this verdict is pending, and so many reports were read
---     Represents cards machine ..      the machine and the place show this walker
+--     Represents cards machine ..  the machine and the place show this walker
 use Rattle.std.specs.Prelude.{◌≡◌, ℕ, List, Option, None, Some, Ok}
 use Rattle.problem_definitions.specs.Names.{Name}
 use Rattle.problem_definitions.specs.Problem.{Problem}

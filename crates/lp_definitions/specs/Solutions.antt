@@ -1,7 +1,7 @@
 -- What is said of a linear program's solutions, and the proofs that a verdict shows.
 --     IsFeasible p z               z keeps the equations and lies within every limit
 --     IsBest p z                   z is feasible, and no feasible vector is better
---     IsDualCertificate p z y       prices that prove the point z best
+--     IsDualCertificate p z y      prices that prove the point z best
 --     IsCrossed p k                the lower limit of k is above its upper one
 --     IsRay p w                    multipliers by which the equations and the limits contradict each other
 --     ProvesInfeasible p           a crossed variable or a ray

@@ -1,4 +1,4 @@
--- What the certificates of the three answers prove: dual certificate, rays and directions.
+-- What the certificates of the three answers prove: dual certificates, rays and directions.
 use Rattle.std.proofs.Common.{◌≡◌, ℕ, suc, ◌+◌, pos, refl, sym, ap, ◌∙◌, subst, subst₂, ◌⊎◌, inl, inr, Option, Some, None, Bool, true, false, Ordering, Less, Equal, Greater, arith, [], ◌∷◌}
 use Rattle.std.specs.Prelude.{IfSome, IsSome, unwrap_or, cond}
 use Rattle.exact_values.specs.Rational.{ℚ, zero_ℚ, one_ℚ, ◌+ℚ◌, ◌*ℚ◌, neg_ℚ, ◌≤ℚ◌, ◌<ℚ◌, compare_ℚ}
@@ -19,7 +19,7 @@ use Rattle.lp_laws.proofs.Values.{clash}
 use Rattle.lp_laws.proofs.Equations.{KeepsEquations-along}
 use Rattle.lp_laws.proofs.Functionals.{functional_by_columns, objective_by_columns}
 
--- ---- dual certificate
+-- ---- dual certificates
 
 -- prices count each column at its cost, so they value each vector that keeps the equations at its objective
 pub objective_by_prices : (p : LinearProgram) → IsLinearProgram p → (y : Vector) → ((j : ℕ) → IsColumn p.matrix j → column_value p.matrix y j ≡ cost p j)

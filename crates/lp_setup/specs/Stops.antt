@@ -1,5 +1,5 @@
--- What a stop of a selection tells.
---     fault_of stop                            the fault of the choice, if that is what it tells of
+-- What a stop of a selection reports.
+--     fault_of stop                            the fault of the choice, if that is what it reports
 --     IsOverflowOf problem choice stop         its evidence, if it has some, is that of an operation of the selection
 use Rattle.std.specs.Prelude.{ℕ, Option, Some, None}
 use Rattle.problem_definitions.specs.Problem.{Problem}

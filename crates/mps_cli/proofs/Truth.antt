@@ -82,7 +82,7 @@ module _ (asked : Option Request) (reported : Option (List ℕ)) (status : Statu
     words_headline none ends =
         by_words _ asked reported none (true_answer (ending_answer linear_programming WithoutBytes _ Words (words_refused refl) written stopped_at faults refusals punch status (λ e. e) (λ e. e) ends))
 
-    -- memory is wanted while the words are read
+    -- memory runs out while the words are read
     memory_headline : EndsWith written stopped_at faults refusals old new Memory status → (job : Job) → IsAsked asked reported job →
         IsTrueAnswer linear_programming job (record { read = read_failed; print = Rose (faults old) (faults new); punch = punch_failed; memory = Rose (refusals old) (refusals new) })
         (code_of status) (Appends (written old) (written new)) (Appends punch punch)

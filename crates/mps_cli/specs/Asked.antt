@@ -1,6 +1,6 @@
 -- The job that is asked for, where the words or the source tell it.
---     IsAsked request reported job       what the words ask for, and the bytes that the source tells, ask for this job
---     IsGiven reported .. job bytes      the source that is read tells the bytes of this job
+--     IsAsked request reported job     what the words ask for, and the bytes that the source tells, ask for this job
+--     IsGiven reported .. job bytes    the source that is read tells the bytes of this job
 use Rattle.std.specs.Prelude.{◌≡◌, ℕ, List, Option, None, Some}
 use Rattle.deck_definitions.specs.Transport.{made_job}
 use Rattle.run_definitions.specs.Answer.{Job, WithoutBytes, Read, Made, bytes_of}

@@ -1,4 +1,4 @@
--- Why a job ends with a status, told by what the words ask for and by what the devices count and gain.
+-- Why a job ends with a status, by what the words ask for and by what the devices count and gain.
 --     HasCause request .. status     why a job ends with a status
 --     IsPunched request .. status    nothing is punched but in a run
 use Rattle.std.specs.Prelude.{◌≡◌, ℕ, List, Option, None, Some, IfSome}

@@ -163,8 +163,8 @@ fn run_request<S: Source, P: Sink, U: Sink>(
 /// size is run. All other words are refused, and nothing is read.
 ///
 /// After a fault of the print, or where the print runs out of memory, nothing more is printed. A deck in which a write to the punch
-/// fails, or in which the punch runs out of memory, is broken off, and ends the job. The status reports each of these. Want of
-/// memory may end a job at any time.
+/// fails, or in which the punch runs out of memory, is broken off, and ends the job. The status reports each of these. Memory may
+/// run out at any time, which ends a job.
 ///
 /// A job whose run meets no evidence that a number is too large has one run, and gets the status, the whole listing and all the
 /// cards of this run, unless a read, a write to the print or one to the punch fails, or the status is 28. That is a free answer:
@@ -178,13 +178,13 @@ pub fn run_job<S: Source, P: Sink, U: Sink>(
 ) -> Status
     // The headline. The printed bytes are the listing of a run of this job's control program, or of its early stop; or the print
     // has stopped in a report or in the lines of an end, and all before stands with a prefix of it. Each report of this run holds
-    // of the state in which it was made: a SOLUTION OPTIMAL is a feasible point that no feasible point improves, with prices that
+    // of the state in which it was made: a SOLUTION OPTIMAL is a feasible point such that none is better, with prices that
     // prove it; a verdict OPTIMAL has the objective of such a point; a verdict of infeasibility prints a crossed variable or a
     // ray, and one of unboundedness a feasible point with a direction, and these prove it; RANGE prints where the basis stays
     // optimal; at every value in an interval of PARAOBJ or PARARHS the printed point is best and the printed prices prove it, each
     // interval begins where the one before ended, and the last ends at the last value, or a proof for every greater value closes
     // the run; the cards of PUNCH are the deck of the present basis, and INSERT makes the basis of its deck the present one. An
-    // end that tells a singular deck or a wrong price shows the dependency, or the variable. So it is wherever the words, or the
+    // end that reports a singular deck or a wrong price shows the dependency, or the variable. So it is wherever the words, or the
     // source, tell the job.
     ensures headline { (asked : Job) →
         IsAsked (requests.asked (map string_bytes words.now)) (S.left job.old) asked →
@@ -201,7 +201,7 @@ pub fn run_job<S: Source, P: Sink, U: Sink>(
 
     // Completeness. Where no evidence of an overflow holds at any moment of the run of the job's bytes, this run is the only
     // one; the status is that of its end, the print gains its whole listing and the punch all its cards; unless a read has
-    // failed and the status is 24, or the print and it is 25, or the punch and it is 26, or it is 28, running out of memory.
+    // failed and the status is 24, or the print and it is 25, or the punch and it is 26, or it is 28, as memory ran out.
     ensures complete { (asked : Job) →
         IsAsked (requests.asked (map string_bytes words.now)) (S.left job.old) asked →
         IsComplete linear_programming asked
@@ -217,7 +217,7 @@ pub fn run_job<S: Source, P: Sink, U: Sink>(
 
     // What the status decides. Take any run of the job's bytes that doesn't stop with an overflow: the status is that of its end,
     // and the print gains its whole listing and the punch all its cards; or the status is 20, and this run was broken off; or
-    // a read has failed and the status is 24, or the print and it is 25, or the punch and it is 26, or it is 28, running out of memory.
+    // a read has failed and the status is 24, or the print and it is 25, or the punch and it is 26, or it is 28, as memory ran out.
     ensures decided { (asked : Job) →
         IsAsked (requests.asked (map string_bytes words.now)) (S.left job.old) asked →
         IsDecided linear_programming asked
@@ -233,7 +233,7 @@ pub fn run_job<S: Source, P: Sink, U: Sink>(
 
     // What stands, by the status. With 0, 1, 2, 8, 10, 12, 13, 16, 17 and 20 the run of the job has this end; the whole
     // listing of the run stands, and all cards that it has punched; 8 and 13 leave their line alone, and so do 4 and 24. After
-    // 26 and 28 the reports so far stand with this line, and a prefix of the cards; and after 25, and where the print wanted
+    // 26 and 28 the reports so far stand with this line, and a prefix of the cards; and after 25, and where the print ran out of
     // memory, the print has stopped in a report or in the lines of an end: all that comes before stands with a prefix of this
     // text, and the cards that are punched by then.
     ensures stands { (asked : Job) →
@@ -258,8 +258,8 @@ pub fn run_job<S: Source, P: Sink, U: Sink>(
         (AppendsPrefix (P.written print.old) (P.written print.new))
         result }
 
-    // What the status reports: a fault of the print by 25, and running out of memory there by 28; a fault of a read by 24 and one of the
-    // punch by 26, and running out of memory there by 28, unless the print stops as well and the status is that of its stop.
+    // What the status reports: a fault of the print by 25, and that it ran out of memory by 28; a fault of a read by 24 and one of
+    // the punch by 26, and that it ran out of memory by 28, unless the print stops as well and the status is that of its stop.
     ensures reported { IsReported
         (counts P.faults P.refusals U.faults U.refusals (S.faults job.old) print.old punch.old)
         (counts P.faults P.refusals U.faults U.refusals (S.faults job.new) print.new punch.new)

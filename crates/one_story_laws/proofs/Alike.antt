@@ -1,6 +1,6 @@
 -- Two states that are the same but for the bases, and moves that lead two runs alike.
 --     SameSetup, SameStanding      the same problem and options; and else all is the same
---     Alike a b                    two outcomes: what is printed tells the same, and what follows is the same but for the bases
+--     Alike a b                    two outcomes: what is printed says the same, and what follows is the same but for the bases
 --     IsStopped Open a             an outcome cuts the run off
 --     IsAlike .. first second      the outcomes of two moves are alike, or the first one cuts its run off
 use Rattle.std.proofs.Common.{◌≡◌, ◌⊎◌, inl, inr, ℕ, ◌+◌, List, refl, sym, subst}

@@ -103,7 +103,7 @@ module _ (family : ℚ → LinearProgram) (from max : ℚ) where
       by (inl above) = absurd (broken (one_mark (family other) Optimal mark (covers.solved other covers.forward (le_refl other)) (breaks.proved other above)))
       by (inr below) = below
 
-  -- nor does a run that ends at the last value break
+  -- nor does a run that ends at the last value stop at a breakpoint
   last_or_breakpoint : (last other past : ℚ) (mark : Mark) → (Optimal ≡ mark → ⊥) → other ≡ max → Covers family from other → BreaksPast family max last past mark → ⊥
   last_or_breakpoint last other past mark broken at covers breaks =
       lt_not_le breaks.before_max (subst (λ (x : ℚ). x ≤ℚ last) at (within last other past mark broken covers breaks))

@@ -1,4 +1,4 @@
--- What two runs are reported where they ask about one linear program leads them alike.
+-- The answers that two runs get where they ask about one linear program lead them alike.
 use Rattle.std.proofs.Common.{◌≡◌, inl, inr, ℕ, ◌+◌, List, [], ◌∷◌, ◌++◌, refl, sym, ap, subst, ◌∙◌}
 use Rattle.std.specs.Prelude.{All, Option, Some, None, Ok}
 use Rattle.std.proofs.lemmas.Option.{same_Some}

@@ -1,4 +1,4 @@
--- What is asked of the answers of a run and of what its reports say, so that another run tells the same.
+-- What is asked of the answers of a run and of what its reports say, so that another run reports the same.
 --     SaysEnough S Says Open       verdicts and parametric runs are true, and the run is cut off only where that is open
 --     attested_says, real_says     so it is with an attested listing, and with the run itself
 use Rattle.std.proofs.Common.{ℕ, List, refl, sym, subst, map, length, Option}

@@ -1,7 +1,7 @@
--- Two runs of one job, of which the second is that of an attested listing: after as many statements they have told the same, and stand the
--- same but for the bases.
+-- Two runs of one job, of which the second is that of an attested listing: after as many statements they have reported the same, and
+-- stand the same but for the bases.
 --     steps                        how many statements a run has executed so far
---     AreAlike ..                  two runs so far have told the same, and stand the same
+--     AreAlike ..                  two runs so far have reported the same, and stand the same
 --     IsAhead, IsBehind ..         the second run goes on from where the first one stands, or the other way round
 --     Whole ..                     a whole run, up to its last statement
 --     Story ..                     two whole runs tell the same, or the first one is cut off

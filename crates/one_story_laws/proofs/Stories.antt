@@ -1,4 +1,4 @@
--- Two listings of one job that are reported tell one story, and so does the run of the job.
+-- Two attested listings of one job tell one story, and so does the run of the job.
 use Rattle.std.proofs.Common.{◌≡◌, ◌⊎◌, inl, inr, ℕ, suc, List, [], ◌∷◌, ◌++◌, map, length, refl, sym, ap, ap₂, subst, ◌∙◌}
 use Rattle.std.specs.Prelude.{All}
 use Rattle.std.proofs.lemmas.List.{map-append}

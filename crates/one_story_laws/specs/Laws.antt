@@ -1,5 +1,5 @@
 -- What is said of two listings of one job that are both attested, and of an attested one and the run of the job itself.
---     IsOneStory ..                two runs tell the same, and what they show is worth the same, and they end alike
+--     IsOneStory ..                two runs report the same, and what they show is worth the same, and they end alike
 --     IsBrokenOff ..               a run was cut off, and as far as it goes that is so of it and the other
 --     IsProvedListing ..           a listing is true, with so many reports, and its run doesn't stop with an overflow
 --     OneStoryLaws                 two such listings tell one story, and so does the run, as far as it goes

@@ -1,7 +1,7 @@
--- When two reports tell the same.
+-- When two reports say the same.
 --     SameObjective, SameVerdict   two verdicts leave one mark, and optimal ones have one objective
 --     SameClose end other          two parametric runs end at the same value, and in the same way
---     ReportsSame report other       two reports tell the same
+--     ReportsSame report other     two reports say the same
 --     TellSame reports others      so do those of two lists, one by one
 --     IsOfNoBasis report           it isn't of RANGE, PUNCH or INSERT
 --     IsCutEnding ending           a run was cut off: by the limit on steps, by a price that is wrong for DUAL, or by an overflow
@@ -33,7 +33,7 @@ ReportsSame (Parametric solver chain) (Parametric other another) =
     (solver ≡ other) × (chain.from ≡ another.from) × (chain.change ≡ another.change) × SameClose chain.end another.end
 ReportsSame report other = report ≡ other
 
--- they are as many, and each tells the same as the one in its place
+-- they are as many, and each says the same as the one in its place
 abbrev pub TellSame : List Report → List Report → Type 0
 TellSame [] [] = Unit {0}
 TellSame (report ∷ reports) (other ∷ others) = ReportsSame report other × TellSame reports others

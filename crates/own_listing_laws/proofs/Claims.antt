@@ -30,7 +30,7 @@ use Rattle.own_listing_laws.specs.Printed.{IsReadable, IsRayOf, IsPairOf, IsPrin
 use Rattle.own_listing_laws.proofs.Spelled.{Gives, text_first, or_else, or_first, not_there, same_rest, done, fraction_first, count_first, check_first}
 use Rattle.own_listing_laws.proofs.Tabled.{matched_of, table_read, ray_read}
 
--- a text that is told of its check, and what follows it
+-- the text of a check, and what follows it
 abbrev checked : Check → List ℕ → List ℕ
 checked check rest = check_text check ++ (codes "\n" ++ rest)
 

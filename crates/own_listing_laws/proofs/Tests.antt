@@ -1,6 +1,6 @@
 -- A test of what a run prints never fails: the run has made the same check, and what it prints is true.
 --     Passes v                     no comparison fails
---     verdict_passes, reported_passes those of a verdict and of SOLUTION
+--     verdict_passes, reported_passes    those of a verdict and of SOLUTION
 use Rattle.std.proofs.Common.{◌≡◌, ℕ, zero, suc, ◌+◌, ◌-◌, ◌<◌, ◌≤◌, Bool, true, false, List, [], ◌∷◌, ◌++◌, Some, refl, sym, ap, ap₂, subst, ◌∙◌, arith}
 use Rattle.std.specs.Prelude.{if◌then◌else◌}
 use Rattle.std.specs.List.{flat_map}

@@ -107,7 +107,7 @@ module _ (up down : Bool) (w v : ℚ) where
         ),
       )
 
--- ---- a product that tells that a theta isn't past the zero
+-- ---- a product that shows that a theta isn't past the zero
 
 pub meets_zero : (best price rate product : ℚ) → rate ≢ zero_ℚ → product ≡ best *ℚ rate → meets product price rate ≡ true → best ≤ℚ zero_at price rate
 meets_zero best price rate product apart is h = at (lt_ℚ rate zero_ℚ) refl h
@@ -127,7 +127,7 @@ meets_zero best price rate product apart is h = at (lt_ℚ rate zero_ℚ) refl h
         let rises : zero_ℚ <ℚ rate = lt_from_le (le_from_lt_fails rate zero_ℚ e) (λ z. apart (sym z)) in
         (rate_rises price rate (zero_at price rate) zero (test_from_lt zero_ℚ rate rises) best).0 (below (le_from_lt_fails (neg_ℚ price) product (not-true (lt_ℚ (neg_ℚ price) product) k)))
 
--- the combined rate itself tells it
+-- the combined rate itself shows it
 pub meets_combined : (best price rate combined : ℚ) → rate ≢ zero_ℚ → combined ≡ price +ℚ best *ℚ rate → meets combined zero_ℚ rate ≡ true → best ≤ℚ zero_at price rate
 meets_combined best price rate combined apart is h =
     meets_zero best price rate (best *ℚ rate) apart refl (at (lt_ℚ rate zero_ℚ) h)

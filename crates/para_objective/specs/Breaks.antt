@@ -1,6 +1,6 @@
 -- Who moves at a breakpoint, by the prices and the rates of the change row.
---     is_entering_variable p s theta prices change k       the combined rate of k is 0, and k may move so as to better the change row
---     IsFaceEnteringVariable p h theta s q                q is the variable that moves at the breakpoint theta, if there is one
+--     is_entering_variable p s theta prices change k    the combined rate of k is 0, and k may move so as to improve the change row
+--     IsFaceEnteringVariable p h theta s q              q is the variable that moves at the breakpoint theta, if there is one
 use Rattle.std.specs.Prelude.{◌≡◌, ℕ, Bool, ◌&&◌, List, Option}
 use Rattle.exact_values.specs.Rational.{ℚ, zero_ℚ, ◌+ℚ◌, ◌*ℚ◌}
 use Rattle.exact_values.specs.Tests.{eq_ℚ}

@@ -1,6 +1,6 @@
 -- What a run of the objective is over, and what is done at a breakpoint of it.
 --     family, Face, statement      the run's linear programs, what is done at its breakpoints, and its statement
---     IsUnboundedPast                the end past theta, from a point and a direction
+--     IsUnboundedPast              the end past theta, from a point and a direction
 --     face_up p change q           whether q rises, by the rates of the change row
 use Rattle.std.specs.Prelude.{◌≡◌, ℕ, Bool, List, length}
 use Rattle.exact_values.specs.Rational.{ℚ}

@@ -1,6 +1,6 @@
 -- A run of the objective, as code makes it.
 --     ObjectiveEnds, ObjectiveStops, ObjectiveFollows     what the whole call promises
---     ObjectiveOverflowFree          the run that the whole call has to answer
+--     ObjectiveOverflowFree                               the run that the whole call has to answer
 use Rattle.std.specs.Prelude.{List}
 use Rattle.lp_definitions.specs.LinearProgram.{LinearProgram}
 use Rattle.lp_definitions.specs.Basis.{Basics}

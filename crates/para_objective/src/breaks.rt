@@ -26,7 +26,7 @@ fn is_zero_at(theta: Frac, price: Frac, rate: Frac) -> bool
     }
 }
 
-/// Whether the combined rate of `k` is 0 at theta, and `k` may move so as to better the change row.
+/// Whether the combined rate of `k` is 0 at theta, and `k` may move so as to improve the change row.
 fn may_move(lp: &Lp, basis: &Basis, theta: Frac, price: Frac, rate: Frac, k: u32) -> bool
     requires variable { IsVariable lp.now.matrix k }
     requires counted { length basis.now ≡ size lp.now.matrix }
@@ -59,7 +59,7 @@ fn entering_variable_by(
     None
 }
 
-/// The least-numbered nonbasic whose combined rate is 0 at theta and which may move so as to better the row `row`. `prices` has the
+/// The least-numbered nonbasic whose combined rate is 0 at theta and which may move so as to improve the row `row`. `prices` has the
 /// basis's prices, and `change` the rates of that row. Nothing stops this.
 pub fn face_entering_variable(
     lp: &Lp,

@@ -28,8 +28,7 @@ fn meets(product: Frac, price: Frac, rate: Frac) -> bool
     !price.neg().is_less(product)
 }
 
-/// Whether the combined rate hasn't passed 0 at `best`, where the product of `best` and the rate tells it, or else the combined rate
-/// itself.
+/// Whether the combined rate hasn't passed 0 at `best`, by the product of `best` and the rate, or else by the combined rate itself.
 fn stands_before(best: Frac, price: Frac, rate: Frac) -> bool
     requires { rate ≢ zero_ℚ }
     ensures { IsTrue result → best ≤ℚ zero_at price rate }
@@ -162,7 +161,7 @@ fn least_computed(lp: &Lp, basis: &Basis, prices: &[Frac], change: &[Frac], max:
 }
 
 /// The least of `max` and the ends that the variables make. Where one of them can't be computed, the search begins again from the least of
-/// the others, which may tell that it isn't needed.
+/// the others, which may show that it isn't needed.
 fn reach_by(
     lp: &Lp,
     basis: &Basis,

@@ -19,7 +19,7 @@ use std::alloc::Global;
 /// A parametric run of the objective: theta times the row `run.row` is added to it, while theta goes from `run.from` to `run.to`. The
 /// opening path goes from the basis to the end of the path of the linear program at the first value. Where that is optimal, the
 /// intervals follow, each as far as its basis stays optimal (Gass and Saaty, The Computational Algorithm for the Parametric Objective
-/// Function, 1955); at a breakpoint the least-numbered nonbasic moves that may better the row at no cost, until none is left. `Limit`
+/// Function, 1955); at a breakpoint the least-numbered nonbasic moves that may improve the row at no cost, until none is left. `Limit`
 /// comes exactly where the run has not ended after `run.limit` steps, opening and breakpoints together. The basis and the rates are those
 /// that the run has reached, after a stop too. Where the run ends within the limit and no evidence of an overflow holds on it, the
 /// answer is its report, or there is no memory.

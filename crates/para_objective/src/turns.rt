@@ -28,7 +28,7 @@ fn rises_by(lp: &Lp, change: &[Frac], q: u32) -> bool
     worth(lp.sense, change[q as usize - 1]).is_less(Frac::whole(0))
 }
 
-/// Whether `q` rises to better the change row.
+/// Whether `q` rises to improve the change row.
 pub fn rises(lp: &Lp, workspace: &Workspace, q: u32) -> bool
     requires variable { IsVariable lp.now.matrix q }
     requires places { length workspace.now.change.items ≡ size lp.now.matrix }

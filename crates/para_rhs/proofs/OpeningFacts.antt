@@ -39,7 +39,7 @@ use Rattle.para_rhs.specs.Runs.{reported_at}
 step_belongs : (n term : ℕ) → (is_between 1 12 n && (not (nat_eq n 6) || not (nat_eq term 3))) ≡ true → ((is_between 1 14 n || nat_eq n 18) && (not (nat_eq n 6) || not (nat_eq term 3))) ≡ true
 step_belongs n term h = grind arith
 
--- ---- evidence of the path of the linear program at theta, told of theta
+-- ---- evidence of the path of the linear program at theta, as evidence at theta
 
 module _ (e : Evidence) (theta : ℚ) where
   names : (f p q i j term : ℕ) → Names e f p q i j term → Names (record e { theta = theta }) f p q i j term

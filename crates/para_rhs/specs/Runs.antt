@@ -1,8 +1,8 @@
 -- A run of the right-hand side, as code makes it.
---     reported_at theta stop           a stop of the path at theta, as that of a run
+--     reported_at theta stop       a stop of the path at theta, as that of a run
 --     Overflows e                  why a call stops by an overflow
 --     RhsEnds, RhsStops, RhsFollows     what the whole call promises
---     RhsOverflowFree                the run that the whole call has to answer
+--     RhsOverflowFree              the run that the whole call has to answer
 use Rattle.std.specs.Prelude.{◌⊎◌, List, []}
 use Rattle.exact_values.specs.Rational.{ℚ}
 use Rattle.lp_definitions.specs.LinearProgram.{LinearProgram}
@@ -20,7 +20,7 @@ use Rattle.parametric_run.specs.Truth.{IsTrueReported}
 use Rattle.para_rhs.specs.Faces.{family, Face, statement}
 use Rattle.para_rhs.specs.declared.parts.ParaRhs.{ParaRhs}
 
--- the stop of the path at the first value, as that of a run: its evidence is reported of that value
+-- the stop of the path at the first value, as that of a run: its evidence is of that value
 abbrev pub reported_at : ℚ → PrimalStop → PrimalStop
 reported_at theta Limit = Limit
 reported_at theta (Overflow e) = Overflow (record e { theta = theta })

@@ -1,7 +1,7 @@
 -- A face step of the right-hand side, as code makes it.
 --     goes_to l                    the status in which the leaver stands at the limit that it would break
 --     EntryRefused                 an operation is refused, where the nonbasic that brings the leaver back is sought
---     IsInfeasiblePast                  the end past theta, from the multipliers of a ray
+--     IsInfeasiblePast             the end past theta, from the multipliers of a ray
 use Rattle.std.specs.Prelude.{◌≡◌, ℕ, not, List, length, if◌then◌else◌}
 use Rattle.exact_values.specs.Rational.{ℚ}
 use Rattle.lp_definitions.specs.LinearProgram.{LinearProgram, Vector, size, value_at, IsVariable}

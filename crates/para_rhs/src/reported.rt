@@ -7,7 +7,7 @@ use bounded_primal::PrimalStop;
 use frac128::Frac;
 use lp_model::Evidence;
 
-/// The evidence, told of this value of the parameter.
+/// The evidence, with this value of the parameter.
 fn with_theta(evidence: &Evidence, theta: Frac) -> Evidence
     ensures { result ≡ record evidence.now { theta = theta } }
 {

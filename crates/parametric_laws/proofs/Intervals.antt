@@ -1,4 +1,4 @@
--- At a value at which its basis is optimal an interval tells a best point and dual certificate.
+-- At a value at which its basis is optimal an interval shows a best point and its dual certificate.
 use Rattle.std.proofs.Common.{◌≡◌, ℕ, Bool, true, false, List, refl, ◌∙◌}
 use Rattle.std.specs.Prelude.{if◌then◌else◌}
 use Rattle.exact_values.specs.Rational.{ℚ, zero_ℚ}

@@ -94,7 +94,7 @@ module _ (p : LinearProgram) (family : ℚ → LinearProgram) (Face : ℚ → Li
         );
       }
 
-  -- ---- breaks
+  -- ---- breakpoints
 
   chain_breaks : (max from : ℚ) (now : List Status) (parts : List Part) (end : ChainEnd) (rest : List (List Status)) (to : ℚ) → IsChain family Face max from now parts end rest →
       ReachesTo family now from max to → to <ℚ max → RestOfFaces max to now rest

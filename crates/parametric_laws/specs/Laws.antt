@@ -35,7 +35,7 @@ pub record BasisLaws : Type 0 where
   -- theta times its shift is added to the limits of each row
   pub rhs : (p : LinearProgram) (shift : List ℚ) → LeadsToBases p (rhs_family p shift) (IsRhsFace p shift)
 
--- the two runs went over the same bases, and tell the same
+-- the two runs went over the same bases, and report the same
 pub record SameReports (report other : RunReport) (path further : List (List Status)) : Type 0 where
   pub same_report : report ≡ other
   pub same_path : path ≡ further

@@ -1,6 +1,6 @@
--- What a parametric run tells of the linear programs of its family, at each value of the parameter.
+-- What a parametric run shows of the linear programs of its family, at each value of the parameter.
 --     IsSolvedBy p z y             z is best in p, and the prices y prove it
---     IsTruePart family max part   the interval shows a best point and dual certificate at each value in it
+--     IsTruePart family max part   the interval shows a best point and its dual certificate at each value in it
 --     AreJoined from parts         the first interval begins at from, each other one where the last ended
 --     last_end from parts          where the last interval ends
 --     IsCovered parts theta        one of the intervals has theta in it
@@ -15,7 +15,7 @@ use Rattle.lp_definitions.specs.Solutions.{IsBest, IsDualCertificate, IsCrossed,
 use Rattle.simplex_definitions.specs.Path.{PathEnding, EndsOptimal, EndsCrossed, EndsInfeasible, EndsUnbounded}
 use Rattle.simplex_definitions.specs.Chain.{Part, ChainEnd, AtMax, UnboundedPast, InfeasiblePast, RunReport, FailedOpening, Chain, along}
 
--- the point is feasible, no feasible point improves it, and the prices prove that
+-- the point is feasible, no feasible point is better, and the prices prove that
 pub record IsSolvedBy (p : LinearProgram) (z y : Vector) : Type 0 where
   pub best : IsBest p z
   pub certificate : IsDualCertificate p z y
@@ -25,7 +25,7 @@ pub record IsRefutedBy (p : LinearProgram) (w : Vector) : Type 0 where
   pub ray : IsRay p w
   pub infeasible : IsInfeasible p
 
--- each feasible vector is bettered by another, as the point and the direction prove
+-- for each feasible vector there is a better one, as the point and the direction prove
 pub record IsUnboundedBy (p : LinearProgram) (z d : Vector) : Type 0 where
   pub proof : ProvesUnbounded p z d
   pub unbounded : IsUnbounded p
@@ -83,7 +83,7 @@ pub record IsTrueRun (family : ℚ → LinearProgram) (from max : ℚ) (parts : 
   pub long : AreLongPast parts
   pub closes : IsTrueEnd family max (last_end from parts) end
 
--- a failed opening tells the verdict on the program of the first value
+-- a failed opening reports the verdict on the program of the first value
 abbrev pub IsTrueFailure : LinearProgram → PathEnding → Type 0
 IsTrueFailure p (EndsOptimal z y) = ⊥
 IsTrueFailure p (EndsCrossed k) = IsCrossed p k × IsInfeasible p

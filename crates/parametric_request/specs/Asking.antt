@@ -2,7 +2,7 @@
 --     verb_of, change_of ..        the verb, and what it changes
 --     IsAsked, IsAskFault          what a verb asks for by the cells, and why it asks for nothing
 --     IsNotAsked                   why it is refused; or there is no memory
---     parametric_run_of limit request       a request, in the words of runs
+--     parametric_run_of limit request    a request, in the words of runs
 --     IsOf problem request         its row or its shifts are those of the problem
 --     Serves problem p request     the run can be made in the linear program p
 use Rattle.std.specs.Prelude.{◌≡◌, ℕ, Option, Some, None, length, option_and_then}

@@ -9,7 +9,7 @@ use Rattle.simplex_definitions.specs.Path.{last_of}
 use Rattle.simplex_definitions.specs.Chain.{Part, FaceTurn, FaceDone, IsPart, FacesTo}
 
 module _ (family : ℚ → LinearProgram) (Face : ℚ → List Status → FaceTurn → Type 0) (from max : ℚ) (s : List Status) where
-  -- no interval yet; or an interval whose break has no face step left
+  -- no interval yet; or an interval whose breakpoint has no face step left
   pub data IsBegun : List Part → ℚ → List Status → List (List Status) → Type 0 where
     nothing : IsBegun [] from s []
     then : {parts : List Part} {theta : ℚ} {now : List Status} {path : List (List Status)} {part : Part} {bases : List (List Status)} →

@@ -47,7 +47,7 @@ end_of (ends.Unbounded past point direction) = UnboundedPast past point directio
 end_of (ends.Infeasible past ray) = InfeasiblePast past ray
 
 module _ (family : ℚ → LinearProgram) (Face : ℚ → List Status → FaceTurn → Type 0) (from max : ℚ) (s : List Status) where
-  -- the opening path ends otherwise than optimal, and the outcome tells its end and the count of its steps
+  -- the opening path ends otherwise than optimal, and the outcome shows its end and the count of its steps
   pub record IsOpeningReported (outcome : Outcome) (bases : List (List Status)) : Type 0 where
     pub ending : PathEnding
     pub opens : IsFailedOpening family Face from s ending bases

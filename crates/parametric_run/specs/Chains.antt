@@ -5,7 +5,7 @@
 --     ChainStops, ChainFollows     what holds of each such run after a call that has stopped; where the waypoints lie then
 --     Overflows e                  why a call stops by an overflow
 --     MethodEnds, MethodStops, MethodFollows     what the whole call promises
---     MethodOverflowFree              the run that the whole call has to answer
+--     MethodOverflowFree           the run that the whole call has to answer
 use Rattle.std.specs.Prelude.{◌≡◌, ◌⊎◌, ℕ, ◌+◌, ◌≤◌, List, map, length}
 use Rattle.exact_values.specs.Rational.{ℚ}
 use Rattle.lp_definitions.specs.Basis.{Basics}

@@ -1,6 +1,6 @@
 -- When a call that makes a parametric run has to answer.
 --     IsReportOf report steps answer     the answer is this report of a run, after so many steps
---     RunEndsOverflowFree report path      the run from s ends within the limit with this report, having gone over these bases, and
+--     RunEndsOverflowFree report path    the run from s ends within the limit with this report, having gone over these bases, and
 --                                        wherever a call may be on it, no evidence of an overflow holds
 --     IsRunOrMemory ..                   the answer is that report, at the basis where the run ends; or there is no memory
 use Rattle.std.specs.Prelude.{◌≡◌, ◌⊎◌, ℕ, ◌≤◌, List, length, map, Result, Ok, Err}

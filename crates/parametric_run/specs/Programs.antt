@@ -13,7 +13,7 @@ use Rattle.parametric_laws.specs.Laws.{Faces, HasTrueRuns}
 use Rattle.parametric_laws.proofs.OneRun.{HasOneFace}
 
 -- a run that begins at a value counts as this statement; is_change s v says that v is how the basis s moves with the parameter; and
--- the evidence of no_program tells that the program at a value can't be made
+-- the evidence of no_program shows that the program at a value can't be made
 pub record ParametricProgram : Type 1 where
   pub program : LinearProgram
   pub family : ℚ → LinearProgram

@@ -1,4 +1,4 @@
--- The room of a price row: so many places for a direction, and for the multipliers of the rows, in words and in fractions.
+-- The workspace of a price row: so many places for a direction, and for the multipliers of the rows, in words and in fractions.
 use Rattle.std.specs.Prelude.{◌≡◌, ℕ, length}
 use Rattle.price_row.specs.declared.PriceRow.TheInside.{Inside}
 

@@ -22,8 +22,8 @@ use sums::{sum_of_column, sum_over};
 use whole::{first_by_whole, row_by_whole};
 use words::{first_by_words, row_by_words};
 
-/// Rows of an inverse that is kept as an eta file, with room for the multipliers of the rows, in words and in fractions, and for a
-/// direction.
+/// Rows of an inverse that is kept as an eta file, with workspace for the multipliers of the rows, in words and in fractions, and for
+/// a direction.
 #[derive(Drop)]
 pub struct PriceRow {
     words: Vec<i64>,
@@ -191,7 +191,7 @@ fn carry_to_rows(file: &EtaFile, row: u32, out: &mut [Frac]) -> Result<(), Refus
     Ok(())
 }
 
-/// The multiplier of row `k` in the row of the basic `i`, by the direction of k where it isn't basic, with room for it.
+/// The multiplier of row `k` in the row of the basic `i`, by the direction of k where it isn't basic, which `workspace` takes.
 fn multiplier_of(file: &EtaFile, i: u32, k: u32, workspace: &mut [Frac]) -> Result<Frac, Stop>
     requires basic { IsBasic file.now.matrix file.now.basics i }
     requires row { IsVariable file.now.matrix k }

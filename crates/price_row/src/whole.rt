@@ -1,5 +1,5 @@
 //! Rows that are carried back in numbers over one denominator. Where a number doesn't fit, the answer is None, and the row has to be
-//! had in fractions.
+//! computed in fractions.
 
 ghost use Rattle.std.specs.Prelude.{◌≡◌, ◌+◌, ◌<◌, length, All, IfSome};
 ghost use Rattle.exact_values.specs.Rational.{zero_ℚ, ◌+ℚ◌, ◌*ℚ◌};

@@ -1,5 +1,5 @@
 //! Rows that are carried back in whole numbers of one machine word over one denominator. Where a number isn't one, the answer is None,
-//! and the row has to be computed in another way.
+//! and the row has to be computed another way.
 
 ghost use Rattle.std.specs.Prelude.{◌≡◌, ℕ, ◌+◌, ◌≤◌, ◌<◌, length, All, IfSome};
 ghost use Rattle.exact_values.specs.Rational.{whole, zero_ℚ};

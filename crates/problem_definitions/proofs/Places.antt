@@ -60,7 +60,7 @@ numbers_apart names a b has_a has_b apart = by (nat_eq (number_in names a) (numb
         let equal : a ≡ b = sym (name_at-number_in names a has_a) ∙ ap (name_at names) one ∙ name_at-number_in names b has_b in
         absurd (cc (subst (λ n. same n b ≡ false) equal apart, same_refl b))
 
--- the number of a name of the front is its number in the whole list
+-- the number of a name of the prefix is its number in the whole list
 pub number_in-front : (front back : List Name) (name : Name) → has_name front name ≡ true → number_in (front ++ back) name ≡ number_in front name
 number_in-front front back name there = number_in-is (front ++ back) name whole ∙ ap (λ n. n + 1) (first front there) ∙ sym (number_in-is front name there)
   where

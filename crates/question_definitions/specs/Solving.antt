@@ -1,6 +1,6 @@
 -- What a run needs to know of linear programming: a record of relations, each of which has one answer at most.
 --
--- The real ones are those of the linear program alone: Solves and Parametric runs follow the path and the chain of bases, Shows and Ranges
+-- The real ones are those of the linear program alone: Solves and ParametricRuns follow the path and the chain of bases, Shows and Ranges
 -- read off the point, the prices and the intervals of a basis, Punches its deck, Installs says whether a set of columns is a basis, and
 -- Overflows is the evidence that holds.
 use Rattle.std.specs.Prelude.{ℕ, List, Option}

@@ -6,7 +6,7 @@ pub IfOk-map : {A E : Type 0} → (r : Result A E) {P Q : A → Type 0} → ((a 
 IfOk-map (Ok a) step h = step a h
 IfOk-map (Err e) step h = tt
 
--- the front of a list that something follows
+-- the prefix of a list that something follows
 pub take_all : {A : Type 0} (xs ys : List A) (n : ℕ) → n ≡ length xs → take n (xs ++ ys) ≡ xs
 take_all xs ys n is = ap (λ m. take m (xs ++ ys)) is ∙ whole xs ys
   where

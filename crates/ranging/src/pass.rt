@@ -14,8 +14,8 @@ use affine_laws::Ends;
 use frac128::Frac;
 use lp_model::{Basis, Lp, Rates, Stop};
 
-/// The ends of the row of the basic `i`, by whose limits the ends of the limits of the nonbasics are tightened. `row` is room for
-/// its rates.
+/// The ends of the row of the basic `i`, by whose limits the ends of the limits of the nonbasics are tightened. `row` is
+/// workspace for its rates.
 fn visit<R: Rates>(
     lp: &Lp,
     basis: &Basis,
@@ -99,7 +99,7 @@ fn visit_basic<R: Rates>(
     Ok(())
 }
 
-/// Finds the ends of the rows of the basics, and those of the limits of the nonbasics. `row` is room for the rates of one basic.
+/// Finds the ends of the rows of the basics, and those of the limits of the nonbasics. `row` is workspace for the rates of one basic.
 pub fn pass<R: Rates>(
     lp: &Lp,
     basis: &Basis,

@@ -48,7 +48,7 @@ basic_kept p q quotients old new is other = at is.committed
     at (same_line not_p none now) = ap (λ (line : Line). line.basic) now ∙ is.same.same_basic
 
 module _ (a : Matrix) (b : Basics) (slots : List ℕ) (lines : List Line) (quotients : List ℚ) (table : IsTableOf a b slots lines quotients) where
-  -- only the room differs
+  -- only the workspace differs
   pub table_kept : (now : List Line) (used : List ℚ) → length now ≡ length lines → length used ≡ length quotients → LineByLine SameRates lines now → IsTableOf a b slots now used
   table_kept now used counted room same = record {
     small = table.small;

@@ -15,7 +15,7 @@
 --     basics_of lines              the basic of each line
 --     HaveRatesAt j lines f        the rate at j of each line is f at its basic
 --     LineByLine R old new         R holds of each line before and after
---     SameRates old new            the line has the same rates; only the room beside them may differ
+--     SameRates old new            the line has the same rates; only the workspace beside them may differ
 --     IsReady p q quotients js line            the rates after the exchange stand ready at the variables of js, where they change
 --     IsUnchanged p q line         it is not the leaver's line, and its rate at q is 0
 --     AreChanging p q lines slots  the slots of the lines that change, in order

@@ -11,7 +11,7 @@ use frac128::{Frac, Op, Refused};
 use lp_model::{Evidence, NoMemory};
 use std::alloc::Global;
 
-/// The rates of a basic variable: a place for each variable, with 0 at the basics. `next` is room for those that an exchange changes.
+/// The rates of a basic variable: a place for each variable, with 0 at the basics. `next` is workspace for those that an exchange changes.
 #[derive(Drop)]
 pub struct Line {
     pub basic: u32,

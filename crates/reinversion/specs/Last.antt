@@ -1,5 +1,5 @@
 -- The direction that was carried last.
---     IsLast f last                room for a direction; and where a variable is named, that of it at the basics of the file
+--     IsLast f last                workspace for a direction; and where a variable is named, that of it at the basics of the file
 use Rattle.std.specs.Prelude.{◌≡◌, ℕ, List, length, Option, Some, None}
 use Rattle.exact_values.specs.Rational.{ℚ}
 use Rattle.lp_definitions.specs.LinearProgram.{size, value_at}

@@ -20,7 +20,7 @@ pub struct LastColumn {
 }
 
 impl LastColumn {
-    /// None yet, and room for one.
+    /// None yet, and workspace for one.
     pub fn new(alloc: Global, lp: &Lp) -> Result<LastColumn, NoMemory>
         ensures none { IfOk result (λ last. last.of ≡ None) }
         ensures places { IfOk result (λ last. length last.direction.items ≡ size lp.now.matrix) }

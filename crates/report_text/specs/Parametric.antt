@@ -1,8 +1,8 @@
 -- What the borrowed data of a parametric run prints.
 --     IsParametric sheet run                  the run can be printed
---     interval_view sheet part               an interval, with a line for each variable
---     end_view sheet to end                  how the run ends
---     chain_view sheet change from to run    all of it
+--     interval_view sheet part                an interval, with a line for each variable
+--     end_view sheet to end                   how the run ends
+--     chain_view sheet change from to run     all of it
 use Rattle.std.specs.Prelude.{map}
 use Rattle.std.specs.List.{All}
 use Rattle.exact_values.specs.Rational.{ℚ}

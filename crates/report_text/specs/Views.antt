@@ -1,6 +1,6 @@
 -- What the borrowed data of a report prints, in the words of the definitions of listings.
 --     IsReport report          the report can be printed
---     text_view report        its text
+--     text_view report         its text
 use Rattle.std.specs.Prelude.{ℕ, List, [], ◌∷◌, ◌++◌, Option, Some, None, Bool, codes}
 use denote.Bor.{Bor}
 use Rattle.std.specs.List.{concat, flat_map}

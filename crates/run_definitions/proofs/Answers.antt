@@ -88,6 +88,6 @@ title_end_cut : IsAnswer silent (Made title_bytes) print_fault (record { status 
 unfolding digits print_fault
 title_end_cut = print_fails tt refl (in_end (Ended 0) (codes "EN") (by_itself title_bytes refl title_job) (codes "D 0\n", refl) refl refl)
 
--- memory is wanted before there is a report
+-- memory runs out before there is a report
 title_memory : IsAnswer silent (Read title_bytes) none_fails (record { status = 28; printed = codes "STOP 28 MEMORY\n"; punched = [] })
 title_memory = whole Memory memory_at_start refl refl ([], refl)

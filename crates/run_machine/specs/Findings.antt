@@ -1,6 +1,6 @@
 -- What the verbs that ask of linear programming find, and what follows.
 --     refused_finding refusal      what a refusal comes to
---     ReportsFinding result          what is found is reported, with its report printed; or it is cut off
+--     ReportsFinding result        what is found is reported, with its report printed; or it is cut off
 --     act_of cells card finding    what follows
 --     mark_left finding            the mark that it leaves
 use Rattle.std.specs.Prelude.{◌≡◌, ℕ, List, Option, Some, None, Result, Ok, Err}

@@ -1,6 +1,6 @@
 -- What a singular basis prints.
 --     IsSheetOf found p            the problem that is found has the rows and columns of the linear program
---     lines_view found p d        the lines of a dependency
+--     lines_view found p d         the lines of a dependency
 use Rattle.std.specs.Prelude.{◌≡◌, ℕ, List, [], Option, Some, None, length}
 use Rattle.std.specs.Coded.{Coded-set, coded_ℕ, ×_prop}
 use Rattle.exact_values.specs.Rational.{ℚ}

@@ -4,8 +4,8 @@
 --     AreDemands cells             the demands that are set are numbers of statements
 --     IsSound cards machine        its numbers are those of cards and of statements, and its setup is ready
 --     named, filed wanted file     the name that is wanted and its problem on file, or those put last
---     ShowsSetup file kept viewed   the state's setup is the one that the machine's shows
---     Represents cards machine ..      the machine shows this state of a run over these cards
+--     ShowsSetup file kept viewed  the state's setup is the one that the machine's shows
+--     Represents cards machine ..  the machine shows this state of a run over these cards
 use Rattle.std.specs.Prelude.{◌≡◌, ℕ, ◌+◌, ◌-◌, ◌≤◌, List, Option, Some, None, IfSome, length, drop, option_and_then}
 use Rattle.card_definitions.specs.Cards.{numbered_cards}
 use Rattle.deck_definitions.specs.Decks.{decks_of}

@@ -1,6 +1,6 @@
 -- When a basis stays optimal while one number of its program changes by x.
 --     HasRows p                    the objective row and the change row, if there is one, are rows
---     IsRightTableau p s t         the point is feasible, and no nonbasic may move so as to better the objective
+--     IsRightTableau p s t         the point is feasible, and no nonbasic may move so as to improve the objective
 --     Sides, SidesHold c x         up to two conditions on x; that those that are there hold
 --     rate_sides p s w v k         the rate w + x v of the nonbasic k keeps its sign
 --     RatesStay p s w v x          the rates of all variables do

@@ -32,7 +32,7 @@ pub record IsFeasibleBasis (p : LinearProgram) (s : List Status) (t : Tableau) :
   pub is_tableau : IsTableau p s t
   pub feasible : IsFeasible p t.point
 
--- a basis with its tableau, no nonbasic of which may move so as to better the objective
+-- a basis with its tableau, no nonbasic of which may move so as to improve the objective
 pub record IsDualFeasibleBasis (p : LinearProgram) (s : List Status) (t : Tableau) : Type 0 where
   pub is_basis : IsBasis p s
   pub nonsingular : IsNonsingular p.matrix (basics_of s)

@@ -2,7 +2,7 @@
 --     tableau_for p s              the point and the rates of a basis
 --     solved p s                   the steps, the ending and the last basis of the path from s
 --     is_optimal p s               the basis is optimal, as a test
---     parts vs, viewed              values and endings by the parts of their fractions, which compute
+--     parts vs, viewed             values and endings by the parts of their fractions, which compute
 use Rattle.std.proofs.Common.{ℕ, zero, suc, ◌-◌, List, [], ◌∷◌, map, cond, Bool, get_or, ℤ}
 use Rattle.std.specs.Prelude.{filter, nat_eq, nat_lt, nat_le, ◌&&◌, not, Option, Some, None, unwrap_or, find, ◌||◌, true}
 use Rattle.std.specs.List.{list_all}

@@ -1,7 +1,7 @@
 -- The path of the dual simplex method, which begins at a basis whose prices are right: the least-numbered basic outside its limits is
 -- brought back by the nonbasic that the ratio test chooses.
 --     dual_turn p s t              what is done at the basis s with the point and the rates t
---     HasRightPrices p s           no nonbasic may move so as to better the objective
+--     HasRightPrices p s           no nonbasic may move so as to improve the objective
 --     IsWrongAt p s j              j is the least-numbered nonbasic that may
 --     IsDualStep, DualEndsAt, IsDualPath, DualPathEnds, DualGoesOnFor      steps and paths by this rule
 use Rattle.std.specs.Prelude.{◌≡◌, ℕ, List, Option, Some, None}

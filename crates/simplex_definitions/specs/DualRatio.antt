@@ -1,5 +1,5 @@
 -- The ratio test of a dual step: a basic is to be brought back to a limit, and the objective's rates are to stay right.
---     restores_feasibility p s t r below q  the nonbasic q may move so as to bring r back
+--     restores_feasibility p s t r below q    the nonbasic q may move so as to bring r back
 --     ratio p t r q                what the objective loses for each unit of r
 --     cheapest p s t r below       the variable that enters
 use Rattle.std.specs.Prelude.{ℕ, Bool, not, ◌&&◌, ◌||◌, List, Option}

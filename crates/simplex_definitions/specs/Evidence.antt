@@ -85,7 +85,7 @@ with_ahead bases None = bases
 with_ahead bases (Some next) = bases ++ next ∷ []
 
 -- s is the last of the bases of the path in hand, which has so many steps left; waypoints lie in these bases and the one that
--- the step in hand is to reach; break is the value at which a parametric run takes face steps, if it is at one, and ends are the
+-- the step in hand is to reach; breakpoint is the value at which a parametric run takes face steps, if it is at one, and ends are the
 -- ends of its intervals so far
 pub record EvidenceHolds (statement : SolvingStatement) (breakpoint : Option ℚ) (left : ℕ) (bases : List (List Status)) (ends : List ℚ) (s : List Status) (w : Basics) (e : Evidence) : Type 0 where
   pub before : List (List Status)

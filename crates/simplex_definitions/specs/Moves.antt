@@ -3,7 +3,7 @@
 --     is_below p z k, is_above p z k       k lies below its lower limit, or above its upper one; is_outside: one of the two
 --     may_rise p s k, may_fall p s k       a nonbasic that is not fixed may leave the place at which it stands, upward or downward
 --     entering p s f                       the least-numbered nonbasic that may move so as to lower a quantity; f has its rates
---     step_length p z v k                         how long it is until k, which moves at the speed v k, reaches the limit ahead of it
+--     step_length p z v k                  how long it is until k, which moves at the speed v k, reaches the limit ahead of it
 --     stopper p z v                        the least-numbered of the variables that reach a limit first
 use Rattle.std.specs.Prelude.{ℕ, Bool, true, false, not, ◌&&◌, ◌||◌, List, Option, Some, None, if◌then◌else◌, find, option_map}
 use Rattle.std.specs.List.{list_all}

@@ -21,7 +21,7 @@ module _ (p : LinearProgram) (h : ℕ) (theta : ℚ) (s : List Status) (t : Tabl
   abbrev pub change_rate : Vector
   change_rate q = for_min p.sense (t.rate h q)
 
-  -- the least-numbered nonbasic whose combined rate is 0 and which may move so as to better the change row's activity
+  -- the least-numbered nonbasic whose combined rate is 0 and which may move so as to improve the change row's activity
   abbrev pub face_entering_variable : Option ℕ
   face_entering_variable = least p (λ q. eq_ℚ (objective_rate p t.rate q) zero_ℚ && lowers p s change_rate q)
 

@@ -93,7 +93,7 @@ module _ (p : LinearProgram) (s : List Status) (t : Tableau) where
   improve (Some q) = run_at q (speeds t.rate (goes_up worth_rate q) q)
   improve None = Ends (EndsOptimal (listed p.matrix t.point) (listed p.matrix (price_at p (basics_of s) t.rate)))
 
-  -- a crossed variable ends the path; else a basic outside its limits is brought back; else the objective is bettered
+  -- a crossed variable ends the path; else a basic outside its limits is brought back; else the objective is improved
   abbrev pub turn_for : Option ℕ → Option ℕ → Turn
   turn_for (Some k) out = Ends (EndsCrossed k)
   turn_for None (Some r) = restore_feasibility r (entering_variable (Some r))

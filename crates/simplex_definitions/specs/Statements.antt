@@ -1,10 +1,10 @@
 -- The solving statements, as far as their overflows depend on them.
 --     SolvingStatement                    a statement with its linear program, and the change and the first value of a parametric run
---     belongs statement e          which formulas it may stop by
+--     belongs statement e                 which formulas it may stop by
 --     program_at, change_row, shift_at, thetas_of      the linear program at a value of the parameter; what changes; the lawful values
---     MovesAt statement breakpoint s m  what the path, or at a breakpoint the face steps, do at the basis s
---     EntersAt statement breakpoint s q       the variable that is moved there, be it stopped or not
---     BringsAt statement breakpoint s i j     the basic i that a face step of the right-hand side brings back, and a j that may bring it
+--     MovesAt statement breakpoint s m    what the path, or at a breakpoint the face steps, do at the basis s
+--     EntersAt statement breakpoint s q   the variable that is moved there, be it stopped or not
+--     BringsAt statement breakpoint s i j    the basic i that a face step of the right-hand side brings back, and a j that may bring it
 use Rattle.std.specs.Prelude.{◌≡◌, ℕ, Bool, not, ◌&&◌, ◌||◌, List, [], ◌∷◌, Option, Some, None, IsTrue, nat_eq, nat_le}
 use Rattle.exact_values.specs.Rational.{ℚ, zero_ℚ}
 use Rattle.lp_definitions.specs.LinearProgram.{LinearProgram, Vector}
@@ -83,7 +83,7 @@ PathMoves = RuleMoves turn
 abbrev pub PathEnters : LinearProgram → List Status → ℕ → Type 0
 PathEnters p s q = (t : Tableau) × IsTableau p s t × (crossed p s t ≡ None) × (entering_variable p s t (outside p s t) ≡ Some q)
 
--- break is the value at which a parametric run takes face steps, if it is at one
+-- breakpoint is the value at which a parametric run takes face steps, if it is at one
 abbrev pub MovesAt : SolvingStatement → Option ℚ → List Status → Move → Type 0
 MovesAt (Primal p) breakpoint s m = PathMoves p s m
 MovesAt (Dual p) breakpoint s m = RuleMoves dual_turn p s m

@@ -1,4 +1,4 @@
--- What an end of the path tells of the point, the prices and the direction at which it ends.
+-- What an end of the path shows of the point, the prices and the direction at which it ends.
 use Rattle.std.proofs.Common.{◌≡◌, ℕ, ◌-◌, ◌⊎◌, inl, inr, Bool, true, false, List, refl, sym, ap, subst, ◌∙◌, arith}
 use Rattle.std.specs.Prelude.{Option, Some, None, IfSome, not, ◌&&◌, ◌||◌}
 use Rattle.std.proofs.lemmas.Bool.{or_parts}

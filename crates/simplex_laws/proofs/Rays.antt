@@ -1,4 +1,4 @@
--- What an infeasible end tells: its ray is a proof.
+-- What an infeasible end shows: its ray is a proof.
 use Rattle.std.proofs.Common.{◌≡◌, ◌≢◌, ℕ, suc, ◌+◌, ◌⊎◌, inl, inr, Bool, true, false, List, refl, sym, ap, ap₂, subst, ◌∙◌, arith, pos, cond}
 use Rattle.std.specs.Prelude.{Option, Some, None, not, ◌&&◌, ◌||◌, unwrap_or, if◌then◌else◌, nat_eq, eqb}
 use Rattle.std.proofs.lemmas.Bool.Decides.{eqb_tells}
@@ -185,7 +185,7 @@ IsRay-same p w v same h = record {
   negative = subst (λ x. x <ℚ zero_ℚ) (sum_to-same (size p.matrix) _ _ (λ k low. ap (λ x. x *ℚ unwrap_or (if lt_ℚ zero_ℚ x then upper_of p (suc k) else lower_of p (suc k)) zero_ℚ) (same (suc k) (omega arith, omega (arith, low))))) h.negative;
 }
 
--- in a first phase that is stuck
+-- in a first phase that can't go on
 infeasible_ray : (p : LinearProgram) (s : List Status) (t : Tableau) → IsBasis p s → IsNonsingular p.matrix (basics_of s) → IsTableau p s t → (r : ℕ) → IsFirstPhase p s t r →
     entering_variable p s t (Some r) ≡ None → IsRay p (ray_of (basics_of s) t.rate r (is_below p t.point r))
 infeasible_ray p s t basis one tab r phase infeasible_ending = ray_is p s t basis one tab r (is_below p t.point r) (broken_basic p s t r phase) (broken_limit p s t r phase) idle

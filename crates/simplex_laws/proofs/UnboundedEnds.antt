@@ -1,4 +1,4 @@
--- What crossed, unbounded ends tell: limits that exclude each other, and a direction without end.
+-- What crossed and unbounded ends show: limits that exclude each other, and a direction in which nothing stops.
 use Rattle.std.proofs.Common.{◌≡◌, ℕ, suc, ◌+◌, ◌⊎◌, inl, inr, Bool, true, false, List, refl, sym, ap, subst, subst₂, ◌∙◌, arith}
 use Rattle.std.specs.Prelude.{Option, Some, None, not, ◌&&◌, ◌||◌, option_map, if◌then◌else◌}
 use Rattle.std.proofs.lemmas.Bool.{or_right}

@@ -78,7 +78,7 @@ fn read_row(table: &mut Dense, i: u32, marks: &mut [bool], out: &mut [Frac]) -> 
     Ok(true)
 }
 
-/// A table of rates, and room for what it is asked.
+/// A table of rates, and workspace for what it is asked.
 #[derive(Drop)]
 struct Trial {
     table: Dense,

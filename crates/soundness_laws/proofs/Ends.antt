@@ -20,7 +20,7 @@ use Rattle.question_definitions.specs.Answers.{Basis, Sheet}
 use Rattle.answer_definitions.specs.Verdicts.{verdict_of}
 use Rattle.soundness_laws.specs.Truth.{IsTrueOf}
 
--- the point is feasible and no feasible one improves it, and the prices prove that
+-- the point is feasible and no feasible one is better, and the prices prove that
 pub record IsProvedBest (p : LinearProgram) (s : Basis) (t : Tableau) : Type 0 where
   pub best : IsBest p t.point
   pub certificate : IsDualCertificate p t.point (price_at p (basics_of s) t.rate)

@@ -41,7 +41,7 @@ module _ (S : Solving) (Says : State → Report → Type 0) where
     HoldInJob _ = Unit {0}
 
 module _ (S : Solving) where
-  -- of a job however it ends: where memory is wanted or the punch fails, the reports are those of the run
+  -- of a job however it ends: where memory runs out or the punch fails, the reports are those of the run
   -- so far
   abbrev pub HoldInEnd : {job : Job} {failures : Failures} {reports : List Report} {cards : List (List ℕ)}
       {ending : Ending} → MayEnd S job failures reports cards ending → Type 0

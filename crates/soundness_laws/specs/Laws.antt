@@ -2,7 +2,7 @@
 --     KnowsSolving S               the ends of paths and of parametric runs, the lines of SOLUTION and RANGE,
 --                                  punched bases and what comes of inserted ones are those of the linear
 --                                  program
---     ReportsTheTruth S                 each report of the run of a job holds of the state in which it is made,
+--     ReportsTheTruth S            each report of the run of a job holds of the state in which it is made,
 --                                  and so does its end
 --     FilesProblems S              every problem that is filed in the run of a job is one
 --     EndsUnlimited S              where there is no limit on steps, PRIMAL doesn't stop at one

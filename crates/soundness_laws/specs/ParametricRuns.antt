@@ -3,8 +3,8 @@
 --     ChangesFreely                what is asked of a row that changes
 --     IsTrueOpening                a verdict of the opening path is proved at the first value
 --     IsTrueChain                  the intervals and the end are those of a run that is true
---     IsTrueParametricRun sheet parametric_run end  the one or the other; a run that has met its limit claims nothing
---     ParametricRunLaws                    what is printed is one thing, and true, and leads to a basis
+--     IsTrueParametricRun sheet parametric_run end    the one or the other; a run that has met its limit claims nothing
+--     ParametricRunLaws            what is printed is one thing, and true, and leads to a basis
 use Rattle.std.specs.Prelude.{◌≡◌, List, [], map, length}
 use Rattle.lp_definitions.specs.LinearProgram.{IsRow, HasNoLimits, IsLinearProgram}
 use Rattle.simplex_definitions.specs.Path.{PathEnding, last_of}
@@ -16,7 +16,7 @@ use Rattle.answer_definitions.specs.ParametricRuns.{row_of, family_of, sheet_at,
 use Rattle.answer_definitions.specs.Verdicts.{IsVerdict}
 use Rattle.parametric_laws.specs.Truth.{IsTrueRun, IsTrueFailure}
 
--- a run that hasn't ended within its limit tells of no bases
+-- a run that hasn't ended within its limit names no bases
 abbrev pub gone_over : ParametricRunEnd → List Basis
 gone_over (Opening bases verdict check) = bases
 gone_over (Chained bases intervals end) = bases

@@ -5,7 +5,7 @@
 --     IsTrueOf sheet verdict       what a verdict says of a linear program
 --     ShowsDeck, ShowsBasis ..     what PUNCH and INSERT print is of the deck of the present basis, and of a deck
 --                                  that gives a basis
---     ReportsOfRun ..                what PARAOBJ or PARARHS prints is of the run that the cells ask for
+--     ReportsOfRun ..              what PARAOBJ or PARARHS prints is of the run that the cells ask for
 --     ShowsOpening, ShowsChain     a verdict of its opening path; its intervals and its end
 --     Holds state report           a report that is made in a state holds of it
 --     ShowsDependency ..           the lines of a singular basis show the first dependency of its columns
@@ -56,7 +56,7 @@ pub record PresentProgram (setup : Option Present) (cells : Cells) : Type 0 wher
 abbrev pub sheet_of : {setup : Option Present} {cells : Cells} → PresentProgram setup cells → Sheet
 sheet_of program = record { problem = program.present.problem; lp = program.lp }
 
--- The lines are those of the present basis: its point is feasible, no feasible point improves it, and its
+-- The lines are those of the present basis: its point is feasible, no feasible point is better, and its
 -- prices, which are printed, prove that.
 pub record ShowsBest (setup : Option Present) (cells : Cells) (lines : SolutionLines) : Type 0 where
   pub program : PresentProgram setup cells
@@ -165,7 +165,7 @@ named_by cells (Row name) = cells.xchrow
 named_by cells (Set name) = cells.xchcol
 
 -- The parametric run of a verb in the linear program that is selected of the setup with these cells: from
--- XPARAM to XPARMAX, with what changes as the cells name it. Something is reported of it.
+-- XPARAM to XPARMAX, with what changes as the cells name it. Tells is what is said of it.
 pub record ReportsOfRun (setup : Option Present) (cells : Cells) (solver : Solver) (Tells : Sheet → ParametricRun → Type 0) : Type 0 where
   pub program : PresentProgram setup cells
   pub parametric_run : ParametricRun

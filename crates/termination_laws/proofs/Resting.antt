@@ -76,7 +76,7 @@ none_step_length None z d apart e = cc
 none_step_length (Some l) z d apart e =
     ap (λ v. Some v) (div_is (l -ℚ z) d zero_ℚ apart (ap (λ x. x -ℚ z) (same_Some _ _ e) ∙ by_ring2 z d (λ z d. z ⊖ z ≐ number (pos 0) ⊗ d) refl))
 
--- where it stands at the limit ahead, there is no room
+-- where it stands at the limit ahead, its step length is 0
 pub no_step_length : (low high : Option ℚ) (z d : ℚ) → (zero_ℚ <ℚ d → high ≡ Some z) → (d <ℚ zero_ℚ → low ≡ Some z) → d ≢ zero_ℚ → room_to (ahead low high d) z d ≡ Some zero_ℚ
 no_step_length low high z d upper lower apart = none_step_length (ahead low high d) z d apart (by_tests (lt_ℚ zero_ℚ d) refl (lt_ℚ d zero_ℚ) refl)
   where

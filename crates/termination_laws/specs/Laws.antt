@@ -1,5 +1,5 @@
 -- The laws of the path's end, as the function of src/lib.rt promises them.
---     lists_of p                   so many status lists can be told apart
+--     lists_of p                   how many status lists there are
 --     basis_at s bases n           the basis that the path from s has reached after n steps
 --     NeverReturns s bases         no basis comes twice on a path
 --     TerminationLaws              a path never returns to a basis, and so it ends

@@ -218,7 +218,7 @@ module _ (sheet : Sheet) (run : ParaObj) (s now : Basis) (before after : List Ba
       (λ e o. overflows sheet (row_parametric_run name run) s now before after e o) why
       (subst (λ (h : ℕ). RunStops (objective_family sheet.lp.now h) (IsObjectiveFace sheet.lp.now h) run.from run.to s now run.limit (RowOverflows h) why) (sym is) h)
 
-  -- running out of memory for the check of an opening
+  -- memory ran out in the check of an opening
   pub objective_unchecked : (report : ParaReport) → IsOpening report → ObjectiveEnds sheet.lp.now run s now before after report → ObjectiveRunStops sheet run s now before after NoMemory
   objective_unchecked report opening ends name is =
       opening_stands sheet (row_parametric_run name run) s now before after report opening (subst (RowEnds report) (sym is) ends)
@@ -252,7 +252,7 @@ module _ (sheet : Sheet) (run : ParaRhs) (s now : Basis) (before after : List Ba
       stops sheet (set_parametric_run name run) s now before after (SetOverflows (shifts_of sheet.problem.now name)) (Reported name) (reported name) why
       (subst (λ (xs : List ℚ). RunStops (rhs_family sheet.lp.now xs) (IsRhsFace sheet.lp.now xs) run.from run.to s now run.limit (SetOverflows xs) why) (sym is) h)
 
-  -- a limit that is too large, or running out of memory, for the check of an opening
+  -- a limit that is too large, or memory that ran out, in the check of an opening
   pub rhs_unchecked : (stop : Stop) (report : ParaReport) → IsOpening report → RhsEnds sheet.lp.now run s now before after report →
       IfOverflow stop (ShiftHolds (Pararhs sheet.lp.now run.shift.items run.from) []) → RhsRunStops sheet run s now before after (primal_stop_of stop)
   rhs_unchecked (call_stop.Overflow e) report opening ends shift name is =

@@ -1,6 +1,6 @@
 -- What SOLUTION and RANGE show, in the words of the definitions of runs.
---     sheet_view sheet        the problem and the linear program
---     AreViews p s viewed       the basis and the lists of SOLUTION have their lengths
+--     sheet_view sheet         the problem and the linear program
+--     AreViews p s viewed      the basis and the lists of SOLUTION have their lengths
 --     AreRanged p s ranged     the basis and the point of RANGE have theirs
 use Rattle.std.specs.Prelude.{◌≡◌, length}
 use Rattle.lp_definitions.specs.LinearProgram.{LinearProgram, size}

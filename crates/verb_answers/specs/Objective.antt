@@ -1,7 +1,7 @@
 -- What PARAOBJ answers at the present basis.
---     parametric_run_of name run          the run of the objective, where the change row has this name
---     IsObjectiveAnswered        what is answered, whatever name the row has
---     ObjectiveRunStops          what holds after a call that has stopped
+--     parametric_run_of name run    the run of the objective, where the change row has this name
+--     IsObjectiveAnswered           what is answered, whatever name the row has
+--     ObjectiveRunStops             what holds after a call that has stopped
 use Rattle.std.specs.Prelude.{◌≡◌, List}
 use Rattle.lp_definitions.specs.Basis.{Basics}
 use Rattle.problem_definitions.specs.Names.{Name}

@@ -1,8 +1,8 @@
 -- What the path from a basis answers, in the words of the definitions of runs.
---     sheet_view sheet                    the problem and the linear program
+--     sheet_view sheet                     the problem and the linear program
 --     most_steps p limit                   how many steps a path may take
 --     IsCheckedSo p outcome verdict        the verdict is that of the outcome's check
---     IsReached sheet s now limit report   the path from s ends at now, and the report tells its end and the check of it
+--     IsReached sheet s now limit report   the path from s ends at now, and the report shows its end and the check of it
 --     PathStops sheet s now limit ..       the path from s has come to now, where this stops it
 --     IsDualReached, DualPathStops         those of the dual path, which begins with right prices
 use Rattle.std.specs.Prelude.{◌≡◌, ℕ, ◌≤◌, List, [], ◌∷◌, ◌++◌, length, Option, None, Some, unwrap_or}
@@ -76,7 +76,7 @@ abbrev pub PassesLimit : Sheet → Basis → Basis → Option ℕ → Type 0
 PassesLimit sheet s now (Some limit) = PathGoesOn sheet.lp.now s now limit
 PassesLimit sheet s now None = ⊥
 
--- the limit, if there is one, stops only a path that goes on; running out of memory stops it anywhere
+-- the limit, if there is one, stops only a path that goes on; memory may run out anywhere
 abbrev pub PathStops : Sheet → Basis → Basis → Option ℕ → List Basics → List Basics → PrimalStop → Type 0
 PathStops sheet s now limit before after Limit = PassesLimit sheet s now limit
 PathStops sheet s now limit before after (Overflow e) = OverflowsThere sheet s now limit before after e
@@ -88,7 +88,7 @@ PathStops sheet s now limit before after NoMemory = (bases : List Basis) × Path
 abbrev pub IsDualReached : Sheet → Basis → Basis → ℕ → PathReport → Type 0
 IsDualReached sheet s now limit report = HasRightPrices sheet.lp.now s × RuleIsReached dual_turn sheet s now (Some limit) report
 
--- a wrong price stops it before any step; its limit stops only a path that goes on from right prices; running out of memory stops it anywhere
+-- a wrong price stops it before any step; its limit stops only a path that goes on from right prices; memory may run out anywhere
 abbrev pub DualPathStops : Sheet → Basis → Basis → ℕ → List Basics → List Basics → DualStop → Type 0
 DualPathStops sheet s now limit before after (dual_stop.NotDualFeasible j) = IsWrongAt sheet.lp.now s j × (now ≡ s)
 DualPathStops sheet s now limit before after dual_stop.Limit = HasRightPrices sheet.lp.now s × RuleCallGoesOn dual_turn sheet.lp.now s now limit

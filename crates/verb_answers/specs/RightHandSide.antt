@@ -1,7 +1,7 @@
 -- What PARARHS answers at the present basis.
---     parametric_run_of name run          the run of the right-hand side, where the set has this name
---     IsRhsAnswered              what is answered, whatever set has these shifts
---     RhsRunStops                what holds after a call that has stopped
+--     parametric_run_of name run    the run of the right-hand side, where the set has this name
+--     IsRhsAnswered                 what is answered, whatever set has these shifts
+--     RhsRunStops                   what holds after a call that has stopped
 use Rattle.std.specs.Prelude.{◌≡◌, ◌⊎◌, List}
 use Rattle.lp_definitions.specs.Basis.{Basics}
 use Rattle.problem_definitions.specs.Names.{Name}

@@ -1,12 +1,12 @@
 -- What a parametric run from the present basis answers, in the words of the definitions of runs.
---     end_view sheet parametric_run report bases   the report of a run that has gone over these bases, as an end of the run
+--     end_view sheet parametric_run report bases    the report of a run that has gone over these bases, as an end of the run
 --     IsOpening report                     the report of an opening that isn't optimal
 --     IsOpeningChecked p report refused    the check of an opening that isn't optimal, in the linear program at the first value
 --     IsPrintable sheet report             the report can be printed
---     IsAnswered                           the run from s has ended at now, and the report tells its end
+--     IsAnswered                           the run from s has ended at now, and the report shows its end
 --     RunOverflowsThere                    the run has come to now, where it may stop with this evidence
 --     LimitOverflows                       it may stop there with evidence of a limit at the first value, which has no place
---     ParametricRunStops                           what holds after a call that has stopped
+--     ParametricRunStops                   what holds after a call that has stopped
 use Rattle.std.specs.Prelude.{◌≡◌, ◌≤◌, List, [], ◌∷◌, ◌++◌, map, length, Option, None, Some}
 use Rattle.frac128.specs.declared.Refused.{Refused}
 use Rattle.lp_definitions.specs.LinearProgram.{LinearProgram}
@@ -92,7 +92,7 @@ module _ (sheet : Sheet) (parametric_run : ParametricRun) (s now : Basis) (befor
     pub goes_on : IsParametricRun (sheet_view sheet) s parametric_run ParametricRunLimit
     pub is_now : basis_of goes_on.place ≡ now
 
-  -- the limit stops only a run that goes on, and running out of memory stops it anywhere; Overflows is what is said of an overflow
+  -- the limit stops only a run that goes on, and memory may run out anywhere; Overflows is what is said of an overflow
   abbrev pub ParametricRunStops : (Evidence → Type 0) → PrimalStop → Type 0
   ParametricRunStops Overflows Limit = PassesLimit
   ParametricRunStops Overflows (Overflow e) = Overflows e

@@ -3,7 +3,7 @@
 --     AreProducts by xs ys         each number of ys is that of xs times by
 --     AreQuotients by xs ys        each number of ys is that of xs over by
 --     IsSameOver d xs e ys         the numbers ys over e are the numbers xs over d
---     Represent P d xs              the numbers over d are values of which P holds
+--     Represent P d xs             the numbers over d are values of which P holds
 use Rattle.std.specs.Prelude.{◌≡◌, ◌≢◌, ℕ, List, map}
 use Rattle.exact_values.specs.Rational.{ℚ, zero_ℚ, ◌*ℚ◌, ◌/ℚ◌}
 use Rattle.lp_definitions.specs.LinearProgram.{value_at}

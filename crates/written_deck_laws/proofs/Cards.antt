@@ -29,7 +29,7 @@ blank_column zero (x ∷ xs) h = by (is_blank x) h
     by false h = h
 blank_column (suc k) (x ∷ xs) h = blank_column k xs h
 
--- it is blank in the front of a list too
+-- it is blank in a prefix of a list too
 blank_front : (k : ℕ) (kept more : List ℕ) → IsBlankAt k (kept ++ more) → IsBlankAt k kept
 blank_front zero [] more h = refl
 blank_front (suc k) [] more h = refl

@@ -1,4 +1,4 @@
--- Each stop tells of the first fault, and without a fault the program is the one that the choice selects.
+-- Each stop reports the first fault, and without a fault the program is the one that the choice selects.
 use Rattle.std.proofs.Common.{length, Some, None, true, false, ap, sym, ◌∙◌, subst}
 use Rattle.problem_definitions.specs.Valid.{AreEntries, AreBounds}
 use Rattle.control_definitions.specs.Program.{SetupOptions}
