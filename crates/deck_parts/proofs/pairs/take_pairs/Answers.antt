@@ -1,7 +1,7 @@
 use Rattle.std.proofs.Common.{◌∷◌, IfErr, sym, ap₂, subst}
-use Rattle.deck_cards.specs.Told.{TellsDeckFault}
+use Rattle.deck_fields.specs.Told.{TellsDeckFault}
 use Rattle.deck_parts.specs.Shown.{rows_alone}
-use Rattle.deck_cards.specs.Shown.{pair_shown}
+use Rattle.deck_fields.specs.Shown.{pair_shown}
 use Rattle.deck_parts.proofs.Second.{second_tells}
 use Rattle.deck_parts.proofs.pairs.take_pairs.Goals as goal
 

@@ -1,8 +1,8 @@
 use Rattle.std.proofs.Common.{◌++◌, IfErr, sym, ap₂, subst, ◌∙◌, option_map}
 use Rattle.std.specs.Option.{option_to_list}
 use Rattle.deck_definitions.specs.DataCards.{pair_if}
-use Rattle.deck_cards.specs.Told.{TellsDeckFault}
-use Rattle.deck_cards.specs.Shown.{shown, pair_shown}
+use Rattle.deck_fields.specs.Told.{TellsDeckFault}
+use Rattle.deck_fields.specs.Shown.{shown, pair_shown}
 use Rattle.deck_parts.specs.Shown.{parts_fault}
 use Rattle.deck_parts.proofs.PartsTold.{told_first, parts-append, second_parts}
 use Rattle.deck_parts.proofs.pairs.take_parts.Goals as goal

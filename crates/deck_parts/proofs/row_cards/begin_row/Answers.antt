@@ -1,6 +1,6 @@
 use Rattle.std.proofs.Common.{◌≡◌, None, OnOk, IfErr, sym, subst, ◌∙◌}
-use Rattle.deck_cards.specs.Told.{TellsDeckFault}
-use Rattle.deck_cards.specs.Shown.{shown}
+use Rattle.deck_fields.specs.Told.{TellsDeckFault}
+use Rattle.deck_fields.specs.Shown.{shown}
 use Rattle.deck_parts.proofs.RowsTold.{begins_plain, begins_combination}
 use Rattle.deck_parts.proofs.row_cards.begin_row.Goals as goal
 

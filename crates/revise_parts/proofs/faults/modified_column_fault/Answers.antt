@@ -1,7 +1,7 @@
 use Rattle.std.proofs.Common.{ap}
 use Rattle.problem_definitions.specs.Names.{Name}
 use Rattle.problem_definitions.specs.Problem.{Problem}
-use Rattle.deck_cards.specs.Shown.{shown}
+use Rattle.deck_fields.specs.Shown.{shown}
 use Rattle.revise_parts.proofs.FaultParts.{modified_parts}
 use Rattle.revise_parts.proofs.faults.modified_column_fault.Goals as goal
 

@@ -1,8 +1,8 @@
 use Rattle.std.proofs.Common.{◌≡◌, None, OnOk, IfErr, sym, subst}
 use Rattle.deck_definitions.specs.Conversion.{data_card_fault}
-use Rattle.deck_cards.specs.Told.{TellsDeckFault}
+use Rattle.deck_fields.specs.Told.{TellsDeckFault}
 use Rattle.mps_convert.specs.Draft_shown.{problem_shown}
-use Rattle.deck_cards.specs.Shown.{shown}
+use Rattle.deck_fields.specs.Shown.{shown}
 use Rattle.mps_convert.proofs.DataTaken.{fault_in_section}
 use Rattle.mps_convert.proofs.draft.DeckDraft.take_data.Goals as goal
 
