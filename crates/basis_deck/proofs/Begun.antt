@@ -7,7 +7,7 @@ use Rattle.problem_definitions.specs.Problem.{Problem}
 use Rattle.deck_definitions.specs.Conversion.{fault_by}
 use Rattle.deck_fields.specs.declared.stop.DeckStop.{DeckStop}
 use Rattle.deck_fields.specs.declared.stop.DeckStop.TheVariants.{Fault, NoMemory}
-use Rattle.deck_cards.specs.Stops.{Stops}
+use Rattle.deck_fields.specs.Stops.{Stops}
 use Rattle.basis_deck_definitions.specs.Reading.{stands_for, basis_card_fault, basis_reading}
 use Rattle.basis_deck.specs.Reading.{State, state_of, Refuses}
 

@@ -6,7 +6,7 @@ ghost use Rattle.basis_deck_definitions.specs.Placings.{code_words};
 ghost use Rattle.basis_deck_definitions.specs.Reading.{has_limit_of};
 
 use basis_deck_definitions::Code;
-use deck_cards::{DataCard, is_blank, is_word};
+use deck_fields::{DataCard, is_blank, is_word};
 use lp_model::{Lp, Status};
 
 /// The code that a word names.

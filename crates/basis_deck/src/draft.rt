@@ -8,11 +8,11 @@ use crate::codes::{code_named, has_limit, has_more_from_3, has_more_from_4};
 use crate::names::{names_of_columns, names_of_rows};
 use basis_deck_definitions::Code;
 use card_reader::Card;
-use deck_cards::{
+use deck_definitions::{DeckFaultKind, Section};
+use deck_fields::{
     CardStop, DataCard, Draft, SectionOrder, begins_section, is_header, is_last, next_section,
     read_fixed_card,
 };
-use deck_definitions::{DeckFaultKind, Section};
 use lp_model::{Basis, Lp, NoMemory, Status};
 use name_table::{Name, NameTable};
 use problem_file::Problem;
@@ -51,8 +51,8 @@ impl<'a> BasisDraft<'a> {
     ghost use Rattle.card_definitions.specs.Fields.{Fixed, reading_of};
     ghost use Rattle.card_reader.specs.Card.{card_bytes};
     ghost use Rattle.problem_definitions.specs.Problem.{has_row, has_group};
-    ghost use Rattle.deck_cards.specs.Reported.{ReportsDeckFault};
-    ghost use Rattle.deck_cards.specs.Views.{viewed};
+    ghost use Rattle.deck_fields.specs.Reported.{ReportsDeckFault};
+    ghost use Rattle.deck_fields.specs.Views.{viewed};
     ghost use Rattle.basis_deck_definitions.specs.declared.Code.TheVariants.{Exchanges, Stands};
     ghost use Rattle.basis_deck_definitions.specs.Placings.{code_words, HasNames, row_variable, column_variable};
     ghost use Rattle.basis_deck.specs.Reading.{State, state_of, code_test, read_test, inner_test, fault_at, with_placing, with_code, with_read, with_data, state_with};

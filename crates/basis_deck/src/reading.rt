@@ -8,8 +8,7 @@ ghost use Rattle.basis_deck.specs.Reading.{Refuses};
 
 use crate::draft::BasisDraft;
 use card_reader::Cards;
-use deck_cards::read_cards;
-use deck_fields::DeckStop;
+use deck_fields::{DeckStop, read_cards};
 use lp_model::{Basis, Lp};
 use problem_file::Problem;
 use std::alloc::Global;

@@ -10,7 +10,7 @@ ghost use Rattle.job_devices.specs.Text.{Writes};
 ghost use Rattle.bcd_out.specs.Lines.{line, plain_line, part_line, combination_lines, row_lines, first_plain, entry_line, zero_line, entry_lines, column_lines, bound_line, number_text, bound_lines, section_lines};
 
 use crate::card::{WrittenCard, put_card};
-use deck_cards::combination_word;
+use deck_fields::combination_word;
 use job_devices::{Sink, WriteStop, put_all, put_each};
 use name_table::Name;
 use problem_file::{

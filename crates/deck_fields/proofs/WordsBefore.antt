@@ -8,8 +8,8 @@ use Rattle.std.proofs.lemmas.List.Sums.{fails_before_first}
 use Rattle.std.proofs.Math.ListN.{drop_of_length-le}
 use Rattle.card_definitions.specs.Cards.{is_blank}
 use Rattle.card_definitions.specs.Fields.{Word as Read, word_if_any, words_from, words}
-use Rattle.deck_fields.specs.declared.free_card.Word.{Word}
-use Rattle.deck_fields.specs.declared.free_card.Words.{Words}
+use Rattle.deck_fields.specs.declared.card_words.Word.{Word}
+use Rattle.deck_fields.specs.declared.card_words.Words.{Words}
 use Rattle.deck_fields.specs.WordsViewed.{word_view, absent, IsColumn, AreWordsBefore}
 
 -- ---- parts between blanks

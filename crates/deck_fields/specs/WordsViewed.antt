@@ -3,8 +3,8 @@ use Rattle.std.specs.Prelude.{◌≡◌, ℕ, ◌+◌, ◌<◌, ◌≤◌, List,
 use Rattle.std.specs.List.{slice_split}
 use Rattle.card_definitions.specs.Cards.{is_blank}
 use Rattle.card_definitions.specs.Fields.{Word as Read, words, words_from}
-use Rattle.deck_fields.specs.declared.free_card.Word.{Word}
-use Rattle.deck_fields.specs.declared.free_card.Words.{Words}
+use Rattle.deck_fields.specs.declared.card_words.Word.{Word}
+use Rattle.deck_fields.specs.declared.card_words.Words.{Words}
 
 abbrev pub word_view : Word → Read
 word_view word = record { column = word.column; text = word.text.now }

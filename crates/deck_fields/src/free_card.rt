@@ -1,158 +1,90 @@
-// The words of a card.
-ghost use Rattle.std.specs.Prelude.{◌≡◌, ◌≤◌, ◌<◌, ◌+◌, ◌==◌, ℕ, List, IfSome, length, position, set, slice_get, unwrap_or, if◌then◌else◌, nat_lt};
-ghost use Rattle.std.specs.List.{position_or_len};
-ghost use Rattle.card_definitions.specs.Cards.{is_blank};
+// The fields of the data cards of free decks.
+ghost use Rattle.std.specs.Prelude.{◌≡◌, ◌∷◌, [], None, Some, if◌then◌else◌, IfOk, OnOk, IfErr};
+ghost use Rattle.std.specs.List.{list_any};
+ghost use Rattle.card_definitions.specs.Fields.{reading_of};
 ghost use Rattle.card_reader.specs.Card.{card_bytes};
-ghost use Rattle.card_definitions.specs.Fields.{word_text, word_of, words, read_words, no_word};
+ghost use Rattle.deck_definitions.specs.declared.DeckFaultKind.TheVariants.{LongName, LongNumber};
+ghost use Rattle.deck_definitions.specs.declared.Style.TheVariants.{FreeFields};
+ghost use Rattle.deck_definitions.specs.Conversion.{type_fault, is_longer, form_fault};
+ghost use Rattle.deck_definitions.specs.DataCards.{form_on};
 ghost use Rattle.deck_fields.specs.Readings.{ShowsFields};
-ghost use Rattle.deck_fields.specs.WordsViewed.{word_view, IsColumn, ShowsWords, AreWordsBefore};
+ghost use Rattle.deck_fields.specs.WordsViewed.{IsColumn};
 
+use crate::card_words::{free_words, read_words, word_text};
+use crate::field_lists::fields_on;
+use crate::keywords::{bound_kind, is_row_type};
 use crate::texts::Fields;
 use card_reader::Card;
+use deck_definitions::{DeckFaultKind, Section};
 
-// So many words of a card are noted: one more than a data card has fields.
-const NOTED: usize = 7;
+// The longest name and the longest text of a number.
+const NAME: usize = 8;
 
-/// A word of a card: its first column, from 1, and its bytes. One that isn't there has column 0 and no byte.
-#[derive(Clone, Copy, Debug)]
-pub struct Word<'a> {
-    pub column: u8,
-    pub text: &'a [u8],
-}
+const NUMBER: usize = 12;
 
-/// How many words a card has, and the first seven of them.
-#[derive(Clone, Copy, Debug)]
-pub struct Words<'a> {
-    pub count: u8,
-    pub words: [Word<'a>; NOTED],
-}
-
-// Where the first blank stands, or the length.
-fn first_blank(bytes: &[u8]) -> usize
-    ensures length { result ≡ position_or_len is_blank bytes.now }
-    ensures bound { result ≤ length bytes.now }
+// The fault of a card's first word, where it tells a type.
+fn type_fault(section: Section, word: &[u8]) -> Option<DeckFaultKind>
+    ensures { result ≡ type_fault section word.now }
 {
-    bytes.iter().take_while(|byte| **byte != b' ').count()
-}
-
-// Counts one more word, and notes it where there is room.
-fn add_word<'a>(words: &mut Words<'a>, word: Word<'a>)
-    requires { words.old.count ≤ 200 }
-    ensures count { words.new.count ≡ words.old.count + 1 }
-    ensures items { words.new.words ≡ (if nat_lt words.old.count 7 then set words.old.words words.old.count word.entry else words.old.words) }
-{
-    let place = words.count as usize;
-    if place < NOTED {
-        words.words[place] = word;
+    match section {
+        Section::Rows if !is_row_type(word) => Some(DeckFaultKind::BadRowType),
+        Section::Bounds if bound_kind(word).is_none() => Some(DeckFaultKind::BadBoundType),
+        _ => None,
     }
-    words.count += 1;
 }
 
-// Adds the word that begins at a place, if one does, and gives the place where the next may begin.
-fn next_word<'a>(found: &mut Words<'a>, card: &'a [u8], start: usize) -> usize
-    requires short { length card.now ≤ 80 }
-    requires inside { start < length card.now }
-    requires before { AreWordsBefore found.old card.now start }
-    ensures before { AreWordsBefore found.new card.now result }
-    ensures later { start < result }
-    ensures bound { result ≤ length card.now + 1 }
+// The same, where a card that names what is to be deleted has no type.
+fn first_word_fault(section: Section, deletes: bool, word: &[u8]) -> Option<DeckFaultKind>
+    ensures { result ≡ (if deletes then None else type_fault section word.now) }
 {
-    let rest = &card[start..];
-    let len = first_blank(rest);
-    if len > 0 {
-        let column = start as u8 + 1;
-        let text = &rest[..len];
-        add_word(found, Word { column, text });
+    if deletes {
+        None
+    } else {
+        type_fault(section, word)
     }
-    start + len + 1
 }
 
-/// The words of a card. Nothing is copied.
-pub fn free_words(card: Card<'_>) -> Words<'_>
-    ensures { ShowsWords result (card_bytes card.entry) }
+// Whether one of three names is too long.
+fn has_long_name(f: &Fields<'_>) -> bool
+    ensures { result ≡ list_any (is_longer 8) (f.now.name1.now ∷ f.now.name2.now ∷ f.now.name3.now ∷ []) }
 {
-    let bytes = card.bytes();
-    let none = Word {
-        column: 0,
-        text: &bytes[..0],
+    f.name1.len() > NAME || f.name2.len() > NAME || f.name3.len() > NAME
+}
+
+// Whether one of two numbers is too long.
+fn has_long_number(f: &Fields<'_>) -> bool
+    ensures { result ≡ list_any (is_longer 12) (f.now.value1.now ∷ f.now.value2.now ∷ []) }
+{
+    f.value1.len() > NUMBER || f.value2.len() > NUMBER
+}
+
+/// The fields of a data card of this section in a free deck, where it may name what is to be deleted. Nothing is copied.
+pub fn free_fields<'a>(
+    card: Card<'a>,
+    section: Section,
+    deletes: bool,
+) -> Result<Fields<'a>, DeckFaultKind>
+    ensures reading { IfOk result (λ f. ShowsFields f (reading_of
+        (form_on FreeFields section deletes (card_bytes card.entry)) (card_bytes card.entry))) }
+    ensures column1 { IfOk result (λ f. IsColumn f.value1_column) }
+    ensures column2 { IfOk result (λ f. IsColumn f.value2_column) }
+    ensures no_fault { OnOk result (form_fault FreeFields section deletes (card_bytes card.entry) ≡ None) }
+    ensures fault { IfErr result (λ kind. form_fault FreeFields section deletes (card_bytes card.entry) ≡ Some kind) }
+{
+    let found = free_words(card);
+    let first = word_text(&found, 0);
+    if let Some(kind) = first_word_fault(section, deletes, first) {
+        return Err(kind);
+    }
+    let Some(list) = fields_on(section, deletes, first, found.count) else {
+        return Err(DeckFaultKind::WordCount);
     };
-    let mut found = Words {
-        count: 0,
-        words: [none; NOTED],
-    };
-    let mut start = 0;
-    while start < bytes.len() {
-        start = next_word(&mut found, bytes, start);
+    let fields = read_words(&found, list);
+    if has_long_name(&fields) {
+        return Err(DeckFaultKind::LongName);
     }
-    found
-}
-
-/// The text of a word by its place, from 0; empty where the card has fewer words.
-pub fn word_text<'a>(found: &Words<'a>, place: usize) -> &'a [u8]
-    requires { place < 7 }
-    ensures { (card : List ℕ) → ShowsWords found.now card → result.now ≡ word_text card place }
-{
-    found.words[place].text
-}
-
-// Where a field stands among others.
-fn place_of(fields: &[u8], field: u8) -> Option<usize>
-    ensures place { result ≡ position (λ other. other == field) fields.now }
-    ensures bound { IfSome result (λ place. place < length fields.now) }
-{
-    fields.iter().position(|other| *other == field)
-}
-
-// A field that no word is.
-fn no_word<'a>() -> Word<'a>
-    ensures { word_view result ≡ no_word }
-{
-    Word {
-        column: 1,
-        text: &[],
+    if has_long_number(&fields) {
+        return Err(DeckFaultKind::LongNumber);
     }
-}
-
-// The word at a place, from 0; one that no field is, where the card has fewer.
-fn word_at<'a>(found: &Words<'a>, place: usize) -> Word<'a>
-    requires { place < 7 }
-    ensures word { (card : List ℕ) → ShowsWords found.now card → word_view result ≡ unwrap_or (slice_get (words card) place) no_word }
-    ensures column { (card : List ℕ) → ShowsWords found.now card → IsColumn result.column }
-{
-    if place >= found.count as usize {
-        return no_word();
-    }
-    found.words[place]
-}
-
-// The word that is a field, where the words are these fields in order.
-fn word_of<'a>(found: &Words<'a>, fields: &[u8], field: u8) -> Word<'a>
-    requires { length fields.now ≤ 6 }
-    ensures word { (card : List ℕ) → ShowsWords found.now card → word_view result ≡ word_of fields.now (words card) field }
-    ensures column { (card : List ℕ) → ShowsWords found.now card → IsColumn result.column }
-{
-    match place_of(fields, field) {
-        Some(place) => word_at(found, place),
-        None => no_word(),
-    }
-}
-
-/// What is read of words that are these fields in order.
-pub fn read_words<'a>(found: &Words<'a>, fields: &[u8]) -> Fields<'a>
-    requires { length fields.now ≤ 6 }
-    ensures reading { (card : List ℕ) → ShowsWords found.now card → ShowsFields result (read_words fields.now (words card)) }
-    ensures columns { (card : List ℕ) → ShowsWords found.now card → IsColumn result.value1_column × IsColumn result.value2_column }
-{
-    let value1 = word_of(found, fields, 4);
-    let value2 = word_of(found, fields, 6);
-    Fields {
-        kind: word_of(found, fields, 1).text,
-        name1: word_of(found, fields, 2).text,
-        name2: word_of(found, fields, 3).text,
-        value1: value1.text,
-        name3: word_of(found, fields, 5).text,
-        value2: value2.text,
-        value1_column: value1.column,
-        value2_column: value2.column,
-    }
+    Ok(fields)
 }

@@ -8,9 +8,9 @@ use Rattle.deck_definitions.specs.declared.Section.TheVariants.{Rows}
 use Rattle.deck_definitions.specs.DataCards.{Pair, entry_of}
 use Rattle.deck_definitions.specs.Tests.{pair_fault}
 use Rattle.deck_definitions.proofs.Pairs.{pairs_fault-cons}
-use Rattle.deck_cards.specs.declared.card_stop.CardStop.{CardStop}
-use Rattle.deck_cards.specs.declared.card_stop.CardStop.TheVariants.{Refused, NoMemory}
-use Rattle.deck_cards.specs.Reported.{ReportsDeckFault}
+use Rattle.deck_fields.specs.declared.card_stop.CardStop.{CardStop}
+use Rattle.deck_fields.specs.declared.card_stop.CardStop.TheVariants.{Refused, NoMemory}
+use Rattle.deck_fields.specs.Reported.{ReportsDeckFault}
 use Rattle.deck_parts.specs.Views.{rows_alone, parts_fault}
 
 -- what tells the first of two faults tells both

@@ -4,7 +4,7 @@ ghost use Rattle.std.specs.List.{IsDistinct};
 ghost use Rattle.std.specs.Map.{lookup, keys_of};
 ghost use Rattle.problem_definitions.specs.Names.{same};
 
-use deck_cards::CardStop;
+use deck_fields::CardStop;
 use indexmap::IndexMap;
 use indexmap::map::Entry;
 use name_table::Name;

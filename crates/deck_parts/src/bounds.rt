@@ -6,13 +6,12 @@ ghost use Rattle.problem_definitions.specs.Names.{same};
 ghost use Rattle.problem_definitions.specs.Numbering.{bound_by};
 ghost use Rattle.problem_definitions.specs.Kinds.{touches_upper, touches_lower};
 ghost use Rattle.deck_definitions.specs.Tests.{is_bound_already};
-ghost use Rattle.deck_cards.specs.Reported.{ReportsDeckFault};
+ghost use Rattle.deck_fields.specs.Reported.{ReportsDeckFault};
 ghost use Rattle.deck_parts.specs.Views.{marked, column_number};
 
 use crate::groups::Groups;
-use deck_cards::CardStop;
 use deck_definitions::DeckFaultKind;
-use deck_fields::Decimal;
+use deck_fields::{CardStop, Decimal};
 use indexmap::IndexSet;
 use name_table::Name;
 use problem_definitions::{BoundKind, MAX_COLUMNS};

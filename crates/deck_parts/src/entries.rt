@@ -3,14 +3,14 @@ ghost use Rattle.std.specs.Prelude.{◌≡◌, ◌≤◌, ◌++◌, ◌∷◌, [
 ghost use Rattle.card_definitions.specs.Words.{◌⟹◌};
 ghost use Rattle.problem_definitions.specs.Numbering.{entry_by};
 ghost use Rattle.problem_definitions.specs.Problem.{has_entry};
-ghost use Rattle.deck_cards.specs.Reported.{ReportsDeckFault};
+ghost use Rattle.deck_fields.specs.Reported.{ReportsDeckFault};
 ghost use Rattle.deck_parts.specs.Views.{entry_at, row_number};
 
 use crate::additions::add_new;
 use crate::on_row::OnRow;
 use crate::rows::Rows;
-use deck_cards::CardStop;
 use deck_definitions::DeckFaultKind;
+use deck_fields::CardStop;
 use indexmap::IndexMap;
 use name_table::Name;
 use problem_definitions::MAX_ROWS;

@@ -17,8 +17,8 @@ mod sections;
 
 pub use bound_sets::{BoundSets, bound_value, take_bound_card};
 pub use bounds::{touches_bottom, touches_top};
-pub use deck_cards::CardStop;
 pub use deck_definitions::{DeckFaultKind, Section};
+pub use deck_fields::CardStop;
 pub use groups::Groups;
 pub use numbers::number_among;
 pub use pairs::number_in;

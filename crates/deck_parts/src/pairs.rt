@@ -5,21 +5,20 @@ ghost use Rattle.card_definitions.specs.Numbers.{decimal_of};
 ghost use Rattle.card_definitions.specs.declared.NumberFault.TheVariants.{BadCharacter};
 ghost use Rattle.deck_definitions.specs.DataCards.{entry_of, entries_of, pairs_of, part_pairs_of, parts_on};
 ghost use Rattle.deck_definitions.specs.Tests.{number_fault_from, value_fault, pair_row_fault, pair_fault, pairs_fault};
-ghost use Rattle.deck_cards.specs.Reported.{ReportsDeckFault};
+ghost use Rattle.deck_fields.specs.Reported.{ReportsDeckFault};
 ghost use Rattle.deck_parts.specs.Views.{rows_alone, pair_value_fault, parts_fault};
-ghost use Rattle.deck_cards.specs.Views.{viewed, pair_view};
+ghost use Rattle.deck_fields.specs.Views.{viewed, pair_view};
 
 use crate::entries::Entries;
 use crate::fault_after::fault_after;
 use crate::on_row::OnRow;
 use crate::rows::{FoundRow, Rows, is_free};
 use card_definitions::NumberFault;
-use deck_cards::{
-    CardStop, DataCard, PairText, first_pair, first_part, is_blank, is_columns, is_ranges,
-    second_pair,
-};
 use deck_definitions::{DeckFaultKind, Section};
-use deck_fields::{Decimal, number};
+use deck_fields::{
+    CardStop, DataCard, Decimal, PairText, first_pair, first_part, is_blank, is_columns, is_ranges,
+    number, second_pair,
+};
 use name_table::Name;
 use problem_definitions::MAX_ENTRIES;
 

@@ -6,14 +6,14 @@ ghost use Rattle.problem_definitions.specs.Groups.{in_set};
 ghost use Rattle.deck_definitions.specs.DataCards.{entries_of};
 ghost use Rattle.deck_definitions.specs.Sections.{may_follow, furthest_next};
 ghost use Rattle.deck_definitions.specs.Tests.{columns_fault, set_fault};
-ghost use Rattle.deck_cards.specs.Reported.{ReportsDeckFault};
+ghost use Rattle.deck_fields.specs.Reported.{ReportsDeckFault};
 ghost use Rattle.deck_parts.specs.Views.{rows_alone, columns_alone};
-ghost use Rattle.deck_cards.specs.Views.{viewed};
+ghost use Rattle.deck_fields.specs.Views.{viewed};
 
 use crate::groups::Groups;
 use crate::rows::Rows;
-use deck_cards::{CardStop, DataCard, is_blank, is_word, rank_of};
 use deck_definitions::{DeckFaultKind, Section};
+use deck_fields::{CardStop, DataCard, is_blank, is_word, rank_of};
 use std::alloc::Global;
 
 // Whether a card marks integer columns.

@@ -7,7 +7,7 @@ ghost use Rattle.deck_definitions.specs.Sections.{begins, header_name, section_w
 ghost use Rattle.deck_definitions.specs.declared.Section.TheVariants.{Endata, Header};
 
 use card_reader::Card;
-use deck_cards::first_word;
+use deck_fields::first_word;
 use name_table::Name;
 
 // Whether a card has this word.

@@ -15,8 +15,8 @@ use Rattle.deck_definitions.specs.Conversion.{card_fault, first_faulty, fault_by
 use Rattle.deck_definitions.proofs.Converted.{ArePrintable, described-problem, printable_live}
 use Rattle.deck_fields.specs.declared.stop.DeckStop.{DeckStop}
 use Rattle.deck_fields.specs.declared.stop.DeckStop.TheVariants.{Fault, NoMemory}
-use Rattle.deck_cards.specs.Stops.{Stops}
-use Rattle.deck_cards.proofs.Between.{cards_up_to, cards_more, cards_split}
+use Rattle.deck_fields.specs.Stops.{Stops}
+use Rattle.deck_fields.proofs.Between.{cards_up_to, cards_more, cards_split}
 use Rattle.mps_convert.specs.State.{State, state_of}
 use Rattle.mps_convert.specs.Conversion.{Refuses}
 

@@ -12,8 +12,7 @@ ghost use Rattle.mps_convert.specs.Draft_view.{problem_view};
 
 use crate::draft::DeckDraft;
 use card_reader::{Card, Cards};
-use deck_cards::{name_in, read_cards};
-use deck_fields::DeckStop;
+use deck_fields::{DeckStop, name_in, read_cards};
 use name_table::Name;
 use problem_file::Problem;
 use std::alloc::Global;

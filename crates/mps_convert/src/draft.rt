@@ -4,16 +4,16 @@ ghost use Rattle.card_reader.specs.Card.{card_bytes};
 ghost use Rattle.problem_definitions.specs.Groups.{in_set};
 ghost use Rattle.deck_definitions.specs.DataCards.{style_begun, entries_of};
 ghost use Rattle.deck_definitions.specs.Tests.{columns_fault};
-ghost use Rattle.deck_cards.specs.Reported.{ReportsDeckFault};
+ghost use Rattle.deck_fields.specs.Reported.{ReportsDeckFault};
 ghost use Rattle.deck_parts.specs.Views.{columns_alone};
-ghost use Rattle.deck_cards.specs.Views.{viewed};
+ghost use Rattle.deck_fields.specs.Views.{viewed};
 
 use card_reader::Card;
-use deck_cards::{
+use deck_definitions::Style;
+use deck_fields::{
     CardStop, DataCard, Draft, SectionOrder, begins_section, is_blank as is_empty_text, is_header,
     is_last, next_section, read_data_card, style_begun,
 };
-use deck_definitions::Style;
 use deck_parts::{
     BoundSets, DeckFaultKind, Groups, Rows, Section, follows, take_bound_card, take_column_card,
     take_row_card, take_set_card,
@@ -100,8 +100,8 @@ impl DeckDraft {
     ghost use Rattle.deck_definitions.specs.Conversion.{section_fault, data_card_fault};
     ghost use Rattle.deck_definitions.proofs.Steps.{with_card};
     ghost use Rattle.mps_convert.specs.State.{with_data, fault_at, state_with};
-    ghost use Rattle.deck_cards.specs.Reported.{ReportsDeckFault};
-    ghost use Rattle.deck_cards.specs.Views.{viewed};
+    ghost use Rattle.deck_fields.specs.Reported.{ReportsDeckFault};
+    ghost use Rattle.deck_fields.specs.Views.{viewed};
     ghost use Rattle.mps_convert.specs.Draft_view.{problem_view, problem_named, state_view};
     ghost use Rattle.problem_definitions.specs.Numbering.{numbered};
     ghost use Rattle.problem_definitions.specs.Valid.{IsProblem};

@@ -4,11 +4,11 @@ ghost use Rattle.std.specs.Prelude.{◌≡◌, [], None, Some, OnOk, IfErr};
 use crate::numbering::renumbered;
 use crate::sections::{action_fault_of, action_of, anchor_of, comes_after, is_action, is_deletion};
 use card_reader::Card;
-use deck_cards::{
+use deck_definitions::Style;
+use deck_fields::{
     CardStop, DataCard, Draft, SectionOrder, begins_section, is_header, is_last, name_in,
     next_section, read_data_card, style_begun,
 };
-use deck_definitions::Style;
 use deck_parts::{DeckFaultKind, Section};
 use name_table::Name;
 use problem_file::{NoMemory, Problem};
@@ -41,8 +41,8 @@ impl ReviseDraft {
     ghost use Rattle.deck_definitions.specs.DataCards.{style_begun};
     ghost use Rattle.deck_definitions.specs.Conversion.{section_card_fault};
     ghost use Rattle.revise_definitions.specs.Revision.{may_come_after};
-    ghost use Rattle.deck_cards.specs.Reported.{ReportsDeckFault};
-    ghost use Rattle.deck_cards.specs.Views.{viewed};
+    ghost use Rattle.deck_fields.specs.Reported.{ReportsDeckFault};
+    ghost use Rattle.deck_fields.specs.Views.{viewed};
     ghost use Rattle.revise_definitions.specs.Actions.{action_on, anchor_on};
     ghost use Rattle.revise_definitions.specs.Tests.{action_fault};
     ghost use Rattle.revise_parts.specs.Summary.{under_of, with_card_under, edit_test, edited_by};

@@ -5,7 +5,7 @@ ghost use Rattle.problem_definitions.specs.Numbering.{entry_by, row_by, bound_by
 ghost use Rattle.problem_definitions.specs.Problem.{group_names};
 ghost use Rattle.revise_deck.specs.Different.{AreDifferentEntries, AreDifferentBounds, AreDifferentRows, AreDifferentGroups};
 
-use deck_cards::name_in;
+use deck_fields::name_in;
 use name_table::Name;
 use problem_file::{BoundItem, BoundSet, ColumnDecl, DeckEntry, Problem, RowDecl, ValueSet};
 use revise_lists::{

@@ -1,9 +1,9 @@
 // The types of rows on cards.
 ghost use Rattle.std.specs.Prelude.{◌≡◌};
 ghost use Rattle.deck_definitions.specs.DataCards.{kind_on};
-ghost use Rattle.deck_cards.specs.Views.{viewed};
+ghost use Rattle.deck_fields.specs.Views.{viewed};
 
-use deck_cards::{DataCard, combination_kind, row_kind};
+use deck_fields::{DataCard, combination_kind, row_kind};
 use problem_definitions::RowKind;
 
 /// The type of the row on a card of ROWS, plain or a combination.

@@ -8,7 +8,7 @@ ghost use Rattle.problem_definitions.specs.Problem.{has_row, has_free_row, has_c
 ghost use Rattle.problem_definitions.specs.Parts.{parts_of, with_parts, in_row};
 ghost use Rattle.problem_definitions.specs.Numbering.{entry_by, row_by};
 ghost use Rattle.deck_definitions.specs.DataCards.{parts_on, part_pairs_of};
-ghost use Rattle.deck_cards.specs.Views.{viewed};
+ghost use Rattle.deck_fields.specs.Views.{viewed};
 ghost use Rattle.revise_definitions.specs.Edits.{modify_row, without_row};
 ghost use Rattle.revise_lists.specs.Additions.{AreNumbers, AreNew};
 ghost use Rattle.revise_lists.specs.Bodies.{row_at, body_with, body_retyped};
@@ -16,7 +16,7 @@ ghost use Rattle.revise_lists.specs.Bodies.{row_at, body_with, body_retyped};
 use crate::entries::Entries;
 use crate::kinds::kind_on;
 use crate::named::insert_new;
-use deck_cards::DataCard;
+use deck_fields::DataCard;
 use deck_parts::{is_free, number_among};
 use indexmap::IndexMap;
 use name_table::Name;

@@ -3,7 +3,7 @@ ghost use Rattle.std.specs.Prelude.{◌≡◌, [], OnOk, IfOk, insert, None, fal
 ghost use Rattle.problem_definitions.specs.Problem.{has_row, has_group};
 ghost use Rattle.problem_definitions.specs.Groups.{in_all, filled};
 ghost use Rattle.deck_definitions.specs.DataCards.{entries_of, pairs_of, parts_on, part_pairs_of, row_of};
-ghost use Rattle.deck_cards.specs.Views.{viewed};
+ghost use Rattle.deck_fields.specs.Views.{viewed};
 ghost use Rattle.revise_definitions.specs.Edits.{without_row, without_column, delete_row, delete_column, edit_sets, edit_bounds};
 ghost use Rattle.revise_lists.specs.Additions.{AreNew};
 ghost use Rattle.revise_parts.specs.Needs.{IsNewRow, IsNewColumn, HasBound, CanEditRows, CanEditColumns, CanEditSets, CanEditBounds};
@@ -11,7 +11,7 @@ ghost use Rattle.revise_parts.specs.Summary.{edit_test, row_inserted, column_ins
 
 use crate::places::{next_column_place, next_row_place};
 use crate::under::UnderAction;
-use deck_cards::{DataCard, bound_kind, combination_kind, is_blank, row_kind};
+use deck_fields::{DataCard, bound_kind, combination_kind, is_blank, row_kind};
 use deck_parts::Section;
 use name_table::Name;
 use revise_definitions::Action;

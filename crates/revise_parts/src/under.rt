@@ -1,10 +1,10 @@
 // The data cards under an action.
 ghost use Rattle.std.specs.Prelude.{◌≡◌, ◌+◌, ◌-◌, ◌&&◌, [], None, Some, OnOk, IfSome, min, length, IfErr, if◌then◌else◌};
 ghost use Rattle.card_definitions.specs.Words.{is_empty};
-ghost use Rattle.deck_cards.specs.Views.{viewed};
+ghost use Rattle.deck_fields.specs.Views.{viewed};
 ghost use Rattle.revise_parts.specs.Summary.{combination_on, goes_on_from, goes_on_row_from, with_card_under, place_at};
 
-use deck_cards::{DataCard, combination_kind, is_blank, is_card_of};
+use deck_fields::{DataCard, combination_kind, is_blank, is_card_of};
 use deck_parts::CardStop;
 use indexmap::IndexSet;
 use name_table::Name;

@@ -2,7 +2,7 @@
 ghost use Rattle.std.specs.Prelude.{◌≡◌, take};
 ghost use Rattle.deck_definitions.specs.declared.Section.TheVariants.{Columns, Rhs, Ranges, Bounds};
 ghost use Rattle.deck_definitions.specs.Tests.{rows_fault};
-ghost use Rattle.deck_cards.specs.Views.{viewed};
+ghost use Rattle.deck_fields.specs.Views.{viewed};
 ghost use Rattle.deck_parts.specs.Views.{rows_alone};
 ghost use Rattle.revise_parts.specs.Summary.{goes_on_row_from, earlier_among, edit_test};
 
@@ -13,7 +13,7 @@ use crate::faults::{
 };
 use crate::places::next_row_place;
 use crate::under::UnderAction;
-use deck_cards::DataCard;
+use deck_fields::DataCard;
 use deck_parts::{DeckFaultKind, Section};
 use revise_definitions::Action;
 use revise_lists::{NamedProblem, Rows};

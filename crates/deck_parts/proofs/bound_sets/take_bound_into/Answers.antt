@@ -3,9 +3,9 @@ use Rattle.std.proofs.lemmas.Result.{on_ok_weaker}
 use Rattle.indexmap.specs.IndexMap.{insert_entry}
 use Rattle.problem_definitions.specs.Names.{same}
 use Rattle.deck_definitions.specs.DataCards.{bound_of}
-use Rattle.deck_cards.specs.Reported.{ReportsDeckFault}
+use Rattle.deck_fields.specs.Reported.{ReportsDeckFault}
 use Rattle.deck_parts.specs.Views.{group_at, bound_rest_fault}
-use Rattle.deck_cards.specs.Views.{viewed}
+use Rattle.deck_fields.specs.Views.{viewed}
 use Rattle.deck_parts.proofs.Grouped.{items_found, put_in_set}
 use Rattle.deck_parts.proofs.bound_sets.take_bound_into.Goals as goal
 

@@ -8,9 +8,9 @@ use Rattle.deck_definitions.specs.declared.DeckFaultKind.TheVariants.{ColumnSpli
 use Rattle.deck_definitions.specs.declared.Section.TheVariants.{Columns}
 use Rattle.deck_definitions.specs.DataCards.{entries_of, pairs_of}
 use Rattle.deck_definitions.specs.Tests.{pairs_fault}
-use Rattle.deck_cards.specs.Reported.{ReportsDeckFault}
+use Rattle.deck_fields.specs.Reported.{ReportsDeckFault}
 use Rattle.deck_parts.specs.Views.{rows_alone, group_at, column_fault}
-use Rattle.deck_cards.specs.Views.{viewed}
+use Rattle.deck_fields.specs.Views.{viewed}
 use Rattle.deck_parts.proofs.Fronts.{place_within, place_tells, column_fine, column_refused}
 use Rattle.deck_parts.proofs.Grouped.{items_found, put_in_set}
 use Rattle.deck_parts.proofs.groups.take_column_into.Goals as goal

@@ -4,9 +4,9 @@ use Rattle.indexmap.specs.IndexMap.{insert_entry}
 use Rattle.problem_definitions.specs.Names.{same}
 use Rattle.deck_definitions.specs.DataCards.{entries_of, pairs_of}
 use Rattle.deck_definitions.specs.Tests.{pairs_fault}
-use Rattle.deck_cards.specs.Reported.{ReportsDeckFault}
+use Rattle.deck_fields.specs.Reported.{ReportsDeckFault}
 use Rattle.deck_parts.specs.Views.{rows_alone, group_at}
-use Rattle.deck_cards.specs.Views.{viewed}
+use Rattle.deck_fields.specs.Views.{viewed}
 use Rattle.deck_parts.proofs.Grouped.{items_found, put_in_set}
 use Rattle.deck_parts.proofs.groups.take_into.Goals as goal
 

@@ -1,7 +1,7 @@
 use Rattle.std.proofs.Common.{◌∷◌, IfErr, sym, ap₂, subst}
-use Rattle.deck_cards.specs.Reported.{ReportsDeckFault}
+use Rattle.deck_fields.specs.Reported.{ReportsDeckFault}
 use Rattle.deck_parts.specs.Views.{rows_alone}
-use Rattle.deck_cards.specs.Views.{pair_view}
+use Rattle.deck_fields.specs.Views.{pair_view}
 use Rattle.deck_parts.proofs.Second.{second_tells}
 use Rattle.deck_parts.proofs.pairs.take_pairs.Goals as goal
 

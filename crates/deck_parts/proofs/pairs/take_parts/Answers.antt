@@ -1,8 +1,8 @@
 use Rattle.std.proofs.Common.{◌++◌, IfErr, sym, ap₂, subst, ◌∙◌, option_map}
 use Rattle.std.specs.Option.{option_to_list}
 use Rattle.deck_definitions.specs.DataCards.{pair_if}
-use Rattle.deck_cards.specs.Reported.{ReportsDeckFault}
-use Rattle.deck_cards.specs.Views.{viewed, pair_view}
+use Rattle.deck_fields.specs.Reported.{ReportsDeckFault}
+use Rattle.deck_fields.specs.Views.{viewed, pair_view}
 use Rattle.deck_parts.specs.Views.{parts_fault}
 use Rattle.deck_parts.proofs.PartsReported.{reported_first, parts-append, second_parts}
 use Rattle.deck_parts.proofs.pairs.take_parts.Goals as goal

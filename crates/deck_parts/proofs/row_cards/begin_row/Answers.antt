@@ -1,6 +1,6 @@
 use Rattle.std.proofs.Common.{◌≡◌, None, OnOk, IfErr, sym, subst, ◌∙◌}
-use Rattle.deck_cards.specs.Reported.{ReportsDeckFault}
-use Rattle.deck_cards.specs.Views.{viewed}
+use Rattle.deck_fields.specs.Reported.{ReportsDeckFault}
+use Rattle.deck_fields.specs.Views.{viewed}
 use Rattle.deck_parts.proofs.RowsReported.{begins_plain, begins_combination}
 use Rattle.deck_parts.proofs.row_cards.begin_row.Goals as goal
 

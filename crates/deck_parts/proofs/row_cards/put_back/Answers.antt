@@ -2,8 +2,8 @@ use Rattle.std.proofs.Common.{◌≡◌, ◌++◌, ◌∷◌, [], false, sym, ap
 use Rattle.std.proofs.lemmas.Result.{on_ok_weaker}
 use Rattle.card_definitions.specs.Words.{is_empty}
 use Rattle.problem_definitions.specs.Problem.{combination, has_row}
-use Rattle.deck_cards.specs.Reported.{ReportsDeckFault}
-use Rattle.deck_cards.specs.Views.{viewed}
+use Rattle.deck_fields.specs.Reported.{ReportsDeckFault}
+use Rattle.deck_fields.specs.Views.{viewed}
 use Rattle.deck_parts.specs.RowViewed.{row_at}
 use Rattle.deck_parts.proofs.RowsReported.{more_parts, tells_more, not_plain}
 use Rattle.deck_parts.proofs.row_cards.put_back.Goals as goal

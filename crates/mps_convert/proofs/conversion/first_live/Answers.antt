@@ -1,6 +1,6 @@
 use Rattle.std.proofs.Common.{◌≤◌, ap, sym, ◌∙◌, arith}
 use Rattle.card_definitions.specs.Cards.{live}
-use Rattle.deck_cards.proofs.Between.{nothing_yet}
+use Rattle.deck_fields.proofs.Between.{nothing_yet}
 use Rattle.mps_convert.proofs.Whole.{still_none, name_at_first}
 use Rattle.mps_convert.proofs.conversion.first_live.Goals as goal
 

@@ -1,7 +1,7 @@
 -- Each card so far is skipped.
 use Rattle.std.proofs.Common.{◌≡◌, []}
 use Rattle.card_definitions.specs.Cards.{live}
-use Rattle.deck_cards.proofs.Between.{cards_up_to}
+use Rattle.deck_fields.proofs.Between.{cards_up_to}
 use Rattle.mps_convert.proofs.conversion.first_live.Given as goal
 
 abbrev pub invariant-loop-number : goal.invariant-loop-number

@@ -3,7 +3,7 @@ use Rattle.std.proofs.lemmas.Result.{err_from_is_err_and}
 use Rattle.card_definitions.specs.Cards.{live, cards_between}
 use Rattle.problem_definitions.specs.Numbering.{by_names}
 use Rattle.deck_definitions.specs.Conversion.{fault_by}
-use Rattle.deck_cards.specs.Stops.{Stops}
+use Rattle.deck_fields.specs.Stops.{Stops}
 use Rattle.revise_definitions.specs.Revision.{revise_card_fault}
 use Rattle.revise_deck.specs.State.{State, state_of}
 use Rattle.revise_deck.specs.Draft_view.{state_view}

@@ -3,7 +3,7 @@ use Rattle.std.proofs.lemmas.Result.{on_ok_weaker}
 use Rattle.indexmap.specs.IndexMap.{insert_entry}
 use Rattle.problem_definitions.specs.Names.{same}
 use Rattle.deck_parts.specs.Views.{group_at}
-use Rattle.deck_cards.specs.Views.{viewed}
+use Rattle.deck_fields.specs.Views.{viewed}
 use Rattle.deck_parts.proofs.Grouped.{put_in_set}
 use Rattle.revise_lists.specs.Changes.{bounds_changed}
 use Rattle.revise_lists.proofs.bound_sets.change_under.Goals as goal

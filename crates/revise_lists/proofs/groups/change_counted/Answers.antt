@@ -1,6 +1,6 @@
 use Rattle.std.proofs.Common.{◌+◌, ◌-◌, ◌≤◌, map, refl, ap, sym, subst, ◌∙◌, arith}
 use Rattle.deck_parts.specs.Views.{group_at}
-use Rattle.deck_cards.specs.Views.{viewed}
+use Rattle.deck_fields.specs.Views.{viewed}
 use Rattle.deck_parts.proofs.Grouped.{put_in_set, items_found}
 use Rattle.revise_lists.specs.Additions.{CanChange}
 use Rattle.revise_lists.specs.Changes.{entries_changed}

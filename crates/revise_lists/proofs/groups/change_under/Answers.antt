@@ -2,7 +2,7 @@ use Rattle.std.proofs.Common.{◌≡◌, unwrap_or, sym, ap, ap₂, ◌∙◌}
 use Rattle.std.proofs.lemmas.Result.{on_ok_weaker}
 use Rattle.indexmap.specs.IndexMap.{insert_entry}
 use Rattle.problem_definitions.specs.Names.{same}
-use Rattle.deck_cards.specs.Views.{viewed}
+use Rattle.deck_fields.specs.Views.{viewed}
 use Rattle.revise_lists.specs.Changes.{entries_changed}
 use Rattle.revise_lists.proofs.groups.change_under.Goals as goal
 

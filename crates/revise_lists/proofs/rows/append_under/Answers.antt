@@ -6,7 +6,7 @@ use Rattle.std.specs.Map.{set_value}
 use Rattle.std.proofs.lemmas.Result.{on_ok_weaker}
 use Rattle.problem_definitions.specs.Names.{same}
 use Rattle.deck_definitions.specs.DataCards.{parts_on, part_pairs_of}
-use Rattle.deck_cards.specs.Views.{viewed}
+use Rattle.deck_fields.specs.Views.{viewed}
 use Rattle.revise_lists.specs.Bodies.{row_at, body_with}
 use Rattle.revise_lists.proofs.NamedRows.{parts_written, no_parts_written, parts_found}
 use Rattle.revise_lists.proofs.rows.append_under.Goals as goal

@@ -4,7 +4,7 @@ use Rattle.std.proofs.Common.{◌≡◌, map, is_some, sym, ap, ◌∙◌, refl,
 use Rattle.std.specs.Map.{set_value}
 use Rattle.std.proofs.lemmas.Result.{on_ok_weaker}
 use Rattle.problem_definitions.specs.Names.{same}
-use Rattle.deck_cards.specs.Views.{viewed}
+use Rattle.deck_fields.specs.Views.{viewed}
 use Rattle.revise_lists.specs.Bodies.{row_at, body_retyped}
 use Rattle.revise_lists.proofs.NamedRows.{row_modified, no_row_modified, passes_by_name}
 use Rattle.revise_lists.proofs.rows.modify_under.Goals as goal

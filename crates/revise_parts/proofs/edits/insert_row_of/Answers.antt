@@ -1,6 +1,6 @@
 use Rattle.std.proofs.Common.{sym, ◌∙◌}
 use Rattle.deck_definitions.specs.DataCards.{part_pairs_of}
-use Rattle.deck_cards.specs.Views.{viewed}
+use Rattle.deck_fields.specs.Views.{viewed}
 use Rattle.revise_parts.proofs.Faultless.{first_parts}
 use Rattle.revise_parts.proofs.edits.insert_row_of.Goals as goal
 

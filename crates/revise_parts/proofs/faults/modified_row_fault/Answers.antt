@@ -1,7 +1,7 @@
 use Rattle.std.proofs.Common.{ap, rules, sym, ◌∙◌}
 use Rattle.problem_definitions.specs.Names.{Name}
 use Rattle.problem_definitions.specs.Problem.{Problem, has_row, has_combination}
-use Rattle.deck_cards.specs.Views.{viewed}
+use Rattle.deck_fields.specs.Views.{viewed}
 use Rattle.revise_definitions.specs.Tests.{has_type_for, modified_fields_fault}
 use Rattle.revise_parts.proofs.FaultParts.{modify_parts}
 use Rattle.revise_parts.proofs.faults.modified_row_fault.Goals as goal

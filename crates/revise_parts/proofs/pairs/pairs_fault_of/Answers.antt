@@ -2,7 +2,7 @@ use Rattle.std.proofs.Common.{[], ◌∷◌, unwrap_or, ap₂, sym}
 use Rattle.std.specs.Option.{option_copied}
 use Rattle.deck_definitions.specs.declared.Section.TheVariants.{Columns}
 use Rattle.deck_definitions.specs.DataCards.{pairs_of}
-use Rattle.deck_cards.specs.Views.{viewed, pair_view}
+use Rattle.deck_fields.specs.Views.{viewed, pair_view}
 use Rattle.revise_parts.proofs.TwoPairs.{pairs_found_one, pairs_found_two}
 use Rattle.revise_parts.proofs.pairs.pairs_fault_of.Goals as goal
 

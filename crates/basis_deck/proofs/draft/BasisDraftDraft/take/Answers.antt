@@ -1,4 +1,4 @@
-use Rattle.deck_cards.proofs.States.{no_fault, made, stop}
+use Rattle.deck_fields.proofs.States.{no_fault, made, stop}
 use Rattle.basis_deck_definitions.specs.Reading.{basis_card_fault}
 use Rattle.basis_deck.specs.Reading.{state_of, fault_at, state_with}
 use Rattle.basis_deck.specs.Draft_view.{state_view}

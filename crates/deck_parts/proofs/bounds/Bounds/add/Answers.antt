@@ -2,7 +2,7 @@ use Rattle.std.proofs.Common.{sym, subst, ◌∙◌}
 use Rattle.card_definitions.specs.Words.{◌⟹◌}
 use Rattle.problem_definitions.specs.Kinds.{touches_upper, touches_lower}
 use Rattle.deck_definitions.specs.declared.DeckFaultKind.TheVariants.{BoundTwice}
-use Rattle.deck_cards.specs.Reported.{ReportsDeckFault}
+use Rattle.deck_fields.specs.Reported.{ReportsDeckFault}
 use Rattle.deck_parts.proofs.Touched.{marks_more, found_at_ends}
 use Rattle.deck_parts.proofs.bounds.Bounds.add.Goals as goal
 

@@ -1,6 +1,6 @@
 use Rattle.std.proofs.Common.{◌&&◌, Some, sym, ap, ◌∙◌}
 use Rattle.deck_definitions.specs.DataCards.{is_card_of}
-use Rattle.deck_cards.specs.Views.{viewed}
+use Rattle.deck_fields.specs.Views.{viewed}
 use Rattle.deck_parts.proofs.LastRow.{goes_on-at}
 use Rattle.deck_parts.proofs.rows.Rows.goes_on.Goals as goal
 

@@ -1,5 +1,5 @@
 use Rattle.std.proofs.Common.{sym, ◌∙◌}
-use Rattle.deck_cards.specs.Views.{viewed}
+use Rattle.deck_fields.specs.Views.{viewed}
 use Rattle.revise_lists.specs.Changes.{bounds_changed}
 use Rattle.revise_lists.proofs.NamedValues.{unchanged_group}
 use Rattle.revise_lists.proofs.bound_sets.BoundSets.change.Goals as goal

@@ -1,0 +1,169 @@
+// The words that decks know.
+ghost use Rattle.std.specs.Prelude.{◌≡◌, ◌≤◌, false, length, bytes_eq, unwrap_or, option_map, is_some};
+ghost use Rattle.problem_definitions.specs.Kinds.{takes_value};
+ghost use Rattle.card_definitions.specs.Words.{is_empty, named};
+ghost use Rattle.deck_definitions.specs.DataCards.{row_kinds, combination_kinds, combination_text, is_row_type, bound_kinds};
+ghost use Rattle.deck_definitions.specs.Sections.{section_word, section_words, is_section};
+ghost use Rattle.deck_definitions.specs.declared.Section.TheVariants.{Columns, Ranges};
+
+use crate::blanks::first_blank;
+use deck_definitions::Section;
+use problem_definitions::{BoundKind, RowKind};
+
+// Whether two texts are equal.
+pub fn is_word(word: &[u8], text: &[u8]) -> bool
+    ensures { result ≡ bytes_eq word.now text.now }
+{
+    *word == *text
+}
+
+// Whether a text has no byte.
+pub fn is_blank(text: &[u8]) -> bool
+    ensures { result ≡ is_empty text.now }
+{
+    text.first().is_none()
+}
+
+/// The word of a section card: it goes from column 1 to the first blank.
+pub fn first_word(card: &[u8]) -> &[u8]
+    ensures { result.now ≡ section_word card.now }
+{
+    &card[..first_blank(card)]
+}
+
+// The type of a plain row that a word names.
+pub fn row_kind(word: &[u8]) -> Option<RowKind>
+    ensures { result ≡ named row_kinds word.now }
+{
+    if is_word(b"N", word) {
+        Some(RowKind::N)
+    } else if is_word(b"G", word) {
+        Some(RowKind::G)
+    } else if is_word(b"L", word) {
+        Some(RowKind::L)
+    } else if is_word(b"E", word) {
+        Some(RowKind::E)
+    } else {
+        None
+    }
+}
+
+// The type of a combination that a word names.
+pub fn combination_kind(word: &[u8]) -> Option<RowKind>
+    ensures { result ≡ named combination_kinds word.now }
+{
+    if is_word(b"DN", word) {
+        Some(RowKind::N)
+    } else if is_word(b"DG", word) {
+        Some(RowKind::G)
+    } else if is_word(b"DL", word) {
+        Some(RowKind::L)
+    } else if is_word(b"DE", word) {
+        Some(RowKind::E)
+    } else {
+        None
+    }
+}
+
+/// The word that is the type of a combination.
+pub fn combination_word(kind: RowKind) -> &'static [u8]
+    ensures word { result.now ≡ combination_text kind }
+    ensures short { length result.now ≤ 2 }
+{
+    match kind {
+        RowKind::N => b"DN",
+        RowKind::G => b"DG",
+        RowKind::L => b"DL",
+        RowKind::E => b"DE",
+    }
+}
+
+// Whether a word names a type of combinations.
+pub fn combines(word: &[u8]) -> bool
+    ensures { result ≡ is_some (named combination_kinds word.now) }
+{
+    combination_kind(word).is_some()
+}
+
+// Whether a word names a type of rows, of either sort.
+pub fn is_row_type(word: &[u8]) -> bool
+    ensures { result ≡ is_row_type word.now }
+{
+    row_kind(word).is_some() || combines(word)
+}
+
+// The type of a bound that a word names.
+pub fn bound_kind(word: &[u8]) -> Option<BoundKind>
+    ensures { result ≡ named bound_kinds word.now }
+{
+    if is_word(b"UP", word) {
+        Some(BoundKind::Up)
+    } else if is_word(b"LO", word) {
+        Some(BoundKind::Lo)
+    } else if is_word(b"FX", word) {
+        Some(BoundKind::Fx)
+    } else if is_word(b"FR", word) {
+        Some(BoundKind::Fr)
+    } else if is_word(b"MI", word) {
+        Some(BoundKind::Mi)
+    } else if is_word(b"PL", word) {
+        Some(BoundKind::Pl)
+    } else {
+        None
+    }
+}
+
+// Whether a word names a type of bounds that takes a number.
+pub fn takes_number(word: &[u8]) -> bool
+    ensures { result ≡ unwrap_or (option_map takes_value (named bound_kinds word.now)) false }
+{
+    match bound_kind(word) {
+        Some(kind) => has_value(kind),
+        None => false,
+    }
+}
+
+/// Whether a bound of this type has a value.
+pub fn has_value(kind: BoundKind) -> bool
+    ensures { result ≡ takes_value kind }
+{
+    match kind {
+        BoundKind::Up | BoundKind::Lo | BoundKind::Fx => true,
+        BoundKind::Fr | BoundKind::Mi | BoundKind::Pl => false,
+    }
+}
+
+// The section that a word begins.
+pub fn section_named(word: &[u8]) -> Option<Section>
+    ensures { result ≡ named section_words word.now }
+{
+    if is_word(b"NAME", word) {
+        Some(Section::Header)
+    } else if is_word(b"ROWS", word) {
+        Some(Section::Rows)
+    } else if is_word(b"COLUMNS", word) {
+        Some(Section::Columns)
+    } else if is_word(b"RHS", word) {
+        Some(Section::Rhs)
+    } else if is_word(b"RANGES", word) {
+        Some(Section::Ranges)
+    } else if is_word(b"BOUNDS", word) {
+        Some(Section::Bounds)
+    } else if is_word(b"ENDATA", word) {
+        Some(Section::Endata)
+    } else {
+        None
+    }
+}
+
+pub fn is_columns(section: Section) -> bool
+    ensures { result ≡ is_section Columns section }
+{
+    matches!(section, Section::Columns)
+}
+
+pub fn is_ranges(section: Section) -> bool
+    ensures { result ≡ is_section Ranges section }
+{
+    matches!(section, Section::Ranges)
+}

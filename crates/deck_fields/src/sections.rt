@@ -1,0 +1,87 @@
+// The section cards of a deck.
+ghost use Rattle.std.specs.Prelude.{◌≡◌, Bool, Some, IfOk, OnOk, IfErr};
+ghost use Rattle.card_definitions.specs.Words.{named};
+ghost use Rattle.deck_definitions.specs.declared.Section.{Section as TheSection};
+ghost use Rattle.deck_definitions.specs.declared.Section.TheVariants.{Header, Endata};
+ghost use Rattle.deck_definitions.specs.Sections.{is_section, is_section_card, rank, section_word, section_words};
+ghost use Rattle.deck_definitions.specs.Conversion.{section_card_fault};
+ghost use Rattle.deck_fields.specs.Reported.{ReportsDeckFault};
+
+use crate::card_stop::CardStop;
+use crate::keywords::{first_word, section_named};
+use deck_definitions::{DeckFaultKind, Section};
+
+/// Whether a card is a section card.
+pub fn begins_section(card: &[u8]) -> bool
+    ensures { result ≡ is_section_card card.now }
+{
+    match card.first() {
+        Some(byte) => !(*byte == b' ' || *byte == b'*'),
+        None => false,
+    }
+}
+
+/// Whether this is the section of the NAME card.
+pub fn is_header(section: Section) -> bool
+    ensures { result ≡ is_section Header section }
+{
+    matches!(section, Section::Header)
+}
+
+/// Whether this is the section of the ENDATA card.
+pub fn is_last(section: Section) -> bool
+    ensures { result ≡ is_section Endata section }
+{
+    matches!(section, Section::Endata)
+}
+
+/// How far along a section stands.
+pub fn rank_of(section: Section) -> u8
+    ensures { result ≡ rank section }
+{
+    match section {
+        Section::Header => 0,
+        Section::Rows => 1,
+        Section::Columns => 2,
+        Section::Rhs => 3,
+        Section::Ranges => 4,
+        Section::Bounds => 5,
+        Section::Endata => 6,
+    }
+}
+
+/// The order in which the sections of a kind of decks come.
+pub trait SectionOrder {
+    /// Whether a section may come after another.
+    ghost follows: { TheSection → TheSection → Bool };
+
+    /// Whether a section may come after another.
+    fn may_follow(before: Section, section: Section) -> bool
+        ensures { result ≡ follows before section };
+}
+
+/// The section that a section card begins after another, in this order.
+pub fn next_section<O: SectionOrder>(
+    before: Option<Section>,
+    card: &[u8],
+) -> Result<Section, CardStop>
+    ensures section { IfOk result (λ section. named section_words (section_word card.now) ≡
+        Some section) }
+    ensures no_fault { OnOk result (section_card_fault O.follows before card.now ≡ None) }
+    ensures stop { IfErr result (ReportsDeckFault (section_card_fault O.follows before card.now)) }
+{
+    let next = section_named(first_word(card));
+    let Some(before) = before else {
+        return match next {
+            Some(Section::Header) => Ok(Section::Header),
+            _ => Err(CardStop::Refused(DeckFaultKind::SectionOrder)),
+        };
+    };
+    let Some(section) = next else {
+        return Err(CardStop::Refused(DeckFaultKind::UnknownSection));
+    };
+    if !O::may_follow(before, section) {
+        return Err(CardStop::Refused(DeckFaultKind::SectionOrder));
+    }
+    Ok(section)
+}
