@@ -305,13 +305,13 @@ fn fill(file: &EtaFile, row: u32, out: &mut [Frac], workspace: &mut [Frac]) -> R
     Ok(())
 }
 
-/// Whether the rate, or its opposite where `up` is false, is wanted at the variable of a place.
+/// Whether the rate, or its opposite where `up` is false, is wanted at the variable of a place. Most rates are 0, which is wanted nowhere.
 #[inline(always)]
 fn is_wanted_at(wanted: &[Wanted], place: u32, up: bool, rate: Frac) -> bool
     requires { place < length wanted.now }
     ensures { result ≡ is_wanted (wanted_at wanted.now (place + 1)) (turned up rate) }
 {
-    wanted[place as usize].is_met(up, rate)
+    !rate.is_zero() && wanted[place as usize].is_met(up, rate)
 }
 
 /// Fills in the rates from the multipliers of the rows, the first variable's first, up to the first that is wanted.

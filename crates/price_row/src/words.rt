@@ -103,7 +103,9 @@ fn begin_words(i: u32, out: &mut [i64])
     ensures { IsUnit i (wholes out.new) }
 {
     for place in out.iter_mut() {
-        *place = 0;
+        if *place != 0 {
+            *place = 0;
+        }
     }
     out[i as usize - 1] = 1;
 }
