@@ -8,10 +8,12 @@ ghost use Rattle.exact_values.specs.Rational.{zero_ℚ, ◌-ℚ◌, ◌*ℚ◌, 
 ghost use Rattle.frac128.specs.Terms.{Fits};
 ghost use Rattle.whole_vectors.specs.Quotients.{AreProducts, AreQuotients, IsSameOver};
 
+mod sparse_words;
 mod word_vectors;
 
 use divisors::gcd;
 use frac128::Frac;
+pub use sparse_words::SparseWords;
 use word_vectors::{word_multiple, word_product};
 pub use word_vectors::{multiply_words, word, word_fraction, word_quotient, word_sum};
 
