@@ -20,13 +20,14 @@ use std::alloc::Global;
 use std::marker::Model;
 use sums::{sum_of_column, sum_over};
 use whole::{first_by_whole, row_by_whole};
+use whole_vectors::SparseWords;
 use words::{first_by_words, row_by_words};
 
 /// Rows of an inverse that is kept as an eta file, with room for the multipliers of the rows, in words and in fractions, and for a
 /// direction.
 #[derive(Drop)]
 pub struct PriceRow {
-    words: Vec<i64>,
+    words: SparseWords,
     multipliers: Vec<Frac>,
     workspace: Vec<Frac>,
 }
@@ -50,7 +51,7 @@ impl PriceRow {
     {
         let size = lp.number_of_variables();
         Ok(PriceRow {
-            words: vec![in alloc; 0; size as usize]?,
+            words: SparseWords::zeros(alloc, size as usize)?,
             multipliers: vec![in alloc; Frac::whole(0); size as usize]?,
             workspace: vec![in alloc; Frac::whole(0); size as usize]?,
         })

@@ -15,7 +15,7 @@ use divisors::gcd;
 use frac128::Frac;
 pub use sparse_words::SparseWords;
 use word_vectors::{word_multiple, word_product};
-pub use word_vectors::{multiply_words, word, word_fraction, word_quotient, word_sum};
+pub use word_vectors::{number_at, word, word_fraction, word_quotient, word_sum};
 
 /// A denominator of this size or more is reduced.
 const LARGE: u128 = 1 << 50;

@@ -5,7 +5,7 @@ ghost use Rattle.exact_values.specs.Rational.{whole, zero_ℚ, ◌*ℚ◌, ◌/�
 ghost use Rattle.lp_definitions.specs.LinearProgram.{value_at};
 ghost use Rattle.whole_vectors.specs.Quotients.{AreProducts, AreQuotients};
 ghost use Rattle.whole_vectors.specs.Words.{wholes};
-ghost use Rattle.whole_vectors.specs.Ranks.{AreRanked, IsListedAt, IsRank, AreWritten};
+ghost use Rattle.whole_vectors.specs.Ranks.{AreRanked, IsListedAt, IsRank, AreWritten, AreKept};
 
 use crate::{word_quotient, word_sum};
 use frac128::Frac;
@@ -80,7 +80,8 @@ fn clear_listed(numbers: &mut [i64], listed: &[usize])
 /// Makes the numbers at the listed places their products with a factor.
 fn multiply_listed(numbers: &mut [i64], listed: &[usize], by: Frac) -> Option<()>
     requires { All (λ n. n < length numbers.old) listed.now }
-    ensures { IfSome result (λ _. (rank : ℕ → ℕ) → IsRank rank listed.now → AreWritten rank
+    ensures others { AreKept listed.now (wholes numbers.old) (wholes numbers.new) }
+    ensures products { IfSome result (λ _. (rank : ℕ → ℕ) → IsRank rank listed.now → AreWritten rank
         listed.now (λ n. slice_index_or (wholes numbers.old) n zero_ℚ *ℚ by) (length listed.now)
         (wholes numbers.old) (wholes numbers.new)) }
 {
@@ -122,21 +123,13 @@ impl SparseWords {
         })
     }
 
-    /// How many numbers there are.
-    pub fn size(&self) -> usize
-        ensures { result ≡ length self.now }
-    {
-        self.numbers.len()
-    }
-
-    /// The number of the variable `k`, from 1.
+    /// The numbers of all variables.
     #[inline(always)]
-    pub fn at(&self, k: u32) -> i64
-        requires low { 1 ≤ k }
-        requires high { k ≤ length self.now }
-        ensures { whole result ≡ value_at self.now k }
+    pub fn numbers(&self) -> &[i64]
+        ensures numbers { wholes result.now ≡ self.now }
+        ensures places { length result.now ≡ length self.now }
     {
-        self.numbers[k as usize - 1]
+        &self.numbers
     }
 
     /// Makes `n` the number of the variable `k`, from 1.
@@ -144,10 +137,13 @@ impl SparseWords {
     pub fn put(&mut self, k: u32, n: i64) -> Option<()>
         requires low { 1 ≤ k }
         requires high { k ≤ length self.old }
-        ensures number { OnSome result (self.new ≡ set self.old (k - 1) (whole n)) }
+        ensures number { IfSome result (λ _. self.new ≡ set self.old (k - 1) (whole n)) }
         ensures places { length self.new ≡ length self.old }
     {
         let place = k as usize - 1;
+        if self.numbers[place] == n {
+            return Some(());
+        }
         enlist(&mut self.listed, &mut self.ranks, place)?;
         self.numbers[place] = n;
         Some(())
@@ -164,7 +160,7 @@ impl SparseWords {
 
     /// Makes each number its product with a factor.
     pub fn multiply(&mut self, by: Frac) -> Option<()>
-        ensures products { OnSome result (AreProducts by self.old self.new) }
+        ensures products { IfSome result (λ _. AreProducts by self.old self.new) }
         ensures places { length self.new ≡ length self.old }
     {
         if by == Frac::whole(1) {
@@ -178,7 +174,7 @@ impl SparseWords {
         requires apart { by ≢ zero_ℚ }
         requires places { length out.old ≡ length self.now }
         requires zero { (k : ℕ) → 1 ≤ k → value_at out.old k ≡ zero_ℚ }
-        ensures { OnSome result (AreQuotients by self.now out.new) }
+        ensures { IfSome result (λ _. AreQuotients by self.now out.new) }
     {
         divide_listed(&self.numbers, &self.listed, by, out)
     }
