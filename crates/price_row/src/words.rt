@@ -15,10 +15,10 @@ ghost use Rattle.price_row.specs.Sums.{weighted, products};
 ghost use Rattle.price_row.specs.Places.{IsRowPlace};
 ghost use Rattle.price_row.specs.Known.{IsKnown, IsUnit, HasMultipliers, IsRateOf};
 
-use crate::is_wanted_at;
+use crate::{Sought, is_wanted_at};
 use eta_file::{EtaEntry, EtaFile};
 use frac128::Frac;
-use lp_model::{Entry, Wanted};
+use lp_model::Entry;
 use whole_vectors::{SparseWords, number_at, product, terms, word, word_quotient, word_sum};
 
 /// The sum of the entries, each times the number there, begun with `first`. An entry at a number of 0 adds nothing.
@@ -148,26 +148,24 @@ fn rate_in_words(
 /// Fills in the rates from the numbers of the multipliers of the rows, up to the first that is wanted.
 fn fill_by_words(
     file: &EtaFile,
-    row: u32,
+    sought: &Sought<'_>,
     numbers: &[i64],
     denominator: Frac,
-    wanted: &[Wanted],
-    up: bool,
     out: &mut [Frac],
 ) -> Option<Option<u32>>
-    requires basic { IsBasic file.now.matrix file.now.basics row }
+    requires basic { IsBasic file.now.matrix file.now.basics sought.now.row }
     requires number_places { length numbers.now ≡ size file.now.matrix }
-    requires wanted_places { length wanted.now ≡ size file.now.matrix }
+    requires wanted_places { length sought.now.wanted.now ≡ size file.now.matrix }
     requires places { length out.old ≡ size file.now.matrix }
-    requires known { Represent (HasMultipliers file.now (size file.now.matrix) row)
+    requires known { Represent (HasMultipliers file.now (size file.now.matrix) sought.now.row)
         denominator (wholes numbers.now) }
-    ensures { IfSome result (IsFirstWanted file.now.matrix file.now.basics row wanted.now up
-        (value_at out.new)) }
+    ensures { IfSome result (IsFirstWanted file.now.matrix file.now.basics sought.now.row
+        sought.now.wanted.now sought.now.up (value_at out.new)) }
 {
     for place in 0..file.size() {
-        let rate = rate_in_words(file, place, row, denominator, numbers)?;
+        let rate = rate_in_words(file, place, sought.row, denominator, numbers)?;
         out[place as usize] = rate;
-        if is_wanted_at(wanted, place, up, rate) {
+        if is_wanted_at(sought.wanted, place, sought.up, rate) {
             return Some(Some(place + 1));
         }
     }
@@ -178,22 +176,20 @@ fn fill_by_words(
 /// up to it, and `numbers` those of the multipliers of the rows.
 pub fn first_by_words(
     file: &EtaFile,
-    row: u32,
+    sought: &Sought<'_>,
     numbers: &mut SparseWords,
-    wanted: &[Wanted],
-    up: bool,
     out: &mut [Frac],
 ) -> Option<Option<u32>>
-    requires basic { IsBasic file.now.matrix file.now.basics row }
+    requires basic { IsBasic file.now.matrix file.now.basics sought.now.row }
     requires number_places { length numbers.old ≡ size file.now.matrix }
-    requires wanted_places { length wanted.now ≡ size file.now.matrix }
+    requires wanted_places { length sought.now.wanted.now ≡ size file.now.matrix }
     requires places { length out.old ≡ size file.now.matrix }
-    ensures found { IfSome result (IsFirstWanted file.now.matrix file.now.basics row wanted.now up
-        (value_at out.new)) }
+    ensures found { IfSome result (IsFirstWanted file.now.matrix file.now.basics sought.now.row
+        sought.now.wanted.now sought.now.up (value_at out.new)) }
     ensures number_places { length numbers.new ≡ length numbers.old }
 {
-    let denominator = word_multipliers(file, row, numbers)?;
-    fill_by_words(file, row, numbers.numbers(), denominator, wanted, up, out)
+    let denominator = word_multipliers(file, sought.row, numbers)?;
+    fill_by_words(file, sought, numbers.numbers(), denominator, out)
 }
 
 /// Fills in the rates from the numbers of the multipliers of the rows.

@@ -6,4 +6,4 @@ use Rattle.price_row.proofs.words.first_by_words.Goals as goal
 
 pub fill_by_words-requires-clause-known : goal.fill_by_words-requires-clause-known
 fill_by_words-requires-clause-known c =
-    subst (λ xs. Represent (HasMultipliers c.args.file.now (size c.args.file.now.matrix) c.args.row) c.in_ok-denominator.denominator xs) (sym c.numbers.ensures.numbers) c.in_ok-denominator.ensures.known
+    subst (λ xs. Represent (HasMultipliers c.args.file.now (size c.args.file.now.matrix) c.args.sought.now.row) c.in_ok-denominator.denominator xs) (sym c.numbers.ensures.numbers) c.in_ok-denominator.ensures.known
