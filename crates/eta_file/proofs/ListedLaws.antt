@@ -2,6 +2,8 @@
 use Rattle.std.proofs.Common.{◌≡◌, ◌≢◌, ℕ, zero, suc, ◌+◌, ◌-◌, ◌<◌, ◌≤◌, List, [], ◌∷◌, ◌++◌, length, take, drop, get_or, set, filter, refl, sym, ◌∙◌, ap, ap₂, subst, true, false, cond, arith, All, Bool, ltb, map, not}
 use Rattle.std.specs.Prelude.{nat_eq, ◌&&◌}
 use Rattle.std.specs.List.{insert, remove}
+use Rattle.std.specs.List.Sorted.{IsNonDecreasing}
+use Rattle.std.proofs.lemmas.List.Kept.{IsNonDecreasingBy-filter}
 use Rattle.std.proofs.lemmas.List.{get_or-set_same, get_or-set_other, get_or_past, length-set, append-nil}
 use Rattle.std.proofs.lemmas.List.Elements.{filter-append, All-filter}
 use native.Mathlib.Decide.{ℕ_discrete}
@@ -41,6 +43,20 @@ numbers_within n i d below = let is = number_at 1 n i d below in (is.0, omega (a
 -- each of the list is a variable
 pub listed_within : (b : Basics) → All (λ (k : ℕ). (1 ≤ k) × (k ≤ length b)) (listed_of b)
 listed_within b = All-filter (is_in b) (λ (k : ℕ). (1 ≤ k) × (k ≤ length b)) (numbers_from 1 (length b)) (numbers_within (length b))
+
+number_is : (f n i d : ℕ) → i < length (numbers_from f n) → get_or (numbers_from f n) i d ≡ f + i
+number_is f zero i d below = absurd (omega arith)
+number_is f (suc n) zero d below = omega arith
+number_is f (suc n) (suc i) d below = number_is (suc f) n i d (omega arith) ∙ omega arith
+
+passing_ascend : (p : ℕ → Bool) (n : ℕ) → IsNonDecreasing (filter p (numbers_from 1 n))
+passing_ascend p n = IsNonDecreasingBy-filter (λ k. k) p (numbers_from 1 n) (λ i j d up below.
+    let first = number_is 1 n i d (omega (arith, up, below)) in
+    let second = number_is 1 n j d below in
+    omega (arith, up, first, second))
+
+pub listed_ascend : (b : Basics) → IsNonDecreasing (listed_of b)
+listed_ascend b = passing_ascend (is_in b) (length b)
 
 none_less : (q : ℕ → Bool) (t f n : ℕ) → t < f → place_in (filter q (numbers_from f n)) t ≡ 0
 none_less q t f zero past = refl
@@ -179,6 +195,12 @@ module _ (b : Basics) (p q : ℕ) (p_low : 1 ≤ p) (p_high : p ≤ length b) (q
 
   pub leaver_listed : place_in (listed_of b) p < length (listed_of b)
   leaver_listed = place_within (is_in without) (is_in b) p other_out p_out leaves 1 (length b) (omega arith) p_low (omega (arith, p_high))
+
+  pub left_ascend : (mid : List ℕ) → mid ≡ remove (listed_of b) (place_in (listed_of b) p) → IsNonDecreasing mid
+  left_ascend mid is =
+      subst (λ ks. IsNonDecreasing ks)
+      (sym (is ∙ removed (is_in without) (is_in b) p other_out p_out leaves 1 (length b) (omega arith) p_low (omega (arith, p_high))))
+      (passing_ascend (is_in without) (length b))
 
   pub exchanged_listed : (mid : List ℕ) → mid ≡ remove (listed_of b) (place_in (listed_of b) p) → insert mid (place_in mid q) q ≡ listed_of (exchanged b p q)
   exchanged_listed mid is =

@@ -2,6 +2,7 @@
 
 ghost use Rattle.std.specs.Prelude.{◌≡◌, ◌<◌, ◌≤◌, ◌^◌, true, false, length, filter, IfOk};
 ghost use Rattle.std.specs.List.{insert, remove};
+ghost use Rattle.std.specs.List.Sorted.{IsNonDecreasing};
 ghost use Rattle.std.specs.Vec.{vec_len, vec_capacity};
 ghost use Rattle.lp_definitions.specs.Basis.{is_in, exchanged};
 ghost use Rattle.eta_file.specs.Listed.{listed_of, place_in};
@@ -45,15 +46,17 @@ fn listed_in(alloc: Global, marks: &[bool]) -> Result<Vec<u32>, NoMemory>
 
 /// How many of an ascending list are less than `k`.
 pub fn place_of(listed: &[u32], k: u32) -> usize
+    requires { IsNonDecreasing listed.now }
     ensures place { result ≡ place_in listed.now k }
     ensures within { result ≤ length listed.now }
 {
-    listed.iter().take_while(|i| **i < k).count()
+    listed.partition_point(|i| *i < k)
 }
 
 /// Takes `k` out of an ascending list, and so makes room for another.
 fn take_out(listed: &mut Vec<u32>, k: u32)
-    requires { place_in listed.old.items k < length listed.old.items }
+    requires ascending { IsNonDecreasing listed.old.items }
+    requires within { place_in listed.old.items k < length listed.old.items }
     ensures items { listed.new.items ≡ remove listed.old.items (place_in listed.old.items k) }
     ensures workspace { vec_len listed.new < vec_capacity listed.new }
 {
@@ -63,7 +66,8 @@ fn take_out(listed: &mut Vec<u32>, k: u32)
 
 /// Puts `k` in at its place in an ascending list with room for it.
 fn put_in(listed: &mut Vec<u32>, k: u32)
-    requires { vec_len listed.old < vec_capacity listed.old }
+    requires ascending { IsNonDecreasing listed.old.items }
+    requires room { vec_len listed.old < vec_capacity listed.old }
     ensures { listed.new.items ≡ insert listed.old.items (place_in listed.old.items k) k }
 {
     let place = place_of(listed, k);

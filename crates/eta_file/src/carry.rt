@@ -114,27 +114,26 @@ impl Crossing {
             .map_err(|refused| self.evidence(3, i, j, refused))
     }
 
-    /// The rate of `i` at `j` without its part along the entering variable's direction. Where the product or the difference doesn't
-    /// fit, it is computed from the product's parts. Either way this counts as two operations.
+    /// The rate at `j` of the basic of an entry without its part along the entering variable's direction. Where the product or the
+    /// difference doesn't fit, it is computed from the product's parts. Either way this counts as two operations.
     fn rest<L: Ledger>(
         self,
-        i: u32,
+        entry: &EtaEntry,
         j: u32,
         rate: Frac,
         quotient: Frac,
-        factor: Frac,
         steps: &mut Steps<L>,
     ) -> Result<Frac, Evidence>
-        ensures value { IfOk result (λ rest. rest ≡ rate -ℚ quotient *ℚ factor) }
-        ensures refused { IfErr result (IsRestRefused self.way self.p self.q i j rate
-            quotient factor) }
+        ensures value { IfOk result (λ rest. rest ≡ rate -ℚ quotient *ℚ entry.now.rate) }
+        ensures refused { IfErr result (IsRestRefused self.way self.p self.q entry.now.i j rate
+            quotient entry.now.rate) }
         ensures cost { steps.new ≡ steps.old + 2 }
     {
         steps.tick();
         steps.tick();
-        match self.plain_rest(i, j, rate, quotient, factor) {
+        match self.plain_rest(entry, j, rate, quotient) {
             Ok(rest) => Ok(rest),
-            Err(evidence) => match rate.sub_product(quotient, factor) {
+            Err(evidence) => match rate.sub_product(quotient, entry.rate) {
                 Some(rest) => Ok(rest),
                 None => Err(evidence),
             },
@@ -144,18 +143,17 @@ impl Crossing {
     /// The same by a product and a difference alone.
     fn plain_rest(
         self,
-        i: u32,
+        entry: &EtaEntry,
         j: u32,
         rate: Frac,
         quotient: Frac,
-        factor: Frac,
     ) -> Result<Frac, Evidence>
-        ensures value { IfOk result (λ rest. rest ≡ rate -ℚ quotient *ℚ factor) }
-        ensures refused { IfErr result (IsRestRefused self.way self.p self.q i j rate
-            quotient factor) }
+        ensures value { IfOk result (λ rest. rest ≡ rate -ℚ quotient *ℚ entry.now.rate) }
+        ensures refused { IfErr result (IsRestRefused self.way self.p self.q entry.now.i j rate
+            quotient entry.now.rate) }
     {
-        let product = self.product(i, j, quotient, factor)?;
-        self.difference(i, j, rate, product)
+        let product = self.product(entry.i, j, quotient, entry.rate)?;
+        self.difference(entry.i, j, rate, product)
     }
 
     /// Takes from each entry of the column but the leaver's its part along the entering variable's direction.
@@ -177,7 +175,7 @@ impl Crossing {
         for entry in entries {
             if entry.i != self.p {
                 let place = entry.i as usize - 1;
-                out[place] = self.rest(entry.i, j, out[place], quotient, entry.rate, steps)?;
+                out[place] = self.rest(entry, j, out[place], quotient, steps)?;
             }
         }
         Ok(())

@@ -1,13 +1,19 @@
 -- A row that is filled from the first variable on, up to the first rate that is wanted.
-use Rattle.std.proofs.Common.{◌≡◌, ◌≢◌, ℕ, ◌+◌, ◌-◌, ◌<◌, ◌≤◌, ◌⊎◌, inl, inr, List, length, get_or, set, refl, sym, ◌∙◌, ap, Bool, true, false, subst, arith}
-use Rattle.std.specs.Prelude.{eqb, Option, Some, None, if◌then◌else◌}
+use Rattle.std.proofs.Common.{◌≡◌, ◌≢◌, ℕ, ◌+◌, ◌-◌, ◌<◌, ◌≤◌, ◌⊎◌, inl, inr, List, length, get_or, set, refl, sym, ◌∙◌, ap, ap₂, Bool, true, false, subst, arith}
+use Rattle.std.specs.Prelude.{eqb, not, ◌||◌, Option, Some, None, if◌then◌else◌}
 use Rattle.std.proofs.lemmas.Bool.Decides.{eqb_tells}
 use Rattle.std.proofs.lemmas.List.{get_or-set_same, get_or-set_other}
-use Rattle.exact_values.specs.Rational.{ℚ, zero_ℚ}
+use Rattle.exact_values.specs.Rational.{ℚ, zero_ℚ, neg_ℚ}
+use Rattle.exact_values.specs.Tests.{lt_ℚ}
+use Rattle.exact_values.proofs.Order.{le_refl}
+use Rattle.exact_values.proofs.Ring_laws.{zero-add, add-neg}
+use Rattle.exact_values.proofs.Tests_laws.{lt_fails_from_le}
+use Rattle.lp_laws.proofs.Values.{clash}
 use Rattle.lp_definitions.specs.LinearProgram.{size, Vector, IsVariable, value_at}
 use Rattle.lp_definitions.specs.Basis.{is_in, row_basics}
 use Rattle.lp_model.specs.Wanted.{is_wanted, turned, wanted_at, meets, NoneMeets, IsLeastWanted, IsFirstWanted, IsUpTo}
 use Rattle.lp_model.specs.declared.wanted.Wanted.{Wanted}
+use Rattle.lp_model.specs.declared.wanted.Wanted.TheVariants.{Nothing, Below, Above, Apart}
 use Rattle.eta_file.specs.Prefixes.{Passed, after}
 use Rattle.eta_file.specs.Inverse.{Inverse}
 use Rattle.price_row.specs.Known.{IsRateOf, IsFilledTo}
@@ -97,3 +103,22 @@ module _ (f : Inverse) (r : ℕ) (ws : List Wanted) (up : Bool) (are : f.basics 
   pub first_none : size f.matrix ≤ n → IsFilledTo f n r xs → NoneMeets ws up (value_at xs) n → IsFirstWanted f.matrix f.basics r ws up (value_at xs) None
   first_none all filled none =
       first_is f r ws up (value_at xs) are passed counted None (λ k is upto. filled_at f n r xs filled k is.0 (omega (arith, is.1, all))) (λ k low high. none k low (omega (arith, high, counted, all)))
+
+-- ---- 0 is wanted nowhere
+
+not_below : lt_ℚ zero_ℚ zero_ℚ ≡ false
+not_below = lt_fails_from_le zero_ℚ zero_ℚ (le_refl zero_ℚ)
+
+zero_unwanted : (w : Wanted) → is_wanted w zero_ℚ ≡ false
+zero_unwanted Nothing = refl
+zero_unwanted Below = not_below
+zero_unwanted Above = not_below
+zero_unwanted Apart = ap₂ ◌||◌ not_below not_below
+
+turned_zero : (up : Bool) → turned up zero_ℚ ≡ zero_ℚ
+turned_zero true = refl
+turned_zero false = sym (zero-add (neg_ℚ zero_ℚ)) ∙ add-neg zero_ℚ
+
+pub nothing_wanted : (is_zero : Bool) (w : Wanted) (up : Bool) (v : ℚ) → (is_zero ≡ true → v ≡ zero_ℚ) → not is_zero ≡ false → not is_zero ≡ is_wanted w (turned up v)
+nothing_wanted true w up v tells fails = sym (ap (λ x. is_wanted w (turned up x)) (tells refl) ∙ ap (is_wanted w) (turned_zero up) ∙ zero_unwanted w)
+nothing_wanted false w up v tells fails = absurd (clash fails)

@@ -6,4 +6,4 @@ abbrev pub workspace_of : Inside → ℕ
 workspace_of a = length a.workspace.items
 
 abbrev pub HasWorkspace : Inside → Type 0
-HasWorkspace a = (length a.words.items ≡ length a.workspace.items) × (length a.multipliers.items ≡ length a.workspace.items)
+HasWorkspace a = (length a.words ≡ length a.workspace.items) × (length a.multipliers.items ≡ length a.workspace.items)

@@ -20,13 +20,22 @@ use std::alloc::Global;
 use std::marker::Model;
 use sums::{sum_of_column, sum_over};
 use whole::{first_by_whole, row_by_whole};
+use whole_vectors::SparseWords;
 use words::{first_by_words, row_by_words};
 
-/// Rows of an inverse that is kept as an eta file, with workspace for the multipliers of the rows, in words and in fractions, and for
-/// a direction.
+/// What is asked of the row of the basic `row`: its first rate, or where `up` is false the opposite of one, that is wanted.
+#[derive(Clone, Copy)]
+struct Sought<'a> {
+    row: u32,
+    wanted: &'a [Wanted],
+    up: bool,
+}
+
+/// Rows of an inverse that is kept as an eta file, with places for the multipliers of the rows, in words and in fractions, and for a
+/// direction.
 #[derive(Drop)]
 pub struct PriceRow {
-    words: Vec<i64>,
+    words: SparseWords,
     multipliers: Vec<Frac>,
     workspace: Vec<Frac>,
 }
@@ -50,7 +59,7 @@ impl PriceRow {
     {
         let size = lp.number_of_variables();
         Ok(PriceRow {
-            words: vec![in alloc; 0; size as usize]?,
+            words: SparseWords::zeros(alloc, size as usize)?,
             multipliers: vec![in alloc; Frac::whole(0); size as usize]?,
             workspace: vec![in alloc; Frac::whole(0); size as usize]?,
         })
@@ -105,24 +114,17 @@ impl PriceRow {
         ensures same { self.new ≡ self.old }
     {
         let _size = file.size();
-        let quick = first_by_words(file, i, &mut self.words, wanted, up, out);
+        let sought = Sought { row: i, wanted, up };
+        let quick = first_by_words(file, &sought, &mut self.words, out);
         if let Some(found) = quick {
             return Ok(found);
         }
-        let quick = first_by_whole(file, i, &mut self.multipliers, wanted, up, out);
+        let quick = first_by_whole(file, &sought, &mut self.multipliers, out);
         if let Some(found) = quick {
             return Ok(found);
         }
         multipliers(file, i, &mut self.multipliers, &mut self.workspace)?;
-        fill_to_wanted(
-            file,
-            i,
-            &self.multipliers,
-            wanted,
-            up,
-            out,
-            &mut self.workspace,
-        )
+        fill_to_wanted(file, &sought, &self.multipliers, out, &mut self.workspace)
     }
 }
 
@@ -305,40 +307,38 @@ fn fill(file: &EtaFile, row: u32, out: &mut [Frac], workspace: &mut [Frac]) -> R
     Ok(())
 }
 
-/// Whether the rate, or its opposite where `up` is false, is wanted at the variable of a place.
+/// Whether the rate, or its opposite where `up` is false, is wanted at the variable of a place. Most rates are 0, which is wanted nowhere.
 #[inline(always)]
 fn is_wanted_at(wanted: &[Wanted], place: u32, up: bool, rate: Frac) -> bool
     requires { place < length wanted.now }
     ensures { result ≡ is_wanted (wanted_at wanted.now (place + 1)) (turned up rate) }
 {
-    wanted[place as usize].is_met(up, rate)
+    !rate.is_zero() && wanted[place as usize].is_met(up, rate)
 }
 
 /// Fills in the rates from the multipliers of the rows, the first variable's first, up to the first that is wanted.
 fn fill_to_wanted(
     file: &EtaFile,
-    row: u32,
+    sought: &Sought<'_>,
     multipliers: &[Frac],
-    wanted: &[Wanted],
-    up: bool,
     out: &mut [Frac],
     workspace: &mut [Frac],
 ) -> Result<Option<u32>, Stop>
-    requires basic { IsBasic file.now.matrix file.now.basics row }
+    requires basic { IsBasic file.now.matrix file.now.basics sought.now.row }
     requires multiplier_places { length multipliers.now ≡ size file.now.matrix }
-    requires wanted_places { length wanted.now ≡ size file.now.matrix }
+    requires wanted_places { length sought.now.wanted.now ≡ size file.now.matrix }
     requires places { length out.old ≡ size file.now.matrix }
     requires workspace { length workspace.old ≡ size file.now.matrix }
-    requires known { HasMultipliers file.now (size file.now.matrix) row multipliers.now }
-    ensures found { IfOk result (IsFirstWanted file.now.matrix file.now.basics row wanted.now up
-        (value_at out.new)) }
+    requires known { HasMultipliers file.now (size file.now.matrix) sought.now.row multipliers.now }
+    ensures found { IfOk result (IsFirstWanted file.now.matrix file.now.basics sought.now.row
+        sought.now.wanted.now sought.now.up (value_at out.new)) }
     ensures overflow { IfErr result (IsColumnStop file.now) }
     ensures never { IfErr result (λ stop. stop ≢ Stop.NoMemory) }
 {
     for place in 0..file.size() {
-        let rate = rate_at(file, place, row, multipliers, workspace)?;
+        let rate = rate_at(file, place, sought.row, multipliers, workspace)?;
         out[place as usize] = rate;
-        if is_wanted_at(wanted, place, up, rate) {
+        if is_wanted_at(sought.wanted, place, sought.up, rate) {
             return Ok(Some(place + 1));
         }
     }

@@ -14,10 +14,10 @@ ghost use Rattle.lp_model.specs.Wanted.{IsFirstWanted};
 ghost use Rattle.whole_vectors.specs.Quotients.{Represent};
 ghost use Rattle.price_row.specs.Known.{IsKnown, HasMultipliers, IsRateOf};
 
-use crate::{begin, is_wanted_at};
+use crate::{Sought, begin, is_wanted_at};
 use eta_file::{EtaEntry, EtaFile};
 use frac128::Frac;
-use lp_model::{Entry, Wanted};
+use lp_model::Entry;
 use whole_vectors::{less_product, multiply, product, quotient, reduce, terms};
 
 /// The sum, with one product more. Most numbers of a row are 0, and nothing is made of these.
@@ -134,26 +134,24 @@ fn rate_whole(file: &EtaFile, place: u32, row: u32, denominator: Frac, out: &[Fr
 /// Fills in the rates from the numbers of the multipliers of the rows, up to the first that is wanted.
 fn fill_whole(
     file: &EtaFile,
-    row: u32,
+    sought: &Sought<'_>,
     numbers: &[Frac],
     denominator: Frac,
-    wanted: &[Wanted],
-    up: bool,
     out: &mut [Frac],
 ) -> Option<Option<u32>>
-    requires basic { IsBasic file.now.matrix file.now.basics row }
+    requires basic { IsBasic file.now.matrix file.now.basics sought.now.row }
     requires number_places { length numbers.now ≡ size file.now.matrix }
-    requires wanted_places { length wanted.now ≡ size file.now.matrix }
+    requires wanted_places { length sought.now.wanted.now ≡ size file.now.matrix }
     requires places { length out.old ≡ size file.now.matrix }
-    requires known { Represent (HasMultipliers file.now (size file.now.matrix) row)
+    requires known { Represent (HasMultipliers file.now (size file.now.matrix) sought.now.row)
         denominator numbers.now }
-    ensures { IfSome result (IsFirstWanted file.now.matrix file.now.basics row wanted.now up
-        (value_at out.new)) }
+    ensures { IfSome result (IsFirstWanted file.now.matrix file.now.basics sought.now.row
+        sought.now.wanted.now sought.now.up (value_at out.new)) }
 {
     for place in 0..file.size() {
-        let rate = rate_whole(file, place, row, denominator, numbers)?;
+        let rate = rate_whole(file, place, sought.row, denominator, numbers)?;
         out[place as usize] = rate;
-        if is_wanted_at(wanted, place, up, rate) {
+        if is_wanted_at(sought.wanted, place, sought.up, rate) {
             return Some(Some(place + 1));
         }
     }
@@ -164,21 +162,19 @@ fn fill_whole(
 /// up to it, and `numbers` those of the multipliers of the rows.
 pub fn first_by_whole(
     file: &EtaFile,
-    row: u32,
+    sought: &Sought<'_>,
     numbers: &mut [Frac],
-    wanted: &[Wanted],
-    up: bool,
     out: &mut [Frac],
 ) -> Option<Option<u32>>
-    requires basic { IsBasic file.now.matrix file.now.basics row }
+    requires basic { IsBasic file.now.matrix file.now.basics sought.now.row }
     requires number_places { length numbers.old ≡ size file.now.matrix }
-    requires wanted_places { length wanted.now ≡ size file.now.matrix }
+    requires wanted_places { length sought.now.wanted.now ≡ size file.now.matrix }
     requires places { length out.old ≡ size file.now.matrix }
-    ensures { IfSome result (IsFirstWanted file.now.matrix file.now.basics row wanted.now up
-        (value_at out.new)) }
+    ensures { IfSome result (IsFirstWanted file.now.matrix file.now.basics sought.now.row
+        sought.now.wanted.now sought.now.up (value_at out.new)) }
 {
-    let denominator = whole_multipliers(file, row, numbers)?;
-    fill_whole(file, row, numbers, denominator, wanted, up, out)
+    let denominator = whole_multipliers(file, sought.row, numbers)?;
+    fill_whole(file, sought, numbers, denominator, out)
 }
 
 /// Fills in the rates from the numbers of the multipliers of the rows.

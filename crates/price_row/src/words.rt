@@ -15,21 +15,11 @@ ghost use Rattle.price_row.specs.Sums.{weighted, products};
 ghost use Rattle.price_row.specs.Places.{IsRowPlace};
 ghost use Rattle.price_row.specs.Known.{IsKnown, IsUnit, HasMultipliers, IsRateOf};
 
-use crate::is_wanted_at;
+use crate::{Sought, is_wanted_at};
 use eta_file::{EtaEntry, EtaFile};
 use frac128::Frac;
-use lp_model::{Entry, Wanted};
-use whole_vectors::{multiply_words, product, terms, word, word_quotient, word_sum};
-
-/// The number at the variable `k`.
-#[inline(always)]
-fn number_at(numbers: &[i64], k: u32) -> i64
-    requires low { 1 ≤ k }
-    requires high { k ≤ length numbers.now }
-    ensures { whole result ≡ value_at (wholes numbers.now) k }
-{
-    numbers[k as usize - 1]
-}
+use lp_model::Entry;
+use whole_vectors::{SparseWords, number_at, product, terms, word, word_quotient, word_sum};
 
 /// The sum of the entries, each times the number there, begun with `first`. An entry at a number of 0 adds nothing.
 #[inline(always)]
@@ -67,13 +57,14 @@ fn back_words(
     place: u32,
     row: u32,
     denominator: Frac,
-    out: &mut [i64],
+    out: &mut SparseWords,
 ) -> Option<Frac>
     requires within { place < length file.now.etas }
     requires basic { IsBasic file.now.matrix file.now.basics row }
     requires places { length out.old ≡ size file.now.matrix }
-    requires known { Represent (IsKnown file.now (place + 1) row) denominator (wholes out.old) }
-    ensures { IfSome result (λ d. Represent (IsKnown file.now place row) d (wholes out.new)) }
+    requires known { Represent (IsKnown file.now (place + 1) row) denominator out.old }
+    ensures known { IfSome result (λ d. Represent (IsKnown file.now place row) d out.new) }
+    ensures places { length out.new ≡ length out.old }
 {
     let _size = file.size();
     let _etas = file.etas();
@@ -81,42 +72,42 @@ fn back_words(
     let Some(whole) = file.whole(place + 1) else {
         return None;
     };
-    out[eta.p as usize - 1] = 0;
-    let lead = number_at(out, eta.q);
+    out.put(eta.p, 0)?;
+    let lead = number_at(out.numbers(), eta.q);
     let first = word_sum(0, lead, whole.scale)?;
-    let sum = sum_of_entries(whole.entries, first, out)?;
+    let sum = sum_of_entries(whole.entries, first, out.numbers())?;
     if sum == 0 {
         return Some(denominator);
     }
     let ratio = word_quotient(sum, whole.pivot)?;
     let (number, by) = terms(ratio);
-    multiply_words(out, by)?;
+    out.multiply(by)?;
     let made = word(number.neg())?;
-    out[eta.p as usize - 1] = made;
+    out.put(eta.p, made)?;
     product(denominator, by)
 }
 
 /// The row of the basic `i` at the basics themselves: 1 at `i`, and 0 elsewhere.
-fn begin_words(i: u32, out: &mut [i64])
+fn begin_words(i: u32, out: &mut SparseWords) -> Option<()>
     requires low { 1 ≤ i }
     requires high { i ≤ length out.old }
-    ensures { IsUnit i (wholes out.new) }
+    ensures unit { IfSome result (λ _. IsUnit i out.new) }
+    ensures places { length out.new ≡ length out.old }
 {
-    for place in out.iter_mut() {
-        *place = 0;
-    }
-    out[i as usize - 1] = 1;
+    out.clear();
+    out.put(i, 1)
 }
 
 /// Fills the first places of `out` with the numbers of the multipliers of the rows, and gives their denominator.
-fn word_multipliers(file: &EtaFile, row: u32, out: &mut [i64]) -> Option<Frac>
+fn word_multipliers(file: &EtaFile, row: u32, out: &mut SparseWords) -> Option<Frac>
     requires basic { IsBasic file.now.matrix file.now.basics row }
     requires places { length out.old ≡ size file.now.matrix }
-    ensures { IfSome result (λ d. Represent (HasMultipliers file.now (size file.now.matrix) row)
-        d (wholes out.new)) }
+    ensures known { IfSome result (λ d. Represent (HasMultipliers file.now
+        (size file.now.matrix) row) d out.new) }
+    ensures places { length out.new ≡ length out.old }
 {
     let _size = file.size();
-    begin_words(row, out);
+    begin_words(row, out)?;
     let mut denominator = Frac::whole(1);
     let etas = file.etas();
     for back in 0..etas {
@@ -157,26 +148,24 @@ fn rate_in_words(
 /// Fills in the rates from the numbers of the multipliers of the rows, up to the first that is wanted.
 fn fill_by_words(
     file: &EtaFile,
-    row: u32,
+    sought: &Sought<'_>,
     numbers: &[i64],
     denominator: Frac,
-    wanted: &[Wanted],
-    up: bool,
     out: &mut [Frac],
 ) -> Option<Option<u32>>
-    requires basic { IsBasic file.now.matrix file.now.basics row }
+    requires basic { IsBasic file.now.matrix file.now.basics sought.now.row }
     requires number_places { length numbers.now ≡ size file.now.matrix }
-    requires wanted_places { length wanted.now ≡ size file.now.matrix }
+    requires wanted_places { length sought.now.wanted.now ≡ size file.now.matrix }
     requires places { length out.old ≡ size file.now.matrix }
-    requires known { Represent (HasMultipliers file.now (size file.now.matrix) row)
+    requires known { Represent (HasMultipliers file.now (size file.now.matrix) sought.now.row)
         denominator (wholes numbers.now) }
-    ensures { IfSome result (IsFirstWanted file.now.matrix file.now.basics row wanted.now up
-        (value_at out.new)) }
+    ensures { IfSome result (IsFirstWanted file.now.matrix file.now.basics sought.now.row
+        sought.now.wanted.now sought.now.up (value_at out.new)) }
 {
     for place in 0..file.size() {
-        let rate = rate_in_words(file, place, row, denominator, numbers)?;
+        let rate = rate_in_words(file, place, sought.row, denominator, numbers)?;
         out[place as usize] = rate;
-        if is_wanted_at(wanted, place, up, rate) {
+        if is_wanted_at(sought.wanted, place, sought.up, rate) {
             return Some(Some(place + 1));
         }
     }
@@ -187,21 +176,20 @@ fn fill_by_words(
 /// up to it, and `numbers` those of the multipliers of the rows.
 pub fn first_by_words(
     file: &EtaFile,
-    row: u32,
-    numbers: &mut [i64],
-    wanted: &[Wanted],
-    up: bool,
+    sought: &Sought<'_>,
+    numbers: &mut SparseWords,
     out: &mut [Frac],
 ) -> Option<Option<u32>>
-    requires basic { IsBasic file.now.matrix file.now.basics row }
+    requires basic { IsBasic file.now.matrix file.now.basics sought.now.row }
     requires number_places { length numbers.old ≡ size file.now.matrix }
-    requires wanted_places { length wanted.now ≡ size file.now.matrix }
+    requires wanted_places { length sought.now.wanted.now ≡ size file.now.matrix }
     requires places { length out.old ≡ size file.now.matrix }
-    ensures { IfSome result (IsFirstWanted file.now.matrix file.now.basics row wanted.now up
-        (value_at out.new)) }
+    ensures found { IfSome result (IsFirstWanted file.now.matrix file.now.basics sought.now.row
+        sought.now.wanted.now sought.now.up (value_at out.new)) }
+    ensures number_places { length numbers.new ≡ length numbers.old }
 {
-    let denominator = word_multipliers(file, row, numbers)?;
-    fill_by_words(file, row, numbers, denominator, wanted, up, out)
+    let denominator = word_multipliers(file, sought.row, numbers)?;
+    fill_by_words(file, sought, numbers.numbers(), denominator, out)
 }
 
 /// Fills in the rates from the numbers of the multipliers of the rows.
@@ -226,12 +214,18 @@ fn fill_row_by_words(
 }
 
 /// Fills `out` with the rates of the row, and `numbers` with those of the multipliers of the rows.
-pub fn row_by_words(file: &EtaFile, row: u32, numbers: &mut [i64], out: &mut [Frac]) -> Option<()>
+pub fn row_by_words(
+    file: &EtaFile,
+    row: u32,
+    numbers: &mut SparseWords,
+    out: &mut [Frac],
+) -> Option<()>
     requires basic { IsBasic file.now.matrix file.now.basics row }
     requires number_places { length numbers.old ≡ size file.now.matrix }
     requires places { length out.old ≡ size file.now.matrix }
-    ensures { IfSome result (λ _. IsRowOf file.now.matrix file.now.basics row (value_at out.new)) }
+    ensures rates { IfSome result (λ _. IsRowOf file.now.matrix file.now.basics row (value_at out.new)) }
+    ensures number_places { length numbers.new ≡ length numbers.old }
 {
     let denominator = word_multipliers(file, row, numbers)?;
-    fill_row_by_words(file, row, numbers, denominator, out)
+    fill_row_by_words(file, row, numbers.numbers(), denominator, out)
 }

@@ -8,12 +8,14 @@ ghost use Rattle.exact_values.specs.Rational.{zero_ℚ, ◌-ℚ◌, ◌*ℚ◌, 
 ghost use Rattle.frac128.specs.Terms.{Fits};
 ghost use Rattle.whole_vectors.specs.Quotients.{AreProducts, AreQuotients, IsSameOver};
 
+mod sparse_words;
 mod word_vectors;
 
 use divisors::gcd;
 use frac128::Frac;
+pub use sparse_words::SparseWords;
 use word_vectors::{word_multiple, word_product};
-pub use word_vectors::{multiply_words, word, word_fraction, word_quotient, word_sum};
+pub use word_vectors::{number_at, word, word_fraction, word_quotient, word_sum};
 
 /// A denominator of this size or more is reduced.
 const LARGE: u128 = 1 << 50;

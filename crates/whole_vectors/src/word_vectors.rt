@@ -1,9 +1,9 @@
 //! Numbers over one denominator that are whole numbers of one machine word each. Where a number isn't, the answer is None.
 
-ghost use Rattle.std.specs.Prelude.{◌≡◌, ◌≢◌, ◌+ℤ◌, ◌*ℤ◌, IfSome};
+ghost use Rattle.std.specs.Prelude.{◌≡◌, ◌≢◌, ◌≤◌, ◌+ℤ◌, ◌*ℤ◌, length, IfSome};
 ghost use Rattle.exact_values.specs.Rational.{whole, zero_ℚ, ◌+ℚ◌, ◌*ℚ◌, ◌/ℚ◌};
 ghost use Rattle.frac128.specs.Terms.{Fits};
-ghost use Rattle.whole_vectors.specs.Quotients.{AreProducts};
+ghost use Rattle.lp_definitions.specs.LinearProgram.{value_at};
 ghost use Rattle.whole_vectors.specs.Words.{wholes};
 
 use crate::quotient;
@@ -29,6 +29,16 @@ pub fn word_fraction(n: i64) -> Frac
     ensures { result ≡ whole n }
 {
     Frac::whole(n as i128)
+}
+
+/// The number at the variable `k`.
+#[inline(always)]
+pub fn number_at(numbers: &[i64], k: u32) -> i64
+    requires low { 1 ≤ k }
+    requires high { k ≤ length numbers.now }
+    ensures { whole result ≡ value_at (wholes numbers.now) k }
+{
+    numbers[k as usize - 1]
 }
 
 /// sum + x*y of words, which fits.
@@ -98,22 +108,4 @@ pub fn word_quotient(n: i64, by: Frac) -> Option<Frac>
         return Some(word_fraction(times));
     }
     quotient(word_fraction(n), by)
-}
-
-/// Makes each number its product with a factor.
-pub fn multiply_words(numbers: &mut [i64], by: Frac) -> Option<()>
-    ensures { IfSome result (λ _. AreProducts by (wholes numbers.old) (wholes numbers.new)) }
-{
-    if by == Frac::whole(1) {
-        return Some(());
-    }
-    for place in 0..numbers.len() {
-        let number = numbers[place];
-        if number == 0 {
-            continue;
-        }
-        let made = word_sum(0, number, by)?;
-        numbers[place] = made;
-    }
-    Some(())
 }

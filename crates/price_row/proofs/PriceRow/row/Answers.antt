@@ -8,7 +8,7 @@ use Rattle.price_row.proofs.PriceRow.row.Goals as goal
 pub returns-then-is_some-clause-rates : goal.returns-then-is_some-clause-rates
 returns-then-is_some-clause-rates c =
     let some : is_some c.row_by_words.result ≡ true = search rules in
-    where_some c.row_by_words.result (IsRowOf c.args.file.now.matrix c.args.file.now.basics c.args.i (value_at c.row_by_words.new.out)) some c.row_by_words.ensures
+    where_some c.row_by_words.result (IsRowOf c.args.file.now.matrix c.args.file.now.basics c.args.i (value_at c.row_by_words.new.out)) some c.row_by_words.ensures.rates
 
 pub returns-then-is_some-2-clause-rates : goal.returns-then-is_some-2-clause-rates
 returns-then-is_some-2-clause-rates c =

@@ -8,6 +8,6 @@ use Rattle.price_row.proofs.words.fill_by_words.Given as goal
 abbrev pub invariant-loop-place : goal.invariant-loop-place
 invariant-loop-place l = record {
   counted : length l.out ≡ size l.file.matrix;
-  filled : IsFilledTo l.file l.place l.row l.out;
-  none : NoneMeets l.wanted l.up (value_at l.out) l.place;
+  filled : IsFilledTo l.file l.place l.sought.row l.out;
+  none : NoneMeets l.sought.wanted.now l.sought.up (value_at l.out) l.place;
 }

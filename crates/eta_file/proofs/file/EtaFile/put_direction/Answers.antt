@@ -1,10 +1,14 @@
-use Rattle.std.proofs.Common.{◌≡◌, ◌∙◌, ap, drop, length, take}
+use Rattle.std.proofs.Common.{◌≡◌, ◌∙◌, ap, drop, length, take, subst, sym}
+use Rattle.std.specs.List.Sorted.{IsNonDecreasing}
 use Rattle.lp_definitions.specs.LinearProgram.{size}
 use Rattle.eta_file.specs.File.{inverse_of}
 use Rattle.eta_file.specs.Listed.{listed_of, place_in}
 use Rattle.eta_file.proofs.FileLaws.{marks_counted}
-use Rattle.eta_file.proofs.ListedLaws.{direction_covered}
+use Rattle.eta_file.proofs.ListedLaws.{direction_covered, listed_ascend}
 use Rattle.eta_file.proofs.file.EtaFile.put_direction.Goals as goal
+
+pub place_of-requires : goal.place_of-requires
+place_of-requires c = subst (λ ks. IsNonDecreasing ks) (sym c.listed-listed.ensures) (listed_ascend (inverse_of c.self.inside).basics)
 
 pub put_around-requires-clause-covered : goal.put_around-requires-clause-covered
 put_around-requires-clause-covered c =
