@@ -39,13 +39,7 @@ fn formula(number: u8, p: u32, q: u32, i: u32) -> Formula
 }
 
 /// The value of `i`, which has this rate, after the step `by` of `q`, by the plain operations.
-fn plainly_moved(
-    value: Frac,
-    rate: Frac,
-    by: &Stopper,
-    q: u32,
-    i: u32,
-) -> Result<Frac, Evidence>
+fn plainly_moved(value: Frac, rate: Frac, by: &Stopper, q: u32, i: u32) -> Result<Frac, Evidence>
     ensures value { IfOk result (λ moved. moved ≡ value +ℚ by.now.step *ℚ rate) }
     ensures refused { IfErr result (MovedRefused by.now.step rate value by.now.p q i) }
     ensures needed { OnErr result (rate ≢ zero_ℚ) }

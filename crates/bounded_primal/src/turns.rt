@@ -461,7 +461,14 @@ fn run<R: Rates>(
     match stopper_of(at, rates, direction, moved.q, moved.up)? {
         None => {
             let point = whole_point(at, rates)?;
-            Ok(Turn::Ends(unbounded_ending(at.alloc, at.lp, point, direction.values(), moved.up, at.steps)?))
+            Ok(Turn::Ends(unbounded_ending(
+                at.alloc,
+                at.lp,
+                point,
+                direction.values(),
+                moved.up,
+                at.steps,
+            )?))
         }
         Some(by) => {
             if at.left == 0 {
