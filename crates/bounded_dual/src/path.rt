@@ -140,6 +140,7 @@ pub fn dual<R: Rates>(
         RuleEndsOverflowFree dual_turn (Dual lp.now) lp.now basis.old limit (R.waypoints rates.old)
         bases ending → IsEndOr DualStop.NoMemory basis.old bases ending basis.new result }
 {
+    let _size = lp.number_of_variables();
     let mut workspace = Workspace::new(alloc, lp)?;
     workspace.fill_prices(lp, basis, rates)?;
     if let Some(j) = wrong_price(lp, basis, &workspace.prices) {

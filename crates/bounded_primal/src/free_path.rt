@@ -158,6 +158,7 @@ pub fn primal_free<R: Rates>(
         EndsFreely lp.now basis.old (R.waypoints rates.old) bases ending →
         IsFreeEndOrMemory basis.old bases ending basis.new result }
 {
+    let _size = lp.number_of_variables();
     if let Some(k) = crossed(lp) {
         return Ok(Outcome::Crossed { k });
     }

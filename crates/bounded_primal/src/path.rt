@@ -119,6 +119,7 @@ pub fn primal<R: Rates>(
         EndsOverflowFree lp.now basis.old limit (R.waypoints rates.old) bases ending →
         IsEndOrMemory basis.old bases ending basis.new result }
 {
+    let _size = lp.number_of_variables();
     if let Some(k) = crossed(lp) {
         return Ok(Outcome::Crossed { k });
     }

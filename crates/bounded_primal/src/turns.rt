@@ -304,9 +304,10 @@ fn entering_variable_by_row<R: Rates>(
     ensures overflow { IfErr result (λ stop. IfOverflow stop
         (PointRefused at.now.lp.now (R.waypoints rates.old) at.now.basis.now (R.waypoints rates.new))) }
 {
-    match rates.first_wanted(at.lp.objective, wanted, is_minimized(at.lp), prices) {
+    let lp = at.lp;
+    match rates.first_wanted(lp.objective, wanted, is_minimized(lp), prices) {
         Ok(None) => Ok(None),
-        Ok(Some(q)) => Ok(Some(entering_variable_at(at.lp, prices, q))),
+        Ok(Some(q)) => Ok(Some(entering_variable_at(lp, prices, q))),
         Err(stop) => Err(stop),
     }
 }
@@ -330,7 +331,8 @@ fn entering_variable_of<R: Rates>(
     ensures overflow { IfErr result (λ stop. IfOverflow stop
         (PointRefused at.now.lp.now (R.waypoints rates.old) at.now.basis.now (R.waypoints rates.new))) }
 {
-    match at.lp.change {
+    let lp = at.lp;
+    match lp.change {
         None => entering_variable_by_row(at, rates, wanted, prices),
         Some(_) => entering_variable_by_prices(at, rates, row, prices),
     }
