@@ -13,16 +13,17 @@ ghost use Rattle.bounded_primal.specs.Calls.{RuleCallEnds, RuleNeverReturned, Ru
 ghost use Rattle.bounded_primal.specs.Complete.{RuleEndsOverflowFree, IsEndOr};
 ghost use Rattle.bounded_primal.specs.Outcomes.{IsTrueOutcome};
 ghost use Rattle.bounded_primal.specs.Turns.{IsUncrossed};
+ghost use Rattle.bounded_primal.specs.Workspaces.{AreSized};
 ghost use Rattle.termination_laws.specs.Laws.{lists_of};
 ghost use Rattle.bounded_dual.specs.Stops.{DualEnds, DualStops, IsNotUnbounded};
 
 use crate::moves::DualStop;
 use crate::turns::next_turn;
 use basis_values::{crossed, fill_prices, outside, point_of, wrong_price};
-use bounded_primal::{Kept, Position, Turn, step_over, workspace};
+use bounded_primal::{Kept, Position, Turn, Workspace, step_over};
 use dual_step::prices_over;
 use frac128::Frac;
-use lp_model::{Basis, Lp, Outcome, Rates, SparseVector, Stop};
+use lp_model::{Basis, Lp, Outcome, Rates, Stop};
 use std::alloc::Global;
 
 /// The prices of the basis, which are at hand where they were `carried` there, and are made anew where an operation was refused on the
@@ -53,26 +54,19 @@ fn kept_prices<R: Rates>(
 }
 
 /// Makes the basis's point, and goes from basis to basis with it, or with the values that steps need, where another is refused.
-/// `prices` are the basis's, and are kept over each step; `row` and `direction` are workspaces.
+/// The prices of the workspace are the basis's, and are kept over each step.
 fn walk<R: Rates>(
-    alloc: Global,
     lp: &Lp,
     basis: &mut Basis,
     rates: &mut R,
-    point: &mut [Frac],
-    prices: &mut [Frac],
-    row: &mut [Frac],
-    direction: &mut SparseVector,
+    workspace: &mut Workspace,
     limit: u32,
 ) -> Result<Outcome, DualStop>
     requires lawful { IsLinearProgram lp.now }
     requires no_change { lp.now.change ≡ None }
     requires rates { HasRates (R.matrix rates.old) (R.basics rates.old) lp.now basis.old }
-    requires point_places { length point.old ≡ size lp.now.matrix }
-    requires price_places { length prices.old ≡ size lp.now.matrix }
-    requires row_places { length row.old ≡ size lp.now.matrix }
-    requires direction_places { length direction.old ≡ size lp.now.matrix }
-    requires prices { ArePricesOf lp.now basis.old (value_at prices.old) }
+    requires sized { AreSized (size lp.now.matrix) workspace.old }
+    requires prices { ArePricesOf lp.now basis.old (value_at workspace.old.prices.items) }
     requires right { HasRightPrices lp.now basis.old }
     requires uncrossed { IsUncrossed lp.now }
     ensures ends { IfOk result (RuleCallEnds dual_turn lp.now basis.old basis.new limit) }
@@ -82,12 +76,18 @@ fn walk<R: Rates>(
     ensures waypoints { RuleWaypointsFollow dual_turn lp.now basis.old basis.new
         (R.waypoints rates.old) (R.waypoints rates.new) }
 {
+    let alloc = workspace.alloc;
+    let point = workspace.point.as_mut_slice();
+    let prices = workspace.prices.as_mut_slice();
+    let row = workspace.row.as_mut_slice();
+    let direction = &mut workspace.direction;
     point_of(alloc, lp, basis, rates, point)?;
     let mut broken = outside(lp, basis, point);
     let mut kept = Kept::AllSoFar;
     let mut steps = 0;
     loop {
         let at = Position {
+            alloc,
             lp,
             basis,
             point,
@@ -96,7 +96,7 @@ fn walk<R: Rates>(
             steps,
             left: limit - steps,
         };
-        match next_turn(alloc, &at, rates, prices, row, direction)? {
+        match next_turn(&at, rates, prices, row, direction)? {
             Turn::Ends(outcome) => return Ok(outcome),
             Turn::Moves { q, by } => {
                 let carried = prices_over(prices, row, by.p, q);
@@ -140,27 +140,14 @@ pub fn dual<R: Rates>(
         RuleEndsOverflowFree dual_turn (Dual lp.now) lp.now basis.old limit (R.waypoints rates.old)
         bases ending → IsEndOr DualStop.NoMemory basis.old bases ending basis.new result }
 {
-    let size = lp.number_of_variables() as usize;
-    let mut prices = workspace(alloc, size)?;
-    let mut row = workspace(alloc, size)?;
-    fill_prices(lp, basis, rates, &mut row, &mut prices)?;
-    if let Some(j) = wrong_price(lp, basis, &prices) {
+    let _size = lp.number_of_variables();
+    let mut workspace = Workspace::new(alloc, lp)?;
+    workspace.fill_prices(lp, basis, rates)?;
+    if let Some(j) = wrong_price(lp, basis, &workspace.prices) {
         return Err(DualStop::NotDualFeasible(j));
     }
     if let Some(k) = crossed(lp) {
         return Ok(Outcome::Crossed { k });
     }
-    let mut point = workspace(alloc, size)?;
-    let mut direction = SparseVector::zeros(alloc, size)?;
-    walk(
-        alloc,
-        lp,
-        basis,
-        rates,
-        &mut point,
-        &mut prices,
-        &mut row,
-        &mut direction,
-        limit,
-    )
+    walk(lp, basis, rates, &mut workspace, limit)
 }

@@ -15,12 +15,10 @@ use bounded_primal::{Position, Turn, best, limit_broken, ray_of, return_along, w
 use dual_step::{cheapest, read_row};
 use frac128::Frac;
 use lp_model::{Outcome, Rates, SparseVector};
-use std::alloc::Global;
 
 /// Brings the basic `r` back to the limit that it broke, at the least loss, or answers why nothing does. `row` takes the rates of `r`,
 /// and `direction` is a workspace.
 fn restore_feasibility<R: Rates>(
-    alloc: Global,
     at: &Position<'_>,
     rates: &mut R,
     prices: &[Frac],
@@ -31,7 +29,6 @@ fn restore_feasibility<R: Rates>(
     requires lawful { IsLinearProgram at.now.lp.now }
     requires no_change { at.now.lp.now.change ≡ None }
     requires rates { HasRates (R.matrix rates.old) (R.basics rates.old) at.now.lp.now at.now.basis.now }
-    requires point_places { length at.now.point.now ≡ size at.now.lp.now.matrix }
     requires price_places { length prices.now ≡ size at.now.lp.now.matrix }
     requires row_places { length row.old ≡ size at.now.lp.now.matrix }
     requires direction_places { length direction.old ≡ size at.now.lp.now.matrix }
@@ -52,7 +49,7 @@ fn restore_feasibility<R: Rates>(
         Err(evidence) => return Err(DualStop::Overflow(evidence)),
     };
     let Some(q) = chosen else {
-        let ray = ray_of(alloc, at.lp, row, r, below)?;
+        let ray = ray_of(at.alloc, at.lp, row, r, below)?;
         return Ok(Turn::Ends(Outcome::Infeasible {
             steps: at.steps,
             ray,
@@ -66,15 +63,9 @@ fn restore_feasibility<R: Rates>(
 }
 
 /// The end, where no basic is outside its limits: the point, and the prices at hand.
-fn optimal<R: Rates>(
-    alloc: Global,
-    at: &Position<'_>,
-    rates: &mut R,
-    prices: &[Frac],
-) -> Result<Turn, DualStop>
+fn optimal<R: Rates>(at: &Position<'_>, rates: &mut R, prices: &[Frac]) -> Result<Turn, DualStop>
     requires no_change { at.now.lp.now.change ≡ None }
     requires rates { HasRates (R.matrix rates.old) (R.basics rates.old) at.now.lp.now at.now.basis.now }
-    requires point_places { length at.now.point.now ≡ size at.now.lp.now.matrix }
     requires price_places { length prices.now ≡ size at.now.lp.now.matrix }
     requires point { AgreesWithPoint at.now.lp.now at.now.basis.now (value_at at.now.point.now) }
     requires kept { IsTrue (all_kept at.now.kept) → IsPointOf at.now.lp.now at.now.basis.now (value_at at.now.point.now) }
@@ -86,14 +77,13 @@ fn optimal<R: Rates>(
     ensures rates { KeepsRates (R.matrix rates.new) (R.basics rates.new) at.now.lp.now at.now.basis.now
         (R.waypoints rates.old) (R.waypoints rates.new) }
 {
-    let point = whole_point(alloc, at, rates)?;
-    Ok(Turn::Ends(best(alloc, point, prices, at.steps)?))
+    let point = whole_point(at, rates)?;
+    Ok(Turn::Ends(best(at.alloc, point, prices, at.steps)?))
 }
 
 /// What the dual path does where it stands; `prices` are the basis's. `row` takes the rates of what leaves, and `direction` those of what
 /// enters.
 pub fn next_turn<R: Rates>(
-    alloc: Global,
     at: &Position<'_>,
     rates: &mut R,
     prices: &[Frac],
@@ -103,7 +93,6 @@ pub fn next_turn<R: Rates>(
     requires lawful { IsLinearProgram at.now.lp.now }
     requires no_change { at.now.lp.now.change ≡ None }
     requires rates { HasRates (R.matrix rates.old) (R.basics rates.old) at.now.lp.now at.now.basis.now }
-    requires point_places { length at.now.point.now ≡ size at.now.lp.now.matrix }
     requires price_places { length prices.now ≡ size at.now.lp.now.matrix }
     requires row_places { length row.old ≡ size at.now.lp.now.matrix }
     requires direction_places { length direction.old ≡ size at.now.lp.now.matrix }
@@ -119,7 +108,7 @@ pub fn next_turn<R: Rates>(
         (R.waypoints rates.old) (R.waypoints rates.new) }
 {
     match at.broken {
-        Some(r) => restore_feasibility(alloc, at, rates, prices, row, direction, r),
-        None => optimal(alloc, at, rates, prices),
+        Some(r) => restore_feasibility(at, rates, prices, row, direction, r),
+        None => optimal(at, rates, prices),
     }
 }

@@ -3,9 +3,10 @@
 use Rattle.std.proofs.Common.{◌≡◌, ℕ, zero, suc, ◌+◌, ◌-◌, ◌<◌, ◌≤◌, ◌⊎◌, inl, inr, Bool, true, false, List, [], ◌∷◌, length, get_or, drop, refl, sym, ap, ap₂, subst, ◌∙◌, arith}
 use Rattle.std.specs.Prelude.{Option, Some, None, IsSome, IsTrue, ◌||◌, slice_set}
 use Rattle.std.proofs.lemmas.Bool.{cases_lt}
-use Rattle.std.proofs.lemmas.List.{drop_all, drop_more, get_or_past, get_or-set_other, get_or-set_same}
+use Rattle.std.proofs.lemmas.List.{drop_all, drop_more, get_or-set_other, get_or-set_same}
 use Rattle.exact_values.specs.Rational.{ℚ, zero_ℚ, ◌+ℚ◌, ◌*ℚ◌}
 use Rattle.lp_definitions.specs.LinearProgram.{LinearProgram, Vector, value_at, numbers_from}
+use Rattle.lp_model.proofs.NonzeroLists.{all_from}
 use Rattle.lp_model.specs.Sparse.{AreNonzeroFrom, no_more, next_nonzero, CoverNonzeroFrom, no_more_listed, next_listed}
 use Rattle.simplex_definitions.specs.Moves.{step_length, is_no_later}
 use Rattle.basis_values.specs.Motions.{motion}
@@ -22,17 +23,6 @@ use Rattle.bounded_primal.proofs.Still.{no_step_length}
 pub listed_cover : (xs : List ℚ) (n : ℕ) (ks : List ℕ) → AreNonzeroFrom xs n ks → CoverNonzeroFrom xs n ks
 listed_cover xs n [] (no_more zeros) = no_more_listed zeros
 listed_cover xs n (k ∷ ks) (next_nonzero h rest) = next_listed (record { from = h.from; within = h.within; between = h.between }) (listed_cover xs (suc k) ks rest)
-
-all_from : (xs : List ℚ) (n left : ℕ) → n + left ≡ suc (length xs) → CoverNonzeroFrom xs n (numbers_from n left)
-all_from xs n zero e = no_more_listed (λ i above. get_or_past xs (i - 1) zero_ℚ (omega (arith, above, e)))
-all_from xs n (suc left) e = next_listed (record {
-  from = (omega arith);
-  within = (omega (arith, e));
-  between = λ i above below. absurd (not_between i above below);
-}) (all_from xs (suc n) left (omega (arith, e)))
-  where
-    not_between : (i : ℕ) → n ≤ i → i < n → ⊥
-    not_between i above below = omega (arith, above, below)
 
 pub all_cover : (xs : List ℚ) (n : ℕ) → length xs ≡ n → CoverNonzeroFrom xs 1 (numbers_from 1 n)
 all_cover xs n e = all_from xs 1 n (omega (arith, e))

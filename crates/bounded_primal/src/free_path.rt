@@ -14,13 +14,15 @@ ghost use Rattle.bounded_primal.specs.Complete.{EndsFreely, IsFreeEndOrMemory};
 ghost use Rattle.bounded_primal.specs.Outcomes.{IsTrueOutcome};
 ghost use Rattle.bounded_primal.specs.Stops.{primal_stop_of, FreeStops};
 ghost use Rattle.bounded_primal.specs.Turns.{IsUncrossed, least_outside, FreeTurnFound};
+ghost use Rattle.bounded_primal.specs.Workspaces.{AreSized};
 
 use crate::kept::Kept;
 use crate::moves::PrimalStop;
-use crate::path::{outside_after, workspace};
+use crate::path::outside_after;
 use crate::position::Position;
 use crate::step::step_over;
 use crate::turns::{Turn, next_turn};
+use crate::workspace::Workspace;
 use basis_values::{crossed, outside, point_of, renew_wants, wants_of};
 use frac128::Frac;
 use lp_model::{Basis, Lp, Outcome, Rates, SparseVector, Stop, Wanted};
@@ -40,20 +42,20 @@ fn unlimited(stop: PrimalStop) -> Stop
     }
 }
 
-/// What the path does where it stands, with one step left, so that a limit is never reached. `wanted` is that of `next_turn`; `row` and
-/// `direction` are workspaces.
+/// What the path does where it stands, with one step left, so that a limit is never reached. `wanted` is that of `next_turn`; `prices`,
+/// `row` and `direction` are workspaces.
 fn free_turn<R: Rates>(
-    alloc: Global,
     at: &Position<'_>,
     rates: &mut R,
     wanted: &[Wanted],
+    prices: &mut [Frac],
     row: &mut [Frac],
     direction: &mut SparseVector,
 ) -> Result<Turn, Stop>
     requires lawful { IsLinearProgram at.now.lp.now }
     requires rates { HasRates (R.matrix rates.old) (R.basics rates.old) at.now.lp.now at.now.basis.now }
     requires wants { AreWants at.now.lp.now at.now.basis.now wanted.now }
-    requires point_places { length at.now.point.now ≡ size at.now.lp.now.matrix }
+    requires price_places { length prices.old ≡ size at.now.lp.now.matrix }
     requires row_places { length row.old ≡ size at.now.lp.now.matrix }
     requires direction_places { length direction.old ≡ size at.now.lp.now.matrix }
     requires point { AgreesWithPoint at.now.lp.now at.now.basis.now (value_at at.now.point.now) }
@@ -67,24 +69,21 @@ fn free_turn<R: Rates>(
     ensures rates { KeepsRates (R.matrix rates.new) (R.basics rates.new) at.now.lp.now at.now.basis.now
         (R.waypoints rates.old) (R.waypoints rates.new) }
 {
-    match next_turn(alloc, at, rates, wanted, row, direction) {
+    match next_turn(at, rates, wanted, prices, row, direction) {
         Ok(turn) => Ok(turn),
         Err(stop) => Err(unlimited(stop)),
     }
 }
 
 /// Makes the basis's point, and goes from basis to basis with it, or with the values that steps need, until the path ends. `wanted`
-/// has the signs of the rates that let a nonbasic lower a quantity; `point`, `row` and `direction` are workspaces.
+/// has the signs of the rates that let a nonbasic lower a quantity.
 /// The ledger of `blank` counts the steps for the proof that this comes to an end, since no basis comes twice; it takes no bytes.
 fn walk_free<R: Rates, L: Ledger>(
-    alloc: Global,
     lp: &Lp,
     basis: &mut Basis,
     rates: &mut R,
-    point: &mut [Frac],
     wanted: &mut [Wanted],
-    row: &mut [Frac],
-    direction: &mut SparseVector,
+    workspace: &mut Workspace,
     blank: Blank,
 ) -> Result<Outcome, Stop>
     requires name { blank.name ≡ L.name }
@@ -93,9 +92,7 @@ fn walk_free<R: Rates, L: Ledger>(
     requires lawful { IsLinearProgram lp.now }
     requires rates { HasRates (R.matrix rates.old) (R.basics rates.old) lp.now basis.old }
     requires wants { AreWants lp.now basis.old wanted.old }
-    requires point_places { length point.old ≡ size lp.now.matrix }
-    requires row_places { length row.old ≡ size lp.now.matrix }
-    requires direction_places { length direction.old ≡ size lp.now.matrix }
+    requires sized { AreSized (size lp.now.matrix) workspace.old }
     requires uncrossed { IsUncrossed lp.now }
     ensures ends { IfOk result (CallEnds lp.now basis.old basis.new (lists_of lp.now)) }
     ensures stops { IfErr result (FreeStops lp.now basis.old basis.new
@@ -105,12 +102,18 @@ fn walk_free<R: Rates, L: Ledger>(
         (R.waypoints rates.old) (R.waypoints rates.new) }
 {
     let (mut book, mut share) = blank.open::<L>();
+    let alloc = workspace.alloc;
+    let point = workspace.point.as_mut_slice();
+    let prices = workspace.prices.as_mut_slice();
+    let row = workspace.row.as_mut_slice();
+    let direction = &mut workspace.direction;
     point_of(alloc, lp, basis, rates, point)?;
     let mut broken = outside(lp, basis, point);
     let mut kept = Kept::AllSoFar;
     let mut steps: u32 = 0;
     loop {
         let at = Position {
+            alloc,
             lp,
             basis,
             point,
@@ -119,7 +122,7 @@ fn walk_free<R: Rates, L: Ledger>(
             steps,
             left: 1,
         };
-        match free_turn(alloc, &at, rates, wanted, row, direction)? {
+        match free_turn(&at, rates, wanted, prices, row, direction)? {
             Turn::Ends(outcome) => return Ok(outcome),
             Turn::Moves { q, by } => {
                 kept = step_over(lp, basis, rates, point, direction, q, &by, kept)?;
@@ -155,23 +158,12 @@ pub fn primal_free<R: Rates>(
         EndsFreely lp.now basis.old (R.waypoints rates.old) bases ending →
         IsFreeEndOrMemory basis.old bases ending basis.new result }
 {
-    let size = lp.number_of_variables() as usize;
+    let _size = lp.number_of_variables();
     if let Some(k) = crossed(lp) {
         return Ok(Outcome::Crossed { k });
     }
-    let mut point = workspace(alloc, size)?;
-    let mut row = workspace(alloc, size)?;
-    let mut direction = SparseVector::zeros(alloc, size)?;
+    let mut workspace = Workspace::new(alloc, lp)?;
     let mut wanted = wants_of(alloc, lp, basis)?;
-    walk_free::<R, Brand>(
-        alloc,
-        lp,
-        basis,
-        rates,
-        &mut point,
-        &mut wanted,
-        &mut row,
-        &mut direction,
-        Blank::new(1),
-    )
+    let blank = Blank::new(1);
+    walk_free::<R, Brand>(lp, basis, rates, &mut wanted, &mut workspace, blank)
 }

@@ -12,6 +12,7 @@ mod position;
 mod step;
 mod stopping;
 mod turns;
+mod workspace;
 
 pub use basis_values::{Formula, counted, may_lower, plus_product, point_of, prices_of};
 pub use beginning::opening;
@@ -19,8 +20,9 @@ pub use free_path::primal_free;
 pub use kept::Kept;
 pub use moves::{PrimalStop, Stopper};
 pub use moving::Moving;
-pub use path::{primal, workspace};
+pub use path::primal;
 pub use position::Position;
 pub use step::{returning, step_over, take_step};
 pub use stopping::stopper;
 pub use turns::{Turn, best, limit_broken, ray_of, return_along, return_of, whole_point};
+pub use workspace::Workspace;

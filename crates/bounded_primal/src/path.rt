@@ -1,6 +1,6 @@
 //! The path of the bounded simplex method.
 
-ghost use Rattle.std.specs.Prelude.{◌≡◌, ◌<◌, None, List, length, vec_len, IfOk, IfErr, IsErrOf};
+ghost use Rattle.std.specs.Prelude.{◌≡◌, ◌<◌, None, List, length, IfOk, IfErr, IsErrOf};
 ghost use Rattle.lp_definitions.specs.LinearProgram.{size, value_at, IsLinearProgram};
 ghost use Rattle.lp_definitions.specs.declared.Status.{Status};
 ghost use Rattle.simplex_definitions.specs.Path.{PathEnding};
@@ -11,6 +11,7 @@ ghost use Rattle.bounded_primal.specs.Complete.{EndsOverflowFree, IsEndOrMemory}
 ghost use Rattle.bounded_primal.specs.Outcomes.{IsTrueOutcome};
 ghost use Rattle.bounded_primal.specs.Stops.{PrimalStops};
 ghost use Rattle.bounded_primal.specs.Turns.{IsUncrossed, least_outside};
+ghost use Rattle.bounded_primal.specs.Workspaces.{AreSized};
 ghost use Rattle.termination_laws.specs.Laws.{lists_of};
 
 use crate::kept::Kept;
@@ -18,17 +19,11 @@ use crate::moves::PrimalStop;
 use crate::position::Position;
 use crate::step::step_over;
 use crate::turns::{Turn, next_turn};
+use crate::workspace::Workspace;
 use basis_values::{crossed, outside, point_of, renew_wants, wants_of};
 use frac128::Frac;
-use lp_model::{Basis, Lp, NoMemory, Outcome, Rates, SparseVector, Wanted};
+use lp_model::{Basis, Lp, Outcome, Rates, Wanted};
 use std::alloc::Global;
-
-/// A workspace of so many numbers.
-pub fn workspace(alloc: Global, size: usize) -> Result<Vec<Frac>, NoMemory>
-    ensures { IfOk result (λ made. vec_len made ≡ size) }
-{
-    vec![in alloc; Frac::whole(0); size].map_err(|_| NoMemory)
-}
 
 /// The least-numbered basic outside its limits after a step. Where there was none before the step, there is none.
 pub fn outside_after(lp: &Lp, basis: &Basis, point: &[Frac], broken: Option<u32>) -> Option<u32>
@@ -44,24 +39,19 @@ pub fn outside_after(lp: &Lp, basis: &Basis, point: &[Frac], broken: Option<u32>
 }
 
 /// Makes the basis's point, and goes from basis to basis with it, or with the values that steps need, where another is refused.
-/// `wanted` has the signs of the rates that let a nonbasic lower a quantity; `point`, `row` and `direction` are workspaces.
+/// `wanted` has the signs of the rates that let a nonbasic lower a quantity.
 fn walk<R: Rates>(
-    alloc: Global,
     lp: &Lp,
     basis: &mut Basis,
     rates: &mut R,
-    point: &mut [Frac],
     wanted: &mut [Wanted],
-    row: &mut [Frac],
-    direction: &mut SparseVector,
+    workspace: &mut Workspace,
     limit: u32,
 ) -> Result<Outcome, PrimalStop>
     requires lawful { IsLinearProgram lp.now }
     requires rates { HasRates (R.matrix rates.old) (R.basics rates.old) lp.now basis.old }
     requires wants { AreWants lp.now basis.old wanted.old }
-    requires point_places { length point.old ≡ size lp.now.matrix }
-    requires row_places { length row.old ≡ size lp.now.matrix }
-    requires direction_places { length direction.old ≡ size lp.now.matrix }
+    requires sized { AreSized (size lp.now.matrix) workspace.old }
     requires uncrossed { IsUncrossed lp.now }
     ensures ends { IfOk result (CallEnds lp.now basis.old basis.new limit) }
     ensures stops { IfErr result (PrimalStops lp.now basis.old basis.new limit
@@ -70,12 +60,18 @@ fn walk<R: Rates>(
     ensures waypoints { WaypointsFollow lp.now basis.old basis.new (R.waypoints rates.old)
         (R.waypoints rates.new) }
 {
+    let alloc = workspace.alloc;
+    let point = workspace.point.as_mut_slice();
+    let prices = workspace.prices.as_mut_slice();
+    let row = workspace.row.as_mut_slice();
+    let direction = &mut workspace.direction;
     point_of(alloc, lp, basis, rates, point)?;
     let mut broken = outside(lp, basis, point);
     let mut kept = Kept::AllSoFar;
     let mut steps = 0;
     loop {
         let at = Position {
+            alloc,
             lp,
             basis,
             point,
@@ -84,7 +80,7 @@ fn walk<R: Rates>(
             steps,
             left: limit - steps,
         };
-        match next_turn(alloc, &at, rates, wanted, row, direction)? {
+        match next_turn(&at, rates, wanted, prices, row, direction)? {
             Turn::Ends(outcome) => return Ok(outcome),
             Turn::Moves { q, by } => {
                 kept = step_over(lp, basis, rates, point, direction, q, &by, kept)?;
@@ -123,23 +119,11 @@ pub fn primal<R: Rates>(
         EndsOverflowFree lp.now basis.old limit (R.waypoints rates.old) bases ending →
         IsEndOrMemory basis.old bases ending basis.new result }
 {
-    let size = lp.number_of_variables() as usize;
+    let _size = lp.number_of_variables();
     if let Some(k) = crossed(lp) {
         return Ok(Outcome::Crossed { k });
     }
-    let mut point = workspace(alloc, size)?;
-    let mut row = workspace(alloc, size)?;
-    let mut direction = SparseVector::zeros(alloc, size)?;
+    let mut workspace = Workspace::new(alloc, lp)?;
     let mut wanted = wants_of(alloc, lp, basis)?;
-    walk(
-        alloc,
-        lp,
-        basis,
-        rates,
-        &mut point,
-        &mut wanted,
-        &mut row,
-        &mut direction,
-        limit,
-    )
+    walk(lp, basis, rates, &mut wanted, &mut workspace, limit)
 }

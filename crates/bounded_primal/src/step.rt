@@ -38,32 +38,25 @@ fn formula(number: u8, p: u32, q: u32, i: u32) -> Formula
     }
 }
 
-/// The value of `i` after the step, by the plain operations.
-fn plainly_moved(
-    value: Frac,
-    step: Frac,
-    rate: Frac,
-    p: u32,
-    q: u32,
-    i: u32,
-) -> Result<Frac, Evidence>
-    ensures value { IfOk result (λ moved. moved ≡ value +ℚ step *ℚ rate) }
-    ensures refused { IfErr result (MovedRefused step rate value p q i) }
+/// The value of `i`, which has this rate, after the step `by` of `q`, by the plain operations.
+fn plainly_moved(value: Frac, rate: Frac, by: &Stopper, q: u32, i: u32) -> Result<Frac, Evidence>
+    ensures value { IfOk result (λ moved. moved ≡ value +ℚ by.now.step *ℚ rate) }
+    ensures refused { IfErr result (MovedRefused by.now.step rate value by.now.p q i) }
     ensures needed { OnErr result (rate ≢ zero_ℚ) }
 {
-    let product = formula(8, p, q, i).product(step, rate)?;
-    formula(9, p, q, i).sum(value, product)
+    let product = formula(8, by.p, q, i).product(by.step, rate)?;
+    formula(9, by.p, q, i).sum(value, product)
 }
 
 /// The same, also where only the plain operations are refused.
-fn moved(value: Frac, step: Frac, rate: Frac, p: u32, q: u32, i: u32) -> Result<Frac, Evidence>
-    ensures value { IfOk result (λ moved. moved ≡ value +ℚ step *ℚ rate) }
-    ensures refused { IfErr result (MovedRefused step rate value p q i) }
+fn moved(value: Frac, rate: Frac, by: &Stopper, q: u32, i: u32) -> Result<Frac, Evidence>
+    ensures value { IfOk result (λ moved. moved ≡ value +ℚ by.now.step *ℚ rate) }
+    ensures refused { IfErr result (MovedRefused by.now.step rate value by.now.p q i) }
     ensures needed { OnErr result (rate ≢ zero_ℚ) }
 {
-    match plainly_moved(value, step, rate, p, q, i) {
+    match plainly_moved(value, rate, by, q, i) {
         Ok(moved) => Ok(moved),
-        Err(evidence) => match plus_product(value, step, rate) {
+        Err(evidence) => match plus_product(value, by.step, rate) {
             Some(moved) => Ok(moved),
             None => Err(evidence),
         },
@@ -89,20 +82,19 @@ fn is_needed(lp: &Lp, kept: Kept, k: u32) -> bool
 /// The value of `i` after the step, and None where that is refused and it isn't `needed`.
 fn moved_if_possible(
     value: Frac,
-    step: Frac,
     rate: Frac,
-    p: u32,
+    by: &Stopper,
     q: u32,
     i: u32,
     needed: bool,
 ) -> Result<Option<Frac>, Evidence>
-    ensures value { IfOk result (λ found. IfSome found (λ moved. moved ≡ value +ℚ step *ℚ rate)) }
+    ensures value { IfOk result (λ found. IfSome found (λ moved. moved ≡ value +ℚ by.now.step *ℚ rate)) }
     ensures found { IfOk result (λ found. IsTrue needed → IsSome found) }
-    ensures refused { IfErr result (MovedRefused step rate value p q i) }
+    ensures refused { IfErr result (MovedRefused by.now.step rate value by.now.p q i) }
     ensures moves { OnErr result (rate ≢ zero_ℚ) }
     ensures needed { OnErr result (IsTrue needed) }
 {
-    match moved(value, step, rate, p, q, i) {
+    match moved(value, rate, by, q, i) {
         Ok(moved) => Ok(Some(moved)),
         Err(evidence) => { if needed { Err(evidence) } else { Ok(None) } }
     }
@@ -144,7 +136,7 @@ fn move_point(
             continue;
         }
         let value = point[k as usize - 1];
-        let Some(next) = moved_if_possible(value, by.step, rate, by.p, q, k, needed)? else {
+        let Some(next) = moved_if_possible(value, rate, by, q, k, needed)? else {
             still = Kept::Limited;
             continue;
         };

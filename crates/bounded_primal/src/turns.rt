@@ -21,7 +21,7 @@ use crate::moving::Moving;
 use crate::position::Position;
 use crate::step::returning;
 use crate::stopping::stopper_from;
-use basis_values::{counted, is_less, is_minimized, lies_below, point_of, prices_of, wrong_price};
+use basis_values::{counted, fill_prices, is_minimized, lies_below, point_of, wrong_price};
 use frac128::Frac;
 use lp_model::{
     Basis, Direction, Lp, NoMemory, Outcome, Point, Prices, Rates, Ray, SparseVector, Status, Stop,
@@ -106,25 +106,24 @@ pub fn limit_broken(below: bool) -> Status
 /// The nonbasic that brings the basic `r` back, if there is one; `wanted` has the signs of the rates that let a nonbasic lower a
 /// quantity. Where there is none, `row` takes the rates of `r`.
 fn restoring<R: Rates>(
-    lp: &Lp,
-    basis: &Basis,
+    at: &Position<'_>,
     rates: &mut R,
     wanted: &[Wanted],
     row: &mut [Frac],
     r: u32,
     below: bool,
 ) -> Result<Option<u32>, Stop>
-    requires rates { HasRates (R.matrix rates.old) (R.basics rates.old) lp.now basis.now }
-    requires wants { AreWants lp.now basis.now wanted.now }
-    requires places { length row.old ≡ size lp.now.matrix }
-    requires basic { IsBasic lp.now.matrix (basics_of basis.now) r }
-    ensures found { IfOk result (IsRestoring lp.now basis.now r below (value_at row.new)) }
-    ensures rates { KeepsRates (R.matrix rates.new) (R.basics rates.new) lp.now basis.now
+    requires rates { HasRates (R.matrix rates.old) (R.basics rates.old) at.now.lp.now at.now.basis.now }
+    requires wants { AreWants at.now.lp.now at.now.basis.now wanted.now }
+    requires places { length row.old ≡ size at.now.lp.now.matrix }
+    requires basic { IsBasic at.now.lp.now.matrix (basics_of at.now.basis.now) r }
+    ensures found { IfOk result (IsRestoring at.now.lp.now at.now.basis.now r below (value_at row.new)) }
+    ensures rates { KeepsRates (R.matrix rates.new) (R.basics rates.new) at.now.lp.now at.now.basis.now
         (R.waypoints rates.old) (R.waypoints rates.new) }
     ensures overflow { IfErr result (λ stop. IfOverflow stop
-        (PointRefused lp.now (R.waypoints rates.old) basis.now (R.waypoints rates.new))) }
+        (PointRefused at.now.lp.now (R.waypoints rates.old) at.now.basis.now (R.waypoints rates.new))) }
 {
-    let _size = lp.number_of_variables();
+    let _size = at.lp.number_of_variables();
     match rates.first_wanted(r, wanted, !below, row) {
         Ok(found) => Ok(found),
         Err(stop) => Err(stop),
@@ -177,7 +176,6 @@ pub fn return_along<R: Rates>(
     to: Status,
 ) -> Result<Stopper, Stop>
     requires rates { HasRates (R.matrix rates.old) (R.basics rates.old) at.now.lp.now at.now.basis.now }
-    requires point_places { length at.now.point.now ≡ size at.now.lp.now.matrix }
     requires direction_places { length direction.old ≡ size at.now.lp.now.matrix }
     requires nonbasic { IsNonbasic at.now.lp.now.matrix (basics_of at.now.basis.now) q }
     requires basic { IsBasic at.now.lp.now.matrix (basics_of at.now.basis.now) p }
@@ -203,38 +201,35 @@ pub fn return_along<R: Rates>(
     }
 }
 
-/// What stops `q`. `direction` takes the direction of `q`.
+/// What stops `q`, which moves up or down. `direction` takes the direction of `q`.
 fn stopper_of<R: Rates>(
-    lp: &Lp,
-    basis: &Basis,
+    at: &Position<'_>,
     rates: &mut R,
-    point: &[Frac],
     direction: &mut SparseVector,
     q: u32,
     up: bool,
 ) -> Result<Option<Stopper>, Stop>
-    requires rates { HasRates (R.matrix rates.old) (R.basics rates.old) lp.now basis.now }
-    requires point_places { length point.now ≡ size lp.now.matrix }
-    requires direction_places { length direction.old ≡ size lp.now.matrix }
-    requires point { AgreesWithPoint lp.now basis.now (value_at point.now) }
-    requires within { IsWithinLimits lp.now (value_at point.now) }
-    requires nonbasic { IsNonbasic lp.now.matrix (basics_of basis.now) q }
-    requires may { IsTrue (may_move lp.now basis.now up q) }
-    ensures direction { OnOk result (IsDirectionOf lp.now.matrix (basics_of basis.now) q
+    requires rates { HasRates (R.matrix rates.old) (R.basics rates.old) at.now.lp.now at.now.basis.now }
+    requires direction_places { length direction.old ≡ size at.now.lp.now.matrix }
+    requires point { AgreesWithPoint at.now.lp.now at.now.basis.now (value_at at.now.point.now) }
+    requires within { IsWithinLimits at.now.lp.now (value_at at.now.point.now) }
+    requires nonbasic { IsNonbasic at.now.lp.now.matrix (basics_of at.now.basis.now) q }
+    requires may { IsTrue (may_move at.now.lp.now at.now.basis.now up q) }
+    ensures direction { OnOk result (IsDirectionOf at.now.lp.now.matrix (basics_of at.now.basis.now) q
         (value_at direction.new)) }
-    ensures stopper { IfOk result (λ found. found ≡ stopper_by lp.now (value_at point.now)
+    ensures stopper { IfOk result (λ found. found ≡ stopper_by at.now.lp.now (value_at at.now.point.now)
         (value_at direction.new) up) }
-    ensures direction_places { OnOk result (length direction.new ≡ size lp.now.matrix) }
-    ensures rates { KeepsRates (R.matrix rates.new) (R.basics rates.new) lp.now basis.now
+    ensures direction_places { OnOk result (length direction.new ≡ size at.now.lp.now.matrix) }
+    ensures rates { KeepsRates (R.matrix rates.new) (R.basics rates.new) at.now.lp.now at.now.basis.now
         (R.waypoints rates.old) (R.waypoints rates.new) }
     ensures overflow { IfErr result
-        (λ stop. IfOverflow stop (RunStopsAtPoint lp.now basis.now q up
+        (λ stop. IfOverflow stop (RunStopsAtPoint at.now.lp.now at.now.basis.now q up
         (R.waypoints rates.old) (R.waypoints rates.new))) }
 {
-    let _size = lp.number_of_variables();
+    let _size = at.lp.number_of_variables();
     rates.direction(q, direction)?;
     let moving = Moving::Listed(direction.nonzero());
-    match stopper_from(lp, point, direction.values(), &moving, q, up) {
+    match stopper_from(at.lp, at.point, direction.values(), &moving, q, up) {
         Ok(found) => Ok(found),
         Err(evidence) => Err(Stop::Overflow(evidence)),
     }
@@ -254,7 +249,7 @@ fn entering_variable_at(lp: &Lp, prices: &[Frac], q: u32) -> EnteringVariable
     ensures { result ≡ moved_by lp.now (value_at prices.now) q }
 {
     let price = prices[q as usize - 1];
-    let up = is_less(counted(price, is_minimized(lp)), Frac::whole(0));
+    let up = counted(price, is_minimized(lp)).is_less(Frac::whole(0));
     EnteringVariable { q, up }
 }
 
@@ -268,48 +263,48 @@ fn improving(lp: &Lp, basis: &Basis, prices: &[Frac]) -> Option<EnteringVariable
     Some(entering_variable_at(lp, prices, q))
 }
 
-/// The variable that improves the objective, if there is one, by the prices of all variables, which `prices` takes.
+/// The variable that improves the objective, if there is one, by the prices of all variables, which `prices` takes. `row` is a workspace.
 fn entering_variable_by_prices<R: Rates>(
-    alloc: Global,
-    lp: &Lp,
-    basis: &Basis,
+    at: &Position<'_>,
     rates: &mut R,
+    row: &mut [Frac],
     prices: &mut [Frac],
 ) -> Result<Option<EnteringVariable>, Stop>
-    requires rates { HasRates (R.matrix rates.old) (R.basics rates.old) lp.now basis.now }
-    requires lawful { IsLinearProgram lp.now }
-    requires places { length prices.old ≡ size lp.now.matrix }
-    ensures found { IfOk result (IsEnteringVariableFound lp.now basis.now (value_at prices.new)) }
-    ensures rates { KeepsRates (R.matrix rates.new) (R.basics rates.new) lp.now basis.now
+    requires rates { HasRates (R.matrix rates.old) (R.basics rates.old) at.now.lp.now at.now.basis.now }
+    requires lawful { IsLinearProgram at.now.lp.now }
+    requires row_places { length row.old ≡ size at.now.lp.now.matrix }
+    requires price_places { length prices.old ≡ size at.now.lp.now.matrix }
+    ensures found { IfOk result (IsEnteringVariableFound at.now.lp.now at.now.basis.now (value_at prices.new)) }
+    ensures rates { KeepsRates (R.matrix rates.new) (R.basics rates.new) at.now.lp.now at.now.basis.now
         (R.waypoints rates.old) (R.waypoints rates.new) }
     ensures overflow { IfErr result (λ stop. IfOverflow stop
-        (PointRefused lp.now (R.waypoints rates.old) basis.now (R.waypoints rates.new))) }
+        (PointRefused at.now.lp.now (R.waypoints rates.old) at.now.basis.now (R.waypoints rates.new))) }
 {
-    match prices_of(alloc, lp, basis, rates, prices) {
-        Ok(()) => Ok(improving(lp, basis, prices)),
+    match fill_prices(at.lp, at.basis, rates, row, prices) {
+        Ok(()) => Ok(improving(at.lp, at.basis, prices)),
         Err(stop) => Err(stop),
     }
 }
 
 /// The same where there is no change row: the prices are the rates of the objective, and no more of them are computed than are needed.
 fn entering_variable_by_row<R: Rates>(
-    lp: &Lp,
-    basis: &Basis,
+    at: &Position<'_>,
     rates: &mut R,
     wanted: &[Wanted],
     prices: &mut [Frac],
 ) -> Result<Option<EnteringVariable>, Stop>
-    requires rates { HasRates (R.matrix rates.old) (R.basics rates.old) lp.now basis.now }
-    requires lawful { IsLinearProgram lp.now }
-    requires wants { AreWants lp.now basis.now wanted.now }
-    requires unchanged { lp.now.change ≡ None }
-    requires places { length prices.old ≡ size lp.now.matrix }
-    ensures found { IfOk result (IsEnteringVariableFound lp.now basis.now (value_at prices.new)) }
-    ensures rates { KeepsRates (R.matrix rates.new) (R.basics rates.new) lp.now basis.now
+    requires rates { HasRates (R.matrix rates.old) (R.basics rates.old) at.now.lp.now at.now.basis.now }
+    requires lawful { IsLinearProgram at.now.lp.now }
+    requires wants { AreWants at.now.lp.now at.now.basis.now wanted.now }
+    requires unchanged { at.now.lp.now.change ≡ None }
+    requires places { length prices.old ≡ size at.now.lp.now.matrix }
+    ensures found { IfOk result (IsEnteringVariableFound at.now.lp.now at.now.basis.now (value_at prices.new)) }
+    ensures rates { KeepsRates (R.matrix rates.new) (R.basics rates.new) at.now.lp.now at.now.basis.now
         (R.waypoints rates.old) (R.waypoints rates.new) }
     ensures overflow { IfErr result (λ stop. IfOverflow stop
-        (PointRefused lp.now (R.waypoints rates.old) basis.now (R.waypoints rates.new))) }
+        (PointRefused at.now.lp.now (R.waypoints rates.old) at.now.basis.now (R.waypoints rates.new))) }
 {
+    let lp = at.lp;
     match rates.first_wanted(lp.objective, wanted, is_minimized(lp), prices) {
         Ok(None) => Ok(None),
         Ok(Some(q)) => Ok(Some(entering_variable_at(lp, prices, q))),
@@ -317,28 +312,29 @@ fn entering_variable_by_row<R: Rates>(
     }
 }
 
-/// The variable that improves the objective, if there is one. Where there is none, `prices` takes the prices.
+/// The variable that improves the objective, if there is one. Where there is none, `prices` takes the prices. `row` is a workspace.
 fn entering_variable_of<R: Rates>(
-    alloc: Global,
-    lp: &Lp,
-    basis: &Basis,
+    at: &Position<'_>,
     rates: &mut R,
     wanted: &[Wanted],
+    row: &mut [Frac],
     prices: &mut [Frac],
 ) -> Result<Option<EnteringVariable>, Stop>
-    requires rates { HasRates (R.matrix rates.old) (R.basics rates.old) lp.now basis.now }
-    requires lawful { IsLinearProgram lp.now }
-    requires wants { AreWants lp.now basis.now wanted.now }
-    requires places { length prices.old ≡ size lp.now.matrix }
-    ensures found { IfOk result (IsEnteringVariableFound lp.now basis.now (value_at prices.new)) }
-    ensures rates { KeepsRates (R.matrix rates.new) (R.basics rates.new) lp.now basis.now
+    requires rates { HasRates (R.matrix rates.old) (R.basics rates.old) at.now.lp.now at.now.basis.now }
+    requires lawful { IsLinearProgram at.now.lp.now }
+    requires wants { AreWants at.now.lp.now at.now.basis.now wanted.now }
+    requires row_places { length row.old ≡ size at.now.lp.now.matrix }
+    requires price_places { length prices.old ≡ size at.now.lp.now.matrix }
+    ensures found { IfOk result (IsEnteringVariableFound at.now.lp.now at.now.basis.now (value_at prices.new)) }
+    ensures rates { KeepsRates (R.matrix rates.new) (R.basics rates.new) at.now.lp.now at.now.basis.now
         (R.waypoints rates.old) (R.waypoints rates.new) }
     ensures overflow { IfErr result (λ stop. IfOverflow stop
-        (PointRefused lp.now (R.waypoints rates.old) basis.now (R.waypoints rates.new))) }
+        (PointRefused at.now.lp.now (R.waypoints rates.old) at.now.basis.now (R.waypoints rates.new))) }
 {
+    let lp = at.lp;
     match lp.change {
-        None => entering_variable_by_row(lp, basis, rates, wanted, prices),
-        Some(_) => entering_variable_by_prices(alloc, lp, basis, rates, prices),
+        None => entering_variable_by_row(at, rates, wanted, prices),
+        Some(_) => entering_variable_by_prices(at, rates, row, prices),
     }
 }
 
@@ -351,7 +347,6 @@ pub enum Turn {
 /// The first phase: brings the basic `r` back to the limit that it broke, or answers why nothing does. `row` and `direction` are
 /// workspaces.
 fn first_phase<R: Rates>(
-    alloc: Global,
     at: &Position<'_>,
     rates: &mut R,
     wanted: &[Wanted],
@@ -361,7 +356,6 @@ fn first_phase<R: Rates>(
 ) -> Result<Turn, PrimalStop>
     requires rates { HasRates (R.matrix rates.old) (R.basics rates.old) at.now.lp.now at.now.basis.now }
     requires wants { AreWants at.now.lp.now at.now.basis.now wanted.now }
-    requires point_places { length at.now.point.now ≡ size at.now.lp.now.matrix }
     requires row_places { length row.old ≡ size at.now.lp.now.matrix }
     requires direction_places { length direction.old ≡ size at.now.lp.now.matrix }
     requires point { AgreesWithPoint at.now.lp.now at.now.basis.now (value_at at.now.point.now) }
@@ -374,8 +368,8 @@ fn first_phase<R: Rates>(
         (R.waypoints rates.old) (R.waypoints rates.new) }
 {
     let below = lies_below(at.lp, at.point, r);
-    let Some(q) = restoring(at.lp, at.basis, rates, wanted, row, r, below)? else {
-        let ray = ray_of(alloc, at.lp, row, r, below)?;
+    let Some(q) = restoring(at, rates, wanted, row, r, below)? else {
+        let ray = ray_of(at.alloc, at.lp, row, r, below)?;
         return Ok(Turn::Ends(Outcome::Infeasible {
             steps: at.steps,
             ray,
@@ -389,13 +383,8 @@ fn first_phase<R: Rates>(
 }
 
 /// The point of the basis: a copy where all its values are kept, and else made anew.
-pub fn whole_point<R: Rates>(
-    alloc: Global,
-    at: &Position<'_>,
-    rates: &mut R,
-) -> Result<Vec<Frac>, Stop>
+pub fn whole_point<R: Rates>(at: &Position<'_>, rates: &mut R) -> Result<Vec<Frac>, Stop>
     requires rates { HasRates (R.matrix rates.old) (R.basics rates.old) at.now.lp.now at.now.basis.now }
-    requires places { length at.now.point.now ≡ size at.now.lp.now.matrix }
     requires kept { IsTrue (all_kept at.now.kept) → IsPointOf at.now.lp.now at.now.basis.now (value_at at.now.point.now) }
     ensures places { IfOk result (λ made. length made.items ≡ size at.now.lp.now.matrix) }
     ensures point { IfOk result (λ made. IsPointOf at.now.lp.now at.now.basis.now (value_at made.items)) }
@@ -404,11 +393,11 @@ pub fn whole_point<R: Rates>(
     ensures overflow { IfErr result (λ stop. IfOverflow stop
         (PointRefused at.now.lp.now (R.waypoints rates.old) at.now.basis.now (R.waypoints rates.new))) }
 {
-    let mut values = copied(alloc, at.point)?;
+    let mut values = copied(at.alloc, at.point)?;
     if at.kept.has_all() {
         return Ok(values);
     }
-    point_of(alloc, at.lp, at.basis, rates, &mut values)?;
+    point_of(at.alloc, at.lp, at.basis, rates, &mut values)?;
     Ok(values)
 }
 
@@ -453,14 +442,12 @@ fn unbounded_ending(
 
 /// Moves `q` up or down until something stops it, or answers that nothing does. `direction` is a workspace.
 fn run<R: Rates>(
-    alloc: Global,
     at: &Position<'_>,
     rates: &mut R,
     direction: &mut SparseVector,
     moved: EnteringVariable,
 ) -> Result<Turn, PrimalStop>
     requires rates { HasRates (R.matrix rates.old) (R.basics rates.old) at.now.lp.now at.now.basis.now }
-    requires point_places { length at.now.point.now ≡ size at.now.lp.now.matrix }
     requires direction_places { length direction.old ≡ size at.now.lp.now.matrix }
     requires point { AgreesWithPoint at.now.lp.now at.now.basis.now (value_at at.now.point.now) }
     requires kept { IsTrue (all_kept at.now.kept) → IsPointOf at.now.lp.now at.now.basis.now (value_at at.now.point.now) }
@@ -473,13 +460,11 @@ fn run<R: Rates>(
     ensures rates { KeepsRates (R.matrix rates.new) (R.basics rates.new) at.now.lp.now at.now.basis.now
         (R.waypoints rates.old) (R.waypoints rates.new) }
 {
-    match stopper_of(
-        at.lp, at.basis, rates, at.point, direction, moved.q, moved.up,
-    )? {
+    match stopper_of(at, rates, direction, moved.q, moved.up)? {
         None => {
-            let point = whole_point(alloc, at, rates)?;
+            let point = whole_point(at, rates)?;
             Ok(Turn::Ends(unbounded_ending(
-                alloc,
+                at.alloc,
                 at.lp,
                 point,
                 direction.values(),
@@ -498,19 +483,19 @@ fn run<R: Rates>(
 }
 
 /// The second phase: moves the least-numbered variable that improves the objective, or answers that none does or that nothing stops
-/// it. `row` and `direction` are workspaces.
+/// it. `prices`, `row` and `direction` are workspaces.
 fn second_phase<R: Rates>(
-    alloc: Global,
     at: &Position<'_>,
     rates: &mut R,
     wanted: &[Wanted],
+    prices: &mut [Frac],
     row: &mut [Frac],
     direction: &mut SparseVector,
 ) -> Result<Turn, PrimalStop>
     requires lawful { IsLinearProgram at.now.lp.now }
     requires rates { HasRates (R.matrix rates.old) (R.basics rates.old) at.now.lp.now at.now.basis.now }
     requires wants { AreWants at.now.lp.now at.now.basis.now wanted.now }
-    requires point_places { length at.now.point.now ≡ size at.now.lp.now.matrix }
+    requires price_places { length prices.old ≡ size at.now.lp.now.matrix }
     requires row_places { length row.old ≡ size at.now.lp.now.matrix }
     requires direction_places { length direction.old ≡ size at.now.lp.now.matrix }
     requires point { AgreesWithPoint at.now.lp.now at.now.basis.now (value_at at.now.point.now) }
@@ -523,29 +508,29 @@ fn second_phase<R: Rates>(
     ensures rates { KeepsRates (R.matrix rates.new) (R.basics rates.new) at.now.lp.now at.now.basis.now
         (R.waypoints rates.old) (R.waypoints rates.new) }
 {
-    match entering_variable_of(alloc, at.lp, at.basis, rates, wanted, row)? {
+    match entering_variable_of(at, rates, wanted, row, prices)? {
         None => {
-            let point = whole_point(alloc, at, rates)?;
-            Ok(Turn::Ends(best(alloc, point, row, at.steps)?))
+            let point = whole_point(at, rates)?;
+            Ok(Turn::Ends(best(at.alloc, point, prices, at.steps)?))
         }
-        Some(moved) => run(alloc, at, rates, direction, moved),
+        Some(moved) => run(at, rates, direction, moved),
     }
 }
 
-/// What the path does where it stands. `wanted` has the signs of the rates that let a nonbasic lower a quantity. `row` and `direction`
-/// are workspaces.
+/// What the path does where it stands. `wanted` has the signs of the rates that let a nonbasic lower a quantity. `prices`, `row` and
+/// `direction` are workspaces.
 pub fn next_turn<R: Rates>(
-    alloc: Global,
     at: &Position<'_>,
     rates: &mut R,
     wanted: &[Wanted],
+    prices: &mut [Frac],
     row: &mut [Frac],
     direction: &mut SparseVector,
 ) -> Result<Turn, PrimalStop>
     requires lawful { IsLinearProgram at.now.lp.now }
     requires rates { HasRates (R.matrix rates.old) (R.basics rates.old) at.now.lp.now at.now.basis.now }
     requires wants { AreWants at.now.lp.now at.now.basis.now wanted.now }
-    requires point_places { length at.now.point.now ≡ size at.now.lp.now.matrix }
+    requires price_places { length prices.old ≡ size at.now.lp.now.matrix }
     requires row_places { length row.old ≡ size at.now.lp.now.matrix }
     requires direction_places { length direction.old ≡ size at.now.lp.now.matrix }
     requires point { AgreesWithPoint at.now.lp.now at.now.basis.now (value_at at.now.point.now) }
@@ -559,7 +544,7 @@ pub fn next_turn<R: Rates>(
         (R.waypoints rates.old) (R.waypoints rates.new) }
 {
     match at.broken {
-        Some(r) => first_phase(alloc, at, rates, wanted, row, direction, r),
-        None => second_phase(alloc, at, rates, wanted, row, direction),
+        Some(r) => first_phase(at, rates, wanted, row, direction, r),
+        None => second_phase(at, rates, wanted, prices, row, direction),
     }
 }

@@ -1,11 +1,10 @@
-use Rattle.std.proofs.Common.{List, drop, length, Ok, Err, rules, refl, sym, subst, ◌∙◌, arith}
+use Rattle.std.proofs.Common.{List, Ok, Err, rules, refl, sym, subst, ◌∙◌}
 use Rattle.std.proofs.lemmas.Result.{err_from_is_err_and}
 use Rattle.exact_values.specs.Rational.{ℚ}
 use Rattle.lp_definitions.specs.LinearProgram.{value_at, IsLinearProgram}
 use Rattle.lp_definitions.specs.Basis.{ArePricesOf}
 use Rattle.lp_model.specs.declared.reports.Outcome.TheVariants.{Crossed}
 use Rattle.simplex_definitions.specs.DualPath.{dual_turn}
-use Rattle.basis_values.proofs.PriceLaws.{take_all}
 use Rattle.bounded_primal.proofs.PathWalk.{begins_at, follows, stays}
 use Rattle.bounded_dual.specs.Stops.{dual_stop_of}
 use Rattle.bounded_dual.specs.declared.moves.DualStop.{DualStop}
@@ -33,7 +32,7 @@ returns-in_err-fill_prices-clause-complete g c bases ending right goes =
 
 pub returns-in-Some-clause-stops : goal.returns-in-Some-clause-stops
 returns-in-Some-clause-stops g c =
-    let priced : ArePricesOf c.args.lp.now c.args.basis.now (value_at c.deref.result.now) = subst (λ (xs : List ℚ). ArePricesOf c.args.lp.now c.args.basis.now (value_at xs)) (sym (c.deref.ensures.value ∙ take_all c.fill_prices.new.prices (drop (length c.fill_prices.new.prices) c.in_ok-prices.prices.items) c.in_ok-prices.prices.len (omega arith))) c.in_ok-fill_prices.ensures.prices in
+    let priced : ArePricesOf c.args.lp.now c.args.basis.now (value_at c.deref.result.now) = subst (λ (xs : List ℚ). ArePricesOf c.args.lp.now c.args.basis.now (value_at xs)) (sym c.deref.ensures.value) c.in_ok-fill_prices.ensures.prices in
     (one_wrong c.args.lp.now c.args.basis.now (record { is_basis = c.requires.rates.is_basis; nonsingular = c.requires.rates.nonsingular }) (value_at c.deref.result.now) priced c.in-Some.j c.in-Some.ensures, refl)
 
 pub returns-in-Some-clause-waypoints : goal.returns-in-Some-clause-waypoints
@@ -48,7 +47,7 @@ returns-in-Some-clause-complete g c bases ending right goes =
 pub returns-in-Some-crossed-clause-ends : goal.returns-in-Some-crossed-clause-ends
 returns-in-Some-crossed-clause-ends g c =
     let lawful : IsLinearProgram c.args.lp.now = search rules in
-    let priced : ArePricesOf c.args.lp.now c.args.basis.now (value_at c.deref.result.now) = subst (λ (xs : List ℚ). ArePricesOf c.args.lp.now c.args.basis.now (value_at xs)) (sym (c.deref.ensures.value ∙ take_all c.fill_prices.new.prices (drop (length c.fill_prices.new.prices) c.in_ok-prices.prices.items) c.in_ok-prices.prices.len (omega arith))) c.in_ok-fill_prices.ensures.prices in
+    let priced : ArePricesOf c.args.lp.now c.args.basis.now (value_at c.deref.result.now) = subst (λ (xs : List ℚ). ArePricesOf c.args.lp.now c.args.basis.now (value_at xs)) (sym c.deref.ensures.value) c.in_ok-fill_prices.ensures.prices in
     let right = all_right c.args.lp.now c.args.basis.now (record { is_basis = c.requires.rates.is_basis; nonsingular = c.requires.rates.nonsingular }) (value_at c.deref.result.now) priced (sym c.in_default.is ∙ c.wrong_price.ensures) in
     let call = crossed_call c.args.lp.now c.args.basis.now (record { is_basis = c.requires.rates.is_basis; nonsingular = c.requires.rates.nonsingular }) (value_at c.deref.result.now) priced (g.R.Rates.waypoints c.args.rates.now) (g.R.Rates.waypoints c.fill_prices.new.rates) c.in_ok-fill_prices.ensures.rates.1 c.in-Some-crossed.k c.args.limit c.in-Some-crossed.ensures in
     ends_result c.args.lp.now lawful c.requires.no_change (g.R.Rates.matrix c.args.rates.now) (g.R.Rates.basics c.args.rates.now) c.args.basis.now c.requires.rates right c.args.basis.now c.args.limit {E = DualStop} (Ok (Crossed c.in-Some-crossed.k)) call
@@ -60,7 +59,7 @@ returns-in-Some-crossed-clause-waypoints g c =
 pub returns-in-Some-crossed-clause-truth : goal.returns-in-Some-crossed-clause-truth
 returns-in-Some-crossed-clause-truth g c =
     let lawful : IsLinearProgram c.args.lp.now = search rules in
-    let priced : ArePricesOf c.args.lp.now c.args.basis.now (value_at c.deref.result.now) = subst (λ (xs : List ℚ). ArePricesOf c.args.lp.now c.args.basis.now (value_at xs)) (sym (c.deref.ensures.value ∙ take_all c.fill_prices.new.prices (drop (length c.fill_prices.new.prices) c.in_ok-prices.prices.items) c.in_ok-prices.prices.len (omega arith))) c.in_ok-fill_prices.ensures.prices in
+    let priced : ArePricesOf c.args.lp.now c.args.basis.now (value_at c.deref.result.now) = subst (λ (xs : List ℚ). ArePricesOf c.args.lp.now c.args.basis.now (value_at xs)) (sym c.deref.ensures.value) c.in_ok-fill_prices.ensures.prices in
     let right = all_right c.args.lp.now c.args.basis.now (record { is_basis = c.requires.rates.is_basis; nonsingular = c.requires.rates.nonsingular }) (value_at c.deref.result.now) priced (sym c.in_default.is ∙ c.wrong_price.ensures) in
     let call = crossed_call c.args.lp.now c.args.basis.now (record { is_basis = c.requires.rates.is_basis; nonsingular = c.requires.rates.nonsingular }) (value_at c.deref.result.now) priced (g.R.Rates.waypoints c.args.rates.now) (g.R.Rates.waypoints c.fill_prices.new.rates) c.in_ok-fill_prices.ensures.rates.1 c.in-Some-crossed.k c.args.limit c.in-Some-crossed.ensures in
     true_result c.args.lp.now lawful c.requires.no_change (g.R.Rates.matrix c.args.rates.now) (g.R.Rates.basics c.args.rates.now) c.args.basis.now c.requires.rates right c.args.basis.now c.args.limit {E = DualStop} (Ok (Crossed c.in-Some-crossed.k)) call
@@ -70,27 +69,15 @@ returns-in-Some-crossed-clause-complete g c bases ending right goes =
     let lawful : IsLinearProgram c.args.lp.now = search rules in
     dual_answered c.args.lp.now lawful c.requires.no_change (g.R.Rates.matrix c.args.rates.now) (g.R.Rates.basics c.args.rates.now) c.args.basis.now c.requires.rates c.args.basis.now c.args.limit (g.R.Rates.waypoints c.args.rates.now) (g.R.Rates.waypoints c.fill_prices.new.rates) bases ending (Ok (Crossed c.in-Some-crossed.k)) (returns-in-Some-crossed-clause-ends g c) tt right goes
 
-pub returns-in_err-point-clause-waypoints : goal.returns-in_err-point-clause-waypoints
-returns-in_err-point-clause-waypoints g c =
-    follows dual_turn c.args.lp.now c.args.basis.now (g.R.Rates.waypoints c.args.rates.now) c.args.basis.now (g.R.Rates.waypoints c.fill_prices.new.rates) 0 (begins_at dual_turn c.args.lp.now c.args.basis.now (g.R.Rates.waypoints c.args.rates.now) (g.R.Rates.waypoints c.fill_prices.new.rates) c.in_ok-fill_prices.ensures.rates.1)
-
-pub returns-in_err-direction-clause-waypoints : goal.returns-in_err-direction-clause-waypoints
-returns-in_err-direction-clause-waypoints g c =
-    follows dual_turn c.args.lp.now c.args.basis.now (g.R.Rates.waypoints c.args.rates.now) c.args.basis.now (g.R.Rates.waypoints c.fill_prices.new.rates) 0 (begins_at dual_turn c.args.lp.now c.args.basis.now (g.R.Rates.waypoints c.args.rates.now) (g.R.Rates.waypoints c.fill_prices.new.rates) c.in_ok-fill_prices.ensures.rates.1)
-
-pub walk-requires-clause-prices : goal.walk-requires-clause-prices
-walk-requires-clause-prices g c =
-    subst (λ (xs : List ℚ). ArePricesOf c.args.lp.now c.args.basis.now (value_at xs)) (sym (c.deref_mut-4.ensures.value ∙ take_all c.fill_prices.new.prices (drop (length c.fill_prices.new.prices) c.in_ok-prices.prices.items) c.in_ok-prices.prices.len (omega arith))) c.in_ok-fill_prices.ensures.prices
-
 pub walk-requires-clause-right : goal.walk-requires-clause-right
 walk-requires-clause-right g c =
-    let priced : ArePricesOf c.args.lp.now c.args.basis.now (value_at c.deref.result.now) = subst (λ (xs : List ℚ). ArePricesOf c.args.lp.now c.args.basis.now (value_at xs)) (sym (c.deref.ensures.value ∙ take_all c.fill_prices.new.prices (drop (length c.fill_prices.new.prices) c.in_ok-prices.prices.items) c.in_ok-prices.prices.len (omega arith))) c.in_ok-fill_prices.ensures.prices in
+    let priced : ArePricesOf c.args.lp.now c.args.basis.now (value_at c.deref.result.now) = subst (λ (xs : List ℚ). ArePricesOf c.args.lp.now c.args.basis.now (value_at xs)) (sym c.deref.ensures.value) c.in_ok-fill_prices.ensures.prices in
     all_right c.args.lp.now c.args.basis.now (record { is_basis = c.requires.rates.is_basis; nonsingular = c.requires.rates.nonsingular }) (value_at c.deref.result.now) priced (sym c.in_default.is ∙ c.wrong_price.ensures)
 
 pub returns-clause-ends : goal.returns-clause-ends
 returns-clause-ends g c =
     let lawful : IsLinearProgram c.args.lp.now = search rules in
-    let priced : ArePricesOf c.args.lp.now c.args.basis.now (value_at c.deref.result.now) = subst (λ (xs : List ℚ). ArePricesOf c.args.lp.now c.args.basis.now (value_at xs)) (sym (c.deref.ensures.value ∙ take_all c.fill_prices.new.prices (drop (length c.fill_prices.new.prices) c.in_ok-prices.prices.items) c.in_ok-prices.prices.len (omega arith))) c.in_ok-fill_prices.ensures.prices in
+    let priced : ArePricesOf c.args.lp.now c.args.basis.now (value_at c.deref.result.now) = subst (λ (xs : List ℚ). ArePricesOf c.args.lp.now c.args.basis.now (value_at xs)) (sym c.deref.ensures.value) c.in_ok-fill_prices.ensures.prices in
     let right = all_right c.args.lp.now c.args.basis.now (record { is_basis = c.requires.rates.is_basis; nonsingular = c.requires.rates.nonsingular }) (value_at c.deref.result.now) priced (sym c.in_default.is ∙ c.wrong_price.ensures) in
     ends_result c.args.lp.now lawful c.requires.no_change (g.R.Rates.matrix c.args.rates.now) (g.R.Rates.basics c.args.rates.now) c.args.basis.now c.requires.rates right c.walk.new.basis c.args.limit c.walk.result c.walk.ensures.ends
 
@@ -105,14 +92,14 @@ returns-clause-waypoints g c =
 pub returns-clause-truth : goal.returns-clause-truth
 returns-clause-truth g c =
     let lawful : IsLinearProgram c.args.lp.now = search rules in
-    let priced : ArePricesOf c.args.lp.now c.args.basis.now (value_at c.deref.result.now) = subst (λ (xs : List ℚ). ArePricesOf c.args.lp.now c.args.basis.now (value_at xs)) (sym (c.deref.ensures.value ∙ take_all c.fill_prices.new.prices (drop (length c.fill_prices.new.prices) c.in_ok-prices.prices.items) c.in_ok-prices.prices.len (omega arith))) c.in_ok-fill_prices.ensures.prices in
+    let priced : ArePricesOf c.args.lp.now c.args.basis.now (value_at c.deref.result.now) = subst (λ (xs : List ℚ). ArePricesOf c.args.lp.now c.args.basis.now (value_at xs)) (sym c.deref.ensures.value) c.in_ok-fill_prices.ensures.prices in
     let right = all_right c.args.lp.now c.args.basis.now (record { is_basis = c.requires.rates.is_basis; nonsingular = c.requires.rates.nonsingular }) (value_at c.deref.result.now) priced (sym c.in_default.is ∙ c.wrong_price.ensures) in
     true_result c.args.lp.now lawful c.requires.no_change (g.R.Rates.matrix c.args.rates.now) (g.R.Rates.basics c.args.rates.now) c.args.basis.now c.requires.rates right c.walk.new.basis c.args.limit c.walk.result c.walk.ensures.ends
 
 pub returns-clause-bounded : goal.returns-clause-bounded
 returns-clause-bounded g c =
     let lawful : IsLinearProgram c.args.lp.now = search rules in
-    let priced : ArePricesOf c.args.lp.now c.args.basis.now (value_at c.deref.result.now) = subst (λ (xs : List ℚ). ArePricesOf c.args.lp.now c.args.basis.now (value_at xs)) (sym (c.deref.ensures.value ∙ take_all c.fill_prices.new.prices (drop (length c.fill_prices.new.prices) c.in_ok-prices.prices.items) c.in_ok-prices.prices.len (omega arith))) c.in_ok-fill_prices.ensures.prices in
+    let priced : ArePricesOf c.args.lp.now c.args.basis.now (value_at c.deref.result.now) = subst (λ (xs : List ℚ). ArePricesOf c.args.lp.now c.args.basis.now (value_at xs)) (sym c.deref.ensures.value) c.in_ok-fill_prices.ensures.prices in
     let right = all_right c.args.lp.now c.args.basis.now (record { is_basis = c.requires.rates.is_basis; nonsingular = c.requires.rates.nonsingular }) (value_at c.deref.result.now) priced (sym c.in_default.is ∙ c.wrong_price.ensures) in
     bounded_result c.args.lp.now lawful c.requires.no_change (g.R.Rates.matrix c.args.rates.now) (g.R.Rates.basics c.args.rates.now) c.args.basis.now c.requires.rates right c.walk.new.basis c.args.limit c.walk.result c.walk.ensures.ends
 
@@ -121,13 +108,8 @@ returns-clause-complete g c bases ending right goes =
     let lawful : IsLinearProgram c.args.lp.now = search rules in
     dual_answered c.args.lp.now lawful c.requires.no_change (g.R.Rates.matrix c.args.rates.now) (g.R.Rates.basics c.args.rates.now) c.args.basis.now c.requires.rates c.walk.new.basis c.args.limit (g.R.Rates.waypoints c.args.rates.now) (g.R.Rates.waypoints c.walk.new.rates) bases ending c.walk.result (returns-clause-ends g c) (returns-clause-stops g c) right goes
 
-pub returns-in_err-prices-clause-apart : goal.returns-in_err-prices-clause-apart
-returns-in_err-prices-clause-apart g c right =
-    let lawful : IsLinearProgram c.args.lp.now = search rules in
-    never_returned c.args.lp.now lawful c.requires.no_change (g.R.Rates.matrix c.args.rates.now) (g.R.Rates.basics c.args.rates.now) c.args.basis.now c.requires.rates c.args.basis.now (g.R.Rates.waypoints c.args.rates.now) (g.R.Rates.waypoints c.args.rates.now) (stays dual_turn c.args.lp.now c.args.basis.now (g.R.Rates.waypoints c.args.rates.now)) right
-
-pub returns-in_err-row-clause-apart : goal.returns-in_err-row-clause-apart
-returns-in_err-row-clause-apart g c right =
+pub returns-in_err-workspace-clause-apart : goal.returns-in_err-workspace-clause-apart
+returns-in_err-workspace-clause-apart g c right =
     let lawful : IsLinearProgram c.args.lp.now = search rules in
     never_returned c.args.lp.now lawful c.requires.no_change (g.R.Rates.matrix c.args.rates.now) (g.R.Rates.basics c.args.rates.now) c.args.basis.now c.requires.rates c.args.basis.now (g.R.Rates.waypoints c.args.rates.now) (g.R.Rates.waypoints c.args.rates.now) (stays dual_turn c.args.lp.now c.args.basis.now (g.R.Rates.waypoints c.args.rates.now)) right
 
@@ -145,16 +127,6 @@ pub returns-in-Some-crossed-clause-apart : goal.returns-in-Some-crossed-clause-a
 returns-in-Some-crossed-clause-apart g c right =
     let lawful : IsLinearProgram c.args.lp.now = search rules in
     never_returned c.args.lp.now lawful c.requires.no_change (g.R.Rates.matrix c.args.rates.now) (g.R.Rates.basics c.args.rates.now) c.args.basis.now c.requires.rates c.args.basis.now (g.R.Rates.waypoints c.args.rates.now) (g.R.Rates.waypoints c.fill_prices.new.rates) (returns-in-Some-crossed-clause-waypoints g c) right
-
-pub returns-in_err-point-clause-apart : goal.returns-in_err-point-clause-apart
-returns-in_err-point-clause-apart g c right =
-    let lawful : IsLinearProgram c.args.lp.now = search rules in
-    never_returned c.args.lp.now lawful c.requires.no_change (g.R.Rates.matrix c.args.rates.now) (g.R.Rates.basics c.args.rates.now) c.args.basis.now c.requires.rates c.args.basis.now (g.R.Rates.waypoints c.args.rates.now) (g.R.Rates.waypoints c.fill_prices.new.rates) (returns-in_err-point-clause-waypoints g c) right
-
-pub returns-in_err-direction-clause-apart : goal.returns-in_err-direction-clause-apart
-returns-in_err-direction-clause-apart g c right =
-    let lawful : IsLinearProgram c.args.lp.now = search rules in
-    never_returned c.args.lp.now lawful c.requires.no_change (g.R.Rates.matrix c.args.rates.now) (g.R.Rates.basics c.args.rates.now) c.args.basis.now c.requires.rates c.args.basis.now (g.R.Rates.waypoints c.args.rates.now) (g.R.Rates.waypoints c.fill_prices.new.rates) (returns-in_err-direction-clause-waypoints g c) right
 
 pub returns-clause-apart : goal.returns-clause-apart
 returns-clause-apart g c right =

@@ -1,4 +1,4 @@
-use Rattle.std.proofs.Common.{◌≡◌, ◌+◌, ◌-◌, ◌∙◌, rules, length, refl, sym, arith}
+use Rattle.std.proofs.Common.{◌≡◌, ◌+◌, ◌-◌, ◌∙◌, rules, length, refl, sym, ap, arith}
 use Rattle.std.proofs.lemmas.Result.{err_from_is_err_and}
 use Rattle.lp_definitions.specs.LinearProgram.{value_at}
 use Rattle.lp_definitions.specs.Basis.{basics_of}
@@ -17,11 +17,14 @@ returns-in_err-point_of-clause-stops g c =
 
 pub loop-outcome-init : goal.loop-outcome-init
 loop-outcome-init g c = record {
-  places = c.requires.direction_places;
+  places = c.requires.sized.direction;
+  point_places = omega (arith, ap length c.as_mut_slice-point.ensures.value, c.requires.sized.point);
+  price_places = ap length c.as_mut_slice-prices.ensures.value ∙ c.requires.sized.prices;
+  row_places = ap length c.as_mut_slice-row.ensures.value ∙ c.requires.sized.row;
   rates = c.in_ok-point_of.ensures.rates.0;
   point = point_agrees c.args.lp.now c.args.basis.now c.in_ok-point_of.ensures.rates.0.is_basis c.in_ok-point_of.ensures.rates.0.nonsingular (value_at c.point_of.new.out) c.in_ok-point_of.ensures.point;
   kept = λ _. c.in_ok-point_of.ensures.point;
-  prices = c.requires.prices;
+  prices = rw c.as_mut_slice-prices.ensures.value c.requires.prices;
   broken = c.outside-broken.ensures;
   within = omega arith;
   reached = begins_at dual_turn c.args.lp.now c.args.basis.now (g.R.Rates.waypoints c.args.rates.now) (g.R.Rates.waypoints c.point_of.new.rates) c.in_ok-point_of.ensures.rates.1;
@@ -91,6 +94,9 @@ loop-outcome-preserved g c =
     let next = walk_more c.args.lp.now c.args.basis.now (g.R.Rates.waypoints c.args.rates.now) c.loop-outcome.basis (g.R.Rates.waypoints c.loop-outcome.rates) c.loop-outcome.steps c.loop-outcome.invariant.reached (value_at c.next_turn.new.direction) (value_at c.next_turn.new.row) c.in-Moves.q c.in-Moves.by (c.args.limit - c.loop-outcome.steps) moves c.step_over.new.basis (g.R.Rates.waypoints c.next_turn.new.rates) (g.R.Rates.waypoints c.step_over.new.rates) c.in_ok-kept-in-Moves.ensures.basis c.in_ok-outcome.ensures.rates.1 c.in_ok-kept-in-Moves.ensures.waypoints in
     record {
       places = c.in_ok-outcome.ensures.direction_places;
+      point_places = omega (arith, c.loop-outcome.invariant.point_places);
+      price_places = omega (arith, c.loop-outcome.invariant.price_places);
+      row_places = omega (arith, c.loop-outcome.invariant.row_places);
       rates = c.in_ok-kept_prices-in-Moves.ensures.rates.0;
       point = c.in_ok-kept-in-Moves.ensures.point;
       kept = c.in_ok-kept-in-Moves.ensures.kept;

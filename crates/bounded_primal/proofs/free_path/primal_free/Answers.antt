@@ -35,23 +35,13 @@ returns-in-Some-clause-apart g c =
     let lawful : IsLinearProgram c.args.lp.now = search rules in
     never_returned c.args.lp.now lawful (g.R.Rates.matrix c.args.rates.now) (g.R.Rates.basics c.args.rates.now) c.args.basis.now c.requires c.args.basis.now (g.R.Rates.waypoints c.args.rates.now) (g.R.Rates.waypoints c.args.rates.now) (stays turn c.args.lp.now c.args.basis.now (g.R.Rates.waypoints c.args.rates.now))
 
-pub returns-in_err-point-clause-apart : goal.returns-in_err-point-clause-apart
-returns-in_err-point-clause-apart g c =
+pub returns-in_err-workspace-clause-apart : goal.returns-in_err-workspace-clause-apart
+returns-in_err-workspace-clause-apart g c =
     let lawful : IsLinearProgram c.args.lp.now = search rules in
     never_returned c.args.lp.now lawful (g.R.Rates.matrix c.args.rates.now) (g.R.Rates.basics c.args.rates.now) c.args.basis.now c.requires c.args.basis.now (g.R.Rates.waypoints c.args.rates.now) (g.R.Rates.waypoints c.args.rates.now) (stays turn c.args.lp.now c.args.basis.now (g.R.Rates.waypoints c.args.rates.now))
 
 pub returns-in_err-wanted-clause-apart : goal.returns-in_err-wanted-clause-apart
 returns-in_err-wanted-clause-apart g c =
-    let lawful : IsLinearProgram c.args.lp.now = search rules in
-    never_returned c.args.lp.now lawful (g.R.Rates.matrix c.args.rates.now) (g.R.Rates.basics c.args.rates.now) c.args.basis.now c.requires c.args.basis.now (g.R.Rates.waypoints c.args.rates.now) (g.R.Rates.waypoints c.args.rates.now) (stays turn c.args.lp.now c.args.basis.now (g.R.Rates.waypoints c.args.rates.now))
-
-pub returns-in_err-row-clause-apart : goal.returns-in_err-row-clause-apart
-returns-in_err-row-clause-apart g c =
-    let lawful : IsLinearProgram c.args.lp.now = search rules in
-    never_returned c.args.lp.now lawful (g.R.Rates.matrix c.args.rates.now) (g.R.Rates.basics c.args.rates.now) c.args.basis.now c.requires c.args.basis.now (g.R.Rates.waypoints c.args.rates.now) (g.R.Rates.waypoints c.args.rates.now) (stays turn c.args.lp.now c.args.basis.now (g.R.Rates.waypoints c.args.rates.now))
-
-pub returns-in_err-direction-clause-apart : goal.returns-in_err-direction-clause-apart
-returns-in_err-direction-clause-apart g c =
     let lawful : IsLinearProgram c.args.lp.now = search rules in
     never_returned c.args.lp.now lawful (g.R.Rates.matrix c.args.rates.now) (g.R.Rates.basics c.args.rates.now) c.args.basis.now c.requires c.args.basis.now (g.R.Rates.waypoints c.args.rates.now) (g.R.Rates.waypoints c.args.rates.now) (stays turn c.args.lp.now c.args.basis.now (g.R.Rates.waypoints c.args.rates.now))
 

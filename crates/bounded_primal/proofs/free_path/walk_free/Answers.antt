@@ -1,4 +1,4 @@
-use Rattle.std.proofs.Common.{◌+◌, ◌∙◌, refl, sym, ap, arith}
+use Rattle.std.proofs.Common.{◌+◌, ◌∙◌, length, refl, sym, ap, arith}
 use Rattle.std.proofs.lemmas.Result.{err_from_is_err_and}
 use Rattle.lp_definitions.specs.LinearProgram.{value_at}
 use Rattle.lp_definitions.specs.Basis.{basics_of}
@@ -28,7 +28,10 @@ pub loop-share-init : goal.loop-share-init
 loop-share-init g c = record {
   some = omega (arith, c.open-book.ensures.parts, c.requires.some, c.requires.parts);
   counted = rw c.open-book.ensures.total refl;
-  places = c.requires.direction_places;
+  places = c.requires.sized.direction;
+  point_places = omega (arith, ap length c.as_mut_slice-point.ensures.value, c.requires.sized.point);
+  price_places = ap length c.as_mut_slice-prices.ensures.value ∙ c.requires.sized.prices;
+  row_places = ap length c.as_mut_slice-row.ensures.value ∙ c.requires.sized.row;
   rates = c.in_ok-point_of.ensures.rates.0;
   wants = c.requires.wants;
   point = point_agrees c.args.lp.now c.args.basis.now c.in_ok-point_of.ensures.rates.0.is_basis c.in_ok-point_of.ensures.rates.0.nonsingular (value_at c.point_of.new.out) c.in_ok-point_of.ensures.point;
@@ -97,6 +100,9 @@ loop-share-preserved g c =
       some = omega (arith, c.add.ensures.parts, c.loop-share.invariant.some);
       counted = c.saturating_add-steps.ensures ∙ counted_more c.loop-share.steps c.loop-share.book.total c.loop-share.invariant.counted ∙ ap counted_steps (sym c.add.ensures.total);
       places = c.in_ok-outcome.ensures.direction_places;
+      point_places = omega (arith, c.loop-share.invariant.point_places);
+      price_places = omega (arith, c.loop-share.invariant.price_places);
+      row_places = omega (arith, c.loop-share.invariant.row_places);
       rates = c.in_ok-kept-in-Moves.ensures.rates;
       wants = c.renew_wants.ensures;
       point = c.in_ok-kept-in-Moves.ensures.point;

@@ -21,6 +21,9 @@ invariant-loop-share g l = record {
   some : 0 < l.share.parts;
   counted : l.steps ≡ counted_steps l.book.total;
   places : length l.direction ≡ size l.lp.matrix;
+  point_places : length l.point ≡ size l.lp.matrix;
+  price_places : length l.prices ≡ size l.lp.matrix;
+  row_places : length l.row ≡ size l.lp.matrix;
   rates : HasRates (g.R.Rates.matrix l.rates) (g.R.Rates.basics l.rates) l.lp l.basis;
   wants : AreWants l.lp l.basis l.wanted;
   point : AgreesWithPoint l.lp l.basis (value_at l.point);

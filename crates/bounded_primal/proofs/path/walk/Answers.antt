@@ -1,4 +1,4 @@
-use Rattle.std.proofs.Common.{◌≡◌, ◌-◌, ◌∙◌, refl, sym, arith}
+use Rattle.std.proofs.Common.{◌≡◌, ◌-◌, ◌∙◌, length, refl, sym, ap, arith}
 use Rattle.std.proofs.lemmas.Result.{err_from_is_err_and}
 use Rattle.lp_definitions.specs.LinearProgram.{value_at}
 use Rattle.lp_definitions.specs.Basis.{basics_of}
@@ -19,7 +19,10 @@ returns-in_err-point_of-clause-stops g c =
 
 pub loop-outcome-init : goal.loop-outcome-init
 loop-outcome-init g c = record {
-  places = c.requires.direction_places;
+  places = c.requires.sized.direction;
+  point_places = omega (arith, ap length c.as_mut_slice-point.ensures.value, c.requires.sized.point);
+  price_places = ap length c.as_mut_slice-prices.ensures.value ∙ c.requires.sized.prices;
+  row_places = ap length c.as_mut_slice-row.ensures.value ∙ c.requires.sized.row;
   rates = c.in_ok-point_of.ensures.rates.0;
   wants = c.requires.wants;
   point = point_agrees c.args.lp.now c.args.basis.now c.in_ok-point_of.ensures.rates.0.is_basis c.in_ok-point_of.ensures.rates.0.nonsingular (value_at c.point_of.new.out) c.in_ok-point_of.ensures.point;
@@ -56,6 +59,9 @@ loop-outcome-preserved g c =
     let moves = rw c.in-Moves.is at c.in_ok-outcome.ensures.turn in
     record {
       places = c.in_ok-outcome.ensures.direction_places;
+      point_places = omega (arith, c.loop-outcome.invariant.point_places);
+      price_places = omega (arith, c.loop-outcome.invariant.price_places);
+      row_places = omega (arith, c.loop-outcome.invariant.row_places);
       rates = c.in_ok-kept-in-Moves.ensures.rates;
       wants = c.renew_wants.ensures;
       point = c.in_ok-kept-in-Moves.ensures.point;

@@ -16,6 +16,9 @@ decreases-loop-outcome g l = l.limit - l.steps
 abbrev pub invariant-loop-outcome : goal.invariant-loop-outcome
 invariant-loop-outcome g l = record {
   places : length l.direction ≡ size l.lp.matrix;
+  point_places : length l.point ≡ size l.lp.matrix;
+  price_places : length l.prices ≡ size l.lp.matrix;
+  row_places : length l.row ≡ size l.lp.matrix;
   rates : HasRates (g.R.Rates.matrix l.rates) (g.R.Rates.basics l.rates) l.lp l.basis;
   wants : AreWants l.lp l.basis l.wanted;
   point : AgreesWithPoint l.lp l.basis (value_at l.point);
