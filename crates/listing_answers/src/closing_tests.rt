@@ -201,6 +201,13 @@ fn check_unbounded(
     }
 }
 
+// The value past which a run ends, and the ray that is to prove it.
+#[derive(Clone, Copy)]
+struct PastRay<'a> {
+    value: Frac,
+    ray: &'a [Frac],
+}
+
 // It ends past the last end, which is before the last value, and what comes after it is proved by a ray.
 fn check_past_infeasible(
     alloc: Global,
@@ -208,20 +215,20 @@ fn check_past_infeasible(
     request: &ParametricRequest,
     last: Frac,
     shift: &[Frac],
-    value: Frac,
-    ray: &[Frac],
+    past: &PastRay<'_>,
 ) -> Result<(), Stop>
     requires lawful { IsLinearProgram sheet.lp.now }
     requires no_change { sheet.lp.now.change ≡ None }
     requires serves { Serves sheet.problem.now sheet.lp.now request.now }
     requires shifts { length shift.now ≡ sheet.lp.now.matrix.rows }
-    requires places { length ray.now ≡ size sheet.lp.now.matrix }
-    ensures { Judges (past_test request.now.to last value (infeasible_past (sheet_view sheet.entry)
-        (changing_of request.now.name request.now.change) shift.now value (value_at ray.now))) result }
+    requires places { length past.now.ray.now ≡ size sheet.lp.now.matrix }
+    ensures { Judges (past_test request.now.to last past.now.value (infeasible_past (sheet_view sheet.entry)
+        (changing_of request.now.name request.now.change) shift.now past.now.value (value_at past.now.ray.now))) result }
 {
+    let value = past.value;
     ask(is_equal(value, last))?;
     ask(value.is_less(request.to))?;
-    check_infeasible_past(alloc, sheet, request, shift, value, ray)
+    check_infeasible_past(alloc, sheet, request, shift, value, past.ray)
 }
 
 // A run of the right-hand side may close so.
@@ -242,7 +249,10 @@ fn check_infeasible(
 {
     match &request.change {
         Change::Row(_) => Err(Stop::Wrong),
-        Change::Set(shift) => check_past_infeasible(alloc, sheet, request, last, shift, value, ray),
+        Change::Set(shift) => {
+            let past = PastRay { value, ray };
+            check_past_infeasible(alloc, sheet, request, last, shift, &past)
+        }
     }
 }
 

@@ -30,7 +30,7 @@ use Rattle.ranging.specs.RowEnds.{sides_of, RatesStayTo, IsRateEnd, AreEnds, Are
 use Rattle.ranging.specs.LimitEnds.{no_ends, ends_at, IsKeptOr, IsLimitEnd, IsMet, AreMet}
 use Rattle.ranging.specs.Tables.{IsBasicsEnd, AreLimitEnds, AllMet, IsRowEnd, AreEndsOfRow, AllFound}
 use Rattle.ranging.proofs.Distances.{ends_written, ends_unwritten}
-use Rattle.bounded_primal.proofs.Still.{and_next}
+use Rattle.basis_values.proofs.Skips.{and_next}
 
 -- a basic has no conditions
 pub no_sides : (rises falls : Bool) (a b : ℚ) (x : ℚ) → rises ≡ false → falls ≡ false → SidesHold (sign_sides rises falls a b) x

@@ -11,7 +11,8 @@ use Rattle.affine_laws.specs.declared.tightening.End.{End}
 use Rattle.affine_laws.specs.declared.tightening.Ends.{Ends}
 use Rattle.frac128.specs.declared.Op.TheVariants.{Add, Sub}
 use Rattle.lp_definitions.specs.declared.Evidence.{Evidence}
-use Rattle.ranging.specs.Refusals.{IsRefusal}
+use Rattle.basis_values.specs.Formulas.{IsRefusal}
+use Rattle.ranging.specs.Formulas.{end_formula}
 use Rattle.ranging.specs.Intervals.{IsAtLeast, IsAtMost, IsIn, less_end, taken_from, opposite_end, opposite, DifferenceRefused, SumRefused}
 
 -- what holds of an end that is there
@@ -19,17 +20,17 @@ pub of_end : (o : Option End) (P : End → Type 0) → IfSome o P → IsSome o �
 of_end None P h there = let Q : IsSome (let n : Option End = None in n) → ⊥ = λ e. cc in absurd (Q there)
 of_end (Some e) P h there = (e, refl, h)
 
-pub low_difference : (cost : ℚ) (ends : Ends) (i : ℕ) (e : Evidence) → IfSome ends.low (λ d. IsRefusal 15 0 i d.by 0 Sub cost d.value e) → IsSome ends.low → DifferenceRefused cost ends i e
-low_difference cost ends i e h there = let f = of_end ends.low (λ d. IsRefusal 15 0 i d.by 0 Sub cost d.value e) h there in record { end = f.0; is_end = inl f.1; refused = f.2 }
+pub low_difference : (cost : ℚ) (ends : Ends) (i : ℕ) (e : Evidence) → IfSome ends.low (λ d. IsRefusal (end_formula i d.by 0) Sub cost d.value e) → IsSome ends.low → DifferenceRefused cost ends i e
+low_difference cost ends i e h there = let f = of_end ends.low (λ d. IsRefusal (end_formula i d.by 0) Sub cost d.value e) h there in record { end = f.0; is_end = inl f.1; refused = f.2 }
 
-pub high_difference : (cost : ℚ) (ends : Ends) (i : ℕ) (e : Evidence) → IfSome ends.high (λ d. IsRefusal 15 0 i d.by 0 Sub cost d.value e) → IsSome ends.high → DifferenceRefused cost ends i e
-high_difference cost ends i e h there = let f = of_end ends.high (λ d. IsRefusal 15 0 i d.by 0 Sub cost d.value e) h there in record { end = f.0; is_end = inr f.1; refused = f.2 }
+pub high_difference : (cost : ℚ) (ends : Ends) (i : ℕ) (e : Evidence) → IfSome ends.high (λ d. IsRefusal (end_formula i d.by 0) Sub cost d.value e) → IsSome ends.high → DifferenceRefused cost ends i e
+high_difference cost ends i e h there = let f = of_end ends.high (λ d. IsRefusal (end_formula i d.by 0) Sub cost d.value e) h there in record { end = f.0; is_end = inr f.1; refused = f.2 }
 
-pub low_sum : (stands : ℚ) (ends : Ends) (k : ℕ) (e : Evidence) → IfSome ends.low (λ d. IsRefusal 15 0 d.by k d.which Add stands d.value e) → IsSome ends.low → SumRefused stands ends k e
-low_sum stands ends k e h there = let f = of_end ends.low (λ d. IsRefusal 15 0 d.by k d.which Add stands d.value e) h there in record { end = f.0; is_end = inl f.1; refused = f.2 }
+pub low_sum : (stands : ℚ) (ends : Ends) (k : ℕ) (e : Evidence) → IfSome ends.low (λ d. IsRefusal (end_formula d.by k d.which) Add stands d.value e) → IsSome ends.low → SumRefused stands ends k e
+low_sum stands ends k e h there = let f = of_end ends.low (λ d. IsRefusal (end_formula d.by k d.which) Add stands d.value e) h there in record { end = f.0; is_end = inl f.1; refused = f.2 }
 
-pub high_sum : (stands : ℚ) (ends : Ends) (k : ℕ) (e : Evidence) → IfSome ends.high (λ d. IsRefusal 15 0 d.by k d.which Add stands d.value e) → IsSome ends.high → SumRefused stands ends k e
-high_sum stands ends k e h there = let f = of_end ends.high (λ d. IsRefusal 15 0 d.by k d.which Add stands d.value e) h there in record { end = f.0; is_end = inr f.1; refused = f.2 }
+pub high_sum : (stands : ℚ) (ends : Ends) (k : ℕ) (e : Evidence) → IfSome ends.high (λ d. IsRefusal (end_formula d.by k d.which) Add stands d.value e) → IsSome ends.high → SumRefused stands ends k e
+high_sum stands ends k e h there = let f = of_end ends.high (λ d. IsRefusal (end_formula d.by k d.which) Add stands d.value e) h there in record { end = f.0; is_end = inr f.1; refused = f.2 }
 
 -- ---- the nearer of two
 

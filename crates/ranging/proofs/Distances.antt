@@ -22,12 +22,14 @@ use Rattle.lp_definitions.specs.RatesEvidence.{Names}
 use Rattle.lp_definitions.specs.declared.Evidence.{Evidence}
 use Rattle.lp_definitions.specs.declared.Status.{Status}
 use Rattle.simplex_definitions.specs.Ranges.{stands_at_limit}
-use Rattle.ranging.specs.Refusals.{IsRefusal}
+use Rattle.basis_values.specs.Formulas.{IsRefusal}
+use Rattle.basis_values.specs.declared.formula.Formula.{Formula}
+use Rattle.basis_values.specs.Reach.{reach_formula}
 use Rattle.ranging.specs.LimitEnds.{less_value, distances_of, distance_numbered, IsBasicEnd, IsKeptOr, IsQuotientOf, IsWithDistance, IsFarEnough, IsWithDistances, IsWithBasic, IsDistanceRefused, IsBasicRefused, no_ends, ends_at, IsLimitEnd, IsMet, IsLimitRefused, IsRateRefused, AreMet}
 use Rattle.ranging.specs.declared.limit_ends.Distances.{Distances}
 
 pub limit_refused : (p : LinearProgram) (value : ℚ) (i which : ℕ) (e : Evidence) (limit : Option ℚ) → limit ≡ limit_numbered p i which → which < 3
-    → IfSome limit (λ l. IsRefusal 6 0 i 0 which Sub l value e) → IsSome limit → IsLimitRefused p value i e
+    → IfSome limit (λ l. IsRefusal (reach_formula 6 0 i which) Sub l value e) → IsSome limit → IsLimitRefused p value i e
 limit_refused p value i which e None is small refused there = let P : IsSome (let n : Option ℚ = None in n) → ⊥ = λ e. cc in absurd (P there)
 limit_refused p value i which e (Some l) is small refused there = record { which = which; small = small; limit = l; is_limit = sym is; refused = refused }
 
@@ -48,12 +50,12 @@ one_distance at_most far n rate i which ends now is h = record {
   };
 }
 
-pub refused_quotient : (b : Bound) (r : Refused) (e : Evidence) (n q i j term : ℕ) → Names e n 0 q i j term → e.way ≡ 0 → e.theta ≡ zero_ℚ → e.refused ≡ r → IsRefused b r
-    → IsRefusal n q i j term Div b.number b.slope e
-refused_quotient b r e n q i j term names no_way no_theta is h = record {
+pub refused_quotient : (b : Bound) (r : Refused) (e : Evidence) (f : Formula) → Names e f.number f.p f.q f.i f.j f.term → e.way ≡ 0 → e.theta ≡ f.theta → e.refused ≡ r → IsRefused b r
+    → IsRefusal f Div b.number b.slope e
+refused_quotient b r e f names no_way is_theta is h = record {
   names = names;
   no_way = no_way;
-  no_theta = no_theta;
+  is_theta = is_theta;
   refuses =
       let same : e.refused ≡ record { op = Div; left = b.number; right = b.slope } = is ∙ h.is_quotient in
       record { is_op = ap (λ (r : Refused). r.op) same; is_left = ap (λ (r : Refused). r.left) same; is_right = ap (λ (r : Refused). r.right) same; refused = h.decided };
@@ -181,7 +183,7 @@ module _ (p : LinearProgram) (z : ℚ) (i : ℕ) where
         limit = l.0;
         is_limit = l.1;
         moves = λ e. h.moves (sym row_is ∙ e);
-        refused = subst₂ (λ d r. IsRefusal 7 k i 0 h.which Div d r e) l.2 (sym row_is) h.refused;
+        refused = subst₂ (λ d r. IsRefusal (reach_formula 7 k i h.which) Div d r e) l.2 (sym row_is) h.refused;
       }
 
 -- ---- a list of ends

@@ -29,7 +29,8 @@ use Rattle.lp_laws.proofs.Values.{clash}
 use Rattle.simplex_definitions.specs.Moves.{is_fixed, may_rise, may_fall}
 use Rattle.simplex_definitions.specs.Path.{worth_rate}
 use Rattle.simplex_definitions.specs.Ranges.{with_cost, with_limit, stands_at_limit}
-use Rattle.ranging.specs.Refusals.{IsRefusal}
+use Rattle.basis_values.specs.Formulas.{IsRefusal}
+use Rattle.ranging.specs.Formulas.{end_formula}
 use Rattle.ranging.specs.RowEnds.{AreEnds}
 use Rattle.ranging.specs.Intervals.{IsIn, taken_from, IsOwnAt, IsOwn, IsOneOf, DifferenceRefused, SumRefused}
 use Rattle.ranging.specs.Tables.{IsBasicsEnd, AreLimitEnds, IsRowEnd, AreEndsOfRow}
@@ -104,7 +105,7 @@ module _ (p : LinearProgram) (s : List Status) (lawful : IsLinearProgram p) (no_
   basic_cost_refused k basic past ends h e r before after =
       let f = one_of ends (IsRowEnd p s optimal.tableau.rate k) (h.made optimal.tableau.rate optimal.is_tableau.are_rates) r.end r.is_end in
       basic_view p s no_change optimal.nonsingular optimal.tableau optimal.is_tableau before after e k r.end.by basic past f.is_nonbasic f.moves
-      (subst (λ v. IsRefusal 15 0 k r.end.by 0 Sub (cost p (k - p.rows)) v e) f.is_quotient r.refused)
+      (subst (λ v. IsRefusal (end_formula k r.end.by 0) Sub (cost p (k - p.rows)) v e) f.is_quotient r.refused)
 
   module _ (prices : Vector) (priced : ArePricesOf p s prices) (k : ℕ) (out : IsNonbasic p.matrix (basics_of s) k) (price : ℚ) (price_is_k : price ≡ prices k) where
     own_price : (rate : ℕ → ℕ → ℚ) → AreRates p.matrix (basics_of s) rate → price ≡ rate p.objective k
@@ -162,7 +163,7 @@ module _ (p : LinearProgram) (s : List Status) (lawful : IsLinearProgram p) (no_
     nonbasic_cost_refused past e r before after =
         let f = one_of (own_ends_of p.sense (may_rise p s k) (may_fall p s k) price k) (λ e. (e.by ≡ k) × (e.value ≡ price)) (own_ends_each p.sense (may_rise p s k) (may_fall p s k) price k (λ e. (e.by ≡ k) × (e.value ≡ price)) (refl, refl)) r.end r.is_end in
         nonbasic_view p s no_change optimal.nonsingular optimal.tableau optimal.is_tableau before after e k out past
-        (subst₂ (λ j v. IsRefusal 15 0 0 j 0 Sub (cost p (k - p.rows)) v e) f.0 (f.1 ∙ own_price optimal.tableau.rate optimal.is_tableau.are_rates) r.refused)
+        (subst₂ (λ j v. IsRefusal (end_formula 0 j 0) Sub (cost p (k - p.rows)) v e) f.0 (f.1 ∙ own_price optimal.tableau.rate optimal.is_tableau.are_rates) r.refused)
 
   -- ---- limits
 
@@ -187,4 +188,4 @@ module _ (p : LinearProgram) (s : List Status) (lawful : IsLinearProgram p) (no_
         let f = one_of ends (IsBasicsEnd p s z optimal.tableau.rate k) (met.made optimal.tableau.rate optimal.is_tableau.are_rates) r.end r.is_end in
         sum_view p s no_change optimal.nonsingular (tableau_with p s lawful no_change optimal z point optimal.tableau.rate) (is_tableau p s lawful no_change optimal z point optimal.tableau.rate optimal.is_tableau.are_rates) before after e
         r.end.by k r.end.which (z k) f.limit f.is_basic (nonbasic_at_limit p s lawful no_change optimal z point k is stands) (numbered_is p (status_of s k) k (z k) stands (point.placed k is)) f.is_limit f.moves
-        (subst₂ (λ a b. IsRefusal 15 0 r.end.by k r.end.which Add a b e) v_is f.is_quotient r.refused)
+        (subst₂ (λ a b. IsRefusal (end_formula r.end.by k r.end.which) Add a b e) v_is f.is_quotient r.refused)

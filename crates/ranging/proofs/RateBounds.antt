@@ -1,5 +1,5 @@
 -- The bounds that prices and rates make.
-use Rattle.std.proofs.Common.{◌≡◌, ◌≢◌, ℕ, ◌+◌, ◌≤◌, ◌⊎◌, inl, inr, List, pos, refl, sym, ap, ap₂, subst, subst₂, ◌∙◌, Bool, true, false, Option, Some, None, arith}
+use Rattle.std.proofs.Common.{◌≡◌, ◌≢◌, ℕ, ◌+◌, ◌⊎◌, inl, inr, List, pos, refl, sym, ap, ap₂, subst, subst₂, ◌∙◌, Bool, true, false, Option, Some, None, arith}
 use Rattle.std.specs.Prelude.{◌↔◌, IfSome}
 use Rattle.exact_values.specs.Rational.{ℚ, zero_ℚ, neg_ℚ, ◌+ℚ◌, ◌*ℚ◌, ◌/ℚ◌, ◌≤ℚ◌}
 use Rattle.exact_values.proofs.Ring.{by_ring1, by_ring3, number, opposite, ◌⊕◌, ◌⊖◌, ◌⊗◌, ◌≐◌}
@@ -16,7 +16,7 @@ use Rattle.lp_definitions.specs.declared.Status.{Status}
 use Rattle.lp_laws.proofs.Values.{clash}
 use Rattle.simplex_definitions.specs.Moves.{may_rise, may_fall}
 use Rattle.ranging.specs.RowEnds.{rate_bound, sides_of, RatesStayTo, IsTightenedIf, IsEitherRate, IsWithRate, IsRateEnd, AreRowEnds}
-use Rattle.bounded_primal.proofs.Still.{and_next}
+use Rattle.basis_values.proofs.Skips.{and_next}
 
 -- the conditions of a price from which y times a rate is taken, as bounds on y
 below_is : (price rate y : ℚ) → (y *ℚ rate ≤ℚ price) ↔ (zero_ℚ ≤ℚ price +ℚ neg_ℚ y *ℚ rate)

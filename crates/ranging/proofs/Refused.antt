@@ -9,7 +9,9 @@ use Rattle.lp_definitions.specs.declared.Evidence.{Evidence}
 use Rattle.lp_definitions.specs.declared.Status.{Status}
 use Rattle.lp_model.specs.RatesCalls.{IsRowOf}
 use Rattle.basis_values.specs.Calls.{RangeRefused}
-use Rattle.ranging.specs.Refusals.{IsRefusal}
+use Rattle.basis_values.specs.Formulas.{IsRefusal}
+use Rattle.basis_values.specs.Reach.{reach_formula}
+use Rattle.ranging.specs.Formulas.{ratio_formula}
 use Rattle.ranging.specs.RowEnds.{RatioRefused}
 use Rattle.ranging.specs.LimitEnds.{IsLimitRefused, IsRateRefused}
 use Rattle.ranging.proofs.AtBasis.{tableau_with, is_tableau, price_is, rate_is, moves_out}
@@ -26,7 +28,7 @@ module _ (p : LinearProgram) (s : List Status) (lawful : IsLinearProgram p) (no_
       let out = moves_out p s lawful no_change optimal z point prices priced i basic.0 row of_row h.k h.is_variable h.moves in
       let is = rate_is p s lawful no_change optimal z point prices priced i basic.0 row of_row of_row.rate of_row.are_rates h.k out in
       rate_view p s no_change optimal.nonsingular (tableau_with p s lawful no_change optimal z point of_row.rate) (is_tableau p s lawful no_change optimal z point of_row.rate of_row.are_rates) before after e
-      h.k i h.which h.limit basic out h.is_limit (λ zero. h.moves (is ∙ zero)) (subst (λ r. IsRefusal 7 h.k i 0 h.which Div (h.limit -ℚ z i) r e) is h.refused)
+      h.k i h.which h.limit basic out h.is_limit (λ zero. h.moves (is ∙ zero)) (subst (λ r. IsRefusal (reach_formula 7 h.k i h.which) Div (h.limit -ℚ z i) r e) is h.refused)
 
   pub ratio_refused : RatioRefused prices row (size p.matrix) i e → RangeRefused p before s after e
   ratio_refused h =
@@ -34,4 +36,4 @@ module _ (p : LinearProgram) (s : List Status) (lawful : IsLinearProgram p) (no_
       let is = rate_is p s lawful no_change optimal z point prices priced i basic.0 row of_row of_row.rate of_row.are_rates h.j out in
       let price = price_is p s lawful no_change optimal z point prices priced of_row.rate of_row.are_rates h.j out in
       ratio_view p s no_change optimal.nonsingular (tableau_with p s lawful no_change optimal z point of_row.rate) (is_tableau p s lawful no_change optimal z point of_row.rate of_row.are_rates) before after e
-      i h.j basic out (λ zero. h.moves (is ∙ zero)) (subst₂ (λ a b. IsRefusal 14 0 i h.j 0 Div a b e) price is h.refused)
+      i h.j basic out (λ zero. h.moves (is ∙ zero)) (subst₂ (λ a b. IsRefusal (ratio_formula i h.j) Div a b e) price is h.refused)

@@ -17,7 +17,9 @@ use Rattle.simplex_definitions.specs.Evidence.{Formula, ShowsRefusal, by_exchang
 use Rattle.basis_values.specs.Calls.{job_of, is_of_point, PointRefused, RangeRefused}
 use Rattle.basis_values.proofs.Refusals.{no_parameter}
 use Rattle.basis_values.proofs.Covered.{stops_covered}
-use Rattle.ranging.specs.Refusals.{IsRefusal}
+use Rattle.basis_values.specs.Formulas.{IsRefusal}
+use Rattle.basis_values.specs.Reach.{reach_formula}
+use Rattle.ranging.specs.Formulas.{end_formula, ratio_formula}
 
 -- ---- a point, prices, and rows
 
@@ -89,31 +91,31 @@ module _ (p : LinearProgram) (s : List Status) (no_change : p.change ≡ None) (
     };
   }
 
-  pub distance_view : (i which : ℕ) (l : ℚ) → which < 3 → IsVariable p.matrix i → limit_numbered p i which ≡ Some l → IsRefusal 6 0 i 0 which Sub l (t.point i) e → RangeRefused p before s after e
+  pub distance_view : (i which : ℕ) (l : ℚ) → which < 3 → IsVariable p.matrix i → limit_numbered p i which ≡ Some l → IsRefusal (reach_formula 6 0 i which) Sub l (t.point i) e → RangeRefused p before s after e
   distance_view i which l small is limit h =
       let other : nat_eq which 3 ≡ false = grind arith in
-      here h.no_way h.no_theta (ap names_waypoint h.names.is_formula) (rw (h.names.is_formula, h.names.is_term, other) refl) (by_point (f6 i which l h.names is limit h.refuses))
+      here h.no_way h.is_theta (ap names_waypoint h.names.is_formula) (rw (h.names.is_formula, h.names.is_term, other) refl) (by_point (f6 i which l h.names is limit h.refuses))
 
   pub rate_view : (q i which : ℕ) (l : ℚ) → IsBasic p.matrix (basics_of s) i → IsNonbasic p.matrix (basics_of s) q → limit_numbered p i which ≡ Some l → t.rate i q ≢ zero_ℚ
-      → IsRefusal 7 q i 0 which Div (l -ℚ t.point i) (t.rate i q) e → RangeRefused p before s after e
+      → IsRefusal (reach_formula 7 q i which) Div (l -ℚ t.point i) (t.rate i q) e → RangeRefused p before s after e
   rate_view q i which l basic out limit moves h =
-      here h.no_way h.no_theta (ap names_waypoint h.names.is_formula) (rw h.names.is_formula refl) (by_point (f7 q i which l h.names basic out limit moves h.refuses))
+      here h.no_way h.is_theta (ap names_waypoint h.names.is_formula) (rw h.names.is_formula refl) (by_point (f7 q i which l h.names basic out limit moves h.refuses))
 
   pub ratio_view : (i j : ℕ) → IsBasic p.matrix (basics_of s) i → IsNonbasic p.matrix (basics_of s) j → t.rate i j ≢ zero_ℚ
-      → IsRefusal 14 0 i j 0 Div (t.rate p.objective j) (t.rate i j) e → RangeRefused p before s after e
+      → IsRefusal (ratio_formula i j) Div (t.rate p.objective j) (t.rate i j) e → RangeRefused p before s after e
   ratio_view i j basic out moves h =
-      here h.no_way h.no_theta (ap names_waypoint h.names.is_formula) (rw h.names.is_formula refl) (by_ratio (f14 i j h.names basic out moves h.refuses))
+      here h.no_way h.is_theta (ap names_waypoint h.names.is_formula) (rw h.names.is_formula refl) (by_ratio (f14 i j h.names basic out moves h.refuses))
 
   pub sum_view : (i j which : ℕ) (stands l : ℚ) → IsBasic p.matrix (basics_of s) i → IsNonbasic p.matrix (basics_of s) j → limit_numbered p j (number_of_limit (status_of s j)) ≡ Some stands
-      → limit_numbered p i which ≡ Some l → t.rate i j ≢ zero_ℚ → IsRefusal 15 0 i j which Add stands ((l -ℚ t.point i) /ℚ t.rate i j) e → RangeRefused p before s after e
+      → limit_numbered p i which ≡ Some l → t.rate i j ≢ zero_ℚ → IsRefusal (end_formula i j which) Add stands ((l -ℚ t.point i) /ℚ t.rate i j) e → RangeRefused p before s after e
   sum_view i j which stands l basic out at limit moves h =
-      here h.no_way h.no_theta (ap names_waypoint h.names.is_formula) (rw h.names.is_formula refl) (by_range (f15_limit i j which stands l h.names basic out at limit moves h.refuses))
+      here h.no_way h.is_theta (ap names_waypoint h.names.is_formula) (rw h.names.is_formula refl) (by_range (f15_limit i j which stands l h.names basic out at limit moves h.refuses))
 
-  pub nonbasic_view : (j : ℕ) → IsNonbasic p.matrix (basics_of s) j → p.rows < j → IsRefusal 15 0 0 j 0 Sub (cost p (j - p.rows)) (t.rate p.objective j) e → RangeRefused p before s after e
+  pub nonbasic_view : (j : ℕ) → IsNonbasic p.matrix (basics_of s) j → p.rows < j → IsRefusal (end_formula 0 j 0) Sub (cost p (j - p.rows)) (t.rate p.objective j) e → RangeRefused p before s after e
   nonbasic_view j out column h =
-      here h.no_way h.no_theta (ap names_waypoint h.names.is_formula) (rw h.names.is_formula refl) (by_range (f15_nonbasic j h.names out column h.refuses))
+      here h.no_way h.is_theta (ap names_waypoint h.names.is_formula) (rw h.names.is_formula refl) (by_range (f15_nonbasic j h.names out column h.refuses))
 
   pub basic_view : (i j : ℕ) → IsBasic p.matrix (basics_of s) i → p.rows < i → IsNonbasic p.matrix (basics_of s) j → t.rate i j ≢ zero_ℚ
-      → IsRefusal 15 0 i j 0 Sub (cost p (i - p.rows)) (t.rate p.objective j /ℚ t.rate i j) e → RangeRefused p before s after e
+      → IsRefusal (end_formula i j 0) Sub (cost p (i - p.rows)) (t.rate p.objective j /ℚ t.rate i j) e → RangeRefused p before s after e
   basic_view i j basic column out moves h =
-      here h.no_way h.no_theta (ap names_waypoint h.names.is_formula) (rw h.names.is_formula refl) (by_range (f15_basic i j h.names basic column out moves h.refuses))
+      here h.no_way h.is_theta (ap names_waypoint h.names.is_formula) (rw h.names.is_formula refl) (by_range (f15_basic i j h.names basic column out moves h.refuses))

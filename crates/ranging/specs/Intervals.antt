@@ -16,7 +16,8 @@ use Rattle.lp_definitions.specs.declared.Status.{Status}
 use Rattle.lp_definitions.specs.declared.Status.TheVariants.{Bs, Ll, Ul, Fr}
 use Rattle.lp_model.specs.declared.reports.Interval.{Interval}
 use Rattle.simplex_definitions.specs.Moves.{is_fixed}
-use Rattle.ranging.specs.Refusals.{IsRefusal}
+use Rattle.basis_values.specs.Formulas.{IsRefusal}
+use Rattle.ranging.specs.Formulas.{end_formula}
 
 abbrev pub IsAtLeast : Option ℚ → ℚ → Type 0
 IsAtLeast low t = IfSome low (λ l. l ≤ℚ t)
@@ -60,9 +61,9 @@ IsOneOf ends e = (ends.low ≡ Some e) ⊎ (ends.high ≡ Some e)
 pub record DifferenceRefused (cost : ℚ) (ends : Ends) (i : ℕ) (e : Evidence) : Type 0 where
   pub end : End
   pub is_end : IsOneOf ends end
-  pub refused : IsRefusal 15 0 i end.by 0 Sub cost end.value e
+  pub refused : IsRefusal (end_formula i end.by 0) Sub cost end.value e
 
 pub record SumRefused (stands : ℚ) (ends : Ends) (k : ℕ) (e : Evidence) : Type 0 where
   pub end : End
   pub is_end : IsOneOf ends end
-  pub refused : IsRefusal 15 0 end.by k end.which Add stands end.value e
+  pub refused : IsRefusal (end_formula end.by k end.which) Add stands end.value e

@@ -17,7 +17,8 @@ use Rattle.simplex_definitions.specs.Formulas.{limit_numbered}
 use Rattle.frac128.specs.declared.Op.TheVariants.{Sub, Div}
 use Rattle.lp_definitions.specs.LinearProgram.{LinearProgram, Vector, IsVariable, lower_of, upper_of}
 use Rattle.lp_definitions.specs.declared.Evidence.{Evidence}
-use Rattle.ranging.specs.Refusals.{IsRefusal}
+use Rattle.basis_values.specs.Formulas.{IsRefusal}
+use Rattle.basis_values.specs.Reach.{reach_formula}
 use Rattle.ranging.specs.declared.limit_ends.Distances.{Distances}
 
 abbrev pub less_value : ℚ → Option ℚ → Option ℚ
@@ -75,7 +76,7 @@ pub record IsWithBasic (stands : Bool) (far : Distances) (rate : ℚ) (i : ℕ) 
 pub record IsDistanceRefused (far : Option ℚ) (rate : ℚ) (i k which : ℕ) (e : Evidence) : Type 0 where
   pub distance : ℚ
   pub is_distance : far ≡ Some distance
-  pub refused : IsRefusal 7 k i 0 which Div distance rate e
+  pub refused : IsRefusal (reach_formula 7 k i which) Div distance rate e
 
 pub record IsBasicRefused (far : Distances) (rate : ℚ) (i k : ℕ) (e : Evidence) : Type 0 where
   pub which : ℕ
@@ -83,7 +84,7 @@ pub record IsBasicRefused (far : Distances) (rate : ℚ) (i k : ℕ) (e : Eviden
   pub distance : ℚ
   pub is_distance : distance_numbered far which ≡ Some distance
   pub moves : rate ≢ zero_ℚ
-  pub refused : IsRefusal 7 k i 0 which Div distance rate e
+  pub refused : IsRefusal (reach_formula 7 k i which) Div distance rate e
 
 -- ---- in a program
 
@@ -111,7 +112,7 @@ pub record IsLimitRefused (p : LinearProgram) (z : ℚ) (i : ℕ) (e : Evidence)
   pub small : which < 3
   pub limit : ℚ
   pub is_limit : limit_numbered p i which ≡ Some limit
-  pub refused : IsRefusal 6 0 i 0 which Sub limit z e
+  pub refused : IsRefusal (reach_formula 6 0 i which) Sub limit z e
 
 -- or their distance and its rate at k
 pub record IsRateRefused (p : LinearProgram) (z : ℚ) (row : Vector) (i : ℕ) (e : Evidence) : Type 0 where
@@ -122,7 +123,7 @@ pub record IsRateRefused (p : LinearProgram) (z : ℚ) (row : Vector) (i : ℕ) 
   pub limit : ℚ
   pub is_limit : limit_numbered p i which ≡ Some limit
   pub moves : row k ≢ zero_ℚ
-  pub refused : IsRefusal 7 k i 0 which Div (limit -ℚ z) (row k) e
+  pub refused : IsRefusal (reach_formula 7 k i which) Div (limit -ℚ z) (row k) e
 
 -- so are the ends of each of the first n variables that stands at a limit, where z is the value of i and row its rates
 abbrev pub AreMet : LinearProgram → List Status → ℚ → Vector → ℕ → ℕ → List Ends → List Ends → Type 0

@@ -18,7 +18,8 @@ use Rattle.lp_definitions.specs.declared.Sense.{Sense}
 use Rattle.lp_definitions.specs.declared.Sense.TheVariants.{Min, Max}
 use Rattle.lp_definitions.specs.declared.Status.{Status}
 use Rattle.simplex_definitions.specs.Moves.{may_rise, may_fall}
-use Rattle.ranging.specs.Refusals.{IsRefusal}
+use Rattle.basis_values.specs.Formulas.{IsRefusal}
+use Rattle.ranging.specs.Formulas.{ratio_formula}
 
 -- for MIN a price that may not be negative keeps its multiples of the rate below it, and for MAX above it
 abbrev pub keeps_below : Sense → Bool → Bool
@@ -60,7 +61,7 @@ pub record RatioRefused (prices row : Vector) (n i : ℕ) (e : Evidence) : Type 
   pub low : 1 ≤ j
   pub high : j ≤ n
   pub moves : row j ≢ zero_ℚ
-  pub refused : IsRefusal 14 0 i j 0 Div (prices j) (row j) e
+  pub refused : IsRefusal (ratio_formula i j) Div (prices j) (row j) e
 
 abbrev pub rate_end : ℚ → ℚ → ℕ → End
 rate_end price rate j = record { value = price /ℚ rate; by = j; which = 0 }

@@ -1,13 +1,12 @@
 //! What holds of a variable at a basis.
 
-ghost use Rattle.std.specs.Prelude.{◌≡◌, ◌≤◌, None, length};
-ghost use Rattle.lp_definitions.specs.LinearProgram.{size, on_row, cost, IsColumn, IsVariable};
+ghost use Rattle.std.specs.Prelude.{◌≡◌, ◌≤◌, length};
+ghost use Rattle.lp_definitions.specs.LinearProgram.{size, IsVariable};
 ghost use Rattle.lp_definitions.specs.Basis.{basics_of, status_of, is_basic};
-ghost use Rattle.simplex_definitions.specs.Moves.{is_fixed, may_rise, may_fall};
+ghost use Rattle.simplex_definitions.specs.Moves.{may_rise, may_fall};
 ghost use Rattle.simplex_definitions.specs.Ranges.{stands_at_limit};
 
-use frac128::Frac;
-use lp_model::{Basis, Entry, Lp, Status};
+use lp_model::{Basis, Lp, Status};
 
 /// Whether `k` is basic.
 pub fn stands_basic(basis: &Basis, k: u32) -> bool
@@ -33,17 +32,6 @@ pub fn at_limit(basis: &Basis, k: u32) -> bool
     }
 }
 
-/// Whether both limits are there, and equal.
-pub fn stands_fixed(lp: &Lp, k: u32) -> bool
-    requires { IsVariable lp.now.matrix k }
-    ensures { result ≡ is_fixed lp.now k }
-{
-    match (lp.lower_limit(k), lp.upper_limit(k)) {
-        (Some(lower), Some(upper)) => lower.compare(upper).is_eq(),
-        _ => false,
-    }
-}
-
 /// Whether the nonbasic `k` may rise from where it stands.
 pub fn rises(lp: &Lp, basis: &Basis, k: u32) -> bool
     requires variable { IsVariable lp.now.matrix k }
@@ -51,7 +39,7 @@ pub fn rises(lp: &Lp, basis: &Basis, k: u32) -> bool
     ensures { result ≡ may_rise lp.now basis.now k }
 {
     match basis.status(k) {
-        Status::Ll | Status::Fr => !stands_fixed(lp, k),
+        Status::Ll | Status::Fr => !lp.is_fixed(k),
         Status::Bs | Status::Ul => false,
     }
 }
@@ -63,28 +51,7 @@ pub fn falls(lp: &Lp, basis: &Basis, k: u32) -> bool
     ensures { result ≡ may_fall lp.now basis.now k }
 {
     match basis.status(k) {
-        Status::Ul | Status::Fr => !stands_fixed(lp, k),
+        Status::Ul | Status::Fr => !lp.is_fixed(k),
         Status::Bs | Status::Ll => false,
     }
-}
-
-/// The number that stands on a row, and 0 where there is none.
-fn number_on_row(entries: &[Entry], row: u32) -> Frac
-    ensures { result ≡ on_row entries.now row }
-{
-    for entry in entries {
-        if entry.row == row {
-            return entry.value;
-        }
-    }
-    Frac::whole(0)
-}
-
-/// What column `j` costs, where no row is added to the objective.
-pub fn cost(lp: &Lp, j: u32) -> Frac
-    requires column { IsColumn lp.now.matrix j }
-    requires no_change { lp.now.change ≡ None }
-    ensures { result ≡ cost lp.now j }
-{
-    number_on_row(lp.column(j), lp.objective)
 }

@@ -2,33 +2,46 @@
 
 ghost use Rattle.std.specs.Prelude.{◌≡◌, ◌↔◌, IfSome, IsSome, length, IfOk, IfErr, option_map};
 ghost use Rattle.exact_values.specs.Rational.{ℚ, ◌+ℚ◌, ◌-ℚ◌};
-ghost use Rattle.exact_values.specs.Tests.{lt_ℚ};
 ghost use Rattle.frac128.specs.declared.Op.TheVariants.{Add, Sub};
 ghost use Rattle.affine_laws.specs.Ends.{IsBetweenEnds};
 ghost use Rattle.lp_definitions.specs.LinearProgram.{size, IsVariable};
-ghost use Rattle.ranging.specs.Refusals.{IsRefusal};
+ghost use Rattle.basis_values.specs.Formulas.{IsRefusal};
+ghost use Rattle.ranging.specs.Formulas.{end_formula};
 ghost use Rattle.ranging.specs.Intervals.{IsAtLeast, IsAtMost, IsIn, less_end, taken_from, opposite_end, opposite, IsOwn, DifferenceRefused, SumRefused};
 
-use crate::choices::stands_fixed;
-use crate::evidence::evidence;
 use affine_laws::{End, Ends};
+use basis_values::Formula;
 use frac128::Frac;
 use lp_model::{Basis, Evidence, Interval, Lp, Status};
+
+/// Formula 15 of an end that the rate of the basic `i` at the nonbasic `j` makes. `i` is 0 where the end is a price itself; `term` is the
+/// number of the limit of `i` that makes the end, and 0 where a price does.
+fn formula(i: u32, j: u32, term: u32) -> Formula
+    ensures { result ≡ end_formula i j term }
+{
+    Formula {
+        number: 15,
+        p: 0,
+        q: 0,
+        i,
+        j,
+        term,
+        theta: Frac::whole(0),
+    }
+}
 
 /// The cost, less the end. `i` is the basic whose rate makes the end, or 0.
 fn cost_less(cost: Frac, end: Option<End>, i: u32) -> Result<Option<Frac>, Evidence>
     ensures value { IfOk result (λ now. now ≡ less_end cost end) }
     ensures refused { IfErr result
-        (λ e. IfSome end (λ d. IsRefusal 15 0 i d.by 0 Sub cost d.value e)) }
+        (λ e. IfSome end (λ d. IsRefusal (end_formula i d.by 0) Sub cost d.value e)) }
     ensures there { IfErr result (λ e. IsSome end) }
 {
     let Some(there) = end else {
         return Ok(None);
     };
-    match cost.sub(there.value) {
-        Ok(now) => Ok(Some(now)),
-        Err(refused) => Err(evidence(15, 0, i, there.by, 0, refused)),
-    }
+    let now = formula(i, there.by, 0).difference(cost, there.value)?;
+    Ok(Some(now))
 }
 
 /// The interval of a cost.
@@ -65,23 +78,14 @@ pub fn row_interval(ends: &Ends) -> Interval
 fn limit_plus(stands: Frac, end: Option<End>, k: u32) -> Result<Option<Frac>, Evidence>
     ensures value { IfOk result (λ now. now ≡ option_map (λ e. stands +ℚ e.value) end) }
     ensures refused { IfErr result
-        (λ e. IfSome end (λ d. IsRefusal 15 0 d.by k d.which Add stands d.value e)) }
+        (λ e. IfSome end (λ d. IsRefusal (end_formula d.by k d.which) Add stands d.value e)) }
     ensures there { IfErr result (λ e. IsSome end) }
 {
     let Some(there) = end else {
         return Ok(None);
     };
-    match stands.add(there.value) {
-        Ok(now) => Ok(Some(now)),
-        Err(refused) => Err(evidence(15, 0, there.by, k, there.which, refused)),
-    }
-}
-
-/// Whether `x` is below `y`.
-fn is_less(x: Frac, y: Frac) -> bool
-    ensures { result ≡ lt_ℚ x y }
-{
-    x.compare(y).is_lt()
+    let now = formula(there.by, k, there.which).sum(stands, there.value)?;
+    Ok(Some(now))
 }
 
 /// The least of two upper ends, of which either may not be there.
@@ -94,7 +98,7 @@ fn least(first: Option<Frac>, second: Option<Frac>) -> Option<Frac>
     let Some(other) = second else {
         return first;
     };
-    if is_less(other, one) {
+    if other.is_less(one) {
         return second;
     }
     first
@@ -110,7 +114,7 @@ fn greatest(first: Option<Frac>, second: Option<Frac>) -> Option<Frac>
     let Some(other) = second else {
         return first;
     };
-    if is_less(one, other) {
+    if one.is_less(other) {
         return second;
     }
     first
@@ -122,7 +126,7 @@ fn up_to_other(lp: &Lp, basis: &Basis, k: u32, interval: Interval) -> Interval
     requires counted { length basis.now ≡ size lp.now.matrix }
     ensures { (t : ℚ) → IsIn result t ↔ (IsIn interval t × IsOwn lp.now basis.now k t) }
 {
-    if stands_fixed(lp, k) {
+    if lp.is_fixed(k) {
         return interval;
     }
     match basis.status(k) {

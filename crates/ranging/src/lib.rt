@@ -3,10 +3,10 @@
 #![tactic(auto)]
 
 mod choices;
-mod evidence;
 mod intervals;
 mod limit_ends;
 mod lists;
+mod optimum;
 mod pass;
 mod reporting;
 mod row_ends;

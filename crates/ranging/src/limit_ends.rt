@@ -6,12 +6,13 @@ ghost use Rattle.frac128.specs.declared.Op.TheVariants.{Sub};
 ghost use Rattle.lp_definitions.specs.LinearProgram.{size, value_at, lower_of, upper_of, IsVariable};
 ghost use Rattle.lp_definitions.specs.Basis.{status_of};
 ghost use Rattle.simplex_definitions.specs.Ranges.{stands_at_limit};
-ghost use Rattle.ranging.specs.Refusals.{IsRefusal};
+ghost use Rattle.basis_values.specs.Formulas.{IsRefusal};
+ghost use Rattle.basis_values.specs.Reach.{reach_formula};
 ghost use Rattle.ranging.specs.LimitEnds.{less_value, distances_of, IsWithDistance, IsWithDistances, IsWithBasic, IsDistanceRefused, IsBasicRefused, AreMet, IsLimitRefused, IsRateRefused};
 
 use crate::choices::at_limit;
-use crate::evidence::evidence;
 use affine_laws::{Bound, Ends, tightened};
+use basis_values::reach::{distance_formula, length_formula};
 use frac128::Frac;
 use lp_model::{Basis, Evidence, Lp};
 
@@ -26,16 +27,14 @@ pub struct Distances {
 fn distance(limit: Option<Frac>, value: Frac, i: u32, which: u32) -> Result<Option<Frac>, Evidence>
     ensures distance { IfOk result (λ far. far ≡ less_value value limit) }
     ensures refused { IfErr result
-        (λ e. IfSome limit (λ l. IsRefusal 6 0 i 0 which Sub l value e)) }
+        (λ e. IfSome limit (λ l. IsRefusal (reach_formula 6 0 i which) Sub l value e)) }
     ensures there { IfErr result (λ e. IsSome limit) }
 {
     let Some(there) = limit else {
         return Ok(None);
     };
-    match there.sub(value) {
-        Ok(far) => Ok(Some(far)),
-        Err(refused) => Err(evidence(6, 0, i, 0, which, refused)),
-    }
+    let far = distance_formula(i, which).difference(there, value)?;
+    Ok(Some(far))
 }
 
 /// The limits of the basic `i`, less its value.
@@ -49,70 +48,78 @@ fn both_distances(lp: &Lp, value: Frac, i: u32) -> Result<Distances, Evidence>
     Ok(Distances { low, high })
 }
 
-/// The ends with the bound of one limit of `i`, if it is there. `rate` is the rate of `i` at the nonbasic `k`.
-fn with_distance(
-    at_most: bool,
-    ends: Ends,
-    far: Option<Frac>,
+/// The rate of a basic at a nonbasic.
+#[derive(Clone, Copy)]
+struct TableauEntry {
+    basic: u32,
+    nonbasic: u32,
     rate: Frac,
-    i: u32,
-    k: u32,
-    which: u32,
-) -> Result<Ends, Evidence>
-    requires { rate ≢ zero_ℚ }
-    ensures ends { IfOk result (IsWithDistance at_most far rate i which ends) }
-    ensures refused { IfErr result (IsDistanceRefused far rate i k which) }
-{
-    let Some(number) = far else {
-        return Ok(ends);
-    };
-    let bound = Bound {
-        at_most,
-        slope: rate,
-        number,
-        by: i,
-        which,
-    };
-    match tightened(ends, &bound) {
-        Ok(now) => Ok(now),
-        Err(refused) => Err(evidence(7, k, i, 0, which, refused)),
-    }
 }
 
-/// The ends with the bounds of both limits of `i`.
-fn with_distances(ends: Ends, far: &Distances, rate: Frac, i: u32, k: u32) -> Result<Ends, Evidence>
-    requires { rate ≢ zero_ℚ }
-    ensures ends { IfOk result (IsWithDistances far.now rate i ends) }
-    ensures refused { IfErr result (IsBasicRefused far.now rate i k) }
-{
-    let above = with_distance(false, ends, far.low, rate, i, k, 1)?;
-    let both = with_distance(true, above, far.high, rate, i, k, 2)?;
-    Ok(both)
-}
+impl TableauEntry {
+    /// The ends with the bound of one limit of the basic, if it is there.
+    fn with_distance(
+        &self,
+        at_most: bool,
+        ends: Ends,
+        far: Option<Frac>,
+        which: u32,
+    ) -> Result<Ends, Evidence>
+        requires { self.now.rate ≢ zero_ℚ }
+        ensures ends { IfOk result (IsWithDistance at_most far self.now.rate self.now.basic which
+            ends) }
+        ensures refused { IfErr result (IsDistanceRefused far self.now.rate self.now.basic
+            self.now.nonbasic which) }
+    {
+        let Some(number) = far else {
+            return Ok(ends);
+        };
+        let bound = Bound {
+            at_most,
+            slope: self.rate,
+            number,
+            by: self.basic,
+            which,
+        };
+        match tightened(ends, &bound) {
+            Ok(now) => Ok(now),
+            Err(refused) => {
+                Err(length_formula(self.nonbasic, self.basic, which).evidence(refused))
+            }
+        }
+    }
 
-/// The ends of `k` with the bounds of the basic `i`, where `k` stands at a limit.
-fn with_basic(
-    basis: &Basis,
-    ends: Ends,
-    far: &Distances,
-    rate: Frac,
-    i: u32,
-    k: u32,
-) -> Result<Ends, Evidence>
-    requires low { 1 ≤ k }
-    requires high { k ≤ length basis.now }
-    ensures ends { IfOk result (IsWithBasic (stands_at_limit (status_of basis.now k)) far.now
-        rate i ends) }
-    ensures refused { IfErr result (IsBasicRefused far.now rate i k) }
-{
-    if rate.is_zero() {
-        return Ok(ends);
+    /// The ends with the bounds of both limits of the basic.
+    fn with_distances(&self, ends: Ends, far: &Distances) -> Result<Ends, Evidence>
+        requires { self.now.rate ≢ zero_ℚ }
+        ensures ends { IfOk result (IsWithDistances far.now self.now.rate self.now.basic ends) }
+        ensures refused { IfErr result (IsBasicRefused far.now self.now.rate self.now.basic
+            self.now.nonbasic) }
+    {
+        let above = self.with_distance(false, ends, far.low, 1)?;
+        let both = self.with_distance(true, above, far.high, 2)?;
+        Ok(both)
     }
-    if !at_limit(basis, k) {
-        return Ok(ends);
+
+    /// The ends of the nonbasic with the bounds of the basic, where it stands at a limit.
+    fn with_basic(&self, basis: &Basis, ends: Ends, far: &Distances) -> Result<Ends, Evidence>
+        requires low { 1 ≤ self.now.nonbasic }
+        requires high { self.now.nonbasic ≤ length basis.now }
+        ensures ends { IfOk result
+            (IsWithBasic (stands_at_limit (status_of basis.now self.now.nonbasic)) far.now
+            self.now.rate self.now.basic ends) }
+        ensures refused { IfErr result (IsBasicRefused far.now self.now.rate self.now.basic
+            self.now.nonbasic) }
+    {
+        if self.rate.is_zero() {
+            return Ok(ends);
+        }
+        if !at_limit(basis, self.nonbasic) {
+            return Ok(ends);
+        }
+        let now = self.with_distances(ends, far)?;
+        Ok(now)
     }
-    let now = with_distances(ends, far, rate, i, k)?;
-    Ok(now)
 }
 
 /// Tightens the ends of each nonbasic that stands at a limit by the limits of the basic `i`, whose rates are in `row`.
@@ -140,9 +147,13 @@ pub fn meet_limits(
 {
     let far = both_distances(lp, point[i as usize - 1], i)?;
     for k in 0..ends.len() {
-        let rate = row[k];
+        let entry = TableauEntry {
+            basic: i,
+            nonbasic: k as u32 + 1,
+            rate: row[k],
+        };
         let present = ends[k];
-        let now = with_basic(basis, present, &far, rate, i, k as u32 + 1)?;
+        let now = entry.with_basic(basis, present, &far)?;
         ends[k] = now;
     }
     Ok(())

@@ -1,21 +1,23 @@
 //! The report of all intervals.
 
 ghost use Rattle.std.specs.Prelude.{◌≡◌, None, length, IfOk, IfErr};
-ghost use Rattle.lp_definitions.specs.LinearProgram.{size, value_at, IsLinearProgram};
-ghost use Rattle.lp_definitions.specs.Basis.{IsPointOf, ArePricesOf, IsOptimalBasis};
+ghost use Rattle.lp_definitions.specs.LinearProgram.{size, value_at};
+ghost use Rattle.lp_definitions.specs.Basis.{IsOptimalBasis};
 ghost use Rattle.simplex_definitions.specs.Ranges.{IsRangeReport};
 ghost use Rattle.basis_values.specs.Calls.{HasRates, KeepsRates};
 ghost use Rattle.basis_values.specs.Stops.{RangeOverflow};
 ghost use Rattle.lp_model.specs.RatesCalls.{IfOverflow};
 ghost use Rattle.ranging.specs.LimitEnds.{no_ends};
+ghost use Rattle.ranging.specs.Optima.{IsOptimum};
 ghost use Rattle.ranging.specs.Tables.{AllMet, AllFound};
 ghost use Rattle.ranging.specs.Lists.{RefusedAnywhere, report_of};
 ghost use Rattle.ranging.specs.Complete.{HasNoEvidence, IsReportOrMemory};
 
 use crate::lists::{cost_list, limit_list, row_list};
+use crate::optimum::Optimum;
 use crate::pass::pass;
 use affine_laws::Ends;
-use bounded_primal::{point_of, prices_of};
+use basis_values::{point_at, prices_at};
 use frac128::Frac;
 use lp_model::{Basis, Intervals, Lp, NoMemory, RangeReport, Rates, Stop};
 use std::alloc::Global;
@@ -23,30 +25,25 @@ use std::alloc::Global;
 /// The report, from the ends of the rows and of the limits.
 fn report(
     alloc: Global,
-    lp: &Lp,
-    basis: &Basis,
-    point: &[Frac],
-    prices: &[Frac],
+    at: &Optimum<'_>,
     found: &[Ends],
     ends: &[Ends],
 ) -> Result<RangeReport, Stop>
-    requires lawful { IsLinearProgram lp.now }
-    requires no_change { lp.now.change ≡ None }
-    requires optimal { IsOptimalBasis lp.now basis.now }
-    requires point { IsPointOf lp.now basis.now (value_at point.now) }
-    requires prices { ArePricesOf lp.now basis.now (value_at prices.now) }
-    requires point_places { length point.now ≡ size lp.now.matrix }
-    requires price_places { length prices.now ≡ size lp.now.matrix }
-    requires found_places { length found.now ≡ size lp.now.matrix }
-    requires end_places { length ends.now ≡ size lp.now.matrix }
-    requires met { AllMet lp.now basis.now (value_at point.now) (size lp.now.matrix) ends.now }
-    requires found { AllFound lp.now basis.now (size lp.now.matrix) found.now }
-    ensures report { IfOk result (λ report. IsRangeReport lp.now basis.now (report_of report)) }
-    ensures overflow { IfErr result (λ stop. IfOverflow stop (RefusedAnywhere lp.now basis.now)) }
+    requires optimum { IsOptimum at.now }
+    requires found_places { length found.now ≡ size at.now.lp.now.matrix }
+    requires end_places { length ends.now ≡ size at.now.lp.now.matrix }
+    requires met { AllMet at.now.lp.now at.now.basis.now (value_at at.now.point.now)
+        (size at.now.lp.now.matrix) ends.now }
+    requires found { AllFound at.now.lp.now at.now.basis.now (size at.now.lp.now.matrix)
+        found.now }
+    ensures report { IfOk result
+        (λ report. IsRangeReport at.now.lp.now at.now.basis.now (report_of report)) }
+    ensures overflow { IfErr result
+        (λ stop. IfOverflow stop (RefusedAnywhere at.now.lp.now at.now.basis.now)) }
 {
-    let limits = limit_list(alloc, lp, basis, point, ends)?;
-    let costs = cost_list(alloc, lp, basis, prices, found)?;
-    let rows = row_list(alloc, lp, basis, found)?;
+    let limits = limit_list(alloc, at, ends)?;
+    let costs = cost_list(alloc, at, found)?;
+    let rows = row_list(alloc, at, found)?;
     Ok(RangeReport {
         limits: Intervals::new(limits),
         costs: Intervals::new(costs),
@@ -64,36 +61,24 @@ fn without_ends() -> Ends
     }
 }
 
-/// The report at a basis whose point and prices are known.
-fn range_at<R: Rates>(
-    alloc: Global,
-    lp: &Lp,
-    basis: &Basis,
-    rates: &mut R,
-    point: &[Frac],
-    prices: &[Frac],
-) -> Result<RangeReport, Stop>
-    requires rates { HasRates (R.matrix rates.old) (R.basics rates.old) lp.now basis.now }
-    requires no_change { lp.now.change ≡ None }
-    requires optimal { IsOptimalBasis lp.now basis.now }
-    requires point { IsPointOf lp.now basis.now (value_at point.now) }
-    requires prices { ArePricesOf lp.now basis.now (value_at prices.now) }
-    requires point_places { length point.now ≡ size lp.now.matrix }
-    requires price_places { length prices.now ≡ size lp.now.matrix }
-    ensures report { IfOk result (λ report. IsRangeReport lp.now basis.now (report_of report)) }
-    ensures rates { KeepsRates (R.matrix rates.new) (R.basics rates.new) lp.now basis.now
+/// The report at an optimal basis whose point and prices are known.
+fn range_at<R: Rates>(alloc: Global, at: &Optimum<'_>, rates: &mut R) -> Result<RangeReport, Stop>
+    requires rates { HasRates (R.matrix rates.old) (R.basics rates.old) at.now.lp.now
+        at.now.basis.now }
+    requires optimum { IsOptimum at.now }
+    ensures report { IfOk result
+        (λ report. IsRangeReport at.now.lp.now at.now.basis.now (report_of report)) }
+    ensures rates { KeepsRates (R.matrix rates.new) (R.basics rates.new) at.now.lp.now
+        at.now.basis.now (R.waypoints rates.old) (R.waypoints rates.new) }
+    ensures overflow { RangeOverflow result at.now.lp.now at.now.basis.now
         (R.waypoints rates.old) (R.waypoints rates.new) }
-    ensures overflow { RangeOverflow result lp.now basis.now (R.waypoints rates.old)
-        (R.waypoints rates.new) }
 {
-    let size = lp.number_of_variables() as usize;
+    let size = at.lp.number_of_variables() as usize;
     let mut row = vec![in alloc; Frac::whole(0); size].map_err(|_| NoMemory)?;
     let mut found = vec![in alloc; without_ends(); size].map_err(|_| NoMemory)?;
     let mut ends = vec![in alloc; without_ends(); size].map_err(|_| NoMemory)?;
-    pass(
-        lp, basis, rates, point, prices, &mut row, &mut found, &mut ends,
-    )?;
-    report(alloc, lp, basis, point, prices, &found, &ends)
+    pass(at, rates, &mut row, &mut found, &mut ends)?;
+    report(alloc, at, &found, &ends)
 }
 
 /// The intervals in which the basis stays optimal: of each limit at which a nonbasic stands, of each column's cost, and of the
@@ -118,10 +103,14 @@ pub fn range<R: Rates>(
     ensures complete { HasNoEvidence lp.now basis.now (R.waypoints rates.old) →
         IsReportOrMemory lp.now basis.now result }
 {
-    let size = lp.number_of_variables() as usize;
-    let mut point = vec![in alloc; Frac::whole(0); size].map_err(|_| NoMemory)?;
-    let mut prices = vec![in alloc; Frac::whole(0); size].map_err(|_| NoMemory)?;
-    point_of(alloc, lp, basis, rates, &mut point)?;
-    prices_of(alloc, lp, basis, rates, &mut prices)?;
-    range_at(alloc, lp, basis, rates, &point, &prices)
+    let _size = lp.number_of_variables();
+    let point = point_at(alloc, lp, basis, rates)?;
+    let prices = prices_at(alloc, lp, basis, rates)?;
+    let at = Optimum {
+        lp,
+        basis,
+        point: point.values(),
+        prices: prices.values(),
+    };
+    range_at(alloc, &at, rates)
 }

@@ -5,12 +5,13 @@ ghost use Rattle.exact_values.specs.Rational.{zero_ℚ};
 ghost use Rattle.frac128.specs.declared.Op.TheVariants.{Div};
 ghost use Rattle.sensitivity_laws.specs.Changes.{SidesHold};
 ghost use Rattle.lp_definitions.specs.LinearProgram.{size, value_at, IsVariable};
-ghost use Rattle.ranging.specs.Refusals.{IsRefusal};
+ghost use Rattle.basis_values.specs.Formulas.{IsRefusal};
+ghost use Rattle.ranging.specs.Formulas.{ratio_formula};
 ghost use Rattle.ranging.specs.RowEnds.{rate_bound, keeps_below, sides_of, RatesStayTo, IsTightenedIf, IsWithRate, AreRowEnds, RatioRefused};
 
 use crate::choices::{falls, rises};
-use crate::evidence::evidence;
 use affine_laws::{Bound, Ends, tightened};
+use basis_values::Formula;
 use frac128::Frac;
 use lp_model::{Basis, Evidence, Lp, Sense};
 
@@ -24,58 +25,86 @@ fn is_below(sense: Sense, rising: bool) -> bool
     }
 }
 
-/// The bound of the price of `j` on the multiple that is taken off.
-fn bound_of(sense: Sense, rising: bool, price: Frac, rate: Frac, j: u32) -> Bound
-    ensures { result ≡ rate_bound sense rising price rate j }
-{
-    Bound {
-        at_most: is_below(sense, rising),
-        slope: rate,
-        number: price,
-        by: j,
-        which: 0,
-    }
-}
-
-/// The ends with this bound of `j`, if it is one. `i` is the basic whose rates are taken off.
-fn with_bound(may: bool, ends: Ends, bound: &Bound, i: u32, j: u32) -> Result<Ends, Evidence>
-    requires { bound.now.slope ≢ zero_ℚ }
-    ensures tightened { IfOk result (IsTightenedIf may ends bound.now) }
-    ensures refused { IfErr result (IsRefusal 14 0 i j 0 Div bound.now.number bound.now.slope) }
-{
-    if !may {
-        return Ok(ends);
-    }
-    match tightened(ends, bound) {
-        Ok(now) => Ok(now),
-        Err(refused) => Err(evidence(14, 0, i, j, 0, refused)),
-    }
-}
-
-/// The ends with the bounds of `j`, whose price and rate these are.
-fn with_rate(
-    lp: &Lp,
-    basis: &Basis,
-    ends: Ends,
+/// The rate of a basic at a nonbasic, and the nonbasic's price.
+#[derive(Clone, Copy)]
+struct PricedRate {
+    basic: u32,
+    nonbasic: u32,
     price: Frac,
     rate: Frac,
-    i: u32,
-    j: u32,
-) -> Result<Ends, Evidence>
-    requires variable { IsVariable lp.now.matrix j }
-    requires counted { length basis.now ≡ size lp.now.matrix }
-    requires holds { SidesHold (sides_of lp.now basis.now price rate j) zero_ℚ }
-    ensures ends { IfOk result (IsWithRate lp.now basis.now price rate j ends) }
-    ensures moves { OnErr result (rate ≢ zero_ℚ) }
-    ensures refused { IfErr result (IsRefusal 14 0 i j 0 Div price rate) }
-{
-    if rate.is_zero() {
-        return Ok(ends);
+}
+
+impl PricedRate {
+    /// Formula 14: the price over the rate.
+    fn formula(&self) -> Formula
+        ensures { result ≡ ratio_formula self.now.basic self.now.nonbasic }
+    {
+        Formula {
+            number: 14,
+            p: 0,
+            q: 0,
+            i: self.basic,
+            j: self.nonbasic,
+            term: 0,
+            theta: Frac::whole(0),
+        }
     }
-    let upward = bound_of(lp.sense, true, price, rate, j);
-    let risen = with_bound(rises(lp, basis, j), ends, &upward, i, j)?;
-    let downward = bound_of(lp.sense, false, price, rate, j);
-    with_bound(falls(lp, basis, j), risen, &downward, i, j)
+
+    /// The bound of the price on the multiple that is taken off.
+    fn bound(&self, sense: Sense, rising: bool) -> Bound
+        ensures { result ≡ rate_bound sense rising self.now.price self.now.rate self.now.nonbasic }
+    {
+        Bound {
+            at_most: is_below(sense, rising),
+            slope: self.rate,
+            number: self.price,
+            by: self.nonbasic,
+            which: 0,
+        }
+    }
+
+    /// The ends with the bound of the price, if it is one.
+    fn with_bound(
+        &self,
+        may: bool,
+        ends: Ends,
+        sense: Sense,
+        rising: bool,
+    ) -> Result<Ends, Evidence>
+        requires { self.now.rate ≢ zero_ℚ }
+        ensures tightened { IfOk result (IsTightenedIf may ends
+            (rate_bound sense rising self.now.price self.now.rate self.now.nonbasic)) }
+        ensures refused { IfErr result (IsRefusal (ratio_formula self.now.basic self.now.nonbasic)
+            Div self.now.price self.now.rate) }
+    {
+        if !may {
+            return Ok(ends);
+        }
+        let bound = self.bound(sense, rising);
+        match tightened(ends, &bound) {
+            Ok(now) => Ok(now),
+            Err(refused) => Err(self.formula().evidence(refused)),
+        }
+    }
+
+    /// The ends with the bounds of the price both ways.
+    fn with_bounds(&self, lp: &Lp, basis: &Basis, ends: Ends) -> Result<Ends, Evidence>
+        requires variable { IsVariable lp.now.matrix self.now.nonbasic }
+        requires counted { length basis.now ≡ size lp.now.matrix }
+        requires holds { SidesHold (sides_of lp.now basis.now self.now.price self.now.rate
+            self.now.nonbasic) zero_ℚ }
+        ensures ends { IfOk result (IsWithRate lp.now basis.now self.now.price self.now.rate
+            self.now.nonbasic ends) }
+        ensures moves { OnErr result (self.now.rate ≢ zero_ℚ) }
+        ensures refused { IfErr result (IsRefusal (ratio_formula self.now.basic self.now.nonbasic)
+            Div self.now.price self.now.rate) }
+    {
+        if self.rate.is_zero() {
+            return Ok(ends);
+        }
+        let risen = self.with_bound(rises(lp, basis, self.nonbasic), ends, lp.sense, true)?;
+        self.with_bound(falls(lp, basis, self.nonbasic), risen, lp.sense, false)
+    }
 }
 
 /// The ends of the multiples of the row that may be taken off the objective, so that each price keeps its sign. `i` is the row's
@@ -102,9 +131,13 @@ pub fn row_ends(
         high: None,
     };
     for k in 0..lp.number_of_variables() {
-        let price = prices[k as usize];
-        let rate = row[k as usize];
-        ends = with_rate(lp, basis, ends, price, rate, i, k + 1)?;
+        let priced = PricedRate {
+            basic: i,
+            nonbasic: k + 1,
+            price: prices[k as usize],
+            rate: row[k as usize],
+        };
+        ends = priced.with_bounds(lp, basis, ends)?;
     }
     Ok(ends)
 }

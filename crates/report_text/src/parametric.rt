@@ -196,21 +196,28 @@ fn put_run_end<P: Sink>(
     }
 }
 
+/// A parametric run, with the row or set that changes along it, and its first and last value.
+#[derive(Clone, Copy)]
+pub struct ParametricReport<'a> {
+    pub change: Name,
+    pub from: Frac,
+    pub to: Frac,
+    pub run: &'a ParaRun,
+}
+
 /// Writes a parametric run: its first value, the row or set that changes, its intervals and its end.
 pub fn put_parametric<P: Sink>(
     print: &mut P,
     by: Solver,
     sheet: Sheet<'_>,
-    change: Name,
-    from: Frac,
-    to: Frac,
-    run: &ParaRun,
+    report: ParametricReport<'_>,
 ) -> Result<(), WriteStop>
-    requires { IsParametric sheet run.now }
+    requires { IsParametric sheet report.run.now }
     ensures { Writes P.written P.stopped_at P.faults P.refusals print.old print.new result
-        (report_text (reports.Parametric by (chain_view sheet.entry change from to run.now))) }
+        (report_text (reports.Parametric by (chain_view sheet.entry report.entry.change
+        report.entry.from report.entry.to report.entry.run.now))) }
 {
-    put_parametric_head(print, by, from, change)?;
-    put_intervals(print, sheet, run.parts.items())?;
-    put_run_end(print, by, sheet, to, &run.end)
+    put_parametric_head(print, by, report.from, report.change)?;
+    put_intervals(print, sheet, report.run.parts.items())?;
+    put_run_end(print, by, sheet, report.to, &report.run.end)
 }

@@ -3,7 +3,7 @@ ghost use Rattle.job_devices.specs.Text.{Writes};
 ghost use Rattle.report_text.specs.Views.{IsReport, text_view};
 
 use crate::ending::put_ending;
-use crate::parametric::put_parametric;
+use crate::parametric::{ParametricReport, put_parametric};
 use crate::plain::{
     put_basis_out, put_bcd_out, put_converted, put_inserted, put_revised, put_setup, put_title,
 };
@@ -222,7 +222,15 @@ pub fn text_of<P: Sink>(report: &Report<'_>, print: &mut P) -> Result<(), WriteS
             from,
             to,
             run,
-        } => put_parametric(print, by, sheet, change, from, to, run),
+        } => {
+            let report = ParametricReport {
+                change,
+                from,
+                to,
+                run,
+            };
+            put_parametric(print, by, sheet, report)
+        }
         Report::End(ending) => put_ending(print, ending),
     }
 }

@@ -14,13 +14,13 @@ loop-k-init g c = record {
   found_places = refl;
   end_places = refl;
   met = c.requires.begins;
-  found = found_none c.args.lp.now c.args.basis.now c.args.found.now;
+  found = found_none c.args.at.now.lp.now c.args.at.now.basis.now c.args.found.now;
 }
 
 pub visit_basic-requires-clause-met : goal.visit_basic-requires-clause-met
 visit_basic-requires-clause-met g c =
     let same : c.loop-k.k ≡ c.loop-k.k + 1 - 1 = omega arith in
-    subst (λ (n : ℕ). AllMet c.args.lp.now c.args.basis.now (value_at c.args.point.now) n c.loop-k.ends) same c.loop-k.invariant.met
+    subst (λ (n : ℕ). AllMet c.args.at.now.lp.now c.args.at.now.basis.now (value_at c.args.at.now.point.now) n c.loop-k.ends) same c.loop-k.invariant.met
 
 pub returns-in_err-visit_basic-clause-rates : goal.returns-in_err-visit_basic-clause-rates
 returns-in_err-visit_basic-clause-rates g c = kept_then c.loop-k.invariant.rates c.visit_basic.ensures.rates
@@ -29,7 +29,7 @@ pub returns-in_err-visit_basic-clause-overflow : goal.returns-in_err-visit_basic
 returns-in_err-visit_basic-clause-overflow g c =
     let is_err : c.from_residual.result ≡ Err c.in_err-visit_basic.field-0.0 = search rules in
     rw is_err (IfOverflow-map c.in_err-visit_basic.field-0.0
-    (λ e h. range_refused_later c.args.lp.now (g.R.Rates.waypoints c.args.rates.now) (g.R.Rates.waypoints c.loop-k.rates) (g.R.Rates.waypoints c.visit_basic.new.rates) c.args.basis.now e c.loop-k.invariant.rates.1 h)
+    (λ e h. range_refused_later c.args.at.now.lp.now (g.R.Rates.waypoints c.args.rates.now) (g.R.Rates.waypoints c.loop-k.rates) (g.R.Rates.waypoints c.visit_basic.new.rates) c.args.at.now.basis.now e c.loop-k.invariant.rates.1 h)
     c.in_err-visit_basic.ensures.overflow)
 
 pub loop-k-preserved : goal.loop-k-preserved
@@ -44,10 +44,10 @@ loop-k-preserved g c = record {
 
 pub returns-clause-met : goal.returns-clause-met
 returns-clause-met g c =
-    let all : c.loop-k.k ≡ size c.args.lp.now.matrix = omega arith in
-    subst (λ (n : ℕ). AllMet c.args.lp.now c.args.basis.now (value_at c.args.point.now) n c.loop-k.ends) all c.loop-k.invariant.met
+    let all : c.loop-k.k ≡ size c.args.at.now.lp.now.matrix = omega arith in
+    subst (λ (n : ℕ). AllMet c.args.at.now.lp.now c.args.at.now.basis.now (value_at c.args.at.now.point.now) n c.loop-k.ends) all c.loop-k.invariant.met
 
 pub returns-clause-found : goal.returns-clause-found
 returns-clause-found g c =
-    let all : c.loop-k.k ≡ size c.args.lp.now.matrix = omega arith in
-    subst (λ (n : ℕ). AllFound c.args.lp.now c.args.basis.now n c.loop-k.found) all c.loop-k.invariant.found
+    let all : c.loop-k.k ≡ size c.args.at.now.lp.now.matrix = omega arith in
+    subst (λ (n : ℕ). AllFound c.args.at.now.lp.now c.args.at.now.basis.now n c.loop-k.found) all c.loop-k.invariant.found

@@ -6,10 +6,10 @@ use Rattle.ranging.proofs.pass.pass.Given as goal
 
 abbrev pub invariant-loop-k : goal.invariant-loop-k
 invariant-loop-k g l = record {
-  rates : KeepsRates (g.R.Rates.matrix l.rates) (g.R.Rates.basics l.rates) l.lp l.basis (g.R.Rates.waypoints l.initial.rates) (g.R.Rates.waypoints l.rates);
+  rates : KeepsRates (g.R.Rates.matrix l.rates) (g.R.Rates.basics l.rates) l.at.lp.now l.at.basis.now (g.R.Rates.waypoints l.initial.rates) (g.R.Rates.waypoints l.rates);
   row_places : length l.row ≡ length l.initial.row;
   found_places : length l.found ≡ length l.initial.found;
   end_places : length l.ends ≡ length l.initial.ends;
-  met : AllMet l.lp l.basis (value_at l.point) l.k l.ends;
-  found : AllFound l.lp l.basis l.k l.found;
+  met : AllMet l.at.lp.now l.at.basis.now (value_at l.at.point.now) l.k l.ends;
+  found : AllFound l.at.lp.now l.at.basis.now l.k l.found;
 }
