@@ -114,8 +114,8 @@ impl Crossing {
             .map_err(|refused| self.evidence(3, i, j, refused))
     }
 
-    /// The rate of `i` at `j` without its part along the entering variable's direction. Where the product or the difference doesn't
-    /// fit, it is computed from the product's parts. Either way this counts as two operations.
+    /// The rate of `i` at `j` without its part along the entering variable's direction. Where the product or the difference doesn't fit, it is
+    /// had from the product's parts. Either way this counts as two operations.
     fn rest<L: Ledger>(
         self,
         i: u32,

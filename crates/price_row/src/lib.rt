@@ -22,8 +22,8 @@ use sums::{sum_of_column, sum_over};
 use whole::{first_by_whole, row_by_whole};
 use words::{first_by_words, row_by_words};
 
-/// Rows of an inverse that is kept as an eta file, with workspace for the multipliers of the rows, in words and in fractions, and for
-/// a direction.
+/// Rows of an inverse that is kept as an eta file, with room for the multipliers of the rows, in words and in fractions, and for a
+/// direction.
 #[derive(Drop)]
 pub struct PriceRow {
     words: Vec<i64>,
