@@ -4,7 +4,7 @@ use crate::breaks::face_leaver;
 use crate::limits::program_at;
 use crate::reaching::reach;
 use crate::told::told_at;
-use crate::turns::{entering, returning, stuck};
+use crate::turns::{entering, return_of, stuck};
 use bounded_primal::{PrimalStop, point_of, prices_of, primal};
 use frac128::Frac;
 use lp_model::{Basis, Lp, Outcome, ParaPart, Point, Rates, Stop};
@@ -139,7 +139,7 @@ impl<'a> Parametric for RightHandSide<'a> {
         if left == 0 {
             return Err(PrimalStop::Limit);
         }
-        let by = returning(self.lp, basis, rates, workspace, q, &leaver)?;
+        let by = return_of(self.lp, basis, rates, workspace, q, &leaver)?;
         Ok(FaceStep::Moves { q, by })
     }
 }
