@@ -2,9 +2,10 @@
 
 use crate::breaks::face_entering_variable;
 use crate::reaching::reach;
-use crate::rows::fill_rows;
 use crate::turns::{rises, stopper_of, unbounded_end};
+use basis_values::fill_prices;
 use bounded_primal::{PrimalStop, primal};
+use dual_step::read_row;
 use frac128::Frac;
 use lp_model::{Basis, Change, Lp, Outcome, ParaPart, Point, Rates, Stop};
 use parametric_run::{
@@ -65,7 +66,8 @@ impl<'a> Parametric for Objective<'a> {
         workspace: &mut Workspace,
     ) -> Result<(), Stop> {
         let Workspace { prices, change, .. } = workspace;
-        fill_rows(self.lp, basis, rates, prices, change, self.row)?;
+        fill_prices(self.lp, basis, rates, change, prices)?;
+        read_row(self.lp, basis, rates, self.row, change)?;
         Ok(())
     }
 

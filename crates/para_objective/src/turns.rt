@@ -13,7 +13,8 @@ ghost use Rattle.parametric_run.specs.Standing.{AreSized};
 ghost use Rattle.para_objective.specs.Faces.{face_up, IsUnboundedPast};
 
 use crate::choices::worth;
-use bounded_primal::{Stopper, counted, stopper};
+use basis_values::counted;
+use bounded_primal::{Stopper, stopper};
 use frac128::Frac;
 use lp_model::{Basis, Direction, Lp, NoMemory, ParaEnd, Rates, Stop};
 use parametric_run::{Workspace, point_with};

@@ -5,7 +5,8 @@ use crate::limits::program_at;
 use crate::reaching::reach;
 use crate::reported::reported_at;
 use crate::turns::{entering, infeasible_end, return_of};
-use bounded_primal::{PrimalStop, point_of, prices_of, primal};
+use basis_values::{point_of, prices_of};
+use bounded_primal::{PrimalStop, primal};
 use frac128::Frac;
 use lp_model::{Basis, Lp, Outcome, ParaPart, Point, Rates, Stop};
 use parametric_run::{

@@ -16,7 +16,7 @@ ghost use Rattle.para_rhs.specs.Refusals.{RunRefused};
 
 use crate::limits::{Side, is_upper, limit_on, number_of, shift_of};
 use affine_laws::{Bound, End, Ends, tightened};
-use bounded_primal::Formula;
+use basis_values::Formula;
 use frac128::{Frac, Refused};
 use lp_model::{Basis, Evidence, Lp};
 
