@@ -60,7 +60,6 @@ impl<'a> Parametric for Objective<'a> {
 
     fn refresh<R: Rates>(
         &self,
-        _alloc: Global,
         basis: &Basis,
         rates: &mut R,
         workspace: &mut Workspace,
@@ -74,7 +73,6 @@ impl<'a> Parametric for Objective<'a> {
     // The point is the same at each value, and the prices move with the rates of the change row.
     fn interval(
         &self,
-        alloc: Global,
         basis: &Basis,
         workspace: &Workspace,
         from: Frac,
@@ -91,6 +89,7 @@ impl<'a> Parametric for Objective<'a> {
             Ok(to) => to,
             Err(evidence) => return Err(Stop::Overflow(evidence)),
         };
+        let alloc = workspace.alloc;
         let statuses = basis.copy(alloc)?;
         let value = point_with(alloc, &workspace.point)?;
         let value_rate = still_point(alloc, self.lp)?;
@@ -109,7 +108,6 @@ impl<'a> Parametric for Objective<'a> {
 
     fn face_turn<R: Rates>(
         &self,
-        alloc: Global,
         basis: &Basis,
         rates: &mut R,
         workspace: &mut Workspace,
@@ -129,7 +127,7 @@ impl<'a> Parametric for Objective<'a> {
         let up = rises(self.lp, workspace, q);
         let stopped = stopper_of(self.lp, basis, rates, workspace, q, up)?;
         let Some(by) = stopped else {
-            let end = unbounded_end(alloc, self.lp, workspace, up, theta)?;
+            let end = unbounded_end(self.lp, workspace, up, theta)?;
             return Ok(FaceStep::Ends(end));
         };
         if left == 0 {

@@ -99,7 +99,6 @@ pub fn stopper_of<R: Rates>(
 
 /// The end without a bound past `theta`.
 pub fn unbounded_end(
-    alloc: Global,
     lp: &Lp,
     workspace: &Workspace,
     up: bool,
@@ -109,6 +108,7 @@ pub fn unbounded_end(
     ensures { IfOk result (IsUnboundedPast lp.now theta workspace.now.point.items
         (value_at workspace.now.direction) up) }
 {
+    let alloc = workspace.alloc;
     let point = point_with(alloc, &workspace.point)?;
     let direction = speeds(alloc, lp, workspace.direction.values(), up)?;
     Ok(ParaEnd::Unbounded {

@@ -21,7 +21,6 @@ use dual_step::cheapest;
 use frac128::Frac;
 use lp_model::{Basis, Lp, NoMemory, ParaEnd, Rates, Stop};
 use parametric_run::Workspace;
-use std::alloc::Global;
 
 /// The nonbasic that brings the leaver back at the least price, and of equals the least-numbered, if there is one. The workspace takes
 /// the leaver's row.
@@ -103,7 +102,6 @@ pub fn return_of<R: Rates>(
 
 /// The end past `theta`: the multipliers that show that the leaver can't come back.
 pub fn infeasible_end(
-    alloc: Global,
     lp: &Lp,
     workspace: &Workspace,
     leaver: &Leaver,
@@ -114,6 +112,6 @@ pub fn infeasible_end(
         leaver.now.r (not (is_upper leaver.now.side)))) }
 {
     let below = is_lower(leaver.side);
-    let ray = ray_of(alloc, lp, &workspace.row, leaver.r, below)?;
+    let ray = ray_of(workspace.alloc, lp, &workspace.row, leaver.r, below)?;
     Ok(ParaEnd::Infeasible { past: theta, ray })
 }

@@ -18,9 +18,10 @@ use lp_model::{Basis, Lp, NoMemory, Point, Prices, Rates, SparseVector, Stop};
 use std::alloc::Global;
 
 /// The vectors of a basis, each with a place for each variable: its point at 0, its prices, and how it moves with the parameter; and
-/// those of the variables that move at a breakpoint, a row and a direction.
+/// those of the variables that move at a breakpoint, a row and a direction. What a run answers is made by `alloc`.
 #[derive(Drop)]
 pub struct Workspace {
+    pub alloc: Global,
     pub point: Vec<Frac>,
     pub prices: Vec<Frac>,
     pub change: Vec<Frac>,
@@ -36,6 +37,7 @@ impl Workspace {
     {
         let size = point.len();
         Ok(Workspace {
+            alloc,
             point,
             prices: zeroed(alloc, size)?,
             change: zeroed(alloc, size)?,
