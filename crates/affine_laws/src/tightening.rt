@@ -35,7 +35,7 @@ pub struct Bound {
 fn is_at_most(x: Frac, y: Frac) -> bool
     ensures { IsTrue result ↔ (x ≤ℚ y) }
 {
-    !y.is_less(x)
+    !y.compare(x).is_lt()
 }
 
 /// Whether the product meets the number.
@@ -62,7 +62,7 @@ fn holds_at(bound: &Bound, x: Frac) -> bool
 fn keeps_below(bound: &Bound) -> bool
     ensures { result ≡ is_high bound.now }
 {
-    if Frac::whole(0).is_less(bound.slope) {
+    if Frac::whole(0).compare(bound.slope).is_lt() {
         bound.at_most
     } else {
         !bound.at_most
