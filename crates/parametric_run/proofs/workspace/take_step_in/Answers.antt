@@ -1,4 +1,5 @@
-use Rattle.std.proofs.Common.{refl}
+use Rattle.std.proofs.Common.{rules, ◌≡◌, length, refl}
+use Rattle.std.proofs.lemmas.List.{with_items_is}
 use Rattle.lp_definitions.specs.LinearProgram.{value_at}
 use Rattle.bounded_primal.proofs.Agreement.{point_agrees}
 use Rattle.parametric_run.proofs.workspace.take_step_in.Goals as goal
@@ -15,4 +16,6 @@ pub step_over-requires-clause-step : goal.step_over-requires-clause-step
 step_over-requires-clause-step g c = record { point = value_at c.args.workspace.now.point.items; is_point = c.requires.point; is_step = c.requires.ready.step }
 
 pub returns-in-Ok-clause-point : goal.returns-in-Ok-clause-point
-returns-in-Ok-clause-point g c = c.in-Ok.ensures.kept (c.in-Ok.ensures.needed refl)
+returns-in-Ok-clause-point g c =
+    let places : length c.step_over.new.point ≡ c.args.workspace.now.point.len = search rules in
+    rw (with_items_is c.args.workspace.now.point c.step_over.new.point places) (c.in-Ok.ensures.kept (c.in-Ok.ensures.needed refl))
