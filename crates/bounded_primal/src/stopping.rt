@@ -17,7 +17,7 @@ use crate::moving::Moving;
 use basis_values::reach::{Reach, length_to, nearer, yields};
 use basis_values::{counted, is_less};
 use frac128::Frac;
-use lp_model::{Basis, Evidence, Lp, Status};
+use lp_model::{Basis, Evidence, Lp, SparseVector, Status};
 
 /// Whether a limit is reached at once.
 fn is_at_once(nearest: &Option<Reach>) -> bool
@@ -189,7 +189,7 @@ pub fn stopper(
     lp: &Lp,
     basis: &Basis,
     point: &[Frac],
-    direction: &[Frac],
+    direction: &SparseVector,
     q: u32,
     up: bool,
 ) -> Result<Option<Stopper>, Evidence>
@@ -208,6 +208,6 @@ pub fn stopper(
     ensures refused { IfErr result (StopperRefused lp.now basis.now (value_at point.now)
         (value_at direction.now) q up) }
 {
-    let moving = Moving::All(lp.number_of_variables());
-    stopper_from(lp, point, direction, &moving, q, up)
+    let moving = Moving::Listed(direction.nonzero());
+    stopper_from(lp, point, direction.values(), &moving, q, up)
 }
