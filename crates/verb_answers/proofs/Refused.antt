@@ -134,7 +134,7 @@ module _ (p : LinearProgram) (s : List Status) (z : Vector) (rate : ℕ → ℕ 
             is_ahead = tt;
             shows = subst (λ (w : Basics). ShowsRefusal (Solution p) (GoesTo (Solution p) None s e) (map basics_of (earlier ++ s ∷ [])) s w e) (sym (ap (waypoint (basics_of s) after) h.no_way))
                 (slack_view (GoesTo (Solution p) None s e) (map basics_of (earlier ++ s ∷ [])) (within_last p.matrix earlier s) some);
-            is_theta = (0, omega arith, sym h.no_theta);
+            is_theta = (0, omega arith, sym h.is_theta);
             of_move = record {
               enters = λ is. absurd (clash (sym is ∙ ap (is_between 7 9) h.names.is_formula));
               brings = λ is. absurd (clash (sym is ∙ ap (λ n. nat_eq n 14) h.names.is_formula));

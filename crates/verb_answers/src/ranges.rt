@@ -8,7 +8,7 @@ ghost use Rattle.listing_tables.specs.Lines.{range_lines};
 ghost use Rattle.verb_answers.specs.Answers.{sheet_view, AreRanged};
 ghost use Rattle.verb_answers.specs.Stops.{RangesRefused};
 
-use crate::solution::point_view;
+use basis_values::point_at;
 use listing_tables::Sheet;
 use lp_model::{Basis, Point, RangeReport, Rates, Stop};
 use ranging::range;
@@ -42,7 +42,7 @@ pub fn ranges_of<R: Rates>(
         (R.waypoints rates.old) (R.waypoints rates.new) }
 {
     let lp = sheet.lp;
-    let point = point_view(alloc, lp, basis, rates)?;
+    let point = point_at(alloc, lp, basis, rates)?;
     let report = range(alloc, lp, basis, rates)?;
     Ok(Ranged { point, report })
 }

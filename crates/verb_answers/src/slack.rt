@@ -1,35 +1,17 @@
 //! The slacks of the rows.
 
 ghost use Rattle.std.specs.Prelude.{◌≡◌, ℕ, length, vec_len, IfOk, IfErr};
-ghost use Rattle.exact_values.specs.Rational.{zero_ℚ};
 ghost use Rattle.lp_definitions.specs.LinearProgram.{size, value_at, IsRow};
-ghost use Rattle.lp_definitions.specs.RatesEvidence.{Names};
 ghost use Rattle.lp_model.specs.RatesCalls.{IfOverflow};
 ghost use Rattle.verb_answers.specs.Slack.{slack_at, SlackRefused, SomeSlackRefused};
 
-use frac128::{Frac, Refused};
+use basis_values::reach::distance_formula;
+use frac128::Frac;
 use lp_model::{Evidence, Lp, NoMemory, Stop};
 use std::alloc::Global;
 
-/// Evidence that the slack of row `i` is refused.
-fn evidence(i: u32, refused: Refused) -> Evidence
-    ensures names { Names result 6 0 0 i 0 3 }
-    ensures no_way { result.way ≡ 0 }
-    ensures no_theta { result.theta ≡ zero_ℚ }
-    ensures refused { result.refused ≡ refused }
-{
-    Evidence {
-        formula: 6,
-        way: 0,
-        p: 0,
-        q: 0,
-        i,
-        j: 0,
-        term: 3,
-        theta: Frac::whole(0),
-        refused,
-    }
-}
+/// The number that a right-hand side has beside the two limits of its row.
+const RIGHT_HAND_SIDE: u32 = 3;
 
 /// The slack of row `i`.
 fn slack_of(lp: &Lp, point: &[Frac], i: u32) -> Result<Frac, Evidence>
@@ -40,10 +22,7 @@ fn slack_of(lp: &Lp, point: &[Frac], i: u32) -> Result<Frac, Evidence>
 {
     let side = lp.rhs[i as usize - 1];
     let activity = point[i as usize - 1];
-    if activity.is_zero() {
-        return Ok(side);
-    }
-    side.sub(activity).map_err(|refused| evidence(i, refused))
+    distance_formula(i, RIGHT_HAND_SIDE).difference(side, activity)
 }
 
 /// The slack of each row.
