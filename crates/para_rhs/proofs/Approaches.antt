@@ -1,7 +1,7 @@
 -- What the way of a variable to a limit tells of the variable.
-use Rattle.std.proofs.Common.{◌≡◌, ◌≢◌, ℕ, Bool, cond, List, inl, inr, refl, sym, ap, ap₂, subst, subst₂, ◌∙◌}
-use Rattle.std.specs.Prelude.{Option, Some, None}
-use Rattle.exact_values.specs.Rational.{ℚ, zero_ℚ, ◌-ℚ◌, ◌*ℚ◌}
+use Rattle.std.proofs.Common.{◌≡◌, ◌≢◌, ℕ, Bool, cond, List, inl, inr, refl, sym, ap, ap₂, subst₂, ◌∙◌}
+use Rattle.std.specs.Prelude.{Some, None}
+use Rattle.exact_values.specs.Rational.{ℚ, zero_ℚ, ◌*ℚ◌}
 use Rattle.exact_values.specs.Tests.{eq_ℚ}
 use Rattle.affine_laws.specs.Ends.{IsTightened}
 use Rattle.affine_laws.specs.declared.tightening.Ends.{Ends}
@@ -13,7 +13,6 @@ use Rattle.basis_values.specs.Formulas.{IsRefusal}
 use Rattle.para_rhs.specs.Breaks.{leaving_side, leaving_on}
 use Rattle.para_rhs.specs.Limits.{number_of}
 use Rattle.para_rhs.specs.Reach.{bound_of, limit_sides, IsNarrowed, IsApproach, IsApproachOf, basic_formula, VariableRefused, of_quotient}
-use Rattle.para_rhs.specs.declared.limits.Side.{Side}
 use Rattle.para_rhs.specs.declared.reaching.Approach.{Approach}
 use Rattle.para_rhs.proofs.Leavers.{product_test}
 use Rattle.para_rhs.proofs.Narrowing.{narrowed_still, narrowed_free, narrowed_limit, apart_if_ahead, closing_apart}

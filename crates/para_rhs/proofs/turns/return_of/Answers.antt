@@ -1,4 +1,4 @@
-use Rattle.std.proofs.Common.{◌∙◌, ap}
+use Rattle.std.proofs.Common.{ap}
 use Rattle.lp_definitions.specs.LinearProgram.{value_at}
 use Rattle.bounded_primal.specs.Turns.{by_return}
 use Rattle.parametric_run.specs.declared.workspace.Workspace.{Workspace}
