@@ -109,7 +109,7 @@ pub fn take_pair(
     match decimal_of(section, count, pair) {
         Ok(value) => {
             let place = found.place;
-            items.add(pair.row, OnRow { place, value })
+            items.take(pair.row, OnRow { place, value })
         }
         Err(kind) => {
             let is_taken = items.has(&pair.row);

@@ -3,7 +3,7 @@ use Rattle.indexmap.specs.Entry.{map_with_value, entry_map_ref, entry_key, Match
 use Rattle.indexmap.specs.IndexMap.{get, get_key, ContainsKey}
 use Rattle.indexmap.proofs.CallerLemmas.{insert_entry-new}
 use Rattle.problem_definitions.specs.Names.{same}
-use Rattle.deck_parts.proofs.additions.add_new.Goals as goal
+use Rattle.deck_parts.proofs.named.add_new.Goals as goal
 
 pub returns-in-Vacant-clause-added : goal.returns-in-Vacant-clause-added
 returns-in-Vacant-clause-added g c =
