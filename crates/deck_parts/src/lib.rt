@@ -28,7 +28,7 @@ pub use entries::Entries;
 pub use groups::Groups;
 pub use kinds::kind_on;
 pub use on_row::OnRow;
-pub use pairs::number_in;
+pub use pairs::{number_in, row_of};
 pub use parts::{NamedBound, NamedProblem};
 pub use row_cards::{has_more, take_row_card};
 pub use rows::{Rows, is_free};

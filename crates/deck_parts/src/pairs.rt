@@ -23,8 +23,8 @@ use deck_fields::{Decimal, number};
 use name_table::Name;
 use problem_definitions::MAX_ENTRIES;
 
-// The row in a pair, or its fault.
-fn row_of(rows: &Rows, section: Section, row: &Name) -> Result<FoundRow, DeckFaultKind>
+/// The row in a pair, or its fault.
+pub fn row_of(rows: &Rows, section: Section, row: &Name) -> Result<FoundRow, DeckFaultKind>
     ensures no_fault { OnOk result (pair_row_fault (rows_alone rows.now) section row.now ≡ None) }
     ensures fault { IfErr result (λ kind. pair_row_fault (rows_alone rows.now) section row.now
         ≡ Some kind) }

@@ -151,16 +151,6 @@ impl Rows {
         }
     }
 
-    /// Whether a free row of this name is there.
-    pub fn has_free(&self, name: &Name) -> bool
-        ensures { result ≡ has_free_row self.now name.now }
-    {
-        match self.rows.get(name) {
-            Some(body) => is_free(body.kind),
-            None => false,
-        }
-    }
-
     /// Whether a combination of this name is there.
     pub fn has_combination(&self, name: &Name) -> bool
         ensures { result ≡ has_combination self.now name.now }

@@ -14,10 +14,9 @@ use card_reader::Card;
 use deck_cards::{first_word, is_blank, is_word, name_in, rank_of};
 use deck_definitions::Style;
 use deck_fields::{free_words, word_text};
-use deck_parts::{DeckFaultKind, Section};
+use deck_parts::{DeckFaultKind, NamedProblem, Section};
 use name_table::Name;
 use revise_definitions::Action;
-use revise_lists::NamedProblem;
 
 // Whether a section may come next.
 pub fn comes_after(before: Section, section: Section) -> bool

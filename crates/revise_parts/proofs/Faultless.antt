@@ -23,9 +23,10 @@ use Rattle.revise_definitions.specs.declared.Action.TheVariants.{Modify, Delete,
 use Rattle.revise_definitions.specs.Edits.{put_entry}
 use Rattle.revise_definitions.specs.Tests.{put_fault, puts_fault, has_range, frees, has_type_for, modified_fields_fault, modify_rows_fault, modify_columns_fault, modify_sets_fault, modify_bound_fault}
 use Rattle.revise_definitions.proofs.Pairs.{puts_fault-cons}
-use Rattle.revise_lists.specs.Additions.{AreNumbers, AreNew}
-use Rattle.revise_parts.specs.Summary.{Under, goes_on_from, goes_on_row_from, earlier_among, insert_columns_test, edit_test}
-use Rattle.revise_parts.specs.Needs.{IsNewRow, IsNewColumn, HasBound, CanEditRows, CanEditColumns, CanEditSets, CanEditBounds}
+use Rattle.deck_parts.specs.Additions.{AreNumbers, AreNew}
+use Rattle.revise_lists.specs.Summary.{Under, goes_on_from, goes_on_row_from}
+use Rattle.revise_parts.specs.EditTests.{earlier_among, insert_columns_test, edit_test}
+use Rattle.revise_lists.specs.Needs.{IsNewRow, IsNewColumn, HasBound, CanEditRows, CanEditColumns, CanEditSets, CanEditBounds}
 
 -- ---- no fault in a list of tests
 
