@@ -90,11 +90,7 @@ fn has_second(card: &DataCard<'_>) -> bool
 }
 
 // Takes the bound on a card into the items of its set.
-fn take_bound(
-    items: &mut Bounds,
-    kind: BoundKind,
-    card: &DataCard<'_>,
-) -> Result<(), CardStop>
+fn take_bound(items: &mut Bounds, kind: BoundKind, card: &DataCard<'_>) -> Result<(), CardStop>
     ensures no_fault { OnOk result (bound_rest_fault items.old (viewed card.now) kind ≡ None) }
     ensures step { OnOk result (items.new ≡ items.old ++ bound_of (viewed card.now) kind ∷ []) }
     ensures stop { IfErr result
@@ -193,12 +189,7 @@ impl BoundSets {
     }
 
     // Takes the bound on a card into the set in its field 2, which is added last if it isn't there.
-    fn take(
-        &mut self,
-        alloc: Global,
-        kind: BoundKind,
-        card: &DataCard<'_>,
-    ) -> Result<(), CardStop>
+    fn take(&mut self, alloc: Global, kind: BoundKind, card: &DataCard<'_>) -> Result<(), CardStop>
         ensures no_fault { OnOk result (bound_rest_fault (items_of card.now.name1 self.old)
             (viewed card.now) kind ≡ None) }
         ensures step { OnOk result (self.new ≡ in_set card.now.name1

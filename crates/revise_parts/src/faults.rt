@@ -14,7 +14,8 @@ ghost use Rattle.revise_parts.specs.EditTests.{insert_columns_test};
 use crate::pairs::{first_of, pairs_fault_of, parts_fault_of, put_parts_fault_of, puts_fault_of};
 use deck_cards::{DataCard, bound_kind, combination_kind, is_blank, row_kind};
 use deck_parts::{
-    DeckFaultKind, Groups, NamedProblem, Rows, Section, bound_value, has_more, is_free, is_marker, kind_on,
+    DeckFaultKind, Groups, NamedProblem, Rows, Section, bound_value, has_more, is_free, is_marker,
+    kind_on,
 };
 use name_table::Name;
 use problem_definitions::{BoundKind, MAX_COLUMNS, MAX_ROWS};
