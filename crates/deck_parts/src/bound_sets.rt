@@ -84,7 +84,7 @@ fn value_taken(kind: BoundKind, card: &DataCard<'_>) -> Result<Option<Decimal>, 
 
 // Whether field 5 or 6 isn't blank.
 fn has_second(card: &DataCard<'_>) -> bool
-    ensures { result ≡ not (is_empty (card.now.name3 ++ card.now.value2.now)) }
+    ensures { result ≡ not (is_none_left (card.now.name3 ++ card.now.value2.now)) }
 {
     !(is_blank(card.name3.bytes()) && is_blank(card.value2))
 }

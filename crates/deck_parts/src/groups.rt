@@ -150,6 +150,29 @@ fn place_fault(place: usize, count: usize) -> Option<DeckFaultKind>
     }
 }
 
+// Takes the pairs of a card into the items of a group.
+fn take_measured(
+    rows: &Rows,
+    section: Section,
+    items: &mut Entries,
+    count: u32,
+    card: &DataCard<'_>,
+) -> Result<Lengths, CardStop>
+    requires { count ≤ 100000 }
+    ensures no_fault { OnOk result (pairs_fault (rows_alone rows.now) section items.old count
+        (pairs_of (viewed card.now)) ≡ None) }
+    ensures step { IfOk result (λ lengths. (items.new ≡ items.old ++ entries_of (viewed card.now)) ×
+        (lengths.before ≡ length items.old) × (lengths.after ≡ length items.new)) }
+    ensures stop { IfErr result
+        (ReportsDeckFault (pairs_fault (rows_alone rows.now) section items.old count
+        (pairs_of (viewed card.now)))) }
+{
+    let before = items.len();
+    take_pairs(rows, section, items, count, card)?;
+    let after = items.len();
+    Ok(Lengths { before, after })
+}
+
 // Takes the pairs of a card into the group in its field 2, which is added last if it isn't there.
 fn take_into(
     alloc: Global,
@@ -171,10 +194,7 @@ fn take_into(
         (map group_at groups.old.entries)) count (pairs_of (viewed card.now)))) }
 {
     let items = groups.entry(card.name1)?.or_insert(Entries::new(alloc));
-    let before = items.len();
-    take_pairs(rows, section, items, count, card)?;
-    let after = items.len();
-    Ok(Lengths { before, after })
+    take_measured(rows, section, items, count, card)
 }
 
 // Takes the pairs of a card into its column, which is the last or is added last.
@@ -198,17 +218,14 @@ fn take_column_into(
         (pairs_fault (rows_alone rows.now) Columns (items_of card.now.name1
         (map group_at columns.old.entries)) count (pairs_of (viewed card.now))))) }
 {
-    let count_before = columns.len();
+    let before = columns.len();
     let entry = columns.entry(card.name1)?;
     let place = entry.index();
-    if let Some(kind) = place_fault(place, count_before) {
+    if let Some(kind) = place_fault(place, before) {
         return Err(CardStop::Refused(kind));
     }
     let items = entry.or_insert(Entries::new(alloc));
-    let before = items.len();
-    take_pairs(rows, Section::Columns, items, count, card)?;
-    let after = items.len();
-    Ok(Lengths { before, after })
+    take_measured(rows, Section::Columns, items, count, card)
 }
 
 // Takes the items on a row out under all names.

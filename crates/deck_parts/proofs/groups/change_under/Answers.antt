@@ -1,4 +1,4 @@
-use Rattle.std.proofs.Common.{◌≡◌, length, unwrap_or, sym, ap, ap₂, ◌∙◌}
+use Rattle.std.proofs.Common.{length, unwrap_or, sym, ap, ap₂, ◌∙◌}
 use Rattle.indexmap.specs.IndexMap.{insert_entry}
 use Rattle.problem_definitions.specs.Names.{same}
 use Rattle.deck_cards.specs.Views.{viewed}

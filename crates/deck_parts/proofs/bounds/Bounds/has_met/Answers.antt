@@ -1,7 +1,7 @@
 use Rattle.std.proofs.Common.{◌||◌, ◌&&◌, ap, sym, ◌∙◌}
 use Rattle.std.specs.List.{list_any}
 use Rattle.problem_definitions.specs.Kinds.{touches_lower}
-use Rattle.deck_parts.proofs.Touched.{met_at_ends}
+use Rattle.deck_parts.proofs.Slots.{met_at_ends}
 use Rattle.deck_parts.specs.declared.ends.End.TheVariants.{Upper, Lower}
 use Rattle.deck_parts.specs.NotedEnds.{is_at_end}
 use Rattle.deck_parts.proofs.bounds.Bounds.has_met.Goals as goal
