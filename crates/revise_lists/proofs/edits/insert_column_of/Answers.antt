@@ -1,7 +1,7 @@
 use Rattle.std.proofs.Common.{sym, ◌∙◌}
 use Rattle.deck_definitions.specs.DataCards.{pairs_of}
 use Rattle.deck_cards.specs.Views.{viewed}
-use Rattle.revise_parts.proofs.Faultless.{first_items}
+use Rattle.revise_lists.proofs.Absent.{first_items}
 use Rattle.revise_lists.proofs.edits.insert_column_of.Goals as goal
 
 pub insert_new_column-requires-clause-entries : goal.insert_new_column-requires-clause-entries

@@ -1,7 +1,7 @@
 use Rattle.std.proofs.Common.{sym, ◌∙◌}
 use Rattle.deck_definitions.specs.DataCards.{part_pairs_of}
 use Rattle.deck_cards.specs.Views.{viewed}
-use Rattle.revise_parts.proofs.Faultless.{first_parts}
+use Rattle.revise_lists.proofs.Absent.{first_parts}
 use Rattle.revise_lists.proofs.edits.insert_row_of.Goals as goal
 
 pub insert_row_at-requires-clause-parts : goal.insert_row_at-requires-clause-parts
