@@ -29,7 +29,7 @@ module _ (name own : Name) (rows : List (Row Name)) (columns rhs ranges : List (
   unfolding numbered by_row
   same_parts problem own_rows own_columns own_rhs own_ranges own_bounds view r c h g b =
       let made : record { name = name; rows = own_rows; columns = own_columns; rhs = own_rhs; ranges = own_ranges; bounds = own_bounds }
-          ≡ numbered (record { name = name; rows = rows; columns = columns; rhs = rhs; ranges = ranges; bounds = bounds }) =
+      ≡ numbered (record { name = name; rows = rows; columns = columns; rhs = rhs; ranges = ranges; bounds = bounds }) =
       λ i. record { name = name; rows = r i; columns = c i; rhs = h i; ranges = g i; bounds = b i } in
       made ∙ ap (λ (p : Problem Name). numbered (record p { name = name })) view
 
