@@ -20,7 +20,7 @@ use Rattle.deck_definitions.specs.declared.DeckFault.{DeckFault}
 use Rattle.deck_definitions.specs.Described.{described}
 use Rattle.deck_definitions.specs.Conversion.{card_fault, deck_fault, conversion}
 use Rattle.deck_definitions.specs.Written.{data_card}
-use Rattle.deck_definitions.specs.Transport.{deck_cards}
+use Rattle.deck_definitions.specs.Transport.{deck_fields}
 use Rattle.selection_definitions.specs.Choice.{Choice}
 use Rattle.selection_definitions.specs.Selection.{program_of_choice}
 use Rattle.listing_definitions.specs.Numbers.{digits as listing_digits}
@@ -129,7 +129,7 @@ unfolding printed sheet_of card_fault deck_fault conversion described numbered n
 crossed_demand_solution = refl
 
 -- the generated job of two sources
-generated_two : printed false (sheet_of_cards (deck_cards 2) (record { objective = None; rhs = None; options = record { bound = None; range = None; sense = Min } }))
+generated_two : printed false (sheet_of_cards (deck_fields 2) (record { objective = None; rhs = None; options = record { bound = None; range = None; sense = Min } }))
     ≡ Some (codes "PRIMAL OPTIMAL STEPS 4 OBJECTIVE 180 CHECKED\n")
 unfolding printed data_card card_fault deck_fault conversion described numbered number_of number_fault value_of reading_of cards_of solved tableau_for table_for turn refuses shared_factor raised_numerator raised_sum sum_denominator fraction whole ◌+ℚ◌ ◌*ℚ◌ neg_ℚ inverse_ℚ reciprocal compare_ℚ sum_to gcd digits listing_digits
 generated_two = refl

@@ -10,7 +10,7 @@ use Rattle.problem_definitions.proofs.Names.{same_eq}
 use Rattle.deck_parts.specs.declared.on_row.OnRow.{OnRow}
 use Rattle.deck_parts.specs.declared.rows.RowBody.{RowBody}
 use Rattle.deck_parts.specs.Views.{entry_at}
-use Rattle.deck_parts.specs.RowViewed.{row_at}
+use Rattle.deck_parts.specs.Bodies.{row_at}
 
 module _ {V X : Type 0} (f : Name × V → X) (name_of : X → Name) (own : (e : Name × V) → name_of (f e) ≡ e.0) where
   -- a name is looked up where something of this name is there
@@ -45,7 +45,7 @@ module _ (test : Row Name → Bool) (body_test : RowBody → Bool) (tells : (e :
   none_passes name (e ∷ es) h = rw (h.0) (none_passes name es h.1)
 
   -- what the row of a name is made of tells whether it passes the test
-  passes_by_name : (name : Name) (es : List (Name × RowBody)) → IsDistinct same (keys_of es) → list_any (λ row. same name row.name && test row) (map row_at es) ≡ option_map_or body_test (lookup (same name) es) false
+  pub passes_by_name : (name : Name) (es : List (Name × RowBody)) → IsDistinct same (keys_of es) → list_any (λ row. same name row.name && test row) (map row_at es) ≡ option_map_or body_test (lookup (same name) es) false
   unfolding IsDistinct
   passes_by_name name [] distinct = refl
   passes_by_name name (e ∷ es) distinct =

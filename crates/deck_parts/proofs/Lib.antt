@@ -7,4 +7,8 @@ mod RowsReported
 pub mod Grouped
 pub mod Fronts
 mod FirstPlaces
-pub mod Touched
+pub mod NamedValues
+pub mod Counted
+pub mod Retained
+pub mod Slots
+mod NamedRows

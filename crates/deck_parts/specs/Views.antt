@@ -1,7 +1,7 @@
--- What the reader's structures show, in the words of the definitions.
-use Rattle.std.specs.Prelude.{◌≡◌, ℕ, Bool, not, ◌&&◌, Option, List, [], ◌∷◌, map, length, nat_le, if◌then◌else◌}
-use Rattle.std.specs.List.{list_any}
-use Rattle.indexmap.specs.IndexSet.{insert_key}
+-- What the parts of a problem by names show, in the words of the definitions.
+use Rattle.std.specs.Prelude.{◌≡◌, ◌≤◌, ℕ, not, ◌&&◌, Option, List, [], ◌∷◌, map, length, nat_le, unwrap_or}
+use Rattle.std.specs.Map.{lookup}
+use Rattle.indexmap.specs.IndexMap.{insert_entry}
 use Rattle.card_definitions.specs.Words.{is_empty, ◌⟹◌, first_fault}
 use Rattle.card_definitions.specs.Fields.{Reading}
 use Rattle.problem_definitions.specs.declared.TheConstants.{MAX_ROWS, MAX_COLUMNS, MAX_ENTRIES}
@@ -39,14 +39,6 @@ group_at e = record { name = e.0; items = e.1 }
 -- a problem of rows and columns alone: the tests of a card of COLUMNS look at nothing else
 abbrev pub columns_alone : List (Row Name) → List (Group (Entry Name)) → Problem Name
 columns_alone rows columns = record { name = []; rows = rows; columns = columns; rhs = []; ranges = []; bounds = [] }
-
--- the columns with one more where this touches an end of it
-abbrev pub marked : Bool → Name → List Name → List Name
-marked touches column keys = if touches then insert_key same keys column else keys
-
--- these are the columns on which a bound of the items touches that end
-abbrev pub Marks : (BoundKind → Bool) → List Name → List (Bound Name) → Type 0
-Marks touches keys items = (name : Name) → list_any (same name) keys ≡ list_any (λ bound. same name bound.column && touches bound.kind) items
 
 -- a problem of columns and bounds alone: the tests of a card of BOUNDS look at nothing else
 abbrev pub bounds_alone : List (Group (Entry Name)) → List (Group (Bound Name)) → Problem Name
@@ -90,3 +82,12 @@ begun_fault rows name rest = first_fault (new_row_fault rows name ∷ rest ∷ [
 -- the tests of the parts on a card, where these rows are the earlier ones and these parts are there already
 abbrev pub parts_fault : List (Row Name) → List (Entry Name) → List Pair → Option DeckFaultKind
 parts_fault rows parts pairs = pairs_fault (rows_alone rows) Rows parts 0 pairs
+
+-- a count of 64 bits tells how many items each of these groups has
+abbrev pub AreShort : {X : Type 0} → List (Group X) → Type 0
+AreShort [] = Unit {0}
+AreShort (group ∷ groups) = (length group.items ≤ 18446744073709551615) × AreShort groups
+
+-- items are put under a name in the place of those that it had, where it had so many and has so many
+abbrev pub IsPut : {X : Type 0} → Name → List X → List (Name × List X) → List (Name × List X) → ℕ → ℕ → Type 0
+IsPut name items old new before after = (new ≡ insert_entry same old name items) × (before ≡ length (unwrap_or (lookup (same name) old) [])) × (after ≡ length items)

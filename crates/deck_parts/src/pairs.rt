@@ -14,16 +14,13 @@ use crate::fault_after::fault_after;
 use crate::on_row::OnRow;
 use crate::rows::{FoundRow, Rows, is_free};
 use card_definitions::NumberFault;
+use deck_fields::{CardStop, DataCard, Decimal, PairText, first_pair, first_part, is_blank, is_columns, is_ranges, number, second_pair};
 use deck_definitions::{DeckFaultKind, Section};
-use deck_fields::{
-    CardStop, DataCard, Decimal, PairText, first_pair, first_part, is_blank, is_columns, is_ranges,
-    number, second_pair,
-};
 use name_table::Name;
 use problem_definitions::MAX_ENTRIES;
 
-// The row in a pair, or its fault.
-fn row_of(rows: &Rows, section: Section, row: &Name) -> Result<FoundRow, DeckFaultKind>
+/// The row in a pair, or its fault.
+pub fn row_of(rows: &Rows, section: Section, row: &Name) -> Result<FoundRow, DeckFaultKind>
     ensures no_fault { OnOk result (pair_row_fault (rows_alone rows.now) section row.now ≡ None) }
     ensures fault { IfErr result (λ kind. pair_row_fault (rows_alone rows.now) section row.now
         ≡ Some kind) }
@@ -108,7 +105,7 @@ pub fn take_pair(
     match decimal_of(section, count, pair) {
         Ok(value) => {
             let place = found.place;
-            items.add(pair.row, OnRow { place, value })
+            items.take(pair.row, OnRow { place, value })
         }
         Err(kind) => {
             let is_taken = items.has(&pair.row);

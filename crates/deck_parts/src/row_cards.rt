@@ -6,14 +6,14 @@ ghost use Rattle.deck_definitions.specs.DataCards.{part_pairs_of, parts_on, goes
 ghost use Rattle.deck_definitions.specs.Tests.{filled_from_3, row_fault};
 ghost use Rattle.deck_fields.specs.Reported.{ReportsDeckFault};
 ghost use Rattle.deck_fields.specs.Views.{viewed};
-ghost use Rattle.deck_parts.specs.RowViewed.{row_at};
+ghost use Rattle.deck_parts.specs.Bodies.{row_at};
 ghost use Rattle.deck_parts.specs.Views.{rows_alone, new_row_fault, begun_fault, parts_fault};
 
 use crate::entries::Entries;
 use crate::pairs::take_parts;
 use crate::rows::{RowBody, Rows};
-use deck_definitions::DeckFaultKind;
 use deck_fields::{CardStop, DataCard, combination_kind, is_blank, row_kind};
+use deck_definitions::DeckFaultKind;
 use name_table::Name;
 use problem_definitions::{MAX_ROWS, RowKind};
 use std::alloc::Global;
@@ -32,6 +32,7 @@ pub fn has_more(card: &DataCard<'_>) -> bool
 // Whether a row of this name may be begun, or the fault.
 fn name_new_row(rows: &Rows, name: &Name) -> Result<(), DeckFaultKind>
     ensures no_fault { OnOk result (new_row_fault rows.now name.now ≡ None) }
+    ensures is_new { OnOk result (has_row rows.now name.now ≡ false) }
     ensures fault { IfErr result (λ kind. new_row_fault rows.now name.now ≡ Some kind) }
 {
     if is_blank(name.bytes()) {
@@ -58,7 +59,8 @@ fn begin_plain(rows: &mut Rows, kind: RowKind, card: &DataCard<'_>) -> Result<()
     if has_more(card) {
         return Err(CardStop::Refused(DeckFaultKind::ExtraField));
     }
-    rows.add(kind, card.name1, None)
+    rows.add(kind, card.name1, None)?;
+    Ok(())
 }
 
 // Takes a card that begins a combination of this type.
@@ -78,7 +80,8 @@ fn begin_combination(
     name_new_row(rows, &card.name1)?;
     let mut parts = Entries::new(alloc);
     take_parts(rows, &mut parts, card)?;
-    rows.add(kind, card.name1, Some(parts))
+    rows.add(kind, card.name1, Some(parts))?;
+    Ok(())
 }
 
 // Takes a card that begins a row.
@@ -117,7 +120,10 @@ fn put_back(rows: &mut Rows, name: Name, body: RowBody, card: &DataCard<'_>) -> 
         unreachable!();
     };
     match take_parts(rows, &mut parts, card) {
-        Ok(()) => rows.add(kind, name, Some(parts)),
+        Ok(()) => {
+            rows.add(kind, name, Some(parts))?;
+            Ok(())
+        }
         Err(stop) => Err(stop),
     }
 }

@@ -1,26 +1,30 @@
-// The rows of a problem in the making.
-ghost use Rattle.std.specs.Prelude.{◌≡◌, ◌≤◌, ◌++◌, ◌∷◌, [], map, length, false, is_some, option_map, IfOk, OnOk, IfErr, IfSome, IfNone};
-ghost use Rattle.std.specs.Option.{option_to_list};
-ghost use Rattle.card_definitions.specs.Words.{◌⟹◌};
+// The rows of a problem.
+ghost use Rattle.std.specs.Prelude.{◌≡◌, ◌≤◌, ◌++◌, ◌∷◌, [], true, false, is_some, map, filter, not, insert, length, take, nat_lt, ◌&&◌, unwrap_or, option_map, IfOk, OnOk, IfSome, IfNone};
+ghost use Rattle.std.specs.List.{IsDistinct, position_or_len};
+ghost use Rattle.std.specs.Map.{keys_of};
+ghost use Rattle.std.specs.Option.{option_copied, option_to_list};
 ghost use Rattle.problem_definitions.specs.Kinds.{is_free_kind};
+ghost use Rattle.problem_definitions.specs.Names.{same, number_in};
 ghost use Rattle.problem_definitions.specs.Problem.{has_row, has_free_row, has_combination};
+ghost use Rattle.problem_definitions.specs.Parts.{parts_of, with_parts, in_row};
 ghost use Rattle.problem_definitions.specs.Numbering.{entry_by, row_by};
-ghost use Rattle.deck_definitions.specs.DataCards.{goes_on_last};
+ghost use Rattle.deck_definitions.specs.DataCards.{parts_on, part_pairs_of, goes_on_last};
 ghost use Rattle.deck_fields.specs.Views.{viewed};
-ghost use Rattle.deck_fields.specs.Reported.{ReportsDeckFault};
+ghost use Rattle.revise_definitions.specs.Edits.{modify_row, without_row};
+ghost use Rattle.deck_parts.specs.Additions.{AreNumbers, AreNew};
 ghost use Rattle.deck_parts.specs.Views.{row_number};
-ghost use Rattle.deck_parts.specs.RowViewed.{row_at};
+ghost use Rattle.deck_parts.specs.Bodies.{row_at, body_with, body_retyped};
 
-use crate::additions::add_new;
 use crate::entries::Entries;
-use crate::numbers::number_from;
-use deck_definitions::DeckFaultKind;
-use deck_fields::{CardStop, DataCard, is_card_of};
+use crate::kinds::kind_on;
+use crate::named::insert_new;
+use crate::numbers::{number_among, number_from};
+use deck_fields::{DataCard, is_card_of};
 use indexmap::IndexMap;
 use name_table::Name;
 use problem_definitions::{MAX_ROWS, RowKind};
 use problem_file::{DeckEntry, NoMemory, RowDecl};
-use std::alloc::Global;
+use std::alloc::{AllocError, Global};
 use std::marker::Model;
 
 /// A row that is there: its place among the rows, from 0, its type, and whether it is a combination.
@@ -31,14 +35,49 @@ pub struct FoundRow {
     pub is_combination: bool,
 }
 
-/// What a row is made of: its type, and of a combination its parts.
+/// What a row is beside its name: its type, and of a combination its parts.
 #[derive(Drop)]
 pub struct RowBody {
     pub kind: RowKind,
     pub parts: Option<Entries>,
 }
 
-/// Rows in deck order.
+impl RowBody {
+    // Adds the parts on a card at the end, where the row is a combination.
+    fn append(&mut self, card: &DataCard<'_>) -> Result<(), AllocError>
+        requires { AreNew (unwrap_or self.old.parts []) (part_pairs_of (viewed card.now)) }
+        ensures { OnOk result (self.new ≡ body_with (λ parts. parts ++ parts_on (viewed card.now))
+            self.old) }
+    {
+        match &mut self.parts {
+            Some(parts) => parts.append_parts(card),
+            None => Ok(()),
+        }
+    }
+
+    // Gives the row the type on a card, if there is such a type, and puts the parts on the card in, where the row is a combination.
+    fn modify(&mut self, card: &DataCard<'_>) -> Result<(), AllocError>
+        requires { is_some self.old.parts ≡ true → AreNumbers (part_pairs_of (viewed card.now)) }
+        ensures { OnOk result (self.new ≡ body_retyped (viewed card.now) self.old) }
+    {
+        self.kind = kind_on(card).unwrap_or(self.kind);
+        match &mut self.parts {
+            Some(parts) => parts.put_parts(card),
+            None => Ok(()),
+        }
+    }
+
+    // Takes out the part on a row.
+    fn remove_part(&mut self, row: &Name)
+        ensures { self.new ≡ body_with (without_row row.now) self.old }
+    {
+        if let Some(parts) = &mut self.parts {
+            parts.remove(row);
+        }
+    }
+}
+
+/// Rows in order.
 #[derive(Drop)]
 pub struct Rows {
     rows: IndexMap<Name, RowBody>,
@@ -50,7 +89,8 @@ impl Model for Rows {
     ghost use Rattle.std.specs.Map.{keys_of};
     ghost use Rattle.problem_definitions.specs.Names.{Name as Text, same};
     ghost use Rattle.problem_definitions.specs.Problem.{Row};
-    ghost use Rattle.deck_parts.specs.RowViewed.{row_at};
+    ghost use Rattle.deck_parts.specs.Additions.{AreNumbers, AreNew};
+    ghost use Rattle.deck_parts.specs.Bodies.{row_at};
 
     ghost Value = { List (Row Text) };
 
@@ -111,6 +151,53 @@ impl Rows {
         }
     }
 
+    /// Whether a combination of this name is there.
+    pub fn has_combination(&self, name: &Name) -> bool
+        ensures { result ≡ has_combination self.now name.now }
+    {
+        match self.rows.get(name) {
+            Some(body) => body.parts.is_some(),
+            None => false,
+        }
+    }
+
+    /// The parts of the row of this name, if it is a combination that is there.
+    pub fn parts(&self, name: &Name) -> Option<&Entries>
+        ensures { unwrap_or (option_copied result) [] ≡ parts_of name.now self.now }
+    {
+        match self.rows.get(name) {
+            Some(body) => body.parts.as_ref(),
+            None => None,
+        }
+    }
+
+    /// The number of the row of this name, from 1, or 0 where it isn't there.
+    pub fn number_of(&self, name: &Name) -> usize
+        ensures number { result ≡ number_in (map (λ row. row.name) self.now) name.now }
+        ensures within { result ≤ length self.now }
+    {
+        number_among(&self.rows, name)
+    }
+
+    /// The place of the row of this name, from 0, or how many rows there are where it isn't there.
+    pub fn place_of(&self, name: &Name) -> usize
+        ensures { result ≡ position_or_len (λ row. same name.now row.name) self.now }
+    {
+        match self.rows.get_index_of(name) {
+            Some(place) => place,
+            None => self.rows.len(),
+        }
+    }
+
+    /// Whether the row of this name is among the first, up to a limit.
+    pub fn stands_before(&self, name: &Name, limit: usize) -> bool
+        ensures { result ≡ has_row (take limit self.now) name.now }
+    {
+        let place = self.place_of(name);
+        let count = self.len();
+        is_below(place, count, limit)
+    }
+
     /// The number of the row of this name, from 1, or 0 where it isn't there. It is looked up only where it doesn't stand at this
     /// place, from 0.
     pub fn number_at(&self, place: usize, name: &Name) -> u32
@@ -128,19 +215,56 @@ impl Rows {
         row_decls(alloc, self, &self.rows)
     }
 
-    /// Adds a row at the end, a combination where there are parts, or refuses a name that a row has.
-    pub fn add(&mut self, kind: RowKind, name: Name, parts: Option<Entries>) -> Result<(), CardStop>
-        ensures is_new { OnOk result (has_row self.old name ≡ false) }
-        ensures added { OnOk result (self.new ≡ self.old ++ record
-            { kind = kind; name = name; parts = parts } ∷ []) }
-        ensures stop { IfErr result
-            (ReportsDeckFault (has_row self.old name ⟹ DeckFaultKind.DuplicateRow)) }
+    /// Puts a row of a new name at this place, or at the end where there are fewer.
+    pub fn insert(
+        &mut self,
+        place: usize,
+        kind: RowKind,
+        name: Name,
+        parts: Option<Entries>,
+    ) -> Result<(), AllocError>
+        requires { has_row self.old name ≡ false }
+        ensures { OnOk result (self.new ≡ insert self.old place
+            (record { kind = kind; name = name; parts = parts })) }
     {
-        let is_new = add_new(&mut self.rows, name, RowBody { kind, parts })?;
-        if !is_new {
-            return Err(CardStop::Refused(DeckFaultKind::DuplicateRow));
-        }
-        Ok(())
+        insert_new(&mut self.rows, place, name, RowBody { kind, parts })
+    }
+
+    /// Adds a row of a new name at the end.
+    pub fn add(
+        &mut self,
+        kind: RowKind,
+        name: Name,
+        parts: Option<Entries>,
+    ) -> Result<(), AllocError>
+        requires { has_row self.old name ≡ false }
+        ensures { OnOk result (self.new ≡ self.old ++ record
+            { kind = kind; name = name; parts = parts } ∷ []) }
+    {
+        let last = self.len();
+        self.insert(last, kind, name, parts)
+    }
+
+    /// Adds the parts on a card to the combination that the card names.
+    pub fn append_parts(&mut self, card: &DataCard<'_>) -> Result<(), AllocError>
+        requires { AreNew (parts_of card.now.name1 self.old) (part_pairs_of (viewed card.now)) }
+        ensures { OnOk result (self.new ≡ in_row card.now.name1
+            (λ parts. parts ++ parts_on (viewed card.now)) self.old) }
+    {
+        let appended = append_under(&mut self.rows, card);
+        let _names = self.rows.len();
+        appended
+    }
+
+    /// Gives the row that a card names the type in its field 1, if there is such a type, and a combination the parts on the card.
+    pub fn modify(&mut self, card: &DataCard<'_>) -> Result<(), AllocError>
+        requires { has_combination self.old card.now.name1 ≡ true → AreNumbers
+            (part_pairs_of (viewed card.now)) }
+        ensures { OnOk result (self.new ≡ modify_row (viewed card.now) self.old) }
+    {
+        let modified = modify_under(&mut self.rows, card);
+        let _names = self.rows.len();
+        modified
     }
 
     /// Takes the last row out, with what it is made of.
@@ -151,6 +275,65 @@ impl Rows {
     {
         self.rows.pop()
     }
+
+    /// Takes out the row of this name, and the parts on it.
+    pub fn remove(&mut self, name: &Name)
+        ensures { self.new ≡ map (with_parts (without_row name.now))
+            (filter (λ row. not (same name.now row.name)) self.old) }
+    {
+        self.rows.shift_remove(name);
+        remove_parts_in(&mut self.rows, name);
+    }
+}
+
+// Whether a place is below both of two others.
+fn is_below(place: usize, one: usize, other: usize) -> bool
+    ensures { result ≡ (nat_lt place one && nat_lt place other) }
+{
+    place < one && place < other
+}
+
+// Adds the parts on a card to the row in its field 2, if it is a combination that is there.
+fn append_under(rows: &mut IndexMap<Name, RowBody>, card: &DataCard<'_>) -> Result<(), AllocError>
+    requires { AreNew (parts_of card.now.name1 (map row_at rows.old.entries))
+        (part_pairs_of (viewed card.now)) }
+    ensures { OnOk result (map row_at rows.new.entries ≡ in_row card.now.name1
+        (λ parts. parts ++ parts_on (viewed card.now)) (map row_at rows.old.entries)) }
+{
+    let Some(body) = rows.get_mut(&card.name1) else {
+        return Ok(());
+    };
+    body.append(card)
+}
+
+// Gives the row in field 2 of a card what the card says, if it is there.
+fn modify_under(rows: &mut IndexMap<Name, RowBody>, card: &DataCard<'_>) -> Result<(), AllocError>
+    requires { has_combination (map row_at rows.old.entries) card.now.name1 ≡ true → AreNumbers
+        (part_pairs_of (viewed card.now)) }
+    ensures { OnOk result (map row_at rows.new.entries ≡ modify_row (viewed card.now)
+        (map row_at rows.old.entries)) }
+{
+    let Some(body) = rows.get_mut(&card.name1) else {
+        return Ok(());
+    };
+    body.modify(card)
+}
+
+// Takes the parts on a row out of all rows.
+fn remove_parts_in(rows: &mut IndexMap<Name, RowBody>, row: &Name)
+    ensures left { map row_at rows.new.entries ≡ map (with_parts (without_row row.now))
+        (map row_at rows.old.entries) }
+    ensures distinct { IsDistinct same (keys_of rows.new.entries) }
+{
+    rows.retain(
+        |_name: &Name, body: &mut RowBody| -> bool
+            ensures { (result ≡ true) × (body.new ≡ body_with (without_row row.entry.now)
+                body.old) }
+        {
+            body.remove_part(row);
+            true
+        },
+    );
 }
 
 // The parts of a row, if it is a combination, with the numbers of their rows.

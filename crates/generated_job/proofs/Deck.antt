@@ -6,7 +6,7 @@ use Rattle.std.proofs.lemmas.List.Concat.{flat_map-append}
 use Rattle.problem_definitions.specs.declared.RowKind.TheVariants.{N, L, G}
 use Rattle.problem_definitions.specs.Problem.{plain_row}
 use Rattle.deck_definitions.specs.Written.{data_card, row_card, card_text}
-use Rattle.deck_definitions.specs.Transport.{up_to, source, destination, item_card, route_cards, program_cards, deck_cards, made_job}
+use Rattle.deck_definitions.specs.Transport.{up_to, source, destination, item_card, route_cards, program_cards, deck_fields, made_job}
 use Rattle.bcd_out.specs.Lines.{line}
 use Rattle.generated_job.proofs.Numbered.{cards_then}
 
@@ -56,12 +56,12 @@ parts : (n r k c s e : List ℕ) (ls gs cs ss ds : List (List ℕ)) →
 parts n r k c s e ls gs cs ss ds = simp (flat_map-append, append_assoc, append-nil)
 
 -- the text of the deck
-pub deck_text : (n : ℕ) → codes "NAME          TRANSP\nROWS\n N  COST\n" ++ from_sources n ≡ card_text (deck_cards n)
+pub deck_text : (n : ℕ) → codes "NAME          TRANSP\nROWS\n N  COST\n" ++ from_sources n ≡ card_text (deck_fields n)
 deck_text n =
     ap (λ head. head ++ from_sources n) head_lines
     ∙ parts (codes "NAME          TRANSP") (codes "ROWS") (row_card (plain_row N (codes "COST"))) (codes "COLUMNS") (codes "RHS") (codes "ENDATA") (source_cards n) (destination_cards n) (column_cards n) (supply_cards n) (demand_cards n)
 
 -- the text of the job
-pub job_text : (n : ℕ) → card_text program_cards ++ card_text (deck_cards n) ≡ made_job n
+pub job_text : (n : ℕ) → card_text program_cards ++ card_text (deck_fields n) ≡ made_job n
 unfolding made_job
-job_text n = sym (cards_then program_cards (deck_cards n))
+job_text n = sym (cards_then program_cards (deck_fields n))

@@ -1,7 +1,7 @@
 // The whole job.
 ghost use Rattle.std.specs.Prelude.{◌≡◌, ◌≤◌, ◌<◌, IfOk};
 ghost use Rattle.deck_definitions.specs.Written.{card_text};
-ghost use Rattle.deck_definitions.specs.Transport.{deck_cards, made_job, program_cards};
+ghost use Rattle.deck_definitions.specs.Transport.{deck_fields, made_job, program_cards};
 ghost use Rattle.job_devices.specs.Text.{Writes};
 
 use crate::sections::{
@@ -25,7 +25,7 @@ fn put_program<P: Sink>(text: &mut P) -> Result<(), WriteStop>
 fn put_deck<P: Sink>(text: &mut P, n: u32) -> Result<(), WriteStop>
     requires { n < 1000 }
     ensures { Writes P.written P.stopped_at P.faults P.refusals text.old text.new result
-        (card_text (deck_cards n)) }
+        (card_text (deck_fields n)) }
 {
     put_all(text, ROWS)?;
     put_source_rows(text, n)?;

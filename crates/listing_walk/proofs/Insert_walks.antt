@@ -124,30 +124,30 @@ module _ (card : ℕ) (cards : List (List ℕ)) (machine : Machine Chosen) (old 
       insert_no_deck none (Err stop) passes = tt
 
       module _ (one : Deck) (is_one : deck ≡ Some one) where
-        abbrev deck_cards : List Card
-        deck_cards = cards_between one.first one.last cards
+        abbrev deck_fields : List Card
+        deck_fields = cards_between one.first one.last cards
 
         abbrev taken : List Card × List (List Card)
-        taken = (deck_cards, decks_of (drop one.last (numbered_cards cards)))
+        taken = (deck_fields, decks_of (drop one.last (numbered_cards cards)))
 
         -- what the deck gives decides the move
-        read_move : (read : Result Basis DeckFault) → basis_reading problem lp deck_cards ≡ read → {position executed : ℕ} {state : State} → machines.Represents IsView cards machine position executed state → (opening : Basis) (steps : List Basis) →
+        read_move : (read : Result Basis DeckFault) → basis_reading problem lp deck_fields ≡ read → {position executed : ℕ} {state : State} → machines.Represents IsView cards machine position executed state → (opening : Basis) (steps : List Basis) →
             insert_move card state (present_with problem chosen.options opening steps) lp ≡ or_deck_fault read (asks_install card state (present_with problem chosen.options opening steps) lp taken)
         read_move read is {state = state} s opening steps =
             let present = present_with problem chosen.options opening steps in
             ap (insert_by card state present lp) (deck_at s ∙ ap (taken_of cards) is_one) ∙ ap (λ (r : Result Basis DeckFault). or_deck_fault r (asks_install card state present lp taken)) is
 
-        pub insert_bad_deck : (fault : DeckFault) → basis_reading problem lp deck_cards ≡ Err fault → (result : Result Went NoMemory) → IfOk result (Passes machine old new (acts.Ends (ends.Deck fault)) []) →
+        pub insert_bad_deck : (fault : DeckFault) → basis_reading problem lp deck_fields ≡ Err fault → (result : Result Went NoMemory) → IfOk result (Passes machine old new (acts.Ends (ends.Deck fault)) []) →
             IfOk result (Walks Insert card cards machine machine old new)
         insert_bad_deck fault is (Ok w') passes =
             made_walks Insert card (insert_move card) (inserting_move card) cards machine old new chosen is_setup problem on_file lp made machine w' (λ position executed state w opening steps s f is_viewed.
             deck_faulted cards machine old new fault card w' passes w (insert_move card state (present_with problem chosen.options opening steps) lp) position executed f (read_move (Err fault) is s opening steps))
         insert_bad_deck fault is (Err stop) passes = tt
 
-        pub insert_due : (stands : Bool) → stands ≡ is_line_of cards deck old.cursor → (basis : Basis) → basis_reading problem lp deck_cards ≡ Ok basis → (found : Found) → IsInstallDue old stands found →
+        pub insert_due : (stands : Bool) → stands ≡ is_line_of cards deck old.cursor → (basis : Basis) → basis_reading problem lp deck_fields ≡ Ok basis → (found : Found) → IsInstallDue old stands found →
             Walks Insert card cards machine machine old new (went.Finds found)
         insert_due stands stands_is basis is found due =
             made_walks Insert card (insert_move card) (inserting_move card) cards machine old new chosen is_setup problem on_file lp made machine (went.Finds found) (λ position executed state w opening steps s f is_viewed.
             ap (walks.walk_move w) (read_move (Ok basis) is s opening steps) ∙
-            ap (λ (b : Bool). walks.unless_found (open_install b w) (walks.Finds (walks.Wrong w.rest))) (ap (is_inserted (deck_name (live deck_cards))) f.rest ∙ ap (λ (o : Option Deck). is_line_of cards o old.cursor) (sym is_one) ∙ sym stands_is) ∙
+            ap (λ (b : Bool). walks.unless_found (open_install b w) (walks.Finds (walks.Wrong w.rest))) (ap (is_inserted (deck_name (live deck_fields))) f.rest ∙ ap (λ (o : Option Deck). is_line_of cards o old.cursor) (sym is_one) ∙ sym stands_is) ∙
             due w f)

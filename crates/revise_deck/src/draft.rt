@@ -4,17 +4,17 @@ ghost use Rattle.std.specs.Prelude.{◌≡◌, [], None, Some, OnOk, IfErr};
 use crate::numbering::renumbered;
 use crate::sections::{action_fault_of, action_of, anchor_of, comes_after, is_action, is_deletion};
 use card_reader::Card;
-use deck_definitions::Style;
 use deck_fields::{
     CardStop, DataCard, Draft, SectionOrder, begins_section, is_header, is_last, name_in,
     next_section, read_data_card, style_begun,
 };
-use deck_parts::{DeckFaultKind, Section};
+use deck_definitions::Style;
+use deck_parts::{DeckFaultKind, NamedProblem, Section};
 use name_table::Name;
 use problem_file::{NoMemory, Problem};
 use revise_definitions::Action;
-use revise_lists::NamedProblem;
-use revise_parts::{UnderAction, edit, edit_fault_of};
+use revise_lists::UnderAction;
+use revise_parts::{edit, edit_fault_of};
 use std::alloc::Global;
 
 /// A problem under revision: the deck's style, the section and the action that go on, what is known of the data cards under the
@@ -45,7 +45,8 @@ impl ReviseDraft {
     ghost use Rattle.deck_fields.specs.Views.{viewed};
     ghost use Rattle.revise_definitions.specs.Actions.{action_on, anchor_on};
     ghost use Rattle.revise_definitions.specs.Tests.{action_fault};
-    ghost use Rattle.revise_parts.specs.Summary.{under_of, with_card_under, edit_test, edited_by};
+    ghost use Rattle.revise_lists.specs.Summary.{under_of, with_card_under, edited_by};
+    ghost use Rattle.revise_parts.specs.EditTests.{edit_test};
     ghost use Rattle.revise_deck.specs.State.{read_at, data_fault, standing_fault, inner_fault, inner_with, problem_with, fault_at, state_with};
     ghost use Rattle.revise_deck.specs.Draft_view.{state_view};
 

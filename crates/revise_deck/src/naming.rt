@@ -1,16 +1,14 @@
 // A problem with names in place of numbers.
-ghost use Rattle.std.specs.Prelude.{◌≡◌, IfOk, IfSome, map, option_map};
+ghost use Rattle.std.specs.Prelude.{◌≡◌, ◌++◌, ◌∷◌, [], false, IfOk, IfSome, OnOk, map, option_map};
 ghost use Rattle.problem_definitions.specs.Names.{name_at};
 ghost use Rattle.problem_definitions.specs.Numbering.{entry_by, row_by, bound_by, group_by, by_names};
-ghost use Rattle.problem_definitions.specs.Problem.{group_names};
+ghost use Rattle.problem_definitions.specs.Problem.{group_names, has_entry};
 ghost use Rattle.revise_deck.specs.Different.{AreDifferentEntries, AreDifferentBounds, AreDifferentRows, AreDifferentGroups};
 
 use deck_fields::name_in;
+use deck_parts::{BoundSets, Bounds, Entries, Groups, NamedBound, NamedProblem, OnRow, Rows};
 use name_table::Name;
 use problem_file::{BoundItem, BoundSet, ColumnDecl, DeckEntry, Problem, RowDecl, ValueSet};
-use revise_lists::{
-    BoundSets, Bounds, Entries, Groups, NamedBound, NamedEntry, NamedProblem, Rows,
-};
 use std::alloc::{AllocError, Global};
 
 // The name of the row of this number, from 1, or the empty name.
@@ -33,13 +31,18 @@ fn column_name(columns: &[ColumnDecl], number: u32) -> Name
     }
 }
 
-fn named_entry(rows: &[RowDecl], entry: DeckEntry) -> NamedEntry
-    ensures { result ≡ entry_by (name_at (map (λ row. row.name) rows.now)) entry }
+// Adds an entry on the name of its row, which has none.
+fn add_named(list: &mut Entries, rows: &[RowDecl], entry: DeckEntry) -> Result<(), AllocError>
+    requires { has_entry list.old (name_at (map (λ row. row.name) rows.now) entry.row) ≡ false }
+    ensures { OnOk result (list.new ≡ list.old ++ entry_by
+        (name_at (map (λ row. row.name) rows.now)) entry ∷ []) }
 {
-    NamedEntry {
-        row: row_name(rows, entry.row),
+    let row = row_name(rows, entry.row);
+    let number = OnRow {
+        place: (entry.row as usize).saturating_sub(1),
         value: entry.value,
-    }
+    };
+    list.add(row, number)
 }
 
 fn named_bound(columns: &[ColumnDecl], bound: BoundItem) -> NamedBound
@@ -65,7 +68,7 @@ fn named_entries(
 {
     let mut list = Entries::new(alloc);
     for entry in entries {
-        list.add(named_entry(rows, *entry))?;
+        add_named(&mut list, rows, *entry)?;
     }
     Ok(list)
 }

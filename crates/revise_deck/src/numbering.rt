@@ -3,9 +3,9 @@ ghost use Rattle.std.specs.Prelude.{◌≡◌, IfOk};
 ghost use Rattle.problem_definitions.specs.Numbering.{numbered};
 ghost use Rattle.problem_definitions.specs.Valid.{IsProblem};
 
+use deck_parts::NamedProblem;
 use name_table::Name;
 use problem_file::{NoMemory, Problem};
-use revise_lists::NamedProblem;
 use std::alloc::Global;
 
 /// The problem under this name, with numbers in place of names.

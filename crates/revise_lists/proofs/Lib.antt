@@ -1,5 +1,1 @@
-pub mod NamedValues
-pub mod Counted
-pub mod Retained
-pub mod Slots
-mod NamedRows
+mod Absent

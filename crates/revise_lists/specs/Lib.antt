@@ -1,4 +1,2 @@
-pub mod Additions
-pub mod Bodies
-pub mod Changes
-pub mod Views
+pub mod Summary
+pub mod Needs

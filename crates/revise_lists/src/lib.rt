@@ -1,24 +1,11 @@
-//! The lists of a problem under revision: its rows, columns and sets, in which each name is looked up by its hash, and what a data
-//! card does to the items of a column or of a set.
+//! The edits of a problem by the data cards under an action of REVISE: what is known of the cards so far, where a new row or column
+//! goes, and what a card changes.
 #![tactic(auto)]
 
-mod bound_sets;
-mod bounds;
-mod changes;
-mod ends;
-mod entries;
-mod groups;
-mod kinds;
-mod named;
-mod parts;
-mod rows;
+mod edits;
+mod places;
+mod under;
 
-pub use bound_sets::BoundSets;
-pub use bounds::Bounds;
-pub use changes::{BoundChange, EntryChange};
-pub use ends::End;
-pub use entries::Entries;
-pub use groups::Groups;
-pub use kinds::kind_on;
-pub use parts::{NamedBound, NamedEntry, NamedProblem};
-pub use rows::Rows;
+pub use edits::{edit_bounds_of, edit_columns_of, edit_rows_of, edit_sets_of};
+pub use places::next_row_place;
+pub use under::UnderAction;

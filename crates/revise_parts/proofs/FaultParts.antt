@@ -15,7 +15,7 @@ use Rattle.deck_definitions.specs.declared.Section.TheVariants.{Columns}
 use Rattle.deck_definitions.specs.DataCards.{pairs_of}
 use Rattle.deck_definitions.specs.Tests.{kind_filled, marks, pairs_fault}
 use Rattle.revise_definitions.specs.Tests.{has_range, frees, has_type_for, puts_fault, modified_fields_fault, modify_rows_fault, modify_columns_fault}
-use Rattle.revise_parts.specs.Summary.{insert_columns_test}
+use Rattle.revise_parts.specs.EditTests.{insert_columns_test}
 
 module _ (seen : Problem Name) (card : Reading) where
   abbrev head : List (Option DeckFaultKind)

@@ -9,7 +9,6 @@ use Rattle.problem_definitions.specs.Names.{Name, same}
 use Rattle.problem_definitions.specs.Problem.{Row, Entry, Group, Problem, has_row, has_group, has_combination, entry_count}
 use Rattle.problem_definitions.specs.Parts.{parts_of, rows_before}
 use Rattle.problem_definitions.specs.Groups.{items_of}
-use Rattle.problem_definitions.proofs.Groups.{items_of-absent, has_group-names}
 use Rattle.deck_definitions.specs.declared.DeckFaultKind.{DeckFaultKind}
 use Rattle.deck_definitions.specs.declared.DeckFaultKind.TheVariants.{BadRowType, DuplicateRow, ColumnSplit, RangeOnFree, UnknownColumn, EmptyName, TooManyRows, TooManyColumns, ModifyMissing}
 use Rattle.deck_definitions.specs.declared.Section.{Section}
@@ -23,9 +22,10 @@ use Rattle.revise_definitions.specs.declared.Action.TheVariants.{Modify, Delete,
 use Rattle.revise_definitions.specs.Edits.{put_entry}
 use Rattle.revise_definitions.specs.Tests.{put_fault, puts_fault, has_range, frees, has_type_for, modified_fields_fault, modify_rows_fault, modify_columns_fault, modify_sets_fault, modify_bound_fault}
 use Rattle.revise_definitions.proofs.Pairs.{puts_fault-cons}
-use Rattle.revise_lists.specs.Additions.{AreNumbers, AreNew}
-use Rattle.revise_parts.specs.Summary.{Under, goes_on_from, goes_on_row_from, earlier_among, insert_columns_test, edit_test}
-use Rattle.revise_parts.specs.Needs.{IsNewRow, IsNewColumn, HasBound, CanEditRows, CanEditColumns, CanEditSets, CanEditBounds}
+use Rattle.deck_parts.specs.Additions.{AreNumbers, AreNew}
+use Rattle.revise_lists.specs.Summary.{Under, goes_on_from, goes_on_row_from}
+use Rattle.revise_parts.specs.EditTests.{earlier_among, insert_columns_test, edit_test}
+use Rattle.revise_lists.specs.Needs.{IsNewRow, IsNewColumn, HasBound, CanEditRows, CanEditColumns, CanEditSets, CanEditBounds}
 
 -- ---- no fault in a list of tests
 
@@ -76,14 +76,6 @@ no_pairs card e = by card.name2 card.value1 card.name3 card.value2 (fails (not (
     by [] [] (x ∷ c) d e = absurd (cc e)
     by [] [] [] (x ∷ d) e = absurd (cc e)
 
-absent_parts : (name : Name) (rows : List (Row Name)) → has_row rows name ≡ false → parts_of name rows ≡ []
-absent_parts name [] absent = refl
-absent_parts name (row ∷ rows) absent = by (same name row.name) absent (absent_parts name rows)
-  where
-    by : (b : Bool) → (b || has_row rows name) ≡ false → (has_row rows name ≡ false → parts_of name rows ≡ []) → cond b (unwrap_or row.parts []) [] ++ parts_of name rows ≡ []
-    by true h rest = absurd (cc h)
-    by false h rest = rest h
-
 fresh_parts : (rows earlier : List (Row Name)) (card : Reading) → row_fields_fault (rows_alone rows) earlier card ≡ None → AreNew (parts_of card.name1 rows) (part_pairs_of card)
 fresh_parts rows earlier card e = by (is_some (named combination_kinds card.kind)) e
   where
@@ -121,9 +113,6 @@ new_row rows under earlier card fine = (
     by true f e = absurd (cc f)
     by false f e = e
 
-pub first_parts : (name : Name) (rows : List (Row Name)) (pairs : List Pair) → has_row rows name ≡ false → AreNew (parts_of name rows) pairs → AreNew [] pairs
-first_parts name rows pairs absent new = subst (λ items. AreNew items pairs) (absent_parts name rows absent) new
-
 modified_row : (seen : Problem Name) (card : Reading) → modify_rows_fault seen card ≡ None → has_combination seen.rows card.name1 ≡ true → AreNumbers (part_pairs_of card)
 modified_row seen card fine combines = by (has_combination seen.rows card.name1) combines (none-first (modified_fields_fault seen card) None (after4
     (is_empty card.name1 ⟹ EmptyName) (not (has_row seen.rows card.name1) ⟹ ModifyMissing) (not (has_type_for (has_combination seen.rows card.name1) card) ⟹ BadRowType) (frees card && has_range seen card.name1 ⟹ RangeOnFree)
@@ -140,12 +129,6 @@ rows_needs seen Before under card fine = new_row seen.rows under (earlier_among 
 rows_needs seen After under card fine = new_row seen.rows under (earlier_among After under card seen.rows) card fine
 
 -- ---- COLUMNS and sets
-
-no_items : {X : Type 0} (name : Name) (groups : List (Group X)) → has_group groups name ≡ false → items_of name groups ≡ []
-no_items name groups absent = items_of-absent name groups (sym (has_group-names groups name) ∙ absent)
-
-pub first_items : (name : Name) (groups : List (Group (Entry Name))) (pairs : List Pair) → has_group groups name ≡ false → AreNew (items_of name groups) pairs → AreNew [] pairs
-first_items name groups pairs absent new = subst (λ items. AreNew items pairs) (no_items name groups absent) new
 
 modified_column : (seen : Problem Name) (card : Reading) → modify_columns_fault seen card ≡ None → AreNumbers (pairs_of card)
 modified_column seen card fine = put_pairs seen Columns (items_of card.name1 seen.columns) (entry_count seen) (pairs_of card) (none-first puts None (after4

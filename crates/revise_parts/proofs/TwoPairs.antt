@@ -16,7 +16,7 @@ use Rattle.deck_parts.specs.Views.{rows_alone}
 use Rattle.revise_definitions.specs.Edits.{put_entry}
 use Rattle.revise_definitions.specs.Tests.{puts_fault}
 use Rattle.revise_definitions.proofs.Pairs.{puts_fault-cons}
-use Rattle.revise_parts.specs.Summary.{put_test, pair_test}
+use Rattle.revise_parts.specs.EditTests.{put_test, pair_test}
 use Rattle.card_definitions.proofs.FirstFaults.{or_none}
 
 or_turned : (a b : Bool) → (a || (b || false)) ≡ (b || a)

@@ -9,14 +9,16 @@ ghost use Rattle.deck_definitions.specs.Tests.{kind_filled, marks, filled_from_3
 ghost use Rattle.deck_fields.specs.Views.{viewed};
 ghost use Rattle.deck_parts.specs.Views.{rows_alone};
 ghost use Rattle.revise_definitions.specs.Tests.{has_range, has_type_for, frees, modified_fields_fault, puts_fault, modify_rows_fault, delete_rows_fault, modify_columns_fault, modify_sets_fault, delete_entry_fault, delete_columns_fault, delete_sets_fault, modify_bound_fault, delete_bounds_fault};
-ghost use Rattle.revise_parts.specs.Summary.{insert_columns_test};
+ghost use Rattle.revise_parts.specs.EditTests.{insert_columns_test};
 
 use crate::pairs::{first_of, pairs_fault_of, parts_fault_of, put_parts_fault_of, puts_fault_of};
 use deck_fields::{DataCard, bound_kind, combination_kind, is_blank, row_kind};
-use deck_parts::{DeckFaultKind, Section, bound_value, has_more, is_free, is_marker};
+use deck_parts::{
+    DeckFaultKind, Groups, NamedProblem, Rows, Section, bound_value, has_more, is_free, is_marker,
+    kind_on,
+};
 use name_table::Name;
 use problem_definitions::{BoundKind, MAX_COLUMNS, MAX_ROWS};
-use revise_lists::{Groups, NamedProblem, Rows, kind_on};
 
 // Whether a range set has an item on this row.
 fn has_range_on(seen: &NamedProblem, row: &Name) -> bool

@@ -5,10 +5,7 @@
 mod edits;
 mod faults;
 mod pairs;
-mod places;
-mod under;
 mod verdicts;
 
 pub use edits::edit;
-pub use under::UnderAction;
 pub use verdicts::edit_fault_of;

@@ -9,33 +9,23 @@ ghost use Rattle.deck_definitions.specs.Tests.{value_fault, pair_row_fault, pair
 ghost use Rattle.deck_fields.specs.Views.{viewed, pair_view};
 ghost use Rattle.deck_parts.specs.Views.{rows_alone};
 ghost use Rattle.revise_definitions.specs.Tests.{puts_fault};
-ghost use Rattle.revise_parts.specs.Summary.{put_test, pair_test, part_test};
+ghost use Rattle.revise_parts.specs.EditTests.{put_test, pair_test, part_test};
 
 use deck_fields::{
     DataCard, PairText, first_pair, first_part, is_blank, is_columns, is_ranges, second_pair,
 };
-use deck_parts::{DeckFaultKind, Section, number_in};
+use deck_parts::{DeckFaultKind, Entries, NamedProblem, Rows, Section, number_in, row_of};
 use name_table::Name;
 use problem_definitions::MAX_ENTRIES;
-use revise_lists::{Entries, NamedProblem, Rows};
 
 // The fault of the row in a pair.
 fn row_fault(seen: &NamedProblem, section: Section, row: &Name) -> Option<DeckFaultKind>
     ensures { result ≡ pair_row_fault seen.now section row.now }
 {
-    if is_blank(row.bytes()) {
-        return Some(DeckFaultKind::EmptyName);
+    match row_of(&seen.rows, section, row) {
+        Ok(_) => None,
+        Err(kind) => Some(kind),
     }
-    if !seen.rows.has(row) {
-        return Some(DeckFaultKind::UnknownRow);
-    }
-    if is_columns(section) && seen.rows.has_combination(row) {
-        return Some(DeckFaultKind::EntryOnCombination);
-    }
-    if is_ranges(section) && seen.rows.has_free(row) {
-        return Some(DeckFaultKind::RangeOnFree);
-    }
-    None
 }
 
 // The fault of the number in a pair.

@@ -4,19 +4,18 @@ ghost use Rattle.deck_definitions.specs.declared.Section.TheVariants.{Columns, R
 ghost use Rattle.deck_definitions.specs.Tests.{rows_fault};
 ghost use Rattle.deck_fields.specs.Views.{viewed};
 ghost use Rattle.deck_parts.specs.Views.{rows_alone};
-ghost use Rattle.revise_parts.specs.Summary.{goes_on_row_from, earlier_among, edit_test};
+ghost use Rattle.revise_lists.specs.Summary.{goes_on_row_from};
+ghost use Rattle.revise_parts.specs.EditTests.{earlier_among, edit_test};
 
 use crate::faults::{
     deleted_bounds_fault, deleted_column_fault, deleted_row_fault, deleted_set_fault,
     inserted_column_fault, inserted_row_fault, modified_bounds_fault, modified_column_fault,
     modified_row_fault, modified_set_fault,
 };
-use crate::places::next_row_place;
-use crate::under::UnderAction;
 use deck_fields::DataCard;
-use deck_parts::{DeckFaultKind, Section};
+use deck_parts::{DeckFaultKind, NamedProblem, Rows, Section};
 use revise_definitions::Action;
-use revise_lists::{NamedProblem, Rows};
+use revise_lists::{UnderAction, next_row_place};
 
 // How many rows are the earlier ones of a card under BEFORE or AFTER.
 fn earlier_count(

@@ -8,7 +8,7 @@ use Rattle.job_devices.specs.Text.{Writes}
 use Rattle.problem_definitions.specs.Names.{Name}
 use Rattle.problem_definitions.specs.Problem.{Problem}
 use Rattle.problem_definitions.specs.Numbering.{by_names}
-use Rattle.deck_definitions.specs.Written.{written as deck_cards, card_text}
+use Rattle.deck_definitions.specs.Written.{written as deck_fields, card_text}
 use Rattle.control_definitions.specs.Program.{Verb, Bcdout}
 use Rattle.control_definitions.specs.Cells.{Cells}
 use Rattle.listing_definitions.specs.declared.VerbFault.TheVariants.{NoProblem}
@@ -80,7 +80,7 @@ stopped written stopped_at faults refusals stop text w = record {
 
 -- the cards of a problem, and what BCDOUT makes of it
 abbrev cards_of : Problem ℕ → List (List ℕ)
-cards_of problem = deck_cards (by_names problem)
+cards_of problem = deck_fields (by_names problem)
 
 abbrev punches_it : State → Problem ℕ → Outcome
 punches_it state problem = next (Punches (BcdOut problem.name (min (length (cards_of problem)) max_counted)) (cards_of problem)) state

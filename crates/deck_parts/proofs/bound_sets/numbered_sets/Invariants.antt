@@ -5,4 +5,4 @@ use Rattle.deck_parts.specs.Views.{group_at, column_number}
 use Rattle.deck_parts.proofs.bound_sets.numbered_sets.Given as goal
 
 abbrev pub invariant-loop-name : goal.invariant-loop-name
-invariant-loop-name l = l.numbered.items ++ map (group_by (bound_by (column_number l.columns))) (map group_at l.name-iterator) ≡ map (group_by (bound_by (column_number l.columns))) (map group_at l.sets.entries)
+invariant-loop-name l = l.list.items ++ map (group_by (bound_by (column_number l.columns))) (map group_at l.name-iterator) ≡ map (group_by (bound_by (column_number l.columns))) (map group_at l.sets.entries)

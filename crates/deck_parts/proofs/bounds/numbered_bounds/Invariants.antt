@@ -1,8 +1,10 @@
--- The bounds so far have the numbers of their columns.
+-- The list so far is that of the bounds in the slots before the present one.
 use Rattle.std.proofs.Common.{◌≡◌, map, take}
+use Rattle.problem_definitions.specs.Names.{number_in}
 use Rattle.problem_definitions.specs.Numbering.{bound_by}
-use Rattle.deck_parts.specs.Views.{column_number}
+use Rattle.problem_definitions.specs.Problem.{group_names}
+use Rattle.deck_parts.specs.NotedEnds.{held}
 use Rattle.deck_parts.proofs.bounds.numbered_bounds.Given as goal
 
-abbrev pub invariant-loop-bound : goal.invariant-loop-bound
-invariant-loop-bound l = l.items.items ≡ map (bound_by (column_number l.columns)) (take l.bound-index l.bounds)
+abbrev pub invariant-loop-slot : goal.invariant-loop-slot
+invariant-loop-slot l = l.list.items ≡ map (bound_by (number_in (group_names l.columns))) (held (take l.slot-index l.slots))

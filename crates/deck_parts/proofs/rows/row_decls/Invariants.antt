@@ -2,7 +2,7 @@
 use Rattle.std.proofs.Common.{◌≡◌, ◌++◌, map}
 use Rattle.problem_definitions.specs.Numbering.{row_by}
 use Rattle.deck_parts.specs.Views.{row_number}
-use Rattle.deck_parts.specs.RowViewed.{row_at}
+use Rattle.deck_parts.specs.Bodies.{row_at}
 use Rattle.deck_parts.proofs.rows.row_decls.Given as goal
 
 abbrev pub invariant-loop-name : goal.invariant-loop-name

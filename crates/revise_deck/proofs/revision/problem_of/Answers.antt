@@ -1,4 +1,4 @@
-use Rattle.std.proofs.Common.{ap, ◌∙◌}
+use Rattle.std.proofs.Common.{ap}
 use Rattle.card_definitions.specs.Cards.{cards_between}
 use Rattle.revise_deck.specs.State.{State}
 use Rattle.revise_deck.proofs.Ends.{is_problem, gives}

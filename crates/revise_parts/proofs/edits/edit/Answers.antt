@@ -1,6 +1,6 @@
 use Rattle.std.proofs.Common.{ap, sym, ◌∙◌}
 use Rattle.deck_fields.specs.Views.{viewed}
-use Rattle.revise_parts.specs.Summary.{edit_test}
+use Rattle.revise_parts.specs.EditTests.{edit_test}
 use Rattle.revise_parts.proofs.Faultless.{rows_needs, columns_needs, rhs_needs, ranges_needs, bounds_needs}
 use Rattle.revise_parts.proofs.edits.edit.Goals as goal
 

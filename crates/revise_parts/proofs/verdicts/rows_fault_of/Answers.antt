@@ -4,7 +4,7 @@ use Rattle.problem_definitions.specs.Problem.{Problem}
 use Rattle.deck_definitions.specs.declared.Section.TheVariants.{Rows}
 use Rattle.deck_fields.specs.Views.{viewed}
 use Rattle.revise_definitions.specs.declared.Action.TheVariants.{Before, After}
-use Rattle.revise_parts.specs.Summary.{edit_test}
+use Rattle.revise_parts.specs.EditTests.{edit_test}
 use Rattle.revise_parts.proofs.verdicts.rows_fault_of.Goals as goal
 
 pub returns-in-Before : goal.returns-in-Before

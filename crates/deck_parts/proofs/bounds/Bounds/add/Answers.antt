@@ -1,24 +1,16 @@
-use Rattle.std.proofs.Common.{sym, subst, ◌∙◌}
-use Rattle.card_definitions.specs.Words.{◌⟹◌}
-use Rattle.problem_definitions.specs.Kinds.{touches_upper, touches_lower}
-use Rattle.deck_definitions.specs.declared.DeckFaultKind.TheVariants.{BoundTwice}
-use Rattle.deck_fields.specs.Reported.{ReportsDeckFault}
-use Rattle.deck_parts.proofs.Touched.{marks_more, found_at_ends}
+use Rattle.std.proofs.Common.{Some, [], ◌∷◌, ap, ◌∙◌}
+use Rattle.deck_definitions.specs.Tests.{is_bound_already}
+use Rattle.deck_parts.specs.declared.ends.End.TheVariants.{Upper, Lower}
+use Rattle.deck_parts.specs.NotedEnds.{held}
+use Rattle.deck_parts.proofs.Slots.{added, free_ends, held-append}
 use Rattle.deck_parts.proofs.bounds.Bounds.add.Goals as goal
 
 pub invariant_of-self : goal.invariant_of-self
-invariant_of-self c = (
-  marks_more touches_upper c.self.inside.uppers.keys c.add_to.new.uppers.keys c.self.inside.items.items c.add_to.new.items.items c.args.bound c.self.invariant.0 c.in-Ok.ensures.uppers c.in-Ok.ensures.items,
-  marks_more touches_lower c.self.inside.lowers.keys c.add_to.new.lowers.keys c.self.inside.items.items c.add_to.new.items.items c.args.bound c.self.invariant.1 c.in-Ok.ensures.lowers c.in-Ok.ensures.items,
-)
+invariant_of-self c =
+    let free = free_ends c.args.bound.column c.args.bound.kind (held c.self.inside.slots.items) (ap (λ bounds. is_bound_already bounds c.args.bound.column c.args.bound.kind) c.self.view_is ∙ c.requires) in (
+      added Upper c.self.inside.uppers.entries c.self.inside.slots.items c.args.bound c.self.invariant.0 free.0 c.add_slot.new.slots.items c.add_slot.new.uppers.entries c.in-Ok.ensures.slots c.in-Ok.ensures.uppers,
+      added Lower c.self.inside.lowers.entries c.self.inside.slots.items c.args.bound c.self.invariant.1 free.1 c.add_slot.new.slots.items c.add_slot.new.lowers.entries c.in-Ok.ensures.slots c.in-Ok.ensures.lowers,
+    )
 
-pub returns-in-Ok-clause-is_new : goal.returns-in-Ok-clause-is_new
-returns-in-Ok-clause-is_new c =
-    rw (← c.self.view_is)
-    (sym (found_at_ends c.args.bound.column c.args.bound.kind c.self.inside.uppers.keys c.self.inside.lowers.keys c.self.inside.items.items c.self.invariant.0 c.self.invariant.1) ∙ c.in-Ok.ensures.is_new)
-
-pub returns-in-Err-clause-stop : goal.returns-in-Err-clause-stop
-returns-in-Err-clause-stop c =
-    rw (← c.self.view_is)
-    (subst (λ b. ReportsDeckFault (b ⟹ BoundTwice) c.in-Err.stop) (found_at_ends c.args.bound.column c.args.bound.kind c.self.inside.uppers.keys c.self.inside.lowers.keys c.self.inside.items.items c.self.invariant.0 c.self.invariant.1)
-    c.in-Err.ensures.stop)
+pub returns-in-Ok : goal.returns-in-Ok
+returns-in-Ok c = rw (← c.self.view_is) (ap held c.in-Ok.ensures.slots ∙ held-append c.self.inside.slots.items (Some c.args.bound ∷ []))
