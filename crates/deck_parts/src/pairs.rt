@@ -14,8 +14,11 @@ use crate::fault_after::fault_after;
 use crate::on_row::OnRow;
 use crate::rows::{FoundRow, Rows, is_free};
 use card_definitions::NumberFault;
-use deck_fields::{CardStop, DataCard, Decimal, PairText, first_pair, first_part, is_blank, is_columns, is_ranges, number, second_pair};
 use deck_definitions::{DeckFaultKind, Section};
+use deck_fields::{
+    CardStop, DataCard, Decimal, PairText, first_pair, first_part, is_blank, is_columns, is_ranges,
+    number, second_pair,
+};
 use name_table::Name;
 use problem_definitions::MAX_ENTRIES;
 

@@ -12,8 +12,8 @@ ghost use Rattle.deck_parts.specs.Views.{rows_alone, new_row_fault, begun_fault,
 use crate::entries::Entries;
 use crate::pairs::take_parts;
 use crate::rows::{RowBody, Rows};
-use deck_fields::{CardStop, DataCard, combination_kind, is_blank, row_kind};
 use deck_definitions::DeckFaultKind;
+use deck_fields::{CardStop, DataCard, combination_kind, is_blank, row_kind};
 use name_table::Name;
 use problem_definitions::{MAX_ROWS, RowKind};
 use std::alloc::Global;

@@ -12,8 +12,8 @@ ghost use Rattle.deck_fields.specs.Views.{viewed};
 
 use crate::groups::Groups;
 use crate::rows::Rows;
-use deck_fields::{CardStop, DataCard, is_blank, is_word, rank_of};
 use deck_definitions::{DeckFaultKind, Section};
+use deck_fields::{CardStop, DataCard, is_blank, is_word, rank_of};
 use std::alloc::Global;
 
 // Whether a card marks integer columns.

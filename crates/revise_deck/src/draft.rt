@@ -4,11 +4,11 @@ ghost use Rattle.std.specs.Prelude.{◌≡◌, [], None, Some, OnOk, IfErr};
 use crate::numbering::renumbered;
 use crate::sections::{action_fault_of, action_of, anchor_of, comes_after, is_action, is_deletion};
 use card_reader::Card;
+use deck_definitions::Style;
 use deck_fields::{
     CardStop, DataCard, Draft, SectionOrder, begins_section, is_header, is_last, name_in,
     next_section, read_data_card, style_begun,
 };
-use deck_definitions::Style;
 use deck_parts::{DeckFaultKind, NamedProblem, Section};
 use name_table::Name;
 use problem_file::{NoMemory, Problem};
