@@ -5,7 +5,7 @@ ghost use Rattle.problem_definitions.specs.Groups.{in_set};
 ghost use Rattle.deck_definitions.specs.DataCards.{style_begun, entries_of};
 ghost use Rattle.deck_definitions.specs.Tests.{columns_fault};
 ghost use Rattle.deck_fields.specs.Reported.{ReportsDeckFault};
-ghost use Rattle.deck_parts.specs.Views.{columns_alone};
+ghost use Rattle.named_problem.specs.Views.{columns_alone};
 ghost use Rattle.deck_fields.specs.Views.{viewed};
 
 use card_reader::Card;
@@ -14,11 +14,11 @@ use deck_fields::{
     CardStop, DataCard, Draft, SectionOrder, begins_section, is_blank as is_empty_text, is_header,
     is_last, next_section, read_data_card, style_begun,
 };
-use deck_parts::{
+use name_table::Name;
+use named_problem::{
     BoundSets, DeckFaultKind, Groups, Rows, Section, follows, take_bound_card, take_column_card,
     take_row_card, take_set_card,
 };
-use name_table::Name;
 use problem_file::{NoMemory, Problem};
 use std::alloc::Global;
 

@@ -7,5 +7,5 @@ mod draft;
 
 pub use conversion::{convert, problem_name};
 pub use deck_fields::{DeckFault, DeckFaultKind, DeckStop};
-pub use deck_parts::Section;
 pub use draft::DeckDraft;
+pub use named_problem::Section;

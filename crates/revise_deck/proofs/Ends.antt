@@ -16,7 +16,7 @@ use Rattle.deck_fields.specs.declared.stop.DeckStop.TheVariants.{Fault, NoMemory
 use Rattle.revise_definitions.specs.Revision.{revised, revise_card_fault, revise_fault, revision}
 use Rattle.revise_laws.proofs.ByNames.{named-lawful}
 use Rattle.revise_laws.proofs.Revisions.{revised-lawful, renamed}
-use Rattle.revise_lists.specs.Summary.{under_of}
+use Rattle.revise_edits.specs.Summary.{under_of}
 use Rattle.deck_fields.specs.Stops.{Stops}
 use Rattle.revise_deck.specs.State.{State, state_of}
 use Rattle.revise_deck.specs.Revision.{Refuses}

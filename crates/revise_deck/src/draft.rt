@@ -9,11 +9,11 @@ use deck_fields::{
     CardStop, DataCard, Draft, SectionOrder, begins_section, is_header, is_last, name_in,
     next_section, read_data_card, style_begun,
 };
-use deck_parts::{DeckFaultKind, NamedProblem, Section};
 use name_table::Name;
+use named_problem::{DeckFaultKind, NamedProblem, Section};
 use problem_file::{NoMemory, Problem};
 use revise_definitions::Action;
-use revise_lists::UnderAction;
+use revise_edits::UnderAction;
 use revise_parts::{edit, edit_fault_of};
 use std::alloc::Global;
 
@@ -45,7 +45,7 @@ impl ReviseDraft {
     ghost use Rattle.deck_fields.specs.Views.{viewed};
     ghost use Rattle.revise_definitions.specs.Actions.{action_on, anchor_on};
     ghost use Rattle.revise_definitions.specs.Tests.{action_fault};
-    ghost use Rattle.revise_lists.specs.Summary.{under_of, with_card_under, edited_by};
+    ghost use Rattle.revise_edits.specs.Summary.{under_of, with_card_under, edited_by};
     ghost use Rattle.revise_parts.specs.EditTests.{edit_test};
     ghost use Rattle.revise_deck.specs.State.{read_at, data_fault, standing_fault, inner_fault, inner_with, problem_with, fault_at, state_with};
     ghost use Rattle.revise_deck.specs.Draft_view.{state_view};

@@ -6,8 +6,8 @@ ghost use Rattle.problem_definitions.specs.Problem.{group_names, has_entry};
 ghost use Rattle.revise_deck.specs.Different.{AreDifferentEntries, AreDifferentBounds, AreDifferentRows, AreDifferentGroups};
 
 use deck_fields::name_in;
-use deck_parts::{BoundSets, Bounds, Entries, Groups, NamedBound, NamedProblem, OnRow, Rows};
 use name_table::Name;
+use named_problem::{BoundSets, Bounds, Entries, Groups, NamedBound, NamedProblem, OnRow, Rows};
 use problem_file::{BoundItem, BoundSet, ColumnDecl, DeckEntry, Problem, RowDecl, ValueSet};
 use std::alloc::{AllocError, Global};
 

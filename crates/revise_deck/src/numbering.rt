@@ -3,8 +3,8 @@ ghost use Rattle.std.specs.Prelude.{◌≡◌, IfOk};
 ghost use Rattle.problem_definitions.specs.Numbering.{numbered};
 ghost use Rattle.problem_definitions.specs.Valid.{IsProblem};
 
-use deck_parts::NamedProblem;
 use name_table::Name;
+use named_problem::NamedProblem;
 use problem_file::{NoMemory, Problem};
 use std::alloc::Global;
 

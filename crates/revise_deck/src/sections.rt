@@ -13,8 +13,8 @@ ghost use Rattle.revise_definitions.specs.Revision.{may_come_after};
 use card_reader::Card;
 use deck_definitions::Style;
 use deck_fields::{first_word, free_words, is_blank, is_word, name_in, rank_of, word_text};
-use deck_parts::{DeckFaultKind, NamedProblem, Section};
 use name_table::Name;
+use named_problem::{DeckFaultKind, NamedProblem, Section};
 use revise_definitions::Action;
 
 // Whether a section may come next.

@@ -16,16 +16,16 @@ use Rattle.deck_definitions.specs.declared.Section.TheVariants.{Rows, Columns, R
 use Rattle.deck_definitions.specs.DataCards.{Pair, pair_if, pairs_of, part_pairs_of, entry_of, kind_on, bound_kinds, combination_kinds}
 use Rattle.deck_definitions.specs.Tests.{kind_filled, marks, pairs_fault, pair_fault, filled_from_3, row_fields_fault, rows_fault, of_bound_type}
 use Rattle.deck_definitions.proofs.Pairs.{pairs_fault-cons}
-use Rattle.deck_parts.specs.Views.{rows_alone, bound_end_fault}
+use Rattle.named_problem.specs.Views.{rows_alone, bound_end_fault}
 use Rattle.revise_definitions.specs.declared.Action.{Action}
 use Rattle.revise_definitions.specs.declared.Action.TheVariants.{Modify, Delete, Before, After}
 use Rattle.revise_definitions.specs.Edits.{put_entry}
 use Rattle.revise_definitions.specs.Tests.{put_fault, puts_fault, has_range, frees, has_type_for, modified_fields_fault, modify_rows_fault, modify_columns_fault, modify_sets_fault, modify_bound_fault}
 use Rattle.revise_definitions.proofs.Pairs.{puts_fault-cons}
-use Rattle.deck_parts.specs.Additions.{AreNumbers, AreNew}
-use Rattle.revise_lists.specs.Summary.{Under, goes_on_from, goes_on_row_from}
+use Rattle.named_problem.specs.Additions.{AreNumbers, AreNew}
+use Rattle.revise_edits.specs.Summary.{Under, goes_on_from, goes_on_row_from}
 use Rattle.revise_parts.specs.EditTests.{earlier_among, insert_columns_test, edit_test}
-use Rattle.revise_lists.specs.Needs.{IsNewRow, IsNewColumn, HasBound, CanEditRows, CanEditColumns, CanEditSets, CanEditBounds}
+use Rattle.revise_edits.specs.Needs.{IsNewRow, IsNewColumn, HasBound, CanEditRows, CanEditColumns, CanEditSets, CanEditBounds}
 
 -- ---- no fault in a list of tests
 

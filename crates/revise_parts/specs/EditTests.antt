@@ -17,7 +17,7 @@ use Rattle.deck_definitions.specs.Tests.{kind_filled, marks, pair_row_fault, val
 use Rattle.revise_definitions.specs.declared.Action.{Action}
 use Rattle.revise_definitions.specs.declared.Action.TheVariants.{Before, After}
 use Rattle.revise_definitions.specs.Tests.{edit_fault}
-use Rattle.revise_lists.specs.Summary.{Under, goes_on_from, goes_on_row_from, row_place_among}
+use Rattle.revise_edits.specs.Summary.{Under, goes_on_from, goes_on_row_from, row_place_among}
 
 -- The tests of a pair that replaces an item or adds one, where one on its row is there already or isn't.
 abbrev pub put_test : Problem Name → Section → Bool → ℕ → Pair → Option DeckFaultKind

@@ -1,13 +1,13 @@
 // The edit of a data card in which no fault was found.
 ghost use Rattle.std.specs.Prelude.{◌≡◌, OnOk, None};
 ghost use Rattle.deck_fields.specs.Views.{viewed};
-ghost use Rattle.revise_lists.specs.Summary.{edited_by};
+ghost use Rattle.revise_edits.specs.Summary.{edited_by};
 ghost use Rattle.revise_parts.specs.EditTests.{edit_test};
 
 use deck_fields::DataCard;
-use deck_parts::{NamedProblem, Section};
+use named_problem::{NamedProblem, Section};
 use revise_definitions::Action;
-use revise_lists::{UnderAction, edit_bounds_of, edit_columns_of, edit_rows_of, edit_sets_of};
+use revise_edits::{UnderAction, edit_bounds_of, edit_columns_of, edit_rows_of, edit_sets_of};
 use std::alloc::{AllocError, Global};
 
 /// Makes the edit of a data card in which no fault was found.

@@ -7,15 +7,15 @@ ghost use Rattle.deck_definitions.specs.declared.Section.TheVariants.{Columns};
 ghost use Rattle.deck_definitions.specs.DataCards.{pairs_of, part_pairs_of};
 ghost use Rattle.deck_definitions.specs.Tests.{value_fault, pair_row_fault, pairs_fault};
 ghost use Rattle.deck_fields.specs.Views.{viewed, pair_view};
-ghost use Rattle.deck_parts.specs.Views.{rows_alone};
+ghost use Rattle.named_problem.specs.Views.{rows_alone};
 ghost use Rattle.revise_definitions.specs.Tests.{puts_fault};
 ghost use Rattle.revise_parts.specs.EditTests.{put_test, pair_test, part_test};
 
 use deck_fields::{
     DataCard, PairText, first_pair, first_part, is_blank, is_columns, is_ranges, second_pair,
 };
-use deck_parts::{DeckFaultKind, Entries, NamedProblem, Rows, Section, number_in, row_of};
 use name_table::Name;
+use named_problem::{DeckFaultKind, Entries, NamedProblem, Rows, Section, number_in, row_of};
 use problem_definitions::MAX_ENTRIES;
 
 // The fault of the row in a pair.

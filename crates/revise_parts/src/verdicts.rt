@@ -3,8 +3,8 @@ ghost use Rattle.std.specs.Prelude.{◌≡◌, take};
 ghost use Rattle.deck_definitions.specs.declared.Section.TheVariants.{Columns, Rhs, Ranges, Bounds};
 ghost use Rattle.deck_definitions.specs.Tests.{rows_fault};
 ghost use Rattle.deck_fields.specs.Views.{viewed};
-ghost use Rattle.deck_parts.specs.Views.{rows_alone};
-ghost use Rattle.revise_lists.specs.Summary.{goes_on_row_from};
+ghost use Rattle.named_problem.specs.Views.{rows_alone};
+ghost use Rattle.revise_edits.specs.Summary.{goes_on_row_from};
 ghost use Rattle.revise_parts.specs.EditTests.{earlier_among, edit_test};
 
 use crate::faults::{
@@ -13,9 +13,9 @@ use crate::faults::{
     modified_row_fault, modified_set_fault,
 };
 use deck_fields::DataCard;
-use deck_parts::{DeckFaultKind, NamedProblem, Rows, Section};
+use named_problem::{DeckFaultKind, NamedProblem, Rows, Section};
 use revise_definitions::Action;
-use revise_lists::{UnderAction, next_row_place};
+use revise_edits::{UnderAction, next_row_place};
 
 // How many rows are the earlier ones of a card under BEFORE or AFTER.
 fn earlier_count(

@@ -1,7 +1,7 @@
 use Rattle.std.proofs.Common.{◌+◌, ◌≤◌, length, sum_by, ap, ap₂, sym, ◌∙◌, arith}
 use Rattle.problem_definitions.proofs.Added.{items-added}
 use Rattle.deck_definitions.specs.DataCards.{entries_of}
-use Rattle.deck_parts.specs.Views.{columns_alone}
+use Rattle.named_problem.specs.Views.{columns_alone}
 use Rattle.deck_fields.specs.Views.{viewed}
 use Rattle.mps_convert.proofs.DataTaken.{few_left}
 use Rattle.mps_convert.proofs.draft.take_column.Goals as goal

@@ -2,7 +2,7 @@ use Rattle.std.proofs.Common.{[], take, option_map, unwrap_or, ap}
 use Rattle.std.specs.Option.{option_copied, option_to_list}
 use Rattle.deck_definitions.specs.declared.Section.TheVariants.{Rows}
 use Rattle.deck_fields.specs.Views.{pair_view}
-use Rattle.deck_parts.specs.Views.{rows_alone}
+use Rattle.named_problem.specs.Views.{rows_alone}
 use Rattle.revise_parts.proofs.TwoPairs.{pairs_found_one}
 use Rattle.revise_parts.proofs.pairs.part_fault_if.Goals as goal
 

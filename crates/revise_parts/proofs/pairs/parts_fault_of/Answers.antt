@@ -4,7 +4,7 @@ use Rattle.deck_definitions.specs.declared.Section.TheVariants.{Rows}
 use Rattle.deck_definitions.specs.DataCards.{part_pairs_of}
 use Rattle.deck_definitions.specs.Tests.{pairs_fault}
 use Rattle.deck_fields.specs.Views.{viewed, pair_view}
-use Rattle.deck_parts.specs.Views.{rows_alone}
+use Rattle.named_problem.specs.Views.{rows_alone}
 use Rattle.revise_parts.proofs.TwoPairs.{pairs_found_two}
 use Rattle.revise_parts.proofs.pairs.parts_fault_of.Goals as goal
 

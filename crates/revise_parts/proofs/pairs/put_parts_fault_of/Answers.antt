@@ -2,7 +2,7 @@ use Rattle.std.proofs.Common.{[], ◌++◌, take, option_map, ap, ap₂, ◌∙�
 use Rattle.std.specs.Option.{option_or}
 use Rattle.deck_definitions.specs.declared.Section.TheVariants.{Rows}
 use Rattle.deck_fields.specs.Views.{pair_view}
-use Rattle.deck_parts.specs.Views.{rows_alone}
+use Rattle.named_problem.specs.Views.{rows_alone}
 use Rattle.revise_definitions.specs.Tests.{puts_fault}
 use Rattle.revise_parts.proofs.TwoPairs.{put_parts}
 use Rattle.revise_parts.proofs.pairs.put_parts_fault_of.Goals as goal

@@ -1,7 +1,0 @@
-use Rattle.std.proofs.Common.{rules}
-use Rattle.revise_definitions.specs.Edits.{without_column}
-use Rattle.deck_parts.proofs.Retained.{changed_groups}
-use Rattle.deck_parts.proofs.bound_sets.BoundSets.remove_column.Goals as goal
-
-pub returns : goal.returns
-returns c = rw (← c.self.view_is) (changed_groups _ (without_column c.args.column.now) _ (λ k v b w g call. search rules) _ _ c.retain.ensures.filtered)

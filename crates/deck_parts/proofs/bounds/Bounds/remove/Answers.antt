@@ -1,6 +1,0 @@
-use Rattle.std.proofs.Common.{◌∙◌}
-use Rattle.deck_parts.proofs.Slots.{all_taken}
-use Rattle.deck_parts.proofs.bounds.Bounds.remove.Goals as goal
-
-pub returns : goal.returns
-returns c = c.remove_met.ensures ∙ all_taken c.args.column.now c.args.self.now

@@ -1,5 +1,0 @@
-use Rattle.deck_parts.proofs.LastRow.{popped_apart}
-use Rattle.deck_parts.proofs.rows.Rows.take_last.Goals as goal
-
-pub returns-clause-apart : goal.returns-clause-apart
-returns-clause-apart c = popped_apart c.self.inside.rows.entries c.pop.new.self.entries c.pop.result c.self.invariant c.pop.ensures.entries
