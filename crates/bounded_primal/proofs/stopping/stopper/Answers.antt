@@ -1,7 +1,5 @@
-use Rattle.std.proofs.Common.{◌∙◌, sym}
 use Rattle.lp_definitions.specs.LinearProgram.{value_at}
 use Rattle.basis_values.proofs.TermLaws.{IfErr-map}
-use Rattle.bounded_primal.proofs.LookedAt.{all_cover}
 use Rattle.bounded_primal.proofs.StopperFacts.{call_refused}
 use Rattle.bounded_primal.proofs.stopping.stopper.Goals as goal
 
@@ -10,6 +8,3 @@ returns-clause-refused c =
     IfErr-map c.stopper_from.result
     (λ e some. call_refused c.args.lp.now c.args.basis.now (value_at c.args.point.now) (value_at c.args.direction.now) c.args.q c.args.up c.requires.nonsingular c.requires.point c.requires.nonbasic c.requires.direction some.0 some.1 e some.2)
     c.stopper_from.ensures.refused
-
-pub stopper_from-requires-clause-covered : goal.stopper_from-requires-clause-covered
-stopper_from-requires-clause-covered c = all_cover c.args.direction.now c.number_of_variables.result (c.requires.direction_places ∙ sym c.number_of_variables.ensures.size)
