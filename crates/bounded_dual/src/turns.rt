@@ -63,11 +63,7 @@ fn restore_feasibility<R: Rates>(
 }
 
 /// The end, where no basic is outside its limits: the point, and the prices at hand.
-fn optimal<R: Rates>(
-    at: &Position<'_>,
-    rates: &mut R,
-    prices: &[Frac],
-) -> Result<Turn, DualStop>
+fn optimal<R: Rates>(at: &Position<'_>, rates: &mut R, prices: &[Frac]) -> Result<Turn, DualStop>
     requires no_change { at.now.lp.now.change ≡ None }
     requires rates { HasRates (R.matrix rates.old) (R.basics rates.old) at.now.lp.now at.now.basis.now }
     requires price_places { length prices.now ≡ size at.now.lp.now.matrix }

@@ -61,17 +61,6 @@ pub struct Exchange {
     pub q: u32,
 }
 
-/// A rate of the leaver over the pivot.
-const QUOTIENT: u8 = 1;
-/// Such a quotient times a rate of the entering variable.
-const PRODUCT: u8 = 2;
-/// A rate less such a product.
-const DIFFERENCE: u8 = 3;
-/// 1 over the pivot.
-const RECIPROCAL: u8 = 4;
-/// The reciprocal times a rate of the entering variable.
-const MULTIPLE: u8 = 5;
-
 /// An exchange of `p` for `q`, and the rate of `i` at `j` that it changes.
 #[derive(Clone, Copy)]
 struct Cell {
@@ -115,7 +104,7 @@ impl Cell {
         if let Some(quotient) = by_unit(rate, pivot) {
             return Ok(quotient);
         }
-        rate.div(pivot).map_err(|refused| self.evidence(QUOTIENT, refused))
+        rate.div(pivot).map_err(|refused| self.evidence(1, refused))
     }
 
     /// 1 over the pivot.
@@ -126,7 +115,7 @@ impl Cell {
             one_ℚ pivot) }
     {
         let one = Frac::whole(1);
-        one.div(pivot).map_err(|refused| self.evidence(RECIPROCAL, refused))
+        one.div(pivot).map_err(|refused| self.evidence(4, refused))
     }
 
     /// The rate at the leaver: the quotient there, times the rate at the entering variable.
@@ -140,7 +129,7 @@ impl Cell {
         }
         quotient
             .mul(factor)
-            .map_err(|refused| self.evidence(MULTIPLE, refused))
+            .map_err(|refused| self.evidence(5, refused))
     }
 
     /// The quotient times the rate at the entering variable.
@@ -154,7 +143,7 @@ impl Cell {
         }
         quotient
             .mul(factor)
-            .map_err(|refused| self.evidence(PRODUCT, refused))
+            .map_err(|refused| self.evidence(2, refused))
     }
 
     /// A rate less such a product.
@@ -167,7 +156,7 @@ impl Cell {
             return Ok(product.neg());
         }
         rate.sub(product)
-            .map_err(|refused| self.evidence(DIFFERENCE, refused))
+            .map_err(|refused| self.evidence(3, refused))
     }
 
     /// A rate without its part along the entering variable's direction, by the plain operations.
