@@ -1,9 +1,9 @@
 -- Evidence of the calls that bring a basic back by the ratio test, as evidence of a statement whose program at 0 is the one at hand.
 use Rattle.std.proofs.Common.{◌≡◌, ◌≢◌, ℕ, zero, suc, ◌<◌, ◌≤◌, inl, List, [], ◌∷◌, true, false, Bool, refl, sym, ◌∙◌, ap, subst, subst₂, arith}
-use Rattle.std.specs.Prelude.{Option, Some, None, IsTrue, Contains, slice_index_or, not, ◌&&◌, ◌||◌, nat_eq}
+use Rattle.std.specs.Prelude.{Option, None, IsTrue, Contains, slice_index_or, not, ◌&&◌, ◌||◌, nat_eq}
 use Rattle.exact_values.specs.Rational.{ℚ, zero_ℚ, ◌-ℚ◌}
 use Rattle.frac128.specs.declared.Op.TheVariants.{Div}
-use Rattle.lp_definitions.specs.Basis.{Basics, basics_of, exchanged, IsBasic, IsNonbasic, IsDirectionOf, AreRates, ArePricesOf, IsPointOf, Tableau, IsTableau}
+use Rattle.lp_definitions.specs.Basis.{Basics, basics_of, exchanged, IsBasic, IsNonbasic, IsDirectionOf, AreRates, ArePricesOf, IsPointOf, IsTableau}
 use Rattle.lp_definitions.specs.LinearProgram.{LinearProgram, Vector, IsLinearProgram}
 use Rattle.lp_definitions.specs.RatesEvidence.{Refuses}
 use Rattle.lp_definitions.specs.Waypoints.{IsWaypoint}
@@ -32,7 +32,7 @@ use Rattle.bounded_primal.specs.declared.moves.Stopper.{Stopper}
 use Rattle.bounded_primal.proofs.StatementEvidence.{evidence_here, evidence_ahead, evidence_own, step_number, step_moves}
 use Rattle.bounded_primal.proofs.TurnEvidence.{step_brings_not}
 use Rattle.dual_laws.proofs.EnteringVariables.{is_entering_variable}
-use Rattle.dual_step.specs.Cheapest.{brings, SomeRatioRefused}
+use Rattle.dual_step.specs.Cheapest.{SomeRatioRefused}
 use Rattle.dual_step.proofs.BestRatio.{brings_apart}
 use Rattle.dual_step.proofs.RatioChoice.{row_at, price_at}
 

@@ -10,6 +10,18 @@ use basis_values::{Formula, counted, may_lower};
 use frac128::Frac;
 use lp_model::{Basis, Evidence, Lp};
 
+/// What the ratio test looks at: the basis's prices, and the rates of the basic `r`, which is below its lower limit or at it, or else
+/// above its upper limit or at it.
+#[derive(Clone, Copy)]
+struct RatioTest<'a> {
+    lp: &'a Lp,
+    basis: &'a Basis,
+    prices: &'a [Frac],
+    row: &'a [Frac],
+    r: u32,
+    below: bool,
+}
+
 /// A nonbasic that may bring the basic back, with its price and the basic's rate at it.
 #[derive(Clone, Copy)]
 pub struct Candidate {
@@ -107,36 +119,33 @@ fn cheaper(best: Candidate, other: Candidate, r: u32) -> Result<Candidate, Evide
 
 /// The best candidate with `k` among the variables.
 fn with_variable(
-    lp: &Lp,
-    basis: &Basis,
-    prices: &[Frac],
-    row: &[Frac],
-    r: u32,
-    below: bool,
+    test: &RatioTest<'_>,
     best: Option<Candidate>,
     k: u32,
 ) -> Result<Option<Candidate>, Evidence>
-    requires variable { IsVariable lp.now.matrix k }
-    requires counted { length basis.now ≡ size lp.now.matrix }
-    requires prices { length prices.now ≡ size lp.now.matrix }
-    requires row { length row.now ≡ size lp.now.matrix }
-    requires best { IsBest lp.now basis.now (value_at prices.now) (value_at row.now) below
-        (k - 1) best }
-    ensures best { IfOk result (IsBest lp.now basis.now (value_at prices.now)
-        (value_at row.now) below k) }
-    ensures refused { IfErr result (SomeRatioRefused lp.now basis.now (value_at prices.now)
-        (value_at row.now) r below) }
+    requires variable { IsVariable test.now.lp.now.matrix k }
+    requires counted { length test.now.basis.now ≡ size test.now.lp.now.matrix }
+    requires prices { length test.now.prices.now ≡ size test.now.lp.now.matrix }
+    requires row { length test.now.row.now ≡ size test.now.lp.now.matrix }
+    requires best { IsBest test.now.lp.now test.now.basis.now (value_at test.now.prices.now)
+        (value_at test.now.row.now) test.now.below (k - 1) best }
+    ensures best { IfOk result (IsBest test.now.lp.now test.now.basis.now
+        (value_at test.now.prices.now) (value_at test.now.row.now) test.now.below k) }
+    ensures refused { IfErr result (SomeRatioRefused test.now.lp.now test.now.basis.now
+        (value_at test.now.prices.now) (value_at test.now.row.now) test.now.r test.now.below) }
 {
+    let prices = test.prices;
+    let row = test.row;
     let price = prices[k as usize - 1];
     let rate = row[k as usize - 1];
-    if !may_lower(lp, basis, counted(rate, !below), k) {
+    if !may_lower(test.lp, test.basis, counted(rate, !test.below), k) {
         return Ok(best);
     }
     let other = Candidate { q: k, price, rate };
     let Some(present) = best else {
         return Ok(Some(other));
     };
-    match cheaper(present, other, r) {
+    match cheaper(present, other, test.r) {
         Ok(now) => Ok(Some(now)),
         Err(evidence) => Err(evidence),
     }
@@ -160,9 +169,17 @@ pub fn cheapest(
     ensures refused { IfErr result (SomeRatioRefused lp.now basis.now (value_at prices.now)
         (value_at row.now) r below) }
 {
+    let test = RatioTest {
+        lp,
+        basis,
+        prices,
+        row,
+        r,
+        below,
+    };
     let mut best: Option<Candidate> = None;
     for k in 0..lp.number_of_variables() {
-        best = with_variable(lp, basis, prices, row, r, below, best, k + 1)?;
+        best = with_variable(&test, best, k + 1)?;
     }
     Ok(best.map(|found| found.q))
 }

@@ -1,6 +1,6 @@
 -- What stops a face turn, and the whole run.
 use Rattle.std.proofs.Common.{◌≡◌, ℕ, Bool, inl, inr, List}
-use Rattle.std.specs.Prelude.{Some, None, Result, Ok, Err, OnOk}
+use Rattle.std.specs.Prelude.{Some, None}
 use Rattle.exact_values.specs.Rational.{ℚ}
 use Rattle.lp_definitions.specs.LinearProgram.{LinearProgram, Vector}
 use Rattle.lp_definitions.specs.Basis.{Basics}
@@ -31,11 +31,6 @@ module _ (p : LinearProgram) (h : ℕ) (no_change : p.change ≡ None) (theta : 
   turn_stops q enters z up (stop.Overflow e) (by_direction r) = of_point p h from no_change s left ways now e (Some theta) r
   turn_stops q enters z up (stop.Overflow e) (by_stopper d direction r) = of_stopper p h from no_change s left ways now e theta q enters z d up r
   turn_stops q enters z up stop.NoMemory r = tt
-
--- whatever the first call gave is kept where a second one succeeds
-pub on_ok : {T E : Type 0} (r : Result T E) (P : Type 0) → P → OnOk r P
-on_ok (Ok v) P h = h
-on_ok (Err e) P h = tt
 
 -- ---- the program at a value can always be made: an overflow comes with evidence at a basis
 

@@ -28,7 +28,7 @@ module _ (p : LinearProgram) (s : List Status) (h : ℕ) (lawful : IsLinearProgr
   end_refused e r = record {
     number = r.refused.names.is_formula;
     no_way = r.refused.no_way;
-    no_theta = r.refused.no_theta;
+    no_theta = r.refused.is_theta;
     of_run = λ from. rw r.refused.names.is_formula refl;
     shows = λ from. record {
       tableau = record { point = combination p.matrix (basics_of s) priced.rate (standing p s); rate = priced.rate };

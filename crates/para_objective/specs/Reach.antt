@@ -6,6 +6,7 @@
 --     IsReachOf                    the same for the first n variables
 --     IsReachAbove                 no more than max, and no less than the reach: some of the first n variables may not count
 --     IsReachFromAny               the greatest value up to which the basis stays optimal, from any at which it is
+--     rate_formula j               formula 16 of the nonbasic j
 --     RateRefused                  the price of a variable over its rate in the change row is refused
 --     EndRefused p h s e           the same at the basis s, as the evidence of a run that changes row h
 use Rattle.std.specs.Prelude.{◌≡◌, ◌≢◌, ◌↔◌, ℕ, ◌≤◌, Bool, not, List, if◌then◌else◌, [], ◌∷◌, IsTrue}
@@ -21,8 +22,9 @@ use Rattle.lp_definitions.specs.declared.Evidence.{Evidence}
 use Rattle.lp_definitions.specs.declared.Status.{Status}
 use Rattle.simplex_definitions.specs.Chain.{ReachesTo}
 use Rattle.simplex_definitions.specs.ObjectiveRun.{objective_family}
-use Rattle.ranging.specs.Refusals.{IsRefusal}
 use Rattle.ranging.specs.RowEnds.{sides_of, RatesStayTo}
+use Rattle.basis_values.specs.Formulas.{IsRefusal}
+use Rattle.basis_values.specs.declared.formula.Formula.{Formula}
 
 abbrev pub zero_at : ℚ → ℚ → ℚ
 zero_at price rate = neg_ℚ (price /ℚ rate)
@@ -55,12 +57,15 @@ IsReachFromAny p h s max to =
     (from : ℚ) → from ≤ℚ max → IsOptimalBasis (objective_family p h from) s →
     ReachesTo (objective_family p h) s from max to
 
+abbrev pub rate_formula : ℕ → Formula
+rate_formula j = record { number = 16; p = 0; q = 0; i = 0; j = j; term = 0; theta = zero_ℚ }
+
 pub record RateRefused (prices change : Vector) (n : ℕ) (e : Evidence) : Type 0 where
   pub j : ℕ
   pub low : 1 ≤ j
   pub high : j ≤ n
   pub moves : change j ≢ zero_ℚ
-  pub refused : IsRefusal 16 0 0 j 0 Div (prices j) (change j) e
+  pub refused : IsRefusal (rate_formula j) Div (prices j) (change j) e
 
 -- the quotient is refused at the basis s itself, as the evidence shows for a run of the objective from any value
 pub record EndRefused (p : LinearProgram) (h : ℕ) (s : List Status) (e : Evidence) : Type 0 where

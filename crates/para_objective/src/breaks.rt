@@ -11,7 +11,7 @@ ghost use Rattle.simplex_laws.specs.Laws.{IsNonsingularBasis};
 ghost use Rattle.para_objective.specs.Breaks.{is_entering_variable, IsFaceEnteringVariable};
 
 use crate::choices::worth;
-use bounded_primal::may_lower;
+use basis_values::may_lower;
 use frac128::Frac;
 use lp_model::{Basis, Lp};
 

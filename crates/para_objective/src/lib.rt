@@ -6,7 +6,6 @@ mod choices;
 mod method;
 mod parts;
 mod reaching;
-mod rows;
 mod run;
 mod turns;
 

@@ -2,9 +2,10 @@
 
 use crate::breaks::face_entering_variable;
 use crate::reaching::reach;
-use crate::rows::fill_rows;
 use crate::turns::{rises, stopper_of, unbounded_end};
+use basis_values::fill_prices;
 use bounded_primal::{PrimalStop, primal};
+use dual_step::read_row;
 use frac128::Frac;
 use lp_model::{Basis, Change, Lp, Outcome, ParaPart, Point, Rates, Stop};
 use parametric_run::{
@@ -59,20 +60,19 @@ impl<'a> Parametric for Objective<'a> {
 
     fn refresh<R: Rates>(
         &self,
-        _alloc: Global,
         basis: &Basis,
         rates: &mut R,
         workspace: &mut Workspace,
     ) -> Result<(), Stop> {
         let Workspace { prices, change, .. } = workspace;
-        fill_rows(self.lp, basis, rates, prices, change, self.row)?;
+        fill_prices(self.lp, basis, rates, change, prices)?;
+        read_row(self.lp, basis, rates, self.row, change)?;
         Ok(())
     }
 
     // The point is the same at each value, and the prices move with the rates of the change row.
     fn interval(
         &self,
-        alloc: Global,
         basis: &Basis,
         workspace: &Workspace,
         from: Frac,
@@ -89,6 +89,7 @@ impl<'a> Parametric for Objective<'a> {
             Ok(to) => to,
             Err(evidence) => return Err(Stop::Overflow(evidence)),
         };
+        let alloc = workspace.alloc;
         let statuses = basis.copy(alloc)?;
         let value = point_with(alloc, &workspace.point)?;
         let value_rate = still_point(alloc, self.lp)?;
@@ -107,7 +108,6 @@ impl<'a> Parametric for Objective<'a> {
 
     fn face_turn<R: Rates>(
         &self,
-        alloc: Global,
         basis: &Basis,
         rates: &mut R,
         workspace: &mut Workspace,
@@ -127,7 +127,7 @@ impl<'a> Parametric for Objective<'a> {
         let up = rises(self.lp, workspace, q);
         let stopped = stopper_of(self.lp, basis, rates, workspace, q, up)?;
         let Some(by) = stopped else {
-            let end = unbounded_end(alloc, self.lp, workspace, up, theta)?;
+            let end = unbounded_end(self.lp, workspace, up, theta)?;
             return Ok(FaceStep::Ends(end));
         };
         if left == 0 {

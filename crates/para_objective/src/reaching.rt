@@ -2,20 +2,17 @@
 
 ghost use Rattle.std.specs.Prelude.{◌≡◌, ◌≢◌, length, IsTrue, None, IfOk, IfErr, OnErr};
 ghost use Rattle.exact_values.specs.Rational.{zero_ℚ, ◌≤ℚ◌};
-ghost use Rattle.frac128.specs.Operations.{refuses};
 ghost use Rattle.frac128.specs.declared.Op.TheVariants.{Div};
 ghost use Rattle.lp_definitions.specs.LinearProgram.{size, value_at, IsRow, IsVariable, IsLinearProgram};
 ghost use Rattle.lp_definitions.specs.Basis.{basics_of, ArePricesOf};
-ghost use Rattle.lp_definitions.specs.RatesEvidence.{Names};
 ghost use Rattle.lp_model.specs.RatesCalls.{IsRowOf};
+ghost use Rattle.basis_values.specs.Formulas.{IsRefusal};
 ghost use Rattle.simplex_laws.specs.Laws.{IsNonsingularBasis};
-ghost use Rattle.ranging.specs.Refusals.{IsRefusal};
-ghost use Rattle.para_objective.specs.Reach.{zero_at, meets, IsLeast, IsWithRate, IsReachOf, IsReachAbove, IsReachFromAny, RateRefused, EndRefused};
+ghost use Rattle.para_objective.specs.Reach.{rate_formula, zero_at, meets, IsLeast, IsWithRate, IsReachOf, IsReachAbove, IsReachFromAny, RateRefused, EndRefused};
 
 use crate::choices::worth;
-use basis_values::plus_product;
-use bounded_primal::may_lower;
-use frac128::{Frac, Refused};
+use basis_values::{Formula, may_lower, plus_product};
+use frac128::Frac;
 use lp_model::{Basis, Evidence, Lp};
 
 /// Whether the combined rate hasn't passed 0 at the theta whose product with the rate this is.
@@ -53,40 +50,33 @@ fn lesser(best: Frac, other: Frac) -> Frac
     best
 }
 
-/// The lesser of `best` and the theta at which the combined rate is 0. Where a product tells that `best` is the lesser, no quotient is
-/// made.
-fn nearer(best: Frac, price: Frac, rate: Frac) -> Result<Frac, Refused>
-    requires { rate ≢ zero_ℚ }
-    ensures nearer { IfOk result (IsLeast best (zero_at price rate)) }
-    ensures refused { IfErr result
-        (λ refused. refused ≡ record { op = Div; left = price; right = rate }) }
-    ensures decided { IfErr result (λ refused. IsTrue (refuses Div price rate)) }
+/// Formula 16 of the nonbasic `j`.
+fn formula(j: u32) -> Formula
+    ensures { result ≡ rate_formula j }
 {
-    if stands_before(best, price, rate) {
-        return Ok(best);
-    }
-    let quotient = price.div(rate)?;
-    Ok(lesser(best, quotient.neg()))
-}
-
-/// Evidence of the refused quotient of `j`.
-fn evidence(j: u32, refused: Refused) -> Evidence
-    ensures names { Names result 16 0 0 0 j 0 }
-    ensures no_way { result.way ≡ 0 }
-    ensures no_theta { result.theta ≡ zero_ℚ }
-    ensures refused { result.refused ≡ refused }
-{
-    Evidence {
-        formula: 16,
-        way: 0,
+    Formula {
+        number: 16,
         p: 0,
         q: 0,
         i: 0,
         j,
         term: 0,
         theta: Frac::whole(0),
-        refused,
     }
+}
+
+/// The lesser of `best` and the theta at which the combined rate of `j` is 0. Where a product tells that `best` is the lesser, no
+/// quotient is made.
+fn nearer(best: Frac, price: Frac, rate: Frac, j: u32) -> Result<Frac, Evidence>
+    requires { rate ≢ zero_ℚ }
+    ensures nearer { IfOk result (IsLeast best (zero_at price rate)) }
+    ensures refused { IfErr result (IsRefusal (rate_formula j) Div price rate) }
+{
+    if stands_before(best, price, rate) {
+        return Ok(best);
+    }
+    let quotient = formula(j).quotient(price, rate)?;
+    Ok(lesser(best, quotient.neg()))
 }
 
 /// `best`, or the end that `k` makes if that is less.
@@ -102,7 +92,7 @@ fn with_rate(
     requires counted { length basis.now ≡ size lp.now.matrix }
     ensures nearer { IfOk result (IsWithRate lp.now basis.now price rate k best) }
     ensures moves { OnErr result (rate ≢ zero_ℚ) }
-    ensures refused { IfErr result (IsRefusal 16 0 0 k 0 Div price rate) }
+    ensures refused { IfErr result (IsRefusal (rate_formula k) Div price rate) }
 {
     if rate.is_zero() {
         return Ok(best);
@@ -110,9 +100,9 @@ fn with_rate(
     if !may_lower(lp, basis, worth(lp.sense, rate), k) {
         return Ok(best);
     }
-    match nearer(best, price, rate) {
+    match nearer(best, price, rate, k) {
         Ok(now) => Ok(now),
-        Err(refused) => Err(evidence(k, refused)),
+        Err(evidence) => Err(evidence),
     }
 }
 

@@ -13,7 +13,8 @@ ghost use Rattle.parametric_run.specs.Standing.{AreSized};
 ghost use Rattle.para_objective.specs.Faces.{face_up, IsUnboundedPast};
 
 use crate::choices::worth;
-use bounded_primal::{Stopper, counted, stopper};
+use basis_values::counted;
+use bounded_primal::{Stopper, stopper};
 use frac128::Frac;
 use lp_model::{Basis, Direction, Lp, NoMemory, ParaEnd, Rates, Stop};
 use parametric_run::{Workspace, point_with};
@@ -78,11 +79,11 @@ pub fn stopper_of<R: Rates>(
     requires nonbasic { IsNonbasic lp.now.matrix (basics_of basis.now) q }
     requires may { IsTrue (may_move lp.now basis.now up q) }
     ensures direction { OnOk result (IsDirectionOf lp.now.matrix (basics_of basis.now) q
-        (value_at workspace.new.direction.items)) }
+        (value_at workspace.new.direction)) }
     ensures stopper { IfOk result (λ found. found ≡ stopper_by lp.now
-        (value_at workspace.new.point.items) (value_at workspace.new.direction.items) up) }
+        (value_at workspace.new.point.items) (value_at workspace.new.direction) up) }
     ensures others { workspace.new ≡ record workspace.old { direction = workspace.new.direction } }
-    ensures places { length workspace.new.direction.items ≡ length workspace.old.direction.items }
+    ensures places { OnOk result (length workspace.new.direction ≡ size lp.now.matrix) }
     ensures rates { KeepsRates (R.matrix rates.new) (R.basics rates.new) lp.now basis.now
         (R.waypoints rates.old) (R.waypoints rates.new) }
     ensures overflow { IfErr result (λ stop. IfOverflow stop (RunStops lp.now basis.now
@@ -98,18 +99,18 @@ pub fn stopper_of<R: Rates>(
 
 /// The end without a bound past `theta`.
 pub fn unbounded_end(
-    alloc: Global,
     lp: &Lp,
     workspace: &Workspace,
     up: bool,
     theta: Frac,
 ) -> Result<ParaEnd, NoMemory>
-    requires { length workspace.now.direction.items ≡ size lp.now.matrix }
+    requires { length workspace.now.direction ≡ size lp.now.matrix }
     ensures { IfOk result (IsUnboundedPast lp.now theta workspace.now.point.items
-        (value_at workspace.now.direction.items) up) }
+        (value_at workspace.now.direction) up) }
 {
+    let alloc = workspace.alloc;
     let point = point_with(alloc, &workspace.point)?;
-    let direction = speeds(alloc, lp, &workspace.direction, up)?;
+    let direction = speeds(alloc, lp, workspace.direction.values(), up)?;
     Ok(ParaEnd::Unbounded {
         past: theta,
         point,

@@ -9,6 +9,7 @@ pub mod Narrowing
 pub mod RhsPoints
 pub mod ReachStops
 pub mod Leavers
+pub mod Approaches
 pub mod RatioChoice
 pub mod FaceFacts
 pub mod FaceEvidence

@@ -9,8 +9,10 @@
 --     IsReachOf .. n max ends      the ends keep what is up to max and meets the conditions of the first n variables
 --     IsReachFromAny               the greatest value up to which the basis stays optimal, from any at which it is
 --     basic_formula number i term  formula 6 or 18 of the basic i
+--     IsApproach p shift z v k a   a is the way of k to the limit that it comes to
+--     IsApproachOf .. found        it is that way, if there is one
 --     VariableRefused              an operation of k is refused
-use Rattle.std.specs.Prelude.{◌≡◌, ◌≢◌, ◌↔◌, ℕ, ◌≤◌, List, Option, Some, None, option_map, unwrap_or, if◌then◌else◌}
+use Rattle.std.specs.Prelude.{◌≡◌, ◌≢◌, ◌↔◌, ◌⊎◌, ℕ, ◌≤◌, List, Option, Some, None, option_map, unwrap_or, if◌then◌else◌}
 use Rattle.exact_values.specs.Rational.{ℚ, zero_ℚ, ◌-ℚ◌, ◌≤ℚ◌}
 use Rattle.exact_values.specs.Tests.{lt_ℚ}
 use Rattle.affine_laws.specs.Ends.{IsBetweenEnds}
@@ -28,6 +30,7 @@ use Rattle.basis_values.specs.Formulas.{IsRefusal}
 use Rattle.basis_values.specs.declared.formula.Formula.{Formula}
 use Rattle.para_rhs.specs.Limits.{limit_on, number_of, is_upper}
 use Rattle.para_rhs.specs.declared.limits.Side.{Side}
+use Rattle.para_rhs.specs.declared.reaching.Approach.{Approach}
 use Rattle.para_rhs.specs.declared.limits.Side.TheVariants.{Lower, Upper}
 
 abbrev pub side_ahead : ℚ → ℚ → Option Side
@@ -65,6 +68,21 @@ IsReachFromAny p shift s max to =
 
 abbrev pub basic_formula : ℕ → ℕ → ℕ → Formula
 basic_formula number i term = record { number = number; p = 0; q = 0; i = i; j = 0; term = term; theta = zero_ℚ }
+
+-- how fast k closes in on the limit, and how far it is from it at 0
+pub record IsApproach (p : LinearProgram) (shift : List ℚ) (z v : Vector) (k : ℕ) (a : Approach) : Type 0 where
+  pub limit : ℚ
+  pub is_ahead : side_ahead (v k) (shift_of p.matrix shift k) ≡ Some a.side
+  pub is_limit : limit_on p a.side k ≡ Some limit
+  pub is_closing : a.closing ≡ closing_at p shift v k
+  pub is_distance : a.distance ≡ limit -ℚ z k
+
+-- there is none where k moves as its limits do, or where it has no limit on the side to which it comes
+abbrev pub IsApproachOf : LinearProgram → List ℚ → Vector → Vector → ℕ → Option Approach → Type 0
+IsApproachOf p shift z v k None =
+    (side_ahead (v k) (shift_of p.matrix shift k) ≡ None) ⊎
+    ((side : Side) × ((side_ahead (v k) (shift_of p.matrix shift k) ≡ Some side) × (limit_on p side k ≡ None)))
+IsApproachOf p shift z v k (Some a) = IsApproach p shift z v k a
 
 -- its slope less its shift, the distance to a limit, or that over the first
 pub data VariableRefused (p : LinearProgram) (shift : List ℚ) (z v : Vector) (k : ℕ) (e : Evidence) : Type 0 where

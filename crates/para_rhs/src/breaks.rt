@@ -1,19 +1,18 @@
 //! Who leaves its limits at a breakpoint.
 
-ghost use Rattle.std.specs.Prelude.{◌≡◌, ◌≢◌, None, Some, length, List, IfOk, IfErr, OnErr};
+ghost use Rattle.std.specs.Prelude.{◌≡◌, ◌≢◌, None, length, List, IfOk, IfErr, OnErr};
 ghost use Rattle.exact_values.specs.Rational.{◌*ℚ◌};
 ghost use Rattle.exact_values.specs.Tests.{eq_ℚ};
 ghost use Rattle.lp_definitions.specs.LinearProgram.{size, value_at, IsVariable, IsLinearProgram};
 ghost use Rattle.lp_definitions.specs.Basis.{Basics, IsPointOf};
 ghost use Rattle.simplex_laws.specs.Laws.{IsNonsingularBasis};
 ghost use Rattle.simplex_definitions.specs.RhsRun.{shift_of, IsSlope};
-ghost use Rattle.para_rhs.specs.Breaks.{stands_at, leaving_side, IsLeaverOf, IsFaceLeaver};
-ghost use Rattle.para_rhs.specs.Limits.{limit_on};
-ghost use Rattle.para_rhs.specs.Reach.{side_ahead, VariableRefused, SomeVariableRefused};
+ghost use Rattle.para_rhs.specs.Breaks.{leaving_side, IsLeaverOf, IsFaceLeaver};
+ghost use Rattle.para_rhs.specs.Reach.{VariableRefused, SomeVariableRefused};
 ghost use Rattle.para_rhs.specs.Refusals.{RunRefused};
 
-use crate::limits::{Side, limit_on, number_of, shift_of};
-use crate::reaching::{formula, side_ahead};
+use crate::limits::Side;
+use crate::reaching::approach_of;
 use frac128::Frac;
 use lp_model::{Basis, Evidence, Lp};
 
@@ -34,30 +33,6 @@ fn is_product(theta: Frac, closing: Frac, distance: Frac) -> bool
     }
 }
 
-/// Whether `k`, which comes to this limit, stands at it at theta.
-fn stands_at(
-    lp: &Lp,
-    shift: &[Frac],
-    side: Side,
-    limit: Frac,
-    value: Frac,
-    slope: Frac,
-    theta: Frac,
-    k: u32,
-) -> Result<bool, Evidence>
-    requires variable { IsVariable lp.now.matrix k }
-    requires shifts { length shift.now ≡ lp.now.rows }
-    requires limit { limit_on lp.now side k ≡ Some limit }
-    ensures stands { IfOk result (λ stands. stands ≡ stands_at theta value slope
-        (shift_of lp.now.matrix shift.now k) limit) }
-    ensures refused { IfErr result (VariableRefused lp.now shift.now (λ _. value) (λ _. slope) k) }
-{
-    let by = shift_of(lp, shift, k);
-    let closing = formula(18, k, 0).difference(slope, by)?;
-    let distance = formula(6, k, number_of(side)).difference(limit, value)?;
-    Ok(is_product(theta, closing, distance))
-}
-
 /// The limit at which `k` stands at theta and which it would break beyond, if there is one.
 fn leaving_side(
     lp: &Lp,
@@ -74,17 +49,13 @@ fn leaving_side(
     ensures moves { OnErr result (slope ≢ shift_of lp.now.matrix shift.now k) }
     ensures refused { IfErr result (VariableRefused lp.now shift.now (λ _. value) (λ _. slope) k) }
 {
-    let Some(side) = side_ahead(slope, shift_of(lp, shift, k)) else {
+    let Some(approach) = approach_of(lp, shift, value, slope, k)? else {
         return Ok(None);
     };
-    let Some(limit) = limit_on(lp, side, k) else {
-        return Ok(None);
-    };
-    match stands_at(lp, shift, side, limit, value, slope, theta, k) {
-        Ok(true) => Ok(Some(side)),
-        Ok(false) => Ok(None),
-        Err(evidence) => Err(evidence),
+    if is_product(theta, approach.closing, approach.distance) {
+        return Ok(Some(approach.side));
     }
+    Ok(None)
 }
 
 /// The least-numbered variable with such a limit.

@@ -9,7 +9,7 @@ ghost use Rattle.lp_model.specs.RatesCalls.{IfOverflow};
 ghost use Rattle.simplex_definitions.specs.RhsRun.{shift_of, shifted, rhs_family};
 ghost use Rattle.para_rhs.specs.Limits.{limit_on, number_of, is_upper, moved_by, shift_formula, MoveRefused, LimitRefused, SomeLimitRefused};
 
-use bounded_primal::{Formula, plus_product};
+use basis_values::{Formula, plus_product};
 use frac128::Frac;
 use lp_model::{Evidence, Lp, NoMemory, Stop};
 use std::alloc::Global;

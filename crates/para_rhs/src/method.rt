@@ -4,8 +4,9 @@ use crate::breaks::face_leaver;
 use crate::limits::program_at;
 use crate::reaching::reach;
 use crate::reported::reported_at;
-use crate::turns::{entering, infeasible_end, returning};
-use bounded_primal::{PrimalStop, point_of, prices_of, primal};
+use crate::turns::{entering, infeasible_end, return_of};
+use basis_values::{fill_prices, point_of};
+use bounded_primal::{PrimalStop, primal};
 use frac128::Frac;
 use lp_model::{Basis, Lp, Outcome, ParaPart, Point, Rates, Stop};
 use parametric_run::{
@@ -62,20 +63,25 @@ impl<'a> Parametric for RightHandSide<'a> {
 
     fn refresh<R: Rates>(
         &self,
-        alloc: Global,
         basis: &Basis,
         rates: &mut R,
         workspace: &mut Workspace,
     ) -> Result<(), Stop> {
-        self.slope(alloc, basis, rates, &mut workspace.change)?;
-        prices_of(alloc, self.lp, basis, rates, &mut workspace.prices)?;
+        let Workspace {
+            alloc,
+            change,
+            prices,
+            row,
+            ..
+        } = workspace;
+        self.slope(*alloc, basis, rates, change)?;
+        fill_prices(self.lp, basis, rates, row, prices)?;
         Ok(())
     }
 
     // The point moves with the slope, and the prices are the same at each value.
     fn interval(
         &self,
-        alloc: Global,
         basis: &Basis,
         workspace: &Workspace,
         from: Frac,
@@ -92,6 +98,7 @@ impl<'a> Parametric for RightHandSide<'a> {
             Ok(to) => to,
             Err(evidence) => return Err(Stop::Overflow(evidence)),
         };
+        let alloc = workspace.alloc;
         let statuses = basis.copy(alloc)?;
         let value = point_with(alloc, &workspace.point)?;
         let value_rate = point_with(alloc, &workspace.change)?;
@@ -110,7 +117,6 @@ impl<'a> Parametric for RightHandSide<'a> {
 
     fn face_turn<R: Rates>(
         &self,
-        alloc: Global,
         basis: &Basis,
         rates: &mut R,
         workspace: &mut Workspace,
@@ -133,13 +139,13 @@ impl<'a> Parametric for RightHandSide<'a> {
         };
         let chosen = entering(self.lp, basis, rates, workspace, &leaver)?;
         let Some(q) = chosen else {
-            let end = infeasible_end(alloc, self.lp, workspace, &leaver, theta)?;
+            let end = infeasible_end(self.lp, workspace, &leaver, theta)?;
             return Ok(FaceStep::Ends(end));
         };
         if left == 0 {
             return Err(PrimalStop::Limit);
         }
-        let by = returning(self.lp, basis, rates, workspace, q, &leaver)?;
+        let by = return_of(self.lp, basis, rates, workspace, q, &leaver)?;
         Ok(FaceStep::Moves { q, by })
     }
 }

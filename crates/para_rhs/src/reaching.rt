@@ -1,7 +1,7 @@
 //! How far a basis stays optimal.
 
-ghost use Rattle.std.specs.Prelude.{◌≡◌, ◌≢◌, None, Some, length, List, IsSome, IfOk, IfErr, OnErr};
-ghost use Rattle.exact_values.specs.Rational.{zero_ℚ, ◌-ℚ◌};
+ghost use Rattle.std.specs.Prelude.{◌≡◌, ◌≢◌, None, length, List, IsSome, IfOk, IfErr, OnErr};
+ghost use Rattle.exact_values.specs.Rational.{zero_ℚ};
 ghost use Rattle.affine_laws.specs.Ends.{IsTightened};
 ghost use Rattle.frac128.specs.declared.Op.TheVariants.{Div};
 ghost use Rattle.lp_definitions.specs.LinearProgram.{size, value_at, IsVariable, IsLinearProgram};
@@ -10,18 +10,18 @@ ghost use Rattle.lp_definitions.specs.Basis.{Basics, IsPointOf};
 ghost use Rattle.simplex_laws.specs.Laws.{IsNonsingularBasis};
 ghost use Rattle.simplex_definitions.specs.RhsRun.{shift_of, IsSlope};
 ghost use Rattle.basis_values.specs.Formulas.{IsRefusal};
-ghost use Rattle.para_rhs.specs.Limits.{limit_on, number_of};
-ghost use Rattle.para_rhs.specs.Reach.{side_ahead, bound_of, limit_sides, IsNarrowed, high_of, IsReachOf, IsReachFromAny, basic_formula, VariableRefused, SomeVariableRefused};
+ghost use Rattle.para_rhs.specs.Limits.{number_of};
+ghost use Rattle.para_rhs.specs.Reach.{side_ahead, bound_of, IsApproachOf, limit_sides, IsNarrowed, high_of, IsReachOf, IsReachFromAny, basic_formula, VariableRefused, SomeVariableRefused};
 ghost use Rattle.para_rhs.specs.Refusals.{RunRefused};
 
 use crate::limits::{Side, is_upper, limit_on, number_of, shift_of};
 use affine_laws::{Bound, End, Ends, tightened};
-use bounded_primal::Formula;
+use basis_values::Formula;
 use frac128::{Frac, Refused};
 use lp_model::{Basis, Evidence, Lp};
 
 /// Formula 6 or 18 of the basic `i`.
-pub fn formula(number: u8, i: u32, term: u32) -> Formula
+fn formula(number: u8, i: u32, term: u32) -> Formula
     ensures { result ≡ basic_formula number i term }
 {
     Formula {
@@ -36,7 +36,7 @@ pub fn formula(number: u8, i: u32, term: u32) -> Formula
 }
 
 /// The side of the limit to which a variable of this slope comes, where its limits have this shift.
-pub fn side_ahead(slope: Frac, by: Frac) -> Option<Side>
+fn side_ahead(slope: Frac, by: Frac) -> Option<Side>
     ensures { result ≡ side_ahead slope by }
 {
     if slope.is_less(by) {
@@ -48,17 +48,55 @@ pub fn side_ahead(slope: Frac, by: Frac) -> Option<Side>
     None
 }
 
+/// The way of a variable to the limit on a side: how fast it closes in on the limit, and how far it is from it at 0.
+#[derive(Clone, Copy, Debug)]
+pub struct Approach {
+    pub side: Side,
+    pub closing: Frac,
+    pub distance: Frac,
+}
+
+/// The way of `k` to the limit that it comes to, if there is one.
+pub fn approach_of(
+    lp: &Lp,
+    shift: &[Frac],
+    value: Frac,
+    slope: Frac,
+    k: u32,
+) -> Result<Option<Approach>, Evidence>
+    requires variable { IsVariable lp.now.matrix k }
+    requires shifts { length shift.now ≡ lp.now.rows }
+    ensures approach { IfOk result (IsApproachOf lp.now shift.now (λ _. value) (λ _. slope) k) }
+    ensures moves { OnErr result (slope ≢ shift_of lp.now.matrix shift.now k) }
+    ensures refused { IfErr result (VariableRefused lp.now shift.now (λ _. value) (λ _. slope) k) }
+{
+    let by = shift_of(lp, shift, k);
+    let Some(side) = side_ahead(slope, by) else {
+        return Ok(None);
+    };
+    let Some(limit) = limit_on(lp, side, k) else {
+        return Ok(None);
+    };
+    let closing = formula(18, k, 0).difference(slope, by)?;
+    let distance = formula(6, k, number_of(side)).difference(limit, value)?;
+    Ok(Some(Approach {
+        side,
+        closing,
+        distance,
+    }))
+}
+
 /// The bound that the limit ahead makes on theta: theta times the closing is at most the distance to an upper limit, and at least
 /// that to a lower one.
-fn bound(side: Side, closing: Frac, distance: Frac, k: u32) -> Bound
-    ensures { result ≡ bound_of side closing distance k }
+fn bound(approach: &Approach, k: u32) -> Bound
+    ensures { result ≡ bound_of approach.now.side approach.now.closing approach.now.distance k }
 {
     Bound {
-        at_most: is_upper(side),
-        slope: closing,
-        number: distance,
+        at_most: is_upper(approach.side),
+        slope: approach.closing,
+        number: approach.distance,
         by: k,
-        which: number_of(side),
+        which: number_of(approach.side),
     }
 }
 
@@ -83,49 +121,16 @@ fn evidence(i: u32, term: u32, refused: Refused) -> Evidence
 }
 
 /// The ends with the bound of `k`, whose closing isn't 0.
-fn with_bound(
-    ends: Ends,
-    side: Side,
-    closing: Frac,
-    distance: Frac,
-    k: u32,
-) -> Result<Ends, Evidence>
-    requires { closing ≢ zero_ℚ }
-    ensures ends { IfOk result (IsTightened ends (bound_of side closing distance k)) }
-    ensures refused { IfErr result (IsRefusal (basic_formula 18 k (number_of side)) Div
-        distance closing) }
+fn with_bound(ends: Ends, approach: &Approach, k: u32) -> Result<Ends, Evidence>
+    requires { approach.now.closing ≢ zero_ℚ }
+    ensures ends { IfOk result (IsTightened ends (bound_of approach.now.side approach.now.closing
+        approach.now.distance k)) }
+    ensures refused { IfErr result (IsRefusal (basic_formula 18 k (number_of approach.now.side)) Div
+        approach.now.distance approach.now.closing) }
 {
-    match tightened(ends, &bound(side, closing, distance, k)) {
+    match tightened(ends, &bound(approach, k)) {
         Ok(now) => Ok(now),
-        Err(refused) => Err(evidence(k, number_of(side), refused)),
-    }
-}
-
-/// The ends with the bound that this limit of `k` makes, to which `k` comes.
-fn with_limit(
-    lp: &Lp,
-    shift: &[Frac],
-    ends: Ends,
-    side: Side,
-    limit: Frac,
-    value: Frac,
-    slope: Frac,
-    k: u32,
-) -> Result<Ends, Evidence>
-    requires variable { IsVariable lp.now.matrix k }
-    requires shifts { length shift.now ≡ lp.now.rows }
-    requires ahead { side_ahead slope (shift_of lp.now.matrix shift.now k) ≡ Some side }
-    requires limit { limit_on lp.now side k ≡ Some limit }
-    ensures ends { IfOk result (IsTightened ends (bound_of side
-        (slope -ℚ shift_of lp.now.matrix shift.now k) (limit -ℚ value) k)) }
-    ensures refused { IfErr result (VariableRefused lp.now shift.now (λ _. value) (λ _. slope) k) }
-{
-    let by = shift_of(lp, shift, k);
-    let closing = formula(18, k, 0).difference(slope, by)?;
-    let distance = formula(6, k, number_of(side)).difference(limit, value)?;
-    match with_bound(ends, side, closing, distance, k) {
-        Ok(now) => Ok(now),
-        Err(evidence) => Err(evidence),
+        Err(refused) => Err(evidence(k, number_of(approach.side), refused)),
     }
 }
 
@@ -146,13 +151,10 @@ fn with_variable(
     ensures moves { OnErr result (slope ≢ shift_of lp.now.matrix shift.now k) }
     ensures refused { IfErr result (VariableRefused lp.now shift.now (λ _. value) (λ _. slope) k) }
 {
-    let Some(side) = side_ahead(slope, shift_of(lp, shift, k)) else {
+    let Some(approach) = approach_of(lp, shift, value, slope, k)? else {
         return Ok(ends);
     };
-    let Some(limit) = limit_on(lp, side, k) else {
-        return Ok(ends);
-    };
-    match with_limit(lp, shift, ends, side, limit, value, slope, k) {
+    match with_bound(ends, &approach, k) {
         Ok(now) => Ok(now),
         Err(evidence) => Err(evidence),
     }

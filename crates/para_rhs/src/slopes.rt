@@ -12,7 +12,7 @@ ghost use Rattle.para_rhs.specs.Slopes.{shifts_of, slope_program, slope_evidence
 
 use crate::limits::{Side, limit_on, shift_of};
 use crate::method::RightHandSide;
-use bounded_primal::point_of;
+use basis_values::point_of;
 use frac128::Frac;
 use lp_model::{Basis, Evidence, Lp, NoMemory, Rates, Stop};
 use std::alloc::Global;

@@ -16,12 +16,11 @@ ghost use Rattle.para_rhs.specs.Turns.{goes_to, EntryRefused, IsInfeasiblePast};
 
 use crate::breaks::Leaver;
 use crate::limits::is_lower;
-use bounded_primal::{Stopper, limit_broken, ray_of, return_of};
+use bounded_primal::{Stopper, limit_broken, ray_of, returning};
 use dual_step::cheapest;
 use frac128::Frac;
 use lp_model::{Basis, Lp, NoMemory, ParaEnd, Rates, Stop};
 use parametric_run::Workspace;
-use std::alloc::Global;
 
 /// The nonbasic that brings the leaver back at the least price, and of equals the least-numbered, if there is one. The workspace takes
 /// the leaver's row.
@@ -64,7 +63,7 @@ pub fn entering<R: Rates>(
 }
 
 /// The move of `q` that brings the leaver back to its limit. The workspace takes the direction of `q`.
-pub fn returning<R: Rates>(
+pub fn return_of<R: Rates>(
     lp: &Lp,
     basis: &Basis,
     rates: &mut R,
@@ -81,29 +80,28 @@ pub fn returning<R: Rates>(
     requires pivot { (d : ℕ → ℚ) → IsDirectionOf lp.now.matrix (basics_of basis.now) q d →
         d leaver.now.r ≢ zero_ℚ }
     ensures direction { OnOk result (IsDirectionOf lp.now.matrix (basics_of basis.now) q
-        (value_at workspace.new.direction.items)) }
+        (value_at workspace.new.direction)) }
     ensures stopper { IfOk result (λ by. by ≡ return_by lp.now (value_at workspace.new.point.items)
-        (value_at workspace.new.direction.items) leaver.now.r (goes_to leaver.now)) }
+        (value_at workspace.new.direction) leaver.now.r (goes_to leaver.now)) }
     ensures others { workspace.new ≡ record workspace.old { direction = workspace.new.direction } }
-    ensures places { length workspace.new.direction.items ≡ length workspace.old.direction.items }
+    ensures places { OnOk result (length workspace.new.direction ≡ size lp.now.matrix) }
     ensures rates { KeepsRates (R.matrix rates.new) (R.basics rates.new) lp.now basis.now
         (R.waypoints rates.old) (R.waypoints rates.new) }
     ensures overflow { IfErr result (λ stop. IfOverflow stop (ReturnStops lp.now basis.now
         (value_at workspace.old.point.items) q leaver.now.r (goes_to leaver.now)
         (R.waypoints rates.old) (R.waypoints rates.new))) }
 {
+    workspace.read_direction(lp, basis, rates, q)?;
+    let direction = workspace.direction.values();
     let to = limit_broken(is_lower(leaver.side));
-    let Workspace {
-        point,
-        direction,
-        ..
-    } = workspace;
-    return_of(lp, basis, rates, point, direction, q, leaver.r, to)
+    match returning(lp, &workspace.point, direction, q, leaver.r, to) {
+        Ok(by) => Ok(by),
+        Err(evidence) => Err(Stop::Overflow(evidence)),
+    }
 }
 
 /// The end past `theta`: the multipliers that show that the leaver can't come back.
 pub fn infeasible_end(
-    alloc: Global,
     lp: &Lp,
     workspace: &Workspace,
     leaver: &Leaver,
@@ -114,6 +112,6 @@ pub fn infeasible_end(
         leaver.now.r (not (is_upper leaver.now.side)))) }
 {
     let below = is_lower(leaver.side);
-    let ray = ray_of(alloc, lp, &workspace.row, leaver.r, below)?;
+    let ray = ray_of(workspace.alloc, lp, &workspace.row, leaver.r, below)?;
     Ok(ParaEnd::Infeasible { past: theta, ray })
 }

@@ -21,7 +21,7 @@ pub record AreSized (n : ℕ) (w : Workspace) : Type 0 where
   pub prices : length w.prices.items ≡ n
   pub change : length w.change.items ≡ n
   pub row : length w.row.items ≡ n
-  pub direction : length w.direction.items ≡ n
+  pub direction : length w.direction ≡ n
 
 pub record IsWorkspaceOf (m : ParametricProgram) (s : List Status) (w : Workspace) : Type 0 where
   pub sized : AreSized (size m.program.matrix) w
@@ -34,9 +34,9 @@ IsPointAtSome m s z = (theta : ℚ) × IsPointOf (m.family theta) s z
 
 pub record IsReady (p : LinearProgram) (s : List Status) (w : Workspace) (q : ℕ) (by : Stopper) : Type 0 where
   pub nonbasic : IsNonbasic p.matrix (basics_of s) q
-  pub direction : IsDirectionOf p.matrix (basics_of s) q (value_at w.direction.items)
-  pub pivot : value_at w.direction.items by.p ≢ zero_ℚ
-  pub step : IsStepBy p s (value_at w.point.items) (value_at w.direction.items) q by
+  pub direction : IsDirectionOf p.matrix (basics_of s) q (value_at w.direction)
+  pub pivot : value_at w.direction by.p ≢ zero_ℚ
+  pub step : IsStepBy p s (value_at w.point.items) (value_at w.direction) q by
 
 -- with any number of steps left, at a breakpoint or where an interval begins; before and after are the waypoints of the call
 abbrev pub RefusedAt : ParametricProgram → List Status → List Basics → List Basics → Evidence → Type 0

@@ -12,7 +12,7 @@ ghost use Rattle.parametric_run.specs.Programs.{IsParametric};
 ghost use Rattle.parametric_run.specs.Standing.{IsWorkspaceOf, IsPointAtSome, RefusedAt};
 
 use crate::faces::faces;
-use crate::method::{AfterFaces, Parametric, Span};
+use crate::method::{AfterFaces, Opened, Parametric, Span};
 use crate::workspace::Workspace;
 use bounded_primal::PrimalStop;
 use frac128::Frac;
@@ -74,50 +74,48 @@ fn begin<M: Parametric, R: Rates>(
 {
     let point = method.point(alloc, basis, rates, there)?;
     let mut workspace = Workspace::with_point(alloc, point)?;
-    method.refresh(alloc, basis, rates, &mut workspace)?;
+    method.refresh(basis, rates, &mut workspace)?;
     Ok(workspace)
 }
 
-/// The chain of intervals from the basis, which is optimal at the first value and has the point `there` at some value, with so many steps
-/// left.
+/// The chain of intervals from the basis, which is optimal at the first value.
 pub fn chain<M: Parametric, R: Rates>(
     alloc: Global,
     method: &M,
     span: &Span,
     basis: &mut Basis,
     rates: &mut R,
-    there: &Point,
-    begun: u32,
+    opened: &Opened,
 ) -> Result<ParaRun, PrimalStop>
     requires parametric { IsParametric (M.problem method.now) }
     requires fits { M.fits method.now }
     requires rates { HasRates (R.matrix rates.old) (R.basics rates.old)
         (M.problem method.now).program basis.old }
     requires forward { span.now.from ≤ℚ span.now.to }
-    requires there { IsPointAtSome (M.problem method.now) basis.old (value_at there.now) }
-    requires places { length there.now ≡ size (M.problem method.now).program.matrix }
+    requires point { IsPointAtSome (M.problem method.now) basis.old (value_at opened.now.point) }
+    requires places { length opened.now.point ≡ size (M.problem method.now).program.matrix }
     requires optimal { IsOptimalBasis ((M.problem method.now).family span.now.from) basis.old }
-    ensures ends { IfOk result (ChainEnds (M.problem method.now) span.now basis.old basis.new begun
-        (R.waypoints rates.old) (R.waypoints rates.new)) }
+    ensures ends { IfOk result (ChainEnds (M.problem method.now) span.now basis.old basis.new
+        opened.now.left (R.waypoints rates.old) (R.waypoints rates.new)) }
     ensures stops { IfErr result (ChainStops (M.problem method.now) span.now basis.old basis.new
-        begun (R.waypoints rates.old) (R.waypoints rates.new)) }
+        opened.now.left (R.waypoints rates.old) (R.waypoints rates.new)) }
     ensures rates { HasRates (R.matrix rates.new) (R.basics rates.new)
         (M.problem method.now).program basis.new }
-    ensures waypoints { ChainFollows (M.problem method.now) span.now basis.old basis.new begun
-        (R.waypoints rates.old) (R.waypoints rates.new) }
+    ensures waypoints { ChainFollows (M.problem method.now) span.now basis.old basis.new
+        opened.now.left (R.waypoints rates.old) (R.waypoints rates.new) }
 {
-    let mut workspace = begin(alloc, method, basis, rates, there)?;
+    let mut workspace = begin(alloc, method, basis, rates, &opened.point)?;
     let mut parts = Vec::new(alloc);
     let mut theta = span.from;
-    let mut left = begun;
+    let mut left = opened.left;
     'parts: loop {
-        let interval = method.interval(alloc, basis, &workspace, theta, span.to)?;
+        let interval = method.interval(basis, &workspace, theta, span.to)?;
         let to = interval.to;
         keep(&mut parts, interval)?;
         if is_last(to, span.to) {
             return Ok(whole_run(parts));
         }
-        match faces(alloc, method, basis, rates, &mut workspace, to, left)? {
+        match faces(method, basis, rates, &mut workspace, to, left)? {
             AfterFaces::Done { left: after } => left = after,
             AfterFaces::Ends(end) => return Ok(closed_run(parts, end)),
         }

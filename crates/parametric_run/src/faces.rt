@@ -15,7 +15,6 @@ use crate::workspace::{Workspace, take_step_in};
 use bounded_primal::{PrimalStop, Stopper};
 use frac128::Frac;
 use lp_model::{Basis, Rates, Stop};
-use std::alloc::Global;
 
 /// Makes the step `by` of `q`, whose direction the workspace has.
 fn take<M: Parametric, R: Rates>(
@@ -50,7 +49,6 @@ fn take<M: Parametric, R: Rates>(
 /// Makes the face steps at a breakpoint until none is left or the run ends, with so many steps left to the run. The basis, the rates and
 /// the workspace are those that it has reached; after a stop the basis and the rates are.
 pub fn faces<M: Parametric, R: Rates>(
-    alloc: Global,
     method: &M,
     basis: &mut Basis,
     rates: &mut R,
@@ -72,12 +70,12 @@ pub fn faces<M: Parametric, R: Rates>(
 {
     let mut left = begun;
     'turns: loop {
-        match method.face_turn(alloc, basis, rates, workspace, theta, left)? {
+        match method.face_turn(basis, rates, workspace, theta, left)? {
             FaceStep::Done => return Ok(AfterFaces::Done { left }),
             FaceStep::Ends(end) => return Ok(AfterFaces::Ends(end)),
             FaceStep::Moves { q, by } => take(method, basis, rates, workspace, q, &by)?,
         }
         left -= 1;
-        method.refresh(alloc, basis, rates, workspace)?;
+        method.refresh(basis, rates, workspace)?;
     }
 }

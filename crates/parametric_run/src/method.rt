@@ -30,6 +30,13 @@ pub struct Span {
     pub limit: u32,
 }
 
+/// Where the opening path has ended: the basis's point at the first value, and how many steps are left to the run.
+#[derive(Debug, Drop)]
+pub struct Opened {
+    pub point: Point,
+    pub left: u32,
+}
+
 /// What is done at a basis: nothing is left, the run ends, or `q` moves by `by`, and its direction is at hand.
 pub enum FaceStep {
     Done,
@@ -102,7 +109,6 @@ pub trait Parametric {
     /// Fills the basis's prices, and how it moves with the parameter. Its point is there.
     fn refresh<R: Rates>(
         &self,
-        alloc: Global,
         basis: &Basis,
         rates: &mut R,
         workspace: &mut Workspace,
@@ -123,7 +129,6 @@ pub trait Parametric {
     /// The interval of the basis that begins at `from`, and ends at `max` at the latest.
     fn interval(
         &self,
-        alloc: Global,
         basis: &Basis,
         workspace: &Workspace,
         from: Frac,
@@ -143,7 +148,6 @@ pub trait Parametric {
     /// What is done at a breakpoint at the basis, which is optimal there. `Limit` comes where a step is to be made and none is left.
     fn face_turn<R: Rates>(
         &self,
-        alloc: Global,
         basis: &Basis,
         rates: &mut R,
         workspace: &mut Workspace,

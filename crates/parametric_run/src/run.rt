@@ -12,7 +12,7 @@ ghost use Rattle.parametric_run.specs.Programs.{IsParametric};
 ghost use Rattle.parametric_run.specs.Truth.{IsTrueReported};
 
 use crate::chain::chain;
-use crate::method::{Parametric, Span};
+use crate::method::{Opened, Parametric, Span};
 use bounded_primal::PrimalStop;
 use lp_model::{Basis, Outcome, ParaReport, Rates};
 use std::alloc::Global;
@@ -64,7 +64,11 @@ pub fn follow<M: Parametric, R: Rates>(
             point,
             prices: _,
         } => {
-            let chain = chain(alloc, method, span, basis, rates, &point, limit - steps)?;
+            let opened = Opened {
+                point,
+                left: limit - steps,
+            };
+            let chain = chain(alloc, method, span, basis, rates, &opened)?;
             Ok(ParaReport::Run(chain))
         }
         Outcome::Crossed { k } => Ok(ParaReport::Opening(Outcome::Crossed { k })),

@@ -12,20 +12,21 @@ ghost use Rattle.simplex_definitions.specs.Path.{after};
 ghost use Rattle.bounded_primal.specs.Moves.{StepOverflow, move_by};
 ghost use Rattle.parametric_run.specs.Standing.{AreSized, IsReady};
 
-use bounded_primal::{Stopper, take_step};
+use bounded_primal::{Kept, Move, Stopper, step_over};
 use frac128::Frac;
-use lp_model::{Basis, Lp, NoMemory, Point, Prices, Rates, Stop};
+use lp_model::{Basis, Lp, NoMemory, Point, Prices, Rates, SparseVector, Stop};
 use std::alloc::Global;
 
 /// The vectors of a basis, each with a place for each variable: its point at 0, its prices, and how it moves with the parameter; and
-/// those of the variables that move at a breakpoint, a row and a direction.
+/// those of the variables that move at a breakpoint, a row and a direction. What a run answers is made by `alloc`.
 #[derive(Drop)]
 pub struct Workspace {
+    pub alloc: Global,
     pub point: Vec<Frac>,
     pub prices: Vec<Frac>,
     pub change: Vec<Frac>,
     pub row: Vec<Frac>,
-    pub direction: Vec<Frac>,
+    pub direction: SparseVector,
 }
 
 impl Workspace {
@@ -36,11 +37,12 @@ impl Workspace {
     {
         let size = point.len();
         Ok(Workspace {
+            alloc,
             point,
             prices: zeroed(alloc, size)?,
             change: zeroed(alloc, size)?,
             row: zeroed(alloc, size)?,
-            direction: zeroed(alloc, size)?,
+            direction: SparseVector::zeros(alloc, size)?,
         })
     }
 
@@ -77,17 +79,18 @@ impl Workspace {
     ) -> Result<(), Stop>
         requires rates { HasRates (R.matrix rates.old) (R.basics rates.old) lp.now basis.now }
         requires nonbasic { IsNonbasic lp.now.matrix (basics_of basis.now) j }
-        requires places { length self.old.direction.items ≡ size lp.now.matrix }
+        requires places { length self.old.direction ≡ size lp.now.matrix }
         ensures direction { OnOk result (IsDirectionOf lp.now.matrix (basics_of basis.now) j
-            (value_at self.new.direction.items)) }
+            (value_at self.new.direction)) }
         ensures others { self.new ≡ record self.old { direction = self.new.direction } }
-        ensures places { length self.new.direction.items ≡ length self.old.direction.items }
+        ensures places { OnOk result (length self.new.direction ≡ size lp.now.matrix) }
         ensures rates { KeepsRates (R.matrix rates.new) (R.basics rates.new) lp.now basis.now
             (R.waypoints rates.old) (R.waypoints rates.new) }
         ensures overflow { PointOverflow result lp.now basis.now
             (R.waypoints rates.old) (R.waypoints rates.new) }
     {
-        rates.column(j, &mut self.direction)
+        let _size = lp.number_of_variables();
+        rates.direction(j, &mut self.direction)
     }
 }
 
@@ -175,5 +178,9 @@ pub fn take_step_in<R: Rates>(
         direction,
         ..
     } = workspace;
-    take_step(lp, basis, rates, point, direction, q, by)
+    let step = Move { q, by, direction };
+    match step_over(lp, basis, rates, point, &step, Kept::All) {
+        Ok(_) => Ok(()),
+        Err(stop) => Err(stop),
+    }
 }

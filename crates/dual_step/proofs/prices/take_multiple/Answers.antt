@@ -1,4 +1,4 @@
-use Rattle.std.proofs.Common.{◌≡◌, ◌+◌, sym, ap, subst₂, ◌∙◌, arith}
+use Rattle.std.proofs.Common.{◌+◌, sym, ap, subst₂, ◌∙◌, arith}
 use Rattle.std.specs.Prelude.{is_none, IsTrue, ◌||◌}
 use Rattle.exact_values.specs.Rational.{ℚ, ◌*ℚ◌}
 use Rattle.frac128.specs.Operations.{refuses}

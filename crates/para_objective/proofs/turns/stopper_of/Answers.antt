@@ -6,8 +6,8 @@ use Rattle.para_objective.proofs.turns.stopper_of.Goals as goal
 
 pub returns-in-Err-clause-overflow : goal.returns-in-Err-clause-overflow
 returns-in-Err-clause-overflow g c =
-    by_stopper (value_at c.read_direction.new.self.direction.items) c.in_ok-read_direction.ensures.direction
-    (rw (c.deref.ensures.value, c.deref-2.ensures.value, ap (λ (w : Workspace). w.point.items) c.in_ok-read_direction.ensures.others) at c.in-Err.ensures.refused)
+    by_stopper (value_at c.read_direction.new.self.direction) c.in_ok-read_direction.ensures.direction
+    (rw (c.deref.ensures.value, ap (λ (w : Workspace). w.point.items) c.in_ok-read_direction.ensures.others) at c.in-Err.ensures.refused)
 
 pub returns-in-Ok-clause-stopper : goal.returns-in-Ok-clause-stopper
-returns-in-Ok-clause-stopper g c = rw (c.deref.ensures.value, c.deref-2.ensures.value) at c.in-Ok.ensures.stopper
+returns-in-Ok-clause-stopper g c = rw c.deref.ensures.value at c.in-Ok.ensures.stopper

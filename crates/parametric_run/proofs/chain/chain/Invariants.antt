@@ -16,7 +16,7 @@ invariant-parts g l = record {
   workspace : IsWorkspaceOf (g.M.Parametric.problem l.method) l.basis l.workspace;
   optimal : IsOptimalBasis ((g.M.Parametric.problem l.method).family l.theta) l.basis;
   forward : l.theta ≤ℚ l.span.to;
-  within : l.left ≤ l.fn.begun;
-  begins : Begins (g.M.Parametric.problem l.method) l.span l.fn.basis l.fn.begun (map part_of l.parts.items) l.theta l.basis l.left;
-  any : OpensAny (g.M.Parametric.problem l.method) l.span l.fn.basis l.fn.begun (g.R.Rates.waypoints l.fn.rates) l.theta l.basis (g.R.Rates.waypoints l.rates) l.left;
+  within : l.left ≤ l.fn.opened.left;
+  begins : Begins (g.M.Parametric.problem l.method) l.span l.fn.basis l.fn.opened.left (map part_of l.parts.items) l.theta l.basis l.left;
+  any : OpensAny (g.M.Parametric.problem l.method) l.span l.fn.basis l.fn.opened.left (g.R.Rates.waypoints l.fn.rates) l.theta l.basis (g.R.Rates.waypoints l.rates) l.left;
 }

@@ -18,16 +18,16 @@ returns-in_err-outcome-clause-complete g c =
     method_answers (g.M.Parametric.problem c.args.method.now) c.requires.parametric c.args.span.now c.args.basis.now c.opening.new.basis (g.R.Rates.waypoints c.args.rates.now) (g.R.Rates.waypoints c.opening.new.rates) at
     c.from_residual.result (rw (p.1) tt) (rw (p.1, p.2) c.in_err-outcome.ensures.stops)
 
-pub overflow_sub-limit : goal.overflow_sub-limit
-overflow_sub-limit g c =
+pub overflow_sub-opened : goal.overflow_sub-opened
+overflow_sub-opened g c =
     let at : IsNonsingularBasis (g.M.Parametric.problem c.args.method.now).program c.args.basis.now = record { is_basis = c.requires.rates.is_basis; nonsingular = c.requires.rates.nonsingular } in
     let within = opening_within (g.M.Parametric.problem c.args.method.now) c.requires.parametric c.args.span.now c.args.basis.now c.opening.new.basis at (g.R.Rates.waypoints c.args.rates.now) (g.R.Rates.waypoints c.opening.new.rates)
     c.in_ok-outcome.outcome c.in_ok-outcome.ensures.ends c.in_ok-outcome.ensures.waypoints c.limit_of-limit.ensures.small c.in-Optimal.steps c.in-Optimal.point c.in-Optimal.prices c.in-Optimal.is in
     let limit = c.limit_of-limit.ensures.limit in
     omega (arith, within, limit)
 
-pub chain-requires-clause-there : goal.chain-requires-clause-there
-chain-requires-clause-there g c =
+pub chain-requires-clause-point : goal.chain-requires-clause-point
+chain-requires-clause-point g c =
     let at : IsNonsingularBasis (g.M.Parametric.problem c.args.method.now).program c.args.basis.now = record { is_basis = c.requires.rates.is_basis; nonsingular = c.requires.rates.nonsingular } in
     first_point (g.M.Parametric.problem c.args.method.now) c.requires.parametric c.args.span.now c.args.basis.now c.opening.new.basis at (g.R.Rates.waypoints c.args.rates.now) (g.R.Rates.waypoints c.opening.new.rates)
     c.in_ok-outcome.outcome c.in_ok-outcome.ensures.ends c.in_ok-outcome.ensures.waypoints c.limit_of-limit.ensures.small c.in-Optimal.steps c.in-Optimal.point c.in-Optimal.prices c.in-Optimal.is

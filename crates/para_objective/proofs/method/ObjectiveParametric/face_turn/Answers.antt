@@ -60,7 +60,7 @@ returns-in_default-stopped-clause-turn g c =
     let at : IsNonsingularBasis c.args.self.now.lp.now c.args.basis.now = record { is_basis = c.requires.rates.is_basis; nonsingular = c.requires.rates.nonsingular } in
     let last = direction_kept (objective_problem c.args.self.now.lp.now c.args.self.now.row) c.args.basis.now c.args.workspace.now c.stopper_of.new.workspace c.requires.workspace c.in_ok-stopped.ensures.others c.in_ok-stopped.ensures.places in
     let up_is : c.rises-up.result ≡ face_up c.args.self.now.lp.now (value_at c.stopper_of.new.workspace.change.items) c.in-Some.q = c.rises-up.ensures ∙ ap (λ (w : Workspace). face_up c.args.self.now.lp.now (value_at w.change.items) c.in-Some.q) (sym c.in_ok-stopped.ensures.others) in
-    face_ends c.args.self.now.lp.now c.args.self.now.row c.requires.fits.lawful c.requires.fits.row c.requires.fits.free c.args.theta c.args.basis.now at (value_at c.stopper_of.new.workspace.point.items) last.point c.requires.optimal (value_at c.stopper_of.new.workspace.change.items) last.change c.in-Some.q c.in-Some.ensures (value_at c.stopper_of.new.workspace.direction.items) c.in_ok-stopped.ensures.direction c.rises-up.result up_is
+    face_ends c.args.self.now.lp.now c.args.self.now.row c.requires.fits.lawful c.requires.fits.row c.requires.fits.free c.args.theta c.args.basis.now at (value_at c.stopper_of.new.workspace.point.items) last.point c.requires.optimal (value_at c.stopper_of.new.workspace.change.items) last.change c.in-Some.q c.in-Some.ensures (value_at c.stopper_of.new.workspace.direction) c.in_ok-stopped.ensures.direction c.rises-up.result up_is
     (sym c.in_default-stopped.is ∙ c.in_ok-stopped.ensures.stopper) c.stopper_of.new.workspace.point.items last.sized.point (λ k is. refl) c.in_ok-end.end c.in_ok-end.ensures
 
 pub returns-in_default-stopped-clause-workspace : goal.returns-in_default-stopped-clause-workspace
@@ -75,7 +75,7 @@ returns-then-left-eq0-clause-turn g c =
     let up_is : c.rises-up.result ≡ face_up c.args.self.now.lp.now (value_at c.stopper_of.new.workspace.change.items) c.in-Some.q = c.rises-up.ensures ∙ ap (λ (w : Workspace). face_up c.args.self.now.lp.now (value_at w.change.items) c.in-Some.q) (sym c.in_ok-stopped.ensures.others) in
     λ from. (
       c.if-left-eq0.true,
-      (after c.args.basis.now (move_by c.in-Some.q c.in-Some-stopped.by), (move_by c.in-Some.q c.in-Some-stopped.by, face_moves c.args.self.now.lp.now c.args.self.now.row c.requires.fits.lawful c.requires.fits.row c.requires.fits.free c.args.theta c.args.basis.now at (value_at c.stopper_of.new.workspace.point.items) last.point c.requires.optimal (value_at c.stopper_of.new.workspace.change.items) last.change c.in-Some.q c.in-Some.ensures (value_at c.stopper_of.new.workspace.direction.items) c.in_ok-stopped.ensures.direction c.rises-up.result up_is c.in-Some-stopped.by (sym c.in-Some-stopped.is ∙ c.in_ok-stopped.ensures.stopper), refl)),
+      (after c.args.basis.now (move_by c.in-Some.q c.in-Some-stopped.by), (move_by c.in-Some.q c.in-Some-stopped.by, face_moves c.args.self.now.lp.now c.args.self.now.row c.requires.fits.lawful c.requires.fits.row c.requires.fits.free c.args.theta c.args.basis.now at (value_at c.stopper_of.new.workspace.point.items) last.point c.requires.optimal (value_at c.stopper_of.new.workspace.change.items) last.change c.in-Some.q c.in-Some.ensures (value_at c.stopper_of.new.workspace.direction) c.in_ok-stopped.ensures.direction c.rises-up.result up_is c.in-Some-stopped.by (sym c.in-Some-stopped.is ∙ c.in_ok-stopped.ensures.stopper), refl)),
     )
 
 pub returns-clause-turn : goal.returns-clause-turn
@@ -84,13 +84,13 @@ returns-clause-turn g c =
     let last = direction_kept (objective_problem c.args.self.now.lp.now c.args.self.now.row) c.args.basis.now c.args.workspace.now c.stopper_of.new.workspace c.requires.workspace c.in_ok-stopped.ensures.others c.in_ok-stopped.ensures.places in
     let up_is : c.rises-up.result ≡ face_up c.args.self.now.lp.now (value_at c.stopper_of.new.workspace.change.items) c.in-Some.q = c.rises-up.ensures ∙ ap (λ (w : Workspace). face_up c.args.self.now.lp.now (value_at w.change.items) c.in-Some.q) (sym c.in_ok-stopped.ensures.others) in
     let left = c.if-left-eq0.false in
-    let moves = face_moves c.args.self.now.lp.now c.args.self.now.row c.requires.fits.lawful c.requires.fits.row c.requires.fits.free c.args.theta c.args.basis.now at (value_at c.stopper_of.new.workspace.point.items) last.point c.requires.optimal (value_at c.stopper_of.new.workspace.change.items) last.change c.in-Some.q c.in-Some.ensures (value_at c.stopper_of.new.workspace.direction.items) c.in_ok-stopped.ensures.direction c.rises-up.result up_is c.in-Some-stopped.by (sym c.in-Some-stopped.is ∙ c.in_ok-stopped.ensures.stopper) in
-    let pivot = face_pivot c.args.self.now.lp.now c.args.self.now.row c.requires.fits.lawful c.requires.fits.row c.requires.fits.free c.args.theta c.args.basis.now at (value_at c.stopper_of.new.workspace.point.items) last.point c.requires.optimal (value_at c.stopper_of.new.workspace.change.items) last.change c.in-Some.q c.in-Some.ensures (value_at c.stopper_of.new.workspace.direction.items) c.in_ok-stopped.ensures.direction c.rises-up.result up_is c.in-Some-stopped.by (sym c.in-Some-stopped.is ∙ c.in_ok-stopped.ensures.stopper) in
-    let step = face_by_stopper c.args.self.now.lp.now c.args.self.now.row c.requires.fits.lawful c.requires.fits.row c.requires.fits.free c.args.theta c.args.basis.now at (value_at c.stopper_of.new.workspace.point.items) last.point c.requires.optimal (value_at c.stopper_of.new.workspace.change.items) last.change c.in-Some.q c.in-Some.ensures (value_at c.stopper_of.new.workspace.direction.items) c.in_ok-stopped.ensures.direction c.rises-up.result up_is c.in-Some-stopped.by (sym c.in-Some-stopped.is ∙ c.in_ok-stopped.ensures.stopper) in
-    let reach = step_reaches c.args.self.now.lp.now c.args.basis.now (value_at c.stopper_of.new.workspace.point.items) (value_at c.stopper_of.new.workspace.direction.items) c.in-Some.q c.in-Some-stopped.by step pivot in
+    let moves = face_moves c.args.self.now.lp.now c.args.self.now.row c.requires.fits.lawful c.requires.fits.row c.requires.fits.free c.args.theta c.args.basis.now at (value_at c.stopper_of.new.workspace.point.items) last.point c.requires.optimal (value_at c.stopper_of.new.workspace.change.items) last.change c.in-Some.q c.in-Some.ensures (value_at c.stopper_of.new.workspace.direction) c.in_ok-stopped.ensures.direction c.rises-up.result up_is c.in-Some-stopped.by (sym c.in-Some-stopped.is ∙ c.in_ok-stopped.ensures.stopper) in
+    let pivot = face_pivot c.args.self.now.lp.now c.args.self.now.row c.requires.fits.lawful c.requires.fits.row c.requires.fits.free c.args.theta c.args.basis.now at (value_at c.stopper_of.new.workspace.point.items) last.point c.requires.optimal (value_at c.stopper_of.new.workspace.change.items) last.change c.in-Some.q c.in-Some.ensures (value_at c.stopper_of.new.workspace.direction) c.in_ok-stopped.ensures.direction c.rises-up.result up_is c.in-Some-stopped.by (sym c.in-Some-stopped.is ∙ c.in_ok-stopped.ensures.stopper) in
+    let step = face_by_stopper c.args.self.now.lp.now c.args.self.now.row c.requires.fits.lawful c.requires.fits.row c.requires.fits.free c.args.theta c.args.basis.now at (value_at c.stopper_of.new.workspace.point.items) last.point c.requires.optimal (value_at c.stopper_of.new.workspace.change.items) last.change c.in-Some.q c.in-Some.ensures (value_at c.stopper_of.new.workspace.direction) c.in_ok-stopped.ensures.direction c.rises-up.result up_is c.in-Some-stopped.by (sym c.in-Some-stopped.is ∙ c.in_ok-stopped.ensures.stopper) in
+    let reach = step_reaches c.args.self.now.lp.now c.args.basis.now (value_at c.stopper_of.new.workspace.point.items) (value_at c.stopper_of.new.workspace.direction) c.in-Some.q c.in-Some-stopped.by step pivot in
     record {
       moves = moves;
-      keeps = face_keeps c.args.self.now.lp.now c.args.self.now.row c.requires.fits.lawful c.requires.fits.row c.requires.fits.free c.args.theta c.args.basis.now at (value_at c.stopper_of.new.workspace.point.items) last.point c.requires.optimal (value_at c.stopper_of.new.workspace.change.items) last.change c.in-Some.q c.in-Some.ensures (value_at c.stopper_of.new.workspace.direction.items) c.in_ok-stopped.ensures.direction c.rises-up.result up_is c.in-Some-stopped.by (sym c.in-Some-stopped.is ∙ c.in_ok-stopped.ensures.stopper);
+      keeps = face_keeps c.args.self.now.lp.now c.args.self.now.row c.requires.fits.lawful c.requires.fits.row c.requires.fits.free c.args.theta c.args.basis.now at (value_at c.stopper_of.new.workspace.point.items) last.point c.requires.optimal (value_at c.stopper_of.new.workspace.change.items) last.change c.in-Some.q c.in-Some.ensures (value_at c.stopper_of.new.workspace.direction) c.in_ok-stopped.ensures.direction c.rises-up.result up_is c.in-Some-stopped.by (sym c.in-Some-stopped.is ∙ c.in_ok-stopped.ensures.stopper);
       ready = record { nonbasic = nonbasic c.args.self.now.lp.now c.args.self.now.row c.requires.fits.lawful c.requires.fits.row c.requires.fits.free c.args.theta c.args.basis.now at (value_at c.stopper_of.new.workspace.point.items) last.point c.requires.optimal (value_at c.stopper_of.new.workspace.change.items) last.change c.in-Some.q c.in-Some.ensures; direction = c.in_ok-stopped.ensures.direction; pivot = pivot; step = step };
       is_left = omega (arith, left);
       refused = λ from before now e h.

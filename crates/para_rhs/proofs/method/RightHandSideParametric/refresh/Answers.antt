@@ -7,30 +7,31 @@ use Rattle.basis_values.proofs.Kept.{kept_then}
 use Rattle.para_rhs.proofs.RunEvidence.{of_point}
 use Rattle.para_rhs.proofs.method.RightHandSideParametric.refresh.Goals as goal
 
-pub returns-in_err-prices_of-clause-rates : goal.returns-in_err-prices_of-clause-rates
-returns-in_err-prices_of-clause-rates g c = kept_then c.in_ok-slope.ensures.rates c.in_err-prices_of.ensures.rates
+pub returns-in_err-fill_prices-clause-rates : goal.returns-in_err-fill_prices-clause-rates
+returns-in_err-fill_prices-clause-rates g c = kept_then c.in_ok-slope.ensures.rates c.in_err-fill_prices.ensures.rates
 
-pub returns-in_err-prices_of-clause-overflow : goal.returns-in_err-prices_of-clause-overflow
-returns-in_err-prices_of-clause-overflow g c =
-    let p = err_from_is_err_and c.from_residual-in_err-prices_of.result c.from_residual-in_err-prices_of.ensures.1 in
+pub returns-in_err-fill_prices-clause-overflow : goal.returns-in_err-fill_prices-clause-overflow
+returns-in_err-fill_prices-clause-overflow g c =
+    let p = err_from_is_err_and c.from_residual-in_err-fill_prices.result c.from_residual-in_err-fill_prices.ensures.1 in
     rw (p.1, p.2)
-    (IfOverflow-map c.in_err-prices_of.field-0.0
-    (λ e x. of_point c.args.self.now.lp.now c.args.self.now.shift.now c.requires.fits.lawful c.requires.fits.no_change c.args.basis.now (g.R.Rates.waypoints c.args.rates.now) (g.R.Rates.waypoints c.prices_of.new.rates) e
-    (point_refused_later c.args.self.now.lp.now (g.R.Rates.waypoints c.args.rates.now) (g.R.Rates.waypoints c.slope.new.rates) (g.R.Rates.waypoints c.prices_of.new.rates) c.args.basis.now e c.in_ok-slope.ensures.rates.1 x))
-    c.in_err-prices_of.ensures.overflow)
+    (IfOverflow-map c.in_err-fill_prices.field-0.0
+    (λ e x. of_point c.args.self.now.lp.now c.args.self.now.shift.now c.requires.fits.lawful c.requires.fits.no_change c.args.basis.now (g.R.Rates.waypoints c.args.rates.now) (g.R.Rates.waypoints c.fill_prices.new.rates) e
+    (point_refused_later c.args.self.now.lp.now (g.R.Rates.waypoints c.args.rates.now) (g.R.Rates.waypoints c.slope.new.rates) (g.R.Rates.waypoints c.fill_prices.new.rates) c.args.basis.now e c.in_ok-slope.ensures.rates.1 x))
+    c.in_err-fill_prices.ensures.overflow)
 
 pub returns-clause-rates : goal.returns-clause-rates
-returns-clause-rates g c = kept_then c.in_ok-slope.ensures.rates c.in_ok-prices_of.ensures.rates
+returns-clause-rates g c = kept_then c.in_ok-slope.ensures.rates c.in_ok-fill_prices.ensures.rates
 
 pub returns-clause-workspace : goal.returns-clause-workspace
 returns-clause-workspace g c =
-    let price_places : length c.prices_of.new.out ≡ c.args.workspace.now.prices.len = search rules in
+    let price_places : length c.fill_prices.new.prices ≡ c.args.workspace.now.prices.len = search rules in
     let change_places : length c.slope.new.out ≡ c.args.workspace.now.change.len = search rules in
-    let prices = with_items_is c.args.workspace.now.prices c.prices_of.new.out price_places in
+    let row_places : length c.fill_prices.new.change ≡ c.args.workspace.now.row.len = search rules in
+    let prices = with_items_is c.args.workspace.now.prices c.fill_prices.new.prices price_places in
     let change = with_items_is c.args.workspace.now.change c.slope.new.out change_places in
     record {
-      sized = record { point = c.requires.sized.point; prices = search rules; change = search rules; row = c.requires.sized.row; direction = c.requires.sized.direction };
+      sized = record { point = c.requires.sized.point; prices = search rules; change = search rules; row = search rules; direction = c.requires.sized.direction };
       point = c.requires.point;
-      prices = rw prices c.in_ok-prices_of.ensures.prices;
+      prices = rw prices c.in_ok-fill_prices.ensures.prices;
       change = rw change c.in_ok-slope.ensures.slope;
     }
