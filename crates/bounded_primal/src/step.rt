@@ -98,12 +98,7 @@ fn moved_if_possible(
 
 /// Moves the values of the point that are `kept` by the step, and answers which are still kept after it: where not all are
 /// needed, a refused one of a variable without limits stays as it was. What has the rate 0 stays as it is, and isn't looked at.
-fn move_point(
-    lp: &Lp,
-    step: &Move<'_>,
-    point: &mut [Frac],
-    kept: Kept,
-) -> Result<Kept, Evidence>
+fn move_point(lp: &Lp, step: &Move<'_>, point: &mut [Frac], kept: Kept) -> Result<Kept, Evidence>
     requires direction_places { length step.now.direction.now ≡ size lp.now.matrix }
     requires point_places { length point.old ≡ size lp.now.matrix }
     ensures limited { OnOk result (IsMovedAtLimits lp.now step.now.by.now.step (value_at step.now.direction.now)

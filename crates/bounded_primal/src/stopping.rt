@@ -11,8 +11,8 @@ ghost use Rattle.bounded_primal.specs.Moves.{stopper_of, StopperRefused};
 ghost use Rattle.basis_values.specs.Reach.{length_of, IsFirst, IsNearest, Reaches, SomeStepLengthRefused};
 
 use crate::moves::Stopper;
-use basis_values::reach::{Reach, length_to, nearer, yields};
 use basis_values::counted;
+use basis_values::reach::{Reach, length_to, nearer, yields};
 use frac128::Frac;
 use lp_model::{Basis, Evidence, Lp, SparseVector, Status};
 
