@@ -64,8 +64,13 @@ impl<'a> Parametric for Objective<'a> {
         rates: &mut R,
         workspace: &mut Workspace,
     ) -> Result<(), Stop> {
-        let Workspace { prices, change, .. } = workspace;
-        fill_prices(self.lp, basis, rates, change, prices)?;
+        let Workspace {
+            prices,
+            change,
+            row,
+            ..
+        } = workspace;
+        fill_prices(self.lp, basis, rates, row, prices)?;
         read_row(self.lp, basis, rates, self.row, change)?;
         Ok(())
     }

@@ -1,6 +1,7 @@
-use Rattle.std.proofs.Common.{rules, ◌≡◌, length}
+use Rattle.std.proofs.Common.{rules, ◌≡◌, List, length, ap, ◌∙◌}
 use Rattle.std.proofs.lemmas.List.{with_items_is}
 use Rattle.std.proofs.lemmas.Result.{err_from_is_err_and}
+use Rattle.exact_values.specs.Rational.{ℚ}
 use Rattle.lp_model.proofs.Stops.{IfOverflow-map}
 use Rattle.basis_values.proofs.Covered.{point_refused_later}
 use Rattle.basis_values.proofs.Kept.{kept_then}
@@ -29,8 +30,9 @@ returns-clause-workspace g c =
     let row_places : length c.fill_prices.new.change ≡ c.args.workspace.now.row.len = search rules in
     let prices = with_items_is c.args.workspace.now.prices c.fill_prices.new.prices price_places in
     let change = with_items_is c.args.workspace.now.change c.slope.new.out change_places in
+    let row = with_items_is c.args.workspace.now.row c.fill_prices.new.change row_places in
     record {
-      sized = record { point = c.requires.sized.point; prices = search rules; change = search rules; row = search rules; direction = c.requires.sized.direction };
+      sized = record { point = c.requires.sized.point; prices = search rules; change = search rules; row = ap (λ (xs : List ℚ). length xs) row ∙ row_places ∙ c.args.workspace.now.row.ok.0 ∙ c.requires.sized.row; direction = c.requires.sized.direction };
       point = c.requires.point;
       prices = rw prices c.in_ok-fill_prices.ensures.prices;
       change = rw change c.in_ok-slope.ensures.slope;
