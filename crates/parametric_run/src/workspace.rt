@@ -12,7 +12,7 @@ ghost use Rattle.simplex_definitions.specs.Path.{after};
 ghost use Rattle.bounded_primal.specs.Moves.{StepOverflow, move_by};
 ghost use Rattle.parametric_run.specs.Standing.{AreSized, IsReady};
 
-use bounded_primal::{Kept, Stopper, step_over};
+use bounded_primal::{Kept, Move, Stopper, step_over};
 use frac128::Frac;
 use lp_model::{Basis, Lp, NoMemory, Point, Prices, Rates, SparseVector, Stop};
 use std::alloc::Global;
@@ -178,7 +178,8 @@ pub fn take_step_in<R: Rates>(
         direction,
         ..
     } = workspace;
-    match step_over(lp, basis, rates, point, direction, q, by, Kept::All) {
+    let step = Move { q, by, direction };
+    match step_over(lp, basis, rates, point, &step, Kept::All) {
         Ok(_) => Ok(()),
         Err(stop) => Err(stop),
     }

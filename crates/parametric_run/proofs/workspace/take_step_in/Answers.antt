@@ -19,3 +19,9 @@ pub returns-in-Ok-clause-point : goal.returns-in-Ok-clause-point
 returns-in-Ok-clause-point g c =
     let places : length c.step_over.new.point ≡ c.args.workspace.now.point.len = search rules in
     rw (with_items_is c.args.workspace.now.point c.step_over.new.point places) (c.in-Ok.ensures.kept (c.in-Ok.ensures.needed refl))
+
+pub returns-in-Ok-clause-sized : goal.returns-in-Ok-clause-sized
+returns-in-Ok-clause-sized g c = record { point = search rules; prices = c.requires.sized.prices; change = c.requires.sized.change; row = c.requires.sized.row; direction = c.requires.sized.direction }
+
+pub returns-in-Err-clause-sized : goal.returns-in-Err-clause-sized
+returns-in-Err-clause-sized g c = record { point = search rules; prices = c.requires.sized.prices; change = c.requires.sized.change; row = c.requires.sized.row; direction = c.requires.sized.direction }
