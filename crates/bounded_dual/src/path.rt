@@ -20,7 +20,7 @@ ghost use Rattle.bounded_dual.specs.Stops.{DualEnds, DualStops, IsNotUnbounded};
 use crate::moves::DualStop;
 use crate::turns::next_turn;
 use basis_values::{crossed, fill_prices, outside, point_of, wrong_price};
-use bounded_primal::{Kept, Position, Turn, Workspace, step_over};
+use bounded_primal::{Kept, Move, Position, Turn, Workspace, step_over};
 use dual_step::prices_over;
 use frac128::Frac;
 use lp_model::{Basis, Lp, Outcome, Rates, Stop};
@@ -100,7 +100,9 @@ fn walk<R: Rates>(
             Turn::Ends(outcome) => return Ok(outcome),
             Turn::Moves { q, by } => {
                 let carried = prices_over(prices, row, by.p, q);
-                kept = step_over(lp, basis, rates, point, direction, q, &by, kept)?;
+                let by = &by;
+                let step = Move { q, by, direction };
+                kept = step_over(lp, basis, rates, point, &step, kept)?;
                 kept_prices(lp, basis, rates, row, prices, carried)?;
             }
         }

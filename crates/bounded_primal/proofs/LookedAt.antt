@@ -5,8 +5,7 @@ use Rattle.std.specs.Prelude.{Option, Some, None, IsSome, IsTrue, ◌||◌, slic
 use Rattle.std.proofs.lemmas.Bool.{cases_lt}
 use Rattle.std.proofs.lemmas.List.{drop_all, drop_more, get_or-set_other, get_or-set_same}
 use Rattle.exact_values.specs.Rational.{ℚ, zero_ℚ, ◌+ℚ◌, ◌*ℚ◌}
-use Rattle.lp_definitions.specs.LinearProgram.{LinearProgram, Vector, value_at, numbers_from}
-use Rattle.lp_model.proofs.NonzeroLists.{all_from}
+use Rattle.lp_definitions.specs.LinearProgram.{LinearProgram, Vector, value_at}
 use Rattle.lp_model.specs.Sparse.{AreNonzeroFrom, no_more, next_nonzero, CoverNonzeroFrom, no_more_listed, next_listed}
 use Rattle.simplex_definitions.specs.Moves.{step_length, is_no_later}
 use Rattle.basis_values.specs.Motions.{motion}
@@ -23,9 +22,6 @@ use Rattle.bounded_primal.proofs.Still.{no_step_length}
 pub listed_cover : (xs : List ℚ) (n : ℕ) (ks : List ℕ) → AreNonzeroFrom xs n ks → CoverNonzeroFrom xs n ks
 listed_cover xs n [] (no_more zeros) = no_more_listed zeros
 listed_cover xs n (k ∷ ks) (next_nonzero h rest) = next_listed (record { from = h.from; within = h.within; between = h.between }) (listed_cover xs (suc k) ks rest)
-
-pub all_cover : (xs : List ℚ) (n : ℕ) → length xs ≡ n → CoverNonzeroFrom xs 1 (numbers_from 1 n)
-all_cover xs n e = all_from xs 1 n (omega (arith, e))
 
 -- ---- how the loop goes on
 
@@ -118,10 +114,6 @@ module _ (p : LinearProgram) (z d : Vector) (up : Bool) where
   nearest_by n k nearest next length e h is found =
       subst (NearestUpTo next) e (nearest_more (step_length p z (motion d up)) n nearest next length h (is ∙ ap (step_length p z (motion d up)) (sym e)) (found ∙ ap (sooner nearest length) (sym e)))
 
-  -- one that stands still
-  pub nearest_past : (n k : ℕ) (nearest : Option Reach) → n + 1 ≡ k → d k ≡ zero_ℚ → NearestUpTo nearest n → NearestUpTo nearest k
-  nearest_past n k nearest e still = nearest_over nearest n k (omega (arith, e)) (λ j more high. let same : j ≡ k = omega (arith, e, more, high) in ap d same ∙ still)
-
 -- ---- where the values come to stand
 
 -- the first n variables of w, of those that Asked tells, are where the step brings them
@@ -168,10 +160,6 @@ module _ (p : LinearProgram) (t : ℚ) (d z : Vector) where
     moved = λ kept k low high. ahead_over t d z (λ _. Unit {0}) w n m still h.rest (λ j l g _. h.moved kept j l g) k low high tt;
     rest = λ k more. h.rest k (omega (arith, more, within));
   }
-
-  -- one that stands still
-  pub moved_past : (w : Vector) (all : Bool) (n k : ℕ) → n + 1 ≡ k → d k ≡ zero_ℚ → IsMovedUpTo p t d z w all n → IsMovedUpTo p t d z w all k
-  moved_past w all n k e still = moved_over w all n k (omega (arith, e)) (λ j more high. let same : j ≡ k = omega (arith, e, more, high) in ap d same ∙ still)
 
   -- one that moves
   pub moved_by : (ws : List ℚ) (all : Bool) (n k : ℕ) (x value rate : ℚ) → n + 1 ≡ k → k ≤ length ws → value ≡ value_at ws k → rate ≡ d k → x ≡ value +ℚ t *ℚ rate →

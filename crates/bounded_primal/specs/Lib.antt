@@ -1,6 +1,5 @@
 pub mod Calls
 pub mod Moves
-pub mod Moving
 pub mod Stops
 pub mod KeptPoints
 pub mod Steps

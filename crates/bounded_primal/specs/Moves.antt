@@ -3,8 +3,6 @@
 --     return_by p z d k to         what brings k to the limit of the status to
 --     IsStepBy p s z d q by        by is what stops the motion, or it brings a basic to a limit
 --     StepsFromPoint p s d q by    by is that at the point of the basis
---     IsStepOf p s q by            by is that along the direction of q
---     PivotsAlong a b p q ds       ds is the direction of q, and p moves along it
 --     move_by q by                 the move of the basis
 --     StopperRefused, StepRefused  evidence of a refused call
 use Rattle.std.specs.Prelude.{◌≡◌, ◌≢◌, ℕ, Bool, ◌&&◌, ◌||◌, not, List, [], ◌∷◌, Option, Some, IsSome, option_map, length, unwrap_or, IsTrue, nat_eq, Result, IfErr}
@@ -47,19 +45,6 @@ pub record StepsFromPoint (p : LinearProgram) (s : List Status) (d : Vector) (q 
   pub point : Vector
   pub is_point : IsPointOf p s point
   pub is_step : IsStepBy p s point d q by
-
--- by is that along the direction of q, and p moves along it
-pub record IsStepOf (p : LinearProgram) (s : List Status) (q : ℕ) (by : Stopper) : Type 0 where
-  pub direction : Vector
-  pub is_direction : IsDirectionOf p.matrix (basics_of s) q direction
-  pub pivot : direction by.p ≢ zero_ℚ
-  pub step : StepsFromPoint p s direction q by
-
--- ds is the direction of q, and p moves along it
-pub record PivotsAlong (a : Matrix) (b : Basics) (p q : ℕ) (ds : List ℚ) : Type 0 where
-  pub is_direction : IsDirectionOf a b q (value_at ds)
-  pub pivot : value_at ds p ≢ zero_ℚ
-  pub counted : length ds ≡ size a
 
 abbrev pub move_by : ℕ → Stopper → Move
 move_by q by = record { enters = q; leaves = by.p; to = by.to }

@@ -17,7 +17,7 @@ ghost use Rattle.bounded_primal.specs.Turns.{IsUncrossed, least_outside, FreeTur
 ghost use Rattle.bounded_primal.specs.Workspaces.{AreSized};
 
 use crate::kept::Kept;
-use crate::moves::PrimalStop;
+use crate::moves::{Move, PrimalStop};
 use crate::path::outside_after;
 use crate::position::Position;
 use crate::step::step_over;
@@ -125,7 +125,9 @@ fn walk_free<R: Rates, L: Ledger>(
         match free_turn(&at, rates, wanted, prices, row, direction)? {
             Turn::Ends(outcome) => return Ok(outcome),
             Turn::Moves { q, by } => {
-                kept = step_over(lp, basis, rates, point, direction, q, &by, kept)?;
+                let by = &by;
+                let step = Move { q, by, direction };
+                kept = step_over(lp, basis, rates, point, &step, kept)?;
                 renew_wants(lp, basis, wanted, by.p, q);
             }
         }

@@ -1,7 +1,7 @@
 //! What the solving calls answer.
 
 use frac128::Frac;
-use lp_model::{Evidence, NoMemory, Status, Stop};
+use lp_model::{Evidence, NoMemory, SparseVector, Status, Stop};
 use thiserror::Error;
 
 /// Why a solving call stopped: its limit of steps, a number that was too large, as the evidence shows, or no memory.
@@ -47,4 +47,12 @@ pub struct Stopper {
     pub p: u32,
     pub step: Frac,
     pub to: Status,
+}
+
+/// A step of a path: `q` moves along its direction until `by.p` stops it.
+#[derive(Clone, Copy)]
+pub struct Move<'a> {
+    pub q: u32,
+    pub by: &'a Stopper,
+    pub direction: &'a SparseVector,
 }

@@ -15,7 +15,7 @@ ghost use Rattle.bounded_primal.specs.Workspaces.{AreSized};
 ghost use Rattle.termination_laws.specs.Laws.{lists_of};
 
 use crate::kept::Kept;
-use crate::moves::PrimalStop;
+use crate::moves::{Move, PrimalStop};
 use crate::position::Position;
 use crate::step::step_over;
 use crate::turns::{Turn, next_turn};
@@ -83,7 +83,9 @@ fn walk<R: Rates>(
         match next_turn(&at, rates, wanted, prices, row, direction)? {
             Turn::Ends(outcome) => return Ok(outcome),
             Turn::Moves { q, by } => {
-                kept = step_over(lp, basis, rates, point, direction, q, &by, kept)?;
+                let by = &by;
+                let step = Move { q, by, direction };
+                kept = step_over(lp, basis, rates, point, &step, kept)?;
                 renew_wants(lp, basis, wanted, by.p, q);
             }
         }

@@ -1,24 +1,20 @@
 //! One step: a basis goes over to the next one, and its point with it.
 
 ghost use Rattle.std.specs.Prelude.{◌≡◌, ◌≢◌, ◌||◌, length, OnOk, OnErr, IfOk, IfErr, IfSome, IsSome, IsTrue};
-ghost use Rattle.std.specs.Option.{option_copied};
 ghost use Rattle.exact_values.specs.Rational.{zero_ℚ, ◌+ℚ◌, ◌*ℚ◌};
 ghost use Rattle.lp_definitions.specs.LinearProgram.{size, value_at, IsVariable};
-ghost use Rattle.lp_definitions.specs.Basis.{basics_of, exchanged, IsBasic, IsNonbasic, IsPointOf, IsDirectionOf};
+ghost use Rattle.lp_definitions.specs.Basis.{basics_of, IsNonbasic, IsPointOf, IsDirectionOf};
 ghost use Rattle.lp_definitions.specs.Waypoints.{KeepsWaypoints};
 ghost use Rattle.simplex_definitions.specs.Path.{after};
 ghost use Rattle.simplex_definitions.specs.Formulas.{limit_numbered, number_of_limit};
 ghost use Rattle.basis_values.specs.Calls.{HasRates};
-ghost use Rattle.lp_model.specs.RatesCalls.{IfOverflow, HasPivot, ExchangeOverflow};
-ghost use Rattle.lp_model.specs.Sparse.{CoverNonzero};
+ghost use Rattle.lp_model.specs.RatesCalls.{IfOverflow};
 ghost use Rattle.bounded_primal.specs.KeptPoints.{all_kept, all_needed, has_limit as is_limited, AgreesWithPoint};
-ghost use Rattle.bounded_primal.specs.Moving.{variables_of};
-ghost use Rattle.bounded_primal.specs.Moves.{IsStepBy, IsStepOf, PivotsAlong, StepsFromPoint, move_by, return_by, StepRefused, StepOverflow};
+ghost use Rattle.bounded_primal.specs.Moves.{StepsFromPoint, move_by, return_by, StepRefused, StepOverflow};
 ghost use Rattle.bounded_primal.specs.Steps.{IsMoved, IsMovedAtLimits, MovedRefused, SomeMovedRefused, ReturnRefused, step_formula};
 
 use crate::kept::Kept;
-use crate::moves::Stopper;
-use crate::moving::Moving;
+use crate::moves::{Move, Stopper};
 use basis_values::{Formula, plus_product, reach};
 use frac128::Frac;
 use lp_model::{Basis, Evidence, Lp, Rates, SparseVector, Status, Stop};
@@ -101,46 +97,34 @@ fn moved_if_possible(
 }
 
 /// Moves the values of the point that are `kept` by the step, and answers which are still kept after it: where not all are
-/// needed, a refused one of a variable without limits stays as it was. Most rates of a sparse program are 0, and what has such a
-/// rate stays as it is.
-fn move_point(
-    lp: &Lp,
-    direction: &[Frac],
-    moving: &Moving<'_>,
-    q: u32,
-    by: &Stopper,
-    point: &mut [Frac],
-    kept: Kept,
-) -> Result<Kept, Evidence>
-    requires direction_places { length direction.now ≡ size lp.now.matrix }
-    requires covered { CoverNonzero direction.now (variables_of moving.now) }
+/// needed, a refused one of a variable without limits stays as it was. What has the rate 0 stays as it is, and isn't looked at.
+fn move_point(lp: &Lp, step: &Move<'_>, point: &mut [Frac], kept: Kept) -> Result<Kept, Evidence>
+    requires direction_places { length step.now.direction.now ≡ size lp.now.matrix }
     requires point_places { length point.old ≡ size lp.now.matrix }
-    ensures limited { OnOk result (IsMovedAtLimits lp.now by.now.step (value_at direction.now)
+    ensures limited { OnOk result (IsMovedAtLimits lp.now step.now.by.now.step (value_at step.now.direction.now)
         (value_at point.old) (size lp.now.matrix) (value_at point.new)) }
-    ensures moved { IfOk result (λ still. IsTrue (all_kept still) → IsMoved by.now.step
-        (value_at direction.now) (value_at point.old) (size lp.now.matrix) (value_at point.new)) }
+    ensures moved { IfOk result (λ still. IsTrue (all_kept still) → IsMoved step.now.by.now.step
+        (value_at step.now.direction.now) (value_at point.old) (size lp.now.matrix) (value_at point.new)) }
     ensures kept { IfOk result (λ still. IsTrue (all_kept still) → IsTrue (all_kept kept)) }
     ensures needed { IfOk result (λ still. IsTrue (all_needed kept) → IsTrue (all_kept still)) }
-    ensures refused { IfErr result (SomeMovedRefused lp.now (all_needed kept) by.now
-        (value_at direction.now) (value_at point.old) q) }
+    ensures refused { IfErr result (SomeMovedRefused lp.now (all_needed kept) step.now.by.now
+        (value_at step.now.direction.now) (value_at point.old) step.now.q) }
 {
     let mut still = kept;
-    for place in 0..moving.count() {
-        let k = moving.variable(place);
-        let rate = direction[k as usize - 1];
-        if rate.is_zero() {
-            continue;
-        }
-        let needed = is_needed(lp, kept, k);
+    let direction = step.direction.values();
+    let moving = step.direction.nonzero();
+    for k in moving {
+        let needed = is_needed(lp, kept, *k);
         if !needed && !still.has_all() {
             continue;
         }
-        let value = point[k as usize - 1];
-        let Some(next) = moved_if_possible(value, rate, by, q, k, needed)? else {
+        let value = point[*k as usize - 1];
+        let rate = direction[*k as usize - 1];
+        let Some(next) = moved_if_possible(value, rate, step.by, step.q, *k, needed)? else {
             still = Kept::Limited;
             continue;
         };
-        point[k as usize - 1] = next;
+        point[*k as usize - 1] = next;
     }
     Ok(still)
 }
@@ -196,86 +180,61 @@ pub fn returning(
     Ok(Stopper { p, step, to })
 }
 
-/// Makes `q` basic in place of `p`, whose rate at q is not 0: by the direction of q, where it is at hand with its list.
-fn exchange_by<R: Rates>(
-    rates: &mut R,
-    p: u32,
-    q: u32,
-    direction: Option<&SparseVector>,
-) -> Result<(), Stop>
-    requires leaves { IsBasic (R.matrix rates.old) (R.basics rates.old) p }
-    requires enters { IsNonbasic (R.matrix rates.old) (R.basics rates.old) q }
-    requires pivot { HasPivot (R.matrix rates.old) (R.basics rates.old) p q }
-    requires along { IfSome (option_copied direction)
-        (PivotsAlong (R.matrix rates.old) (R.basics rates.old) p q) }
-    ensures ok { OnOk result (R.basics rates.new ≡ exchanged (R.basics rates.old) p q) }
-    ensures err { OnErr result (R.basics rates.new ≡ R.basics rates.old) }
-    ensures same_matrix { R.matrix rates.new ≡ R.matrix rates.old }
-    ensures waypoints { KeepsWaypoints (R.matrix rates.old) (R.basics rates.old)
-        (R.waypoints rates.old) (R.basics rates.new) (R.waypoints rates.new) }
-    ensures overflow { ExchangeOverflow result (R.matrix rates.old) (R.basics rates.old) p q
-        (R.waypoints rates.old) (R.waypoints rates.new) }
-{
-    match direction {
-        Some(direction) => rates.exchange_along(p, q, direction),
-        None => rates.exchange(p, q),
-    }
-}
-
-/// Takes the basis and the rates over the step `by` of `q`. Where `q` itself stops, it changes its limit, and no exchange is made.
+/// Takes the basis and the rates over the step. Where `q` itself stops, it changes its limit, and no exchange is made.
 fn change_basis<R: Rates>(
     lp: &Lp,
     basis: &mut Basis,
     rates: &mut R,
-    q: u32,
-    by: &Stopper,
-    direction: Option<&SparseVector>,
+    step: &Move<'_>,
 ) -> Result<(), Stop>
     requires rates { HasRates (R.matrix rates.old) (R.basics rates.old) lp.now basis.old }
-    requires nonbasic { IsNonbasic lp.now.matrix (basics_of basis.old) q }
-    requires step { IsStepOf lp.now basis.old q by.now }
-    requires along { IfSome (option_copied direction)
-        (PivotsAlong lp.now.matrix (basics_of basis.old) by.now.p q) }
-    ensures basis { OnOk result (basis.new ≡ after basis.old (move_by q by.now)) }
+    requires nonbasic { IsNonbasic lp.now.matrix (basics_of basis.old) step.now.q }
+    requires direction { IsDirectionOf lp.now.matrix (basics_of basis.old) step.now.q
+        (value_at step.now.direction.now) }
+    requires direction_places { length step.now.direction.now ≡ size lp.now.matrix }
+    requires step { StepsFromPoint lp.now basis.old (value_at step.now.direction.now) step.now.q step.now.by.now }
+    requires moves { value_at step.now.direction.now step.now.by.now.p ≢ zero_ℚ }
+    ensures basis { OnOk result (basis.new ≡ after basis.old (move_by step.now.q step.now.by.now)) }
     ensures unchanged { OnErr result (basis.new ≡ basis.old) }
     ensures rates { HasRates (R.matrix rates.new) (R.basics rates.new) lp.now basis.new }
     ensures waypoints { KeepsWaypoints lp.now.matrix (basics_of basis.old) (R.waypoints rates.old)
         (basics_of basis.new) (R.waypoints rates.new) }
-    ensures overflow { StepOverflow result lp.now basis.old q by.now (R.waypoints rates.old)
+    ensures overflow { StepOverflow result lp.now basis.old step.now.q step.now.by.now (R.waypoints rates.old)
         (R.waypoints rates.new) }
 {
+    let Move { q, by, direction } = *step;
     if by.p == q {
         basis.flip(q, by.to);
         return Ok(());
     }
-    exchange_by(rates, by.p, q, direction)?;
+    rates.exchange_along(by.p, q, direction)?;
     basis.replace(by.p, q, by.to);
     Ok(())
 }
 
-/// Makes the step `by` of `q` as `take_step` does, from the values of the point that are `kept`. Answers which are still kept
-/// after it: where not all are needed, a refused one of a variable without limits is given up.
+/// Makes the step: the basis, the rates and the values of the point that are `kept` go over to the next basis. Where `q` itself stops,
+/// it changes its limit, and no exchange is made. Answers which values are still kept after it: where not all are needed, a refused
+/// one of a variable without limits is given up. After a Stop the basis and the basics are as before, and of `point` nothing is
+/// promised.
 pub fn step_over<R: Rates>(
     lp: &Lp,
     basis: &mut Basis,
     rates: &mut R,
     point: &mut [Frac],
-    direction: &SparseVector,
-    q: u32,
-    by: &Stopper,
+    step: &Move<'_>,
     kept: Kept,
 ) -> Result<Kept, Stop>
     requires rates { HasRates (R.matrix rates.old) (R.basics rates.old) lp.now basis.old }
     requires point_places { length point.old ≡ size lp.now.matrix }
-    requires direction_places { length direction.now ≡ size lp.now.matrix }
-    requires nonbasic { IsNonbasic lp.now.matrix (basics_of basis.old) q }
+    requires direction_places { length step.now.direction.now ≡ size lp.now.matrix }
+    requires nonbasic { IsNonbasic lp.now.matrix (basics_of basis.old) step.now.q }
     requires point { AgreesWithPoint lp.now basis.old (value_at point.old) }
     requires kept { IsTrue (all_kept kept) → IsPointOf lp.now basis.old (value_at point.old) }
-    requires direction { IsDirectionOf lp.now.matrix (basics_of basis.old) q
-        (value_at direction.now) }
-    requires moves { value_at direction.now by.now.p ≢ zero_ℚ }
-    requires step { StepsFromPoint lp.now basis.old (value_at direction.now) q by.now }
-    ensures basis { OnOk result (basis.new ≡ after basis.old (move_by q by.now)) }
+    requires direction { IsDirectionOf lp.now.matrix (basics_of basis.old) step.now.q
+        (value_at step.now.direction.now) }
+    requires moves { value_at step.now.direction.now step.now.by.now.p ≢ zero_ℚ }
+    requires step { StepsFromPoint lp.now basis.old (value_at step.now.direction.now) step.now.q step.now.by.now }
+    ensures basis { OnOk result (basis.new ≡ after basis.old (move_by step.now.q step.now.by.now)) }
     ensures point { OnOk result (AgreesWithPoint lp.now basis.new (value_at point.new)) }
     ensures kept { IfOk result (λ still. IsTrue (all_kept still) →
         IsPointOf lp.now basis.new (value_at point.new)) }
@@ -285,50 +244,12 @@ pub fn step_over<R: Rates>(
     ensures waypoints { KeepsWaypoints lp.now.matrix (basics_of basis.old) (R.waypoints rates.old)
         (basics_of basis.new) (R.waypoints rates.new) }
     ensures overflow { IfErr result (λ stop. IfOverflow stop (StepRefused lp.now
-        (R.waypoints rates.old) basis.old q by.now (R.waypoints rates.new))) }
+        (R.waypoints rates.old) basis.old step.now.q step.now.by.now (R.waypoints rates.new))) }
 {
-    let moving = Moving::Listed(direction.nonzero());
-    let still = match move_point(lp, direction.values(), &moving, q, by, point, kept) {
+    let still = match move_point(lp, step, point, kept) {
         Ok(still) => still,
         Err(evidence) => return Err(Stop::Overflow(evidence)),
     };
-    change_basis(lp, basis, rates, q, by, Some(direction))?;
+    change_basis(lp, basis, rates, step)?;
     Ok(still)
-}
-
-/// Makes the step `by` of `q`: the basis, the rates and the point go over to the next basis. Where `q` itself stops, it changes its
-/// limit, and no exchange is made. After a Stop the basis and the basics are as before, and of `point` nothing is promised.
-pub fn take_step<R: Rates>(
-    lp: &Lp,
-    basis: &mut Basis,
-    rates: &mut R,
-    point: &mut [Frac],
-    direction: &[Frac],
-    q: u32,
-    by: &Stopper,
-) -> Result<(), Stop>
-    requires rates { HasRates (R.matrix rates.old) (R.basics rates.old) lp.now basis.old }
-    requires point_places { length point.old ≡ size lp.now.matrix }
-    requires direction_places { length direction.now ≡ size lp.now.matrix }
-    requires nonbasic { IsNonbasic lp.now.matrix (basics_of basis.old) q }
-    requires point { IsPointOf lp.now basis.old (value_at point.old) }
-    requires direction { IsDirectionOf lp.now.matrix (basics_of basis.old) q
-        (value_at direction.now) }
-    requires moves { value_at direction.now by.now.p ≢ zero_ℚ }
-    requires step { IsStepBy lp.now basis.old (value_at point.old)
-        (value_at direction.now) q by.now }
-    ensures basis { OnOk result (basis.new ≡ after basis.old (move_by q by.now)) }
-    ensures point { OnOk result (IsPointOf lp.now basis.new (value_at point.new)) }
-    ensures unchanged { OnErr result (basis.new ≡ basis.old) }
-    ensures rates { HasRates (R.matrix rates.new) (R.basics rates.new) lp.now basis.new }
-    ensures waypoints { KeepsWaypoints lp.now.matrix (basics_of basis.old) (R.waypoints rates.old)
-        (basics_of basis.new) (R.waypoints rates.new) }
-    ensures overflow { StepOverflow result lp.now basis.old q by.now (R.waypoints rates.old)
-        (R.waypoints rates.new) }
-{
-    let moving = Moving::All(lp.number_of_variables());
-    match move_point(lp, direction, &moving, q, by, point, Kept::All) {
-        Ok(_) => change_basis(lp, basis, rates, q, by, None),
-        Err(evidence) => Err(Stop::Overflow(evidence)),
-    }
 }

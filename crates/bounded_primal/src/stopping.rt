@@ -7,15 +7,12 @@ ghost use Rattle.lp_definitions.specs.Solutions.{IsFeasible, IsWithinLimits};
 ghost use Rattle.lp_definitions.specs.Basis.{basics_of, IsBasis, IsNonbasic, IsNonsingular, IsPointOf, IsDirectionOf};
 ghost use Rattle.simplex_definitions.specs.Moves.{step_length, signed, reached};
 ghost use Rattle.basis_values.specs.Motions.{may_move, motion};
-ghost use Rattle.lp_model.specs.Sparse.{CoverNonzero};
-ghost use Rattle.bounded_primal.specs.Moving.{variables_of};
 ghost use Rattle.bounded_primal.specs.Moves.{stopper_of, StopperRefused};
 ghost use Rattle.basis_values.specs.Reach.{length_of, IsFirst, IsNearest, Reaches, SomeStepLengthRefused};
 
 use crate::moves::Stopper;
-use crate::moving::Moving;
+use basis_values::counted;
 use basis_values::reach::{Reach, length_to, nearer, yields};
-use basis_values::{counted, is_less};
 use frac128::Frac;
 use lp_model::{Basis, Evidence, Lp, SparseVector, Status};
 
@@ -34,14 +31,12 @@ fn is_at_once(nearest: &Option<Reach>) -> bool
 fn nearest_by_lengths(
     lp: &Lp,
     point: &[Frac],
-    direction: &[Frac],
-    moving: &Moving<'_>,
+    direction: &SparseVector,
     q: u32,
     up: bool,
 ) -> Result<Option<Reach>, Evidence>
     requires point_places { length point.now ≡ size lp.now.matrix }
     requires direction_places { length direction.now ≡ size lp.now.matrix }
-    requires covered { CoverNonzero direction.now (variables_of moving.now) }
     requires within { IsWithinLimits lp.now (value_at point.now) }
     ensures nearest { IfOk result (IsNearest (step_length lp.now (value_at point.now)
         (motion (value_at direction.now) up)) (size lp.now.matrix)) }
@@ -49,13 +44,11 @@ fn nearest_by_lengths(
         (value_at direction.now) up q) }
 {
     let mut nearest: Option<Reach> = None;
-    for place in 0..moving.count() {
-        let k = moving.variable(place);
-        if direction[k as usize - 1].is_zero() {
-            continue;
-        }
-        let length = length_to(lp, point, direction, up, q, k)?;
-        nearest = nearer(nearest, length, k);
+    let values = direction.values();
+    let moving = direction.nonzero();
+    for k in moving {
+        let length = length_to(lp, point, values, up, q, *k)?;
+        nearest = nearer(nearest, length, *k);
         if is_at_once(&nearest) {
             return Ok(nearest);
         }
@@ -117,23 +110,21 @@ fn first_by_places(lp: &Lp, point: &[Frac], direction: &[Frac], q: u32, up: bool
 fn nearest(
     lp: &Lp,
     point: &[Frac],
-    direction: &[Frac],
-    moving: &Moving<'_>,
+    direction: &SparseVector,
     q: u32,
     up: bool,
 ) -> Result<Option<Reach>, Evidence>
     requires point_places { length point.now ≡ size lp.now.matrix }
     requires direction_places { length direction.now ≡ size lp.now.matrix }
-    requires covered { CoverNonzero direction.now (variables_of moving.now) }
     requires within { IsWithinLimits lp.now (value_at point.now) }
     ensures nearest { IfOk result (IsNearest (step_length lp.now (value_at point.now)
         (motion (value_at direction.now) up)) (size lp.now.matrix)) }
     ensures refused { IfErr result (SomeStepLengthRefused lp.now (value_at point.now)
         (value_at direction.now) up q) }
 {
-    match nearest_by_lengths(lp, point, direction, moving, q, up) {
+    match nearest_by_lengths(lp, point, direction, q, up) {
         Ok(nearest) => Ok(nearest),
-        Err(evidence) => match first_by_places(lp, point, direction, q, up) {
+        Err(evidence) => match first_by_places(lp, point, direction.values(), q, up) {
             Some(first) => Ok(Some(first)),
             None => Err(evidence),
         },
@@ -144,7 +135,7 @@ fn nearest(
 fn limit_reached(speed: Frac) -> Status
     ensures { result ≡ reached (λ _. speed) 0 }
 {
-    if is_less(Frac::whole(0), speed) {
+    if Frac::whole(0).is_less(speed) {
         Status::Ul
     } else {
         Status::Ll
@@ -155,25 +146,24 @@ fn limit_reached(speed: Frac) -> Status
 pub fn stopper_from(
     lp: &Lp,
     point: &[Frac],
-    direction: &[Frac],
-    moving: &Moving<'_>,
+    direction: &SparseVector,
     q: u32,
     up: bool,
 ) -> Result<Option<Stopper>, Evidence>
     requires point_places { length point.now ≡ size lp.now.matrix }
     requires direction_places { length direction.now ≡ size lp.now.matrix }
-    requires covered { CoverNonzero direction.now (variables_of moving.now) }
     requires within { IsWithinLimits lp.now (value_at point.now) }
     ensures stopper { IfOk result (λ found. found ≡ stopper_of lp.now (value_at point.now)
         (value_at direction.now) up) }
     ensures refused { IfErr result (SomeStepLengthRefused lp.now (value_at point.now)
         (value_at direction.now) up q) }
 {
-    let found = nearest(lp, point, direction, moving, q, up)?;
+    let rates = direction.values();
+    let found = nearest(lp, point, direction, q, up)?;
     match found {
         None => Ok(None),
         Some(nearest) => {
-            let speed = counted(direction[nearest.p as usize - 1], up);
+            let speed = counted(rates[nearest.p as usize - 1], up);
             Ok(Some(Stopper {
                 p: nearest.p,
                 step: counted(nearest.length, up),
@@ -208,6 +198,5 @@ pub fn stopper(
     ensures refused { IfErr result (StopperRefused lp.now basis.now (value_at point.now)
         (value_at direction.now) q up) }
 {
-    let moving = Moving::Listed(direction.nonzero());
-    stopper_from(lp, point, direction.values(), &moving, q, up)
+    stopper_from(lp, point, direction, q, up)
 }

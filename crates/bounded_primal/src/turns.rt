@@ -17,7 +17,6 @@ ghost use Rattle.bounded_primal.specs.Turns.{IsUncrossed, least_outside, ray_fro
 
 use crate::kept::Kept;
 use crate::moves::{PrimalStop, Stopper};
-use crate::moving::Moving;
 use crate::position::Position;
 use crate::step::returning;
 use crate::stopping::stopper_from;
@@ -131,42 +130,6 @@ fn restoring<R: Rates>(
 }
 
 /// What brings `p` to the limit of the status `to` by a move of `q`. `direction` takes the direction of `q`.
-pub fn return_of<R: Rates>(
-    lp: &Lp,
-    basis: &Basis,
-    rates: &mut R,
-    point: &[Frac],
-    direction: &mut [Frac],
-    q: u32,
-    p: u32,
-    to: Status,
-) -> Result<Stopper, Stop>
-    requires rates { HasRates (R.matrix rates.old) (R.basics rates.old) lp.now basis.now }
-    requires point_places { length point.now ≡ size lp.now.matrix }
-    requires direction_places { length direction.old ≡ size lp.now.matrix }
-    requires nonbasic { IsNonbasic lp.now.matrix (basics_of basis.now) q }
-    requires basic { IsBasic lp.now.matrix (basics_of basis.now) p }
-    requires limit { IsSome (limit_numbered lp.now p (number_of_limit to)) }
-    requires pivot { (d : ℕ → ℚ) → IsDirectionOf lp.now.matrix (basics_of basis.now) q d →
-        d p ≢ zero_ℚ }
-    ensures direction { OnOk result (IsDirectionOf lp.now.matrix (basics_of basis.now) q
-        (value_at direction.new)) }
-    ensures stopper { IfOk result (λ by. by ≡ return_by lp.now (value_at point.now)
-        (value_at direction.new) p to) }
-    ensures rates { KeepsRates (R.matrix rates.new) (R.basics rates.new) lp.now basis.now
-        (R.waypoints rates.old) (R.waypoints rates.new) }
-    ensures overflow { IfErr result
-        (λ stop. IfOverflow stop (ReturnStops lp.now basis.now (value_at point.now) q p to
-        (R.waypoints rates.old) (R.waypoints rates.new))) }
-{
-    rates.column(q, direction)?;
-    match returning(lp, point, direction, q, p, to) {
-        Ok(by) => Ok(by),
-        Err(evidence) => Err(Stop::Overflow(evidence)),
-    }
-}
-
-/// The same, with the list of what moves.
 pub fn return_along<R: Rates>(
     at: &Position<'_>,
     rates: &mut R,
@@ -228,8 +191,7 @@ fn stopper_of<R: Rates>(
 {
     let _size = at.lp.number_of_variables();
     rates.direction(q, direction)?;
-    let moving = Moving::Listed(direction.nonzero());
-    match stopper_from(at.lp, at.point, direction.values(), &moving, q, up) {
+    match stopper_from(at.lp, at.point, direction, q, up) {
         Ok(found) => Ok(found),
         Err(evidence) => Err(Stop::Overflow(evidence)),
     }

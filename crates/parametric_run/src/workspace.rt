@@ -1,6 +1,6 @@
 //! The vectors of a basis.
 
-ghost use Rattle.std.specs.Prelude.{◌≡◌, ℕ, length, replicate, IfOk, IfErr, OnOk, OnErr};
+ghost use Rattle.std.specs.Prelude.{◌≡◌, ◌≢◌, ℕ, length, replicate, IfOk, IfErr, OnOk, OnErr};
 ghost use Rattle.exact_values.specs.Rational.{zero_ℚ};
 ghost use Rattle.lp_definitions.specs.LinearProgram.{size, value_at};
 ghost use Rattle.lp_definitions.specs.Basis.{basics_of, IsBasic, IsNonbasic, IsDirectionOf, IsPointOf};
@@ -9,10 +9,10 @@ ghost use Rattle.lp_model.specs.RatesCalls.{IsRowOf};
 ghost use Rattle.basis_values.specs.Calls.{HasRates, KeepsRates};
 ghost use Rattle.basis_values.specs.Stops.{PointOverflow};
 ghost use Rattle.simplex_definitions.specs.Path.{after};
-ghost use Rattle.bounded_primal.specs.Moves.{StepOverflow, move_by};
+ghost use Rattle.bounded_primal.specs.Moves.{IsStepBy, StepOverflow, move_by};
 ghost use Rattle.parametric_run.specs.Standing.{AreSized, IsReady};
 
-use bounded_primal::{Kept, Stopper, step_over};
+use bounded_primal::{Kept, Move, Stopper, step_over};
 use frac128::Frac;
 use lp_model::{Basis, Lp, NoMemory, Point, Prices, Rates, SparseVector, Stop};
 use std::alloc::Global;
@@ -149,6 +149,42 @@ pub fn still_prices(alloc: Global, lp: &Lp) -> Result<Prices, NoMemory>
     Ok(Prices::new(values))
 }
 
+// Makes the step `by` of `q` along this direction: the basis, the rates and the point go over to the next basis.
+fn step_along<R: Rates>(
+    lp: &Lp,
+    basis: &mut Basis,
+    rates: &mut R,
+    point: &mut [Frac],
+    direction: &SparseVector,
+    q: u32,
+    by: &Stopper,
+) -> Result<(), Stop>
+    requires rates { HasRates (R.matrix rates.old) (R.basics rates.old) lp.now basis.old }
+    requires places { length point.old ≡ size lp.now.matrix }
+    requires direction_places { length direction.now ≡ size lp.now.matrix }
+    requires point { IsPointOf lp.now basis.old (value_at point.old) }
+    requires nonbasic { IsNonbasic lp.now.matrix (basics_of basis.old) q }
+    requires direction { IsDirectionOf lp.now.matrix (basics_of basis.old) q
+        (value_at direction.now) }
+    requires pivot { value_at direction.now by.now.p ≢ zero_ℚ }
+    requires step { IsStepBy lp.now basis.old (value_at point.old) (value_at direction.now) q
+        by.now }
+    ensures basis { OnOk result (basis.new ≡ after basis.old (move_by q by.now)) }
+    ensures point { OnOk result (IsPointOf lp.now basis.new (value_at point.new)) }
+    ensures unchanged { OnErr result (basis.new ≡ basis.old) }
+    ensures rates { HasRates (R.matrix rates.new) (R.basics rates.new) lp.now basis.new }
+    ensures waypoints { KeepsWaypoints lp.now.matrix (basics_of basis.old) (R.waypoints rates.old)
+        (basics_of basis.new) (R.waypoints rates.new) }
+    ensures overflow { StepOverflow result lp.now basis.old q by.now (R.waypoints rates.old)
+        (R.waypoints rates.new) }
+{
+    let step = Move { q, by, direction };
+    match step_over(lp, basis, rates, point, &step, Kept::All) {
+        Ok(_) => Ok(()),
+        Err(stop) => Err(stop),
+    }
+}
+
 /// Makes the step `by` of `q`, whose direction the workspace has: the basis, the rates and the point go over to the next basis. After a
 /// stop the basis is as before.
 pub fn take_step_in<R: Rates>(
@@ -178,8 +214,5 @@ pub fn take_step_in<R: Rates>(
         direction,
         ..
     } = workspace;
-    match step_over(lp, basis, rates, point, direction, q, by, Kept::All) {
-        Ok(_) => Ok(()),
-        Err(stop) => Err(stop),
-    }
+    step_along(lp, basis, rates, point, direction, q, by)
 }

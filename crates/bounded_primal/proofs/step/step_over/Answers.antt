@@ -3,29 +3,19 @@ use Rattle.lp_definitions.specs.Basis.{basics_of}
 use Rattle.lp_laws.proofs.WaypointLaws.{keeps_same}
 use Rattle.bounded_primal.specs.KeptPoints.{all_needed}
 use Rattle.bounded_primal.proofs.Agreement.{needed_kept, needed_same}
-use Rattle.bounded_primal.proofs.LookedAt.{listed_cover}
 use Rattle.bounded_primal.proofs.StepFacts.{after_agrees, after_exact}
 use Rattle.bounded_primal.proofs.StepRefusals.{move_refused}
 use Rattle.bounded_primal.proofs.step.step_over.Goals as goal
-
-pub move_point-requires-clause-covered : goal.move_point-requires-clause-covered
-move_point-requires-clause-covered g c = rw c.values.ensures (listed_cover c.args.direction.now 1 c.nonzero.result.now c.nonzero.ensures)
 
 pub returns-in-Err-clause-waypoints : goal.returns-in-Err-clause-waypoints
 returns-in-Err-clause-waypoints g c = keeps_same c.args.lp.now.matrix (basics_of c.args.basis.now) (g.R.Rates.waypoints c.args.rates.now)
 
 pub returns-in-Err-clause-overflow : goal.returns-in-Err-clause-overflow
 returns-in-Err-clause-overflow g c =
-    move_refused c.args.lp.now c.args.basis.now c.requires.step.point (value_at c.args.direction.now) c.args.q c.args.by.now c.requires.rates.is_basis c.requires.rates.nonsingular c.requires.nonbasic c.requires.direction c.requires.moves c.requires.step.is_step c.requires.step.is_point c.in-Err.evidence (value_at c.args.point.now) (all_needed c.args.kept) (needed_same c.args.lp.now c.args.basis.now c.requires.rates.is_basis c.requires.rates.nonsingular c.requires.step.point c.requires.step.is_point (value_at c.args.point.now) (all_needed c.args.kept) c.requires.point (λ is. c.requires.kept (needed_kept c.args.kept is))) (g.R.Rates.waypoints c.args.rates.now) (g.R.Rates.waypoints c.args.rates.now) (rw c.values.ensures at c.in-Err.ensures.refused)
-
-pub change_basis-requires-clause-step : goal.change_basis-requires-clause-step
-change_basis-requires-clause-step g c = record { direction = value_at c.args.direction.now; is_direction = c.requires.direction; pivot = c.requires.moves; step = c.requires.step }
-
-pub change_basis-requires-clause-along : goal.change_basis-requires-clause-along
-change_basis-requires-clause-along g c = record { is_direction = c.requires.direction; pivot = c.requires.moves; counted = c.requires.direction_places }
+    move_refused c.args.lp.now c.args.basis.now c.requires.step.point (value_at c.args.step.now.direction.now) c.args.step.now.q c.args.step.now.by.now c.requires.rates.is_basis c.requires.rates.nonsingular c.requires.nonbasic c.requires.direction c.requires.moves c.requires.step.is_step c.requires.step.is_point c.in-Err.evidence (value_at c.args.point.now) (all_needed c.args.kept) (needed_same c.args.lp.now c.args.basis.now c.requires.rates.is_basis c.requires.rates.nonsingular c.requires.step.point c.requires.step.is_point (value_at c.args.point.now) (all_needed c.args.kept) c.requires.point (λ is. c.requires.kept (needed_kept c.args.kept is))) (g.R.Rates.waypoints c.args.rates.now) (g.R.Rates.waypoints c.args.rates.now) c.in-Err.ensures.refused
 
 pub returns-clause-point : goal.returns-clause-point
-returns-clause-point g c = rw c.in_ok-change_basis.ensures.basis (after_agrees c.args.lp.now c.args.basis.now c.requires.step.point (value_at c.args.direction.now) c.args.q c.args.by.now c.requires.rates.is_basis c.requires.rates.nonsingular c.requires.nonbasic c.requires.direction c.requires.moves c.requires.step.is_step c.requires.step.is_point (value_at c.args.point.now) (value_at c.move_point.new.point) c.requires.point (rw c.values.ensures at c.in-Ok.ensures.limited))
+returns-clause-point g c = rw c.in_ok-change_basis.ensures.basis (after_agrees c.args.lp.now c.args.basis.now c.requires.step.point (value_at c.args.step.now.direction.now) c.args.step.now.q c.args.step.now.by.now c.requires.rates.is_basis c.requires.rates.nonsingular c.requires.nonbasic c.requires.direction c.requires.moves c.requires.step.is_step c.requires.step.is_point (value_at c.args.point.now) (value_at c.move_point.new.point) c.requires.point c.in-Ok.ensures.limited)
 
 pub returns-clause-kept : goal.returns-clause-kept
-returns-clause-kept g c all = rw c.in_ok-change_basis.ensures.basis (after_exact c.args.lp.now c.args.basis.now c.requires.step.point (value_at c.args.direction.now) c.args.q c.args.by.now c.requires.rates.is_basis c.requires.rates.nonsingular c.requires.nonbasic c.requires.direction c.requires.moves c.requires.step.is_step c.requires.step.is_point (value_at c.args.point.now) (value_at c.move_point.new.point) (c.requires.kept (c.in-Ok.ensures.kept all)) (rw c.values.ensures at (c.in-Ok.ensures.moved all)))
+returns-clause-kept g c all = rw c.in_ok-change_basis.ensures.basis (after_exact c.args.lp.now c.args.basis.now c.requires.step.point (value_at c.args.step.now.direction.now) c.args.step.now.q c.args.step.now.by.now c.requires.rates.is_basis c.requires.rates.nonsingular c.requires.nonbasic c.requires.direction c.requires.moves c.requires.step.is_step c.requires.step.is_point (value_at c.args.point.now) (value_at c.move_point.new.point) (c.requires.kept (c.in-Ok.ensures.kept all)) (c.in-Ok.ensures.moved all))
