@@ -13,13 +13,6 @@ use crate::wants::want_of;
 use frac128::Frac;
 use lp_model::{Basis, Lp, Sense, Status};
 
-/// Whether `x` is below `y`.
-pub fn is_less(x: Frac, y: Frac) -> bool
-    ensures { result ≡ lt_ℚ x y }
-{
-    x.is_less(y)
-}
-
 /// The value as it counts upward or downward.
 pub fn counted(value: Frac, up: bool) -> Frac
     ensures { result ≡ signed up value }

@@ -4,7 +4,7 @@ use Rattle.problem_file.specs.Filed.{Filed}
 use Rattle.listing_definitions.specs.declared.Mark.{Mark}
 use Rattle.control_definitions.specs.Cells.{Cells}
 use Rattle.run_machine.specs.declared.finding.Finding.{Finding}
-use Rattle.run_machine.specs.declared.finding.Finding.TheVariants.{Refused, Overflow, WrongPrices, Limit, Ended, Views, RanThrough}
+use Rattle.run_machine.specs.declared.finding.Finding.TheVariants.{Refused, Overflow, WrongPrices, Limit, Ended, Printed, RanThrough}
 use Rattle.run_setup.specs.Machines.{Machine}
 use Rattle.run_setup.specs.Kept.{Setup}
 use Rattle.run_machine.specs.Standing.{AreDemands}
@@ -29,7 +29,7 @@ module _ (cells : Cells) (file : Filed) (setup new : Setup) where
   after_finding (Overflow e place) ends = tt
   after_finding (WrongPrices variable) ends = tt
   after_finding Limit ends = tt
-  after_finding Views ends = tt
+  after_finding Printed ends = tt
   after_finding (RanThrough value) ends = tt
 
 module _ (cards : List (List ℕ)) (old : Machine) (setup new : Setup) (ready : IsReady old.file new) (s : IsSound cards old) where
@@ -48,7 +48,7 @@ module _ (cards : List (List ℕ)) (old : Machine) (setup new : Setup) (ready : 
   demands_left (WrongPrices variable) = s.demands
   demands_left Limit = s.demands
   demands_left (Ended mark) = s.demands
-  demands_left Views = s.demands
+  demands_left Printed = s.demands
   demands_left (RanThrough value) = record { infeasible = s.demands.infeasible; unbounded = s.demands.unbounded }
 
   pub sound_run_through : (finding : Finding) (cells : Cells) → cells ≡ cells_left finding old.cells → IsSound cards (record old { setup = Some new; mark = None; cells = cells })

@@ -37,7 +37,7 @@ use Rattle.run_machine.specs.declared.act.Halt.{Halt}
 use Rattle.run_machine.specs.declared.act.Halt.TheVariants as halt
 use Rattle.run_machine.specs.declared.end.Place.{Place as OwnPlace}
 use Rattle.run_machine.specs.declared.finding.Finding.{Finding}
-use Rattle.run_machine.specs.declared.finding.Finding.TheVariants.{Overflow, Views}
+use Rattle.run_machine.specs.declared.finding.Finding.TheVariants.{Overflow, Printed}
 use Rattle.run_setup.specs.Machines.{Machine}
 use Rattle.run_setup.specs.Kept.{Setup}
 use Rattle.run_machine.specs.declared.selecting.Refusal.TheVariants.{Fault}
@@ -61,7 +61,7 @@ use Rattle.run_setup.proofs.Present.{IsPresentOf, lie_up_to, one_problem, presen
 module _ {P : Type 0} (written stopped_at : P → Option (List ℕ)) (faults refusals : P → ℕ) {print_old print_new : P} (sheet : OwnSheet) (s : Basis) (before : List Basics) (point : List ℚ) (report : RangeReport)
     (is_ranged : IsRanged (sheet_view sheet) s (range_lines sheet.lp.now s point report sheet.problem.now)) where
   pub ranges_reported : Writes {T = Unit {0}} written stopped_at faults refusals print_old print_new (Ok tt) (report_text (Ranges (range_lines sheet.lp.now s point report sheet.problem.now))) →
-      ReportsFinding (RangesFound (sheet_view sheet) s before) written stopped_at faults refusals print_old print_new (Ok Views)
+      ReportsFinding (RangesFound (sheet_view sheet) s before) written stopped_at faults refusals print_old print_new (Ok Printed)
   ranges_reported writes = record {
     gain = Prints (Ranges (range_lines sheet.lp.now s point report sheet.problem.now));
     holds = ranged is_ranged;
@@ -72,7 +72,7 @@ module _ {P : Type 0} (written stopped_at : P → Option (List ℕ)) (faults ref
       ReportsFinding (RangesFound (sheet_view sheet) s before) written stopped_at faults refusals print_old print_new (Err (halt.Print stop))
   ranges_cut stop writes = record {
     gain = Prints (Ranges (range_lines sheet.lp.now s point report sheet.problem.now));
-    finding = Views;
+    finding = Printed;
     holds = ranged is_ranged;
     writes = writes;
   }

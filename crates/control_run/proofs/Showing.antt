@@ -34,7 +34,7 @@ use Rattle.run_machine.specs.declared.act.Halt.{Halt}
 use Rattle.run_machine.specs.declared.act.Halt.TheVariants as halt
 use Rattle.run_machine.specs.declared.end.Place.{Place as OwnPlace}
 use Rattle.run_machine.specs.declared.finding.Finding.{Finding}
-use Rattle.run_machine.specs.declared.finding.Finding.TheVariants.{Overflow, Views}
+use Rattle.run_machine.specs.declared.finding.Finding.TheVariants.{Overflow, Printed}
 use Rattle.run_setup.specs.Machines.{Machine}
 use Rattle.run_setup.specs.Kept.{Setup}
 use Rattle.run_machine.specs.declared.selecting.Refusal.TheVariants.{Fault}
@@ -58,7 +58,7 @@ use Rattle.run_setup.proofs.Present.{IsPresentOf, lie_up_to, one_problem, presen
 module _ {P : Type 0} (written stopped_at : P → Option (List ℕ)) (faults refusals : P → ℕ) {print_old print_new : P} (sheet : OwnSheet) (s : Basis) (before : List Basics) (mark : Mark) (point prices slack list : List ℚ) (same : list ≡ slack)
     (is_viewed : IsSolutionOf (sheet_view sheet) s (solution_lines sheet.problem.now sheet.lp.now s point prices slack)) where
   pub lines_reported : Writes {T = Unit {0}} written stopped_at faults refusals print_old print_new (Ok tt) (report_text (Solution mark (solution_lines sheet.problem.now sheet.lp.now s point prices list))) →
-      ReportsFinding (LinesFound (sheet_view sheet) s before mark) written stopped_at faults refusals print_old print_new (Ok Views)
+      ReportsFinding (LinesFound (sheet_view sheet) s before mark) written stopped_at faults refusals print_old print_new (Ok Printed)
   lines_reported writes = record {
     gain = Prints (Solution mark (solution_lines sheet.problem.now sheet.lp.now s point prices slack));
     holds = viewed is_viewed;
@@ -69,7 +69,7 @@ module _ {P : Type 0} (written stopped_at : P → Option (List ℕ)) (faults ref
       ReportsFinding (LinesFound (sheet_view sheet) s before mark) written stopped_at faults refusals print_old print_new (Err (halt.Print stop))
   lines_cut stop writes = record {
     gain = Prints (Solution mark (solution_lines sheet.problem.now sheet.lp.now s point prices slack));
-    finding = Views;
+    finding = Printed;
     holds = viewed is_viewed;
     writes = subst (λ (xs : List ℚ). Writes {T = Unit {0}} written stopped_at faults refusals print_old print_new (Err stop) (report_text (Solution mark (solution_lines sheet.problem.now sheet.lp.now s point prices xs)))) same writes;
   }

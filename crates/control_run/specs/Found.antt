@@ -36,7 +36,7 @@ use Rattle.run_definitions.specs.Moves.{Gain, Nothing, Prints}
 use Rattle.run_definitions.specs.Verbs.{mark_of}
 use Rattle.run_machine.specs.declared.end.Place.{Place as OwnPlace}
 use Rattle.run_machine.specs.declared.finding.Finding.{Finding}
-use Rattle.run_machine.specs.declared.finding.Finding.TheVariants.{Refused, Overflow, WrongPrices, Limit, Ended, Views}
+use Rattle.run_machine.specs.declared.finding.Finding.TheVariants.{Refused, Overflow, WrongPrices, Limit, Ended, Printed}
 use Rattle.run_setup.specs.Kept.{Setup}
 use Rattle.run_machine.specs.Choosing.{HasSelectionFault, HasSelectionOverflow}
 use Rattle.run_machine.specs.Ends.{place_view}
@@ -111,7 +111,7 @@ module _ (sheet : Sheet) (s : Basis) (before : List Basics) where
   -- its lines are printed with the mark; or an operation is refused
   pub data LinesFound (mark : Mark) : Gain → Finding → Type 0 where
     viewed : {lines : SolutionLines} → IsSolutionOf sheet s lines →
-        LinesFound mark (Prints (Solution mark lines)) Views
+        LinesFound mark (Prints (Solution mark lines)) Printed
     overflows : {e : Evidence} {place : Option OwnPlace} →
         LinesOverflow e (option_map place_view place) → LinesFound mark Nothing (Overflow e place)
 
@@ -131,7 +131,7 @@ module _ (sheet : Sheet) (s : Basis) (before : List Basics) where
 
   -- its intervals are printed; or an operation is refused
   pub data RangesFound : Gain → Finding → Type 0 where
-    ranged : {lines : RangeLines} → IsRanged sheet s lines → RangesFound (Prints (Ranges lines)) Views
+    ranged : {lines : RangeLines} → IsRanged sheet s lines → RangesFound (Prints (Ranges lines)) Printed
     stopped : {e : Evidence} {place : Option OwnPlace} →
         RangesOverflow e (option_map place_view place) → RangesFound Nothing (Overflow e place)
 

@@ -51,7 +51,7 @@ fn print_ranges<P: Sink>(
         report: &ranged.report,
     };
     text_of(&report, print)?;
-    Ok(Finding::Views)
+    Ok(Finding::Printed)
 }
 
 // Makes the intervals of a basis, and prints them.

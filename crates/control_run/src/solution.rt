@@ -9,7 +9,7 @@ ghost use Rattle.listing_tables.specs.Lines.{solution_lines};
 ghost use Rattle.listing_tables.specs.Sheets.{IsSheet};
 ghost use Rattle.basis_values.specs.Calls.{HasRates, KeepsRates};
 ghost use Rattle.answer_definitions.specs.Sections.{IsSolutionOf};
-ghost use Rattle.verb_answers.specs.Answers.{sheet_view, AreViews};
+ghost use Rattle.verb_answers.specs.Answers.{sheet_view, AreSolutionValues};
 ghost use Rattle.answer_definitions.specs.Real.{linear_programming};
 ghost use Rattle.run_setup.specs.Standing.{IsReady, IsSolved, IsSound};
 ghost use Rattle.run_setup.specs.Statements.{Executes};
@@ -25,19 +25,19 @@ use report_text::{Report, text_of};
 use run_machine::{Act, Finding, Halt, Machine, Refusal, act_of};
 use run_setup::{Setup, overflow_at};
 use std::alloc::Global;
-use verb_answers::{Views, solution_of};
+use verb_answers::{SolutionValues, solution_of};
 
 // Prints the point and the prices of a basis.
 fn print_lines<P: Sink>(
     sheet: Sheet<'_>,
     basis: &Basis,
     mark: Mark,
-    viewed: &Views,
+    viewed: &SolutionValues,
     print: &mut P,
 ) -> Result<Finding, Halt>
     requires sheet { IsSheet sheet }
     requires no_change { sheet.lp.now.change ≡ None }
-    requires listed { AreViews sheet.lp.now basis.now viewed.now }
+    requires listed { AreSolutionValues sheet.lp.now basis.now viewed.now }
     requires viewed { IsSolutionOf (sheet_view sheet) basis.now
         (solution_lines sheet.problem.now sheet.lp.now basis.now viewed.now.point viewed.now.prices
         viewed.now.slack.items) }
@@ -54,7 +54,7 @@ fn print_lines<P: Sink>(
         slack: &viewed.slack,
     };
     text_of(&report, print)?;
-    Ok(Finding::Views)
+    Ok(Finding::Printed)
 }
 
 // Makes the lines of a basis, and prints them.

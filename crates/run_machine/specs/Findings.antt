@@ -17,7 +17,7 @@ use Rattle.run_machine.specs.declared.act.Halt.TheVariants as halt
 use Rattle.run_machine.specs.declared.end.End.{End}
 use Rattle.run_machine.specs.declared.end.End.TheVariants as end
 use Rattle.run_machine.specs.declared.finding.Finding.{Finding}
-use Rattle.run_machine.specs.declared.finding.Finding.TheVariants.{Refused, Overflow, WrongPrices, Limit, Ended, Views, RanThrough}
+use Rattle.run_machine.specs.declared.finding.Finding.TheVariants.{Refused, Overflow, WrongPrices, Limit, Ended, Printed, RanThrough}
 use Rattle.run_machine.specs.declared.selecting.Refusal.{Refusal}
 use Rattle.run_machine.specs.declared.selecting.Refusal.TheVariants.{Fault, NoMemory}
 use Rattle.run_machine.specs.declared.selecting.Refusal.TheVariants as refusals
@@ -70,7 +70,7 @@ act_of cells card Limit = Ends (end.Limit (steps_allowed cells) card)
 act_of cells card (Ended Optimal) = Next
 act_of cells card (Ended Infeasible) = demanded_act cells.xdonfs end.Infeasible
 act_of cells card (Ended Unbounded) = demanded_act cells.xdounb end.Unbounded
-act_of cells card Views = Next
+act_of cells card Printed = Next
 act_of cells card (RanThrough value) = Next
 
 -- a verdict leaves its mark, and what ends the run leaves none

@@ -4,7 +4,7 @@ ghost use Rattle.lp_model.specs.RatesCalls.{IfOverflow};
 ghost use Rattle.basis_values.specs.Calls.{HasRates, KeepsRates};
 ghost use Rattle.answer_definitions.specs.Sections.{IsSolutionOf};
 ghost use Rattle.listing_tables.specs.Lines.{solution_lines};
-ghost use Rattle.verb_answers.specs.Answers.{sheet_view, AreViews};
+ghost use Rattle.verb_answers.specs.Answers.{sheet_view, AreSolutionValues};
 ghost use Rattle.verb_answers.specs.Stops.{SolutionRefused};
 
 use crate::slack::slacks;
@@ -16,7 +16,7 @@ use std::alloc::Global;
 
 /// What SOLUTION shows of a basis: each variable's value and price, and the slack of each row.
 #[derive(Debug, Drop)]
-pub struct Views {
+pub struct SolutionValues {
     pub point: Point,
     pub prices: Prices,
     pub slack: Vec<Frac>,
@@ -28,10 +28,10 @@ pub fn solution_of<R: Rates>(
     sheet: Sheet<'_>,
     basis: &Basis,
     rates: &mut R,
-) -> Result<Views, Stop>
+) -> Result<SolutionValues, Stop>
     requires no_change { sheet.lp.now.change ≡ None }
     requires rates { HasRates (R.matrix rates.old) (R.basics rates.old) sheet.lp.now basis.now }
-    ensures listed { IfOk result (AreViews sheet.entry.lp.now basis.now) }
+    ensures listed { IfOk result (AreSolutionValues sheet.entry.lp.now basis.now) }
     ensures viewed { IfOk result (λ viewed. IsSolutionOf (sheet_view sheet.entry) basis.now
         (solution_lines sheet.entry.problem.now sheet.entry.lp.now basis.now viewed.point
         viewed.prices viewed.slack.items)) }
@@ -46,7 +46,7 @@ pub fn solution_of<R: Rates>(
     let point = point_at(alloc, lp, basis, rates)?;
     let prices = prices_at(alloc, lp, basis, rates)?;
     let slack = slacks(alloc, lp, point.values())?;
-    Ok(Views {
+    Ok(SolutionValues {
         point,
         prices,
         slack,
