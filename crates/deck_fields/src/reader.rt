@@ -10,9 +10,7 @@ ghost use Rattle.deck_definitions.proofs.Converted.{ArePrintable};
 ghost use Rattle.deck_fields.specs.Reported.{ReportsDeckFault};
 ghost use Rattle.deck_fields.specs.Stops.{Stops, StopsAt};
 
-use crate::card_stop::CardStop;
-use crate::stop::DeckStop;
-use card_reader::{Card, Cards};
+use card_reader::{Card, CardStop, Cards};
 use deck_definitions::{DeckFault, DeckFaultKind};
 
 /// What is made of the cards of a deck, one after another.
@@ -29,7 +27,7 @@ pub trait Draft {
             is_section_after Endata seen };
 
     /// Takes one more card that isn't skipped. After an `Err` the draft is of no use.
-    fn take(&mut self, card: Card<'_>) -> Result<(), CardStop>
+    fn take(&mut self, card: Card<'_>) -> Result<(), CardStop<DeckFaultKind>>
         ensures no_fault { (start : Self) (seen : List Numbered) → is_made_of start self.old seen →
             OnOk result (test start seen (card_bytes card.entry) ≡ None) }
         ensures made { (start : Self) (seen : List Numbered) (number : ℕ) →
@@ -40,7 +38,11 @@ pub trait Draft {
 }
 
 // Reads one more card, which may be skipped.
-fn read_card<D: Draft>(draft: &mut D, number: u32, card: Card<'_>) -> Result<(), DeckStop>
+fn read_card<D: Draft>(
+    draft: &mut D,
+    number: u32,
+    card: Card<'_>,
+) -> Result<(), CardStop<DeckFault>>
     ensures no_fault { (start : D) (seen : List Numbered) → D.is_made_of start draft.old seen →
         OnOk result (first_faulty (D.test start) seen
         (live (record { number = number; bytes = card_bytes card.entry } ∷ [])) ≡ None) }
@@ -56,8 +58,8 @@ fn read_card<D: Draft>(draft: &mut D, number: u32, card: Card<'_>) -> Result<(),
     }
     match draft.take(card) {
         Ok(()) => Ok(()),
-        Err(CardStop::Refused(kind)) => Err(DeckStop::Fault(DeckFault { card: number, kind })),
-        Err(CardStop::NoMemory) => Err(DeckStop::NoMemory),
+        Err(CardStop::Fault(kind)) => Err(CardStop::Fault(DeckFault { card: number, kind })),
+        Err(CardStop::NoMemory) => Err(CardStop::NoMemory),
     }
 }
 
@@ -68,7 +70,7 @@ pub fn read_cards<D: Draft>(
     cards: &Cards,
     first: u32,
     last: u32,
-) -> Result<(), DeckStop>
+) -> Result<(), CardStop<DeckFault>>
     requires start { D.is_made_of draft.old draft.old [] }
     requires from_one { 1 ≤ first }
     requires ordered { first ≤ last }
@@ -86,7 +88,7 @@ pub fn read_cards<D: Draft>(
     }
     if !draft.is_ended() {
         let kind = DeckFaultKind::NoEndata;
-        return Err(DeckStop::Fault(DeckFault { card: last, kind }));
+        return Err(CardStop::Fault(DeckFault { card: last, kind }));
     }
     Ok(())
 }

@@ -4,7 +4,7 @@ ghost use Rattle.std.specs.List.{IsDistinct};
 ghost use Rattle.std.specs.Map.{lookup, keys_of};
 ghost use Rattle.problem_definitions.specs.Names.{same};
 
-use deck_fields::CardStop;
+use deck_fields::{CardStop, DeckFaultKind};
 use indexmap::IndexMap;
 use indexmap::map::Entry;
 use name_table::Name;
@@ -14,7 +14,7 @@ pub fn add_new<V: Drop>(
     values: &mut IndexMap<Name, V>,
     name: Name,
     value: V,
-) -> Result<bool, CardStop>
+) -> Result<bool, CardStop<DeckFaultKind>>
     ensures is_new { IfOk result (λ is_new. is_new ≡ not (is_some
         (lookup (same name) values.old.entries))) }
     ensures added { IfOk result (λ is_new. is_new ≡ true → values.new.entries ≡ values.old.entries

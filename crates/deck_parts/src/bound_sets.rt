@@ -66,7 +66,7 @@ fn take_bound(
     place: usize,
     kind: BoundKind,
     card: &DataCard<'_>,
-) -> Result<(), CardStop>
+) -> Result<(), CardStop<DeckFaultKind>>
     ensures no_fault { OnOk result (bound_rest_fault items.old (viewed card.now) kind ≡ None) }
     ensures step { OnOk result (items.new ≡ items.old ++ bound_of (viewed card.now) kind ∷ []) }
     ensures stop { IfErr result
@@ -83,7 +83,7 @@ fn take_bound(
         Err(fault) => {
             let is_taken = items.has(&column, kind);
             let fault = fault_after(is_taken, DeckFaultKind::BoundTwice, fault);
-            Err(CardStop::Refused(fault))
+            Err(CardStop::Fault(fault))
         }
     }
 }
@@ -95,7 +95,7 @@ fn take_bound_into(
     place: usize,
     kind: BoundKind,
     card: &DataCard<'_>,
-) -> Result<(), CardStop>
+) -> Result<(), CardStop<DeckFaultKind>>
     ensures no_fault { OnOk result
         (bound_rest_fault (items_of card.now.name1 (map group_at sets.old.entries)) (viewed card.now)
         kind ≡ None) }
@@ -172,7 +172,7 @@ impl BoundSets {
         place: usize,
         kind: BoundKind,
         card: &DataCard<'_>,
-    ) -> Result<(), CardStop>
+    ) -> Result<(), CardStop<DeckFaultKind>>
         ensures no_fault { OnOk result (bound_rest_fault (items_of card.now.name1 self.old)
             (viewed card.now) kind ≡ None) }
         ensures step { OnOk result (self.new ≡ in_set card.now.name1
@@ -191,7 +191,7 @@ pub fn take_bound_card(
     columns: &Groups,
     sets: &mut BoundSets,
     card: &DataCard<'_>,
-) -> Result<(), CardStop>
+) -> Result<(), CardStop<DeckFaultKind>>
     ensures no_fault { OnOk result (bounds_fault (bounds_alone columns.now sets.old)
         (viewed card.now) ≡ None) }
     ensures step { OnOk result (sets.new ≡ with_group (bound_group (viewed card.now)) sets.old) }
@@ -199,13 +199,13 @@ pub fn take_bound_card(
         (viewed card.now))) }
 {
     let Some(kind) = bound_kind(card.kind) else {
-        return Err(CardStop::Refused(DeckFaultKind::BadBoundType));
+        return Err(CardStop::Fault(DeckFaultKind::BadBoundType));
     };
     if is_blank(card.name2.bytes()) {
-        return Err(CardStop::Refused(DeckFaultKind::EmptyName));
+        return Err(CardStop::Fault(DeckFaultKind::EmptyName));
     }
     let Some(place) = columns.place_of(&card.name2) else {
-        return Err(CardStop::Refused(DeckFaultKind::UnknownColumn));
+        return Err(CardStop::Fault(DeckFaultKind::UnknownColumn));
     };
     sets.take(alloc, place, kind, card)
 }

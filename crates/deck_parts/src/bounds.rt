@@ -87,7 +87,11 @@ fn is_touched(matters: bool, columns: &IndexSet<Name>, column: &Name) -> bool
 }
 
 // Marks a column whose end is touched, and tells whether it was marked already.
-fn mark(columns: &mut IndexSet<Name>, column: Name, touches: bool) -> Result<bool, CardStop>
+fn mark(
+    columns: &mut IndexSet<Name>,
+    column: Name,
+    touches: bool,
+) -> Result<bool, CardStop<DeckFaultKind>>
     ensures was_marked { IfOk result (λ was_marked. was_marked ≡
         (touches && list_any (same column) columns.old.keys)) }
     ensures marked { OnOk result (columns.new.keys ≡ marked touches column columns.old.keys) }
@@ -106,7 +110,7 @@ fn mark_ends(
     lowers: &mut IndexSet<Name>,
     kind: BoundKind,
     column: Name,
-) -> Result<bool, CardStop>
+) -> Result<bool, CardStop<DeckFaultKind>>
     ensures was_marked { IfOk result
         (λ was_marked. was_marked ≡ (touches_upper kind && list_any (same column) uppers.old.keys ||
         touches_lower kind && list_any (same column) lowers.old.keys)) }
@@ -127,7 +131,7 @@ fn add_to(
     uppers: &mut IndexSet<Name>,
     lowers: &mut IndexSet<Name>,
     bound: NamedBound,
-) -> Result<(), CardStop>
+) -> Result<(), CardStop<DeckFaultKind>>
     ensures is_new { OnOk result ((touches_upper bound.kind && list_any (same bound.column)
         uppers.old.keys || touches_lower bound.kind && list_any (same bound.column)
         lowers.old.keys) ≡ false) }
@@ -141,7 +145,7 @@ fn add_to(
         bound.kind && list_any (same bound.column) lowers.old.keys) ⟹ DeckFaultKind.BoundTwice)) }
 {
     if mark_ends(uppers, lowers, bound.kind, bound.column)? {
-        return Err(CardStop::Refused(DeckFaultKind::BoundTwice));
+        return Err(CardStop::Fault(DeckFaultKind::BoundTwice));
     }
     items.push(bound)?;
     Ok(())
@@ -198,7 +202,7 @@ impl Bounds {
     }
 
     /// Adds a bound at the end, or refuses one that touches an end that is touched. An `Err` leaves no bounds.
-    pub fn add(&mut self, bound: NamedBound) -> Result<(), CardStop>
+    pub fn add(&mut self, bound: NamedBound) -> Result<(), CardStop<DeckFaultKind>>
         ensures is_new { OnOk result (is_bound_already self.old bound.column bound.kind ≡ false) }
         ensures added { OnOk result (self.new ≡ self.old ++ bound ∷ []) }
         ensures stop { IfErr result

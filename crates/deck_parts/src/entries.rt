@@ -62,7 +62,7 @@ impl Entries {
     }
 
     /// Adds a number on a row, or refuses a row that has one.
-    pub fn add(&mut self, row: Name, number: OnRow) -> Result<(), CardStop>
+    pub fn add(&mut self, row: Name, number: OnRow) -> Result<(), CardStop<DeckFaultKind>>
         ensures is_new { OnOk result (has_entry self.old row ≡ false) }
         ensures added { OnOk result (self.new ≡ self.old ++ record
             { row = row; value = number.value } ∷ []) }
@@ -71,7 +71,7 @@ impl Entries {
     {
         let is_new = add_new(&mut self.values, row, number)?;
         if !is_new {
-            return Err(CardStop::Refused(DeckFaultKind::DuplicateEntry));
+            return Err(CardStop::Fault(DeckFaultKind::DuplicateEntry));
         }
         Ok(())
     }

@@ -23,22 +23,22 @@ use name_table::Name;
 use problem_definitions::MAX_ENTRIES;
 
 // The row in a pair, or its fault.
-fn row_of(rows: &Rows, section: Section, row: &Name) -> Result<FoundRow, DeckFaultKind>
+fn row_of(rows: &Rows, section: Section, row: &Name) -> Result<FoundRow, CardStop<DeckFaultKind>>
     ensures no_fault { OnOk result (pair_row_fault (rows_alone rows.now) section row.now ≡ None) }
-    ensures fault { IfErr result (λ kind. pair_row_fault (rows_alone rows.now) section row.now
-        ≡ Some kind) }
+    ensures stop { IfErr result (ReportsDeckFault
+        (pair_row_fault (rows_alone rows.now) section row.now)) }
 {
     if is_blank(row.bytes()) {
-        return Err(DeckFaultKind::EmptyName);
+        return Err(CardStop::Fault(DeckFaultKind::EmptyName));
     }
     let Some(found) = rows.find(row) else {
-        return Err(DeckFaultKind::UnknownRow);
+        return Err(CardStop::Fault(DeckFaultKind::UnknownRow));
     };
     if is_columns(section) && found.is_combination {
-        return Err(DeckFaultKind::EntryOnCombination);
+        return Err(CardStop::Fault(DeckFaultKind::EntryOnCombination));
     }
     if is_ranges(section) && is_free(found.kind) {
-        return Err(DeckFaultKind::RangeOnFree);
+        return Err(CardStop::Fault(DeckFaultKind::RangeOnFree));
     }
     Ok(found)
 }
@@ -96,7 +96,7 @@ pub fn take_pair(
     items: &mut Entries,
     count: u32,
     pair: &PairText<'_>,
-) -> Result<(), CardStop>
+) -> Result<(), CardStop<DeckFaultKind>>
     ensures no_fault { OnOk result (pair_fault (rows_alone rows.now) section items.old count
         (pair_view pair.now) ≡ None) }
     ensures step { OnOk result (items.new ≡ items.old ++ entry_of (pair_view pair.now) ∷ []) }
@@ -113,7 +113,7 @@ pub fn take_pair(
         Err(kind) => {
             let is_taken = items.has(&pair.row);
             let fault = fault_after(is_taken, DeckFaultKind::DuplicateEntry, kind);
-            Err(CardStop::Refused(fault))
+            Err(CardStop::Fault(fault))
         }
     }
 }
@@ -125,7 +125,7 @@ pub fn take_pairs(
     items: &mut Entries,
     count: u32,
     card: &DataCard<'_>,
-) -> Result<(), CardStop>
+) -> Result<(), CardStop<DeckFaultKind>>
     requires { count ≤ 100000 }
     ensures no_fault { OnOk result (pairs_fault (rows_alone rows.now) section items.old count
         (pairs_of (viewed card.now)) ≡ None) }
@@ -142,7 +142,11 @@ pub fn take_pairs(
 }
 
 // Takes a pair, where there is one, as a part of a combination of which these rows are the earlier ones.
-fn take_part(rows: &Rows, parts: &mut Entries, pair: &Option<PairText<'_>>) -> Result<(), CardStop>
+fn take_part(
+    rows: &Rows,
+    parts: &mut Entries,
+    pair: &Option<PairText<'_>>,
+) -> Result<(), CardStop<DeckFaultKind>>
     ensures no_fault { OnOk result (parts_fault rows.now parts.old
         (option_to_list (option_map pair_view pair.now)) ≡ None) }
     ensures step { OnOk result (parts.new ≡ parts.old ++ map entry_of
@@ -157,7 +161,11 @@ fn take_part(rows: &Rows, parts: &mut Entries, pair: &Option<PairText<'_>>) -> R
 }
 
 /// Takes the parts on a card of a combination, where these rows are the earlier ones.
-pub fn take_parts(rows: &Rows, parts: &mut Entries, card: &DataCard<'_>) -> Result<(), CardStop>
+pub fn take_parts(
+    rows: &Rows,
+    parts: &mut Entries,
+    card: &DataCard<'_>,
+) -> Result<(), CardStop<DeckFaultKind>>
     ensures no_fault { OnOk result (parts_fault rows.now parts.old
         (part_pairs_of (viewed card.now)) ≡ None) }
     ensures step { OnOk result (parts.new ≡ parts.old ++ parts_on (viewed card.now)) }

@@ -129,7 +129,12 @@ impl Rows {
     }
 
     /// Adds a row at the end, a combination where there are parts, or refuses a name that a row has.
-    pub fn add(&mut self, kind: RowKind, name: Name, parts: Option<Entries>) -> Result<(), CardStop>
+    pub fn add(
+        &mut self,
+        kind: RowKind,
+        name: Name,
+        parts: Option<Entries>,
+    ) -> Result<(), CardStop<DeckFaultKind>>
         ensures is_new { OnOk result (has_row self.old name ≡ false) }
         ensures added { OnOk result (self.new ≡ self.old ++ record
             { kind = kind; name = name; parts = parts } ∷ []) }
@@ -138,7 +143,7 @@ impl Rows {
     {
         let is_new = add_new(&mut self.rows, name, RowBody { kind, parts })?;
         if !is_new {
-            return Err(CardStop::Refused(DeckFaultKind::DuplicateRow));
+            return Err(CardStop::Fault(DeckFaultKind::DuplicateRow));
         }
         Ok(())
     }

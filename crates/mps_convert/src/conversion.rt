@@ -12,7 +12,7 @@ ghost use Rattle.mps_convert.specs.Draft_view.{problem_view};
 
 use crate::draft::DeckDraft;
 use card_reader::{Card, Cards};
-use deck_fields::{DeckStop, name_in, read_cards};
+use deck_fields::{CardStop, DeckFault, name_in, read_cards};
 use name_table::Name;
 use problem_file::Problem;
 use std::alloc::Global;
@@ -74,7 +74,7 @@ fn problem_of(
     first: u32,
     last: u32,
     name: Option<Name>,
-) -> Result<Problem, DeckStop>
+) -> Result<Problem, CardStop<DeckFault>>
     requires from_one { 1 ≤ first }
     requires ordered { first ≤ last }
     requires within { last ≤ length cards.now }
@@ -89,7 +89,7 @@ fn problem_of(
     let own = problem_name(cards, first, last, name);
     match draft.problem(own) {
         Ok(problem) => Ok(problem),
-        Err(_) => Err(DeckStop::NoMemory),
+        Err(_) => Err(CardStop::NoMemory),
     }
 }
 
@@ -102,7 +102,7 @@ pub fn convert(
     first: u32,
     last: u32,
     name: Option<Name>,
-) -> Result<Problem, DeckStop>
+) -> Result<Problem, CardStop<DeckFault>>
     requires from_one { 1 ≤ first }
     requires ordered { first ≤ last }
     requires within { last ≤ length cards.now }

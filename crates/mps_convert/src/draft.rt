@@ -50,7 +50,7 @@ fn take_column(
     columns: &mut Groups,
     entries: &mut u32,
     card: &DataCard<'_>,
-) -> Result<(), CardStop>
+) -> Result<(), CardStop<DeckFaultKind>>
     requires counted { entries.old ≡ sum_by (λ column. length column.items) columns.old }
     requires few { entries.old ≤ 50000 }
     ensures counted { entries.new ≡ sum_by (λ column. length column.items) columns.new }
@@ -148,7 +148,11 @@ impl DeckDraft {
     }
 
     // Takes a data card of this section.
-    fn take_in(&mut self, section: Section, card: &DataCard<'_>) -> Result<(), CardStop>
+    fn take_in(
+        &mut self,
+        section: Section,
+        card: &DataCard<'_>,
+    ) -> Result<(), CardStop<DeckFaultKind>>
         ensures no_fault { OnOk result (section_fault (problem_view self.old) section
             (viewed card.now) ≡ None) }
         ensures same_section { OnOk result (self.new.section ≡ self.old.section) }
@@ -183,13 +187,13 @@ impl DeckDraft {
                 take_bound_card(self.alloc, &self.columns, &mut self.bounds, card)
             }
             Section::Header | Section::Endata => {
-                Err(CardStop::Refused(DeckFaultKind::SectionOrder))
+                Err(CardStop::Fault(DeckFaultKind::SectionOrder))
             }
         }
     }
 
     // Takes a data card.
-    fn take_data(&mut self, card: Card<'_>) -> Result<(), CardStop>
+    fn take_data(&mut self, card: Card<'_>) -> Result<(), CardStop<DeckFaultKind>>
         ensures no_fault { OnOk result (data_card_fault (problem_view self.old) self.old.style
             self.old.section (card_bytes card.entry) ≡ None) }
         ensures same_section { OnOk result (self.new.section ≡ self.old.section) }
@@ -201,19 +205,19 @@ impl DeckDraft {
             self.old.section (card_bytes card.entry))) }
     {
         let Some(section) = self.section else {
-            return Err(CardStop::Refused(DeckFaultKind::SectionOrder));
+            return Err(CardStop::Fault(DeckFaultKind::SectionOrder));
         };
         if is_header(section) {
-            return Err(CardStop::Refused(DeckFaultKind::SectionOrder));
+            return Err(CardStop::Fault(DeckFaultKind::SectionOrder));
         }
         match read_data_card(card, self.style, section, false) {
             Ok(data) => self.take_in(section, &data),
-            Err(kind) => Err(CardStop::Refused(kind)),
+            Err(kind) => Err(CardStop::Fault(kind)),
         }
     }
 
     // Takes a card.
-    fn take_card(&mut self, card: Card<'_>) -> Result<(), CardStop>
+    fn take_card(&mut self, card: Card<'_>) -> Result<(), CardStop<DeckFaultKind>>
         ensures no_fault { OnOk result (fault_at (state_view self.old)
             (card_bytes card.entry) ≡ None) }
         ensures step { OnOk result (state_view self.new ≡ state_with (state_view self.old)
@@ -258,7 +262,7 @@ impl Draft for DeckDraft {
         }
     }
 
-    fn take(&mut self, card: Card<'_>) -> Result<(), CardStop> {
+    fn take(&mut self, card: Card<'_>) -> Result<(), CardStop<DeckFaultKind>> {
         self.take_card(card)
     }
 }

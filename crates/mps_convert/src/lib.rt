@@ -6,6 +6,6 @@ mod conversion;
 mod draft;
 
 pub use conversion::{convert, problem_name};
-pub use deck_fields::{DeckFault, DeckFaultKind, DeckStop};
+pub use deck_fields::{CardStop, DeckFault, DeckFaultKind};
 pub use deck_parts::Section;
 pub use draft::DeckDraft;

@@ -85,7 +85,7 @@ impl ReviseDraft {
         section: Section,
         action: Action,
         card: &DataCard<'_>,
-    ) -> Result<(), CardStop>
+    ) -> Result<(), CardStop<DeckFaultKind>>
         ensures no_fault { OnOk result (edit_test self.old.problem section action self.old.under
             (viewed card.now) ≡ None) }
         ensures step { OnOk result (state_view self.new ≡ record (state_view self.old) {
@@ -98,7 +98,7 @@ impl ReviseDraft {
             (viewed card.now))) }
     {
         if let Some(kind) = edit_fault_of(&self.problem, section, action, &self.under, card) {
-            return Err(CardStop::Refused(kind));
+            return Err(CardStop::Fault(kind));
         }
         edit(
             self.alloc,
@@ -112,7 +112,7 @@ impl ReviseDraft {
     }
 
     // Takes a data card of this section.
-    fn take_data(&mut self, section: Section, card: Card<'_>) -> Result<(), CardStop>
+    fn take_data(&mut self, section: Section, card: Card<'_>) -> Result<(), CardStop<DeckFaultKind>>
         requires { self.old.section ≡ Some section }
         ensures no_fault { OnOk result (data_fault (state_view self.old) section
             (card_bytes card.entry) ≡ None) }
@@ -126,16 +126,20 @@ impl ReviseDraft {
             (card_bytes card.entry))) }
     {
         let Some(action) = self.action else {
-            return Err(CardStop::Refused(DeckFaultKind::UnknownAction));
+            return Err(CardStop::Fault(DeckFaultKind::UnknownAction));
         };
         match read_data_card(card, self.style, section, is_deletion(action)) {
             Ok(data) => self.take_in(section, action, &data),
-            Err(kind) => Err(CardStop::Refused(kind)),
+            Err(kind) => Err(CardStop::Fault(kind)),
         }
     }
 
     // Takes an action card of this section.
-    fn take_action(&mut self, section: Section, card: Card<'_>) -> Result<(), CardStop>
+    fn take_action(
+        &mut self,
+        section: Section,
+        card: Card<'_>,
+    ) -> Result<(), CardStop<DeckFaultKind>>
         ensures no_fault { OnOk result
             (action_fault self.old.problem section (action_on self.old.style (card_bytes card.entry))
             (anchor_on self.old.style (card_bytes card.entry)) ≡ None) }
@@ -151,7 +155,7 @@ impl ReviseDraft {
         let action = action_of(card, self.style);
         let anchor = anchor_of(card, self.style);
         if let Some(kind) = action_fault_of(&self.problem, section, action, &anchor) {
-            return Err(CardStop::Refused(kind));
+            return Err(CardStop::Fault(kind));
         }
         let name = match anchor {
             Some(name) => name,
@@ -163,7 +167,11 @@ impl ReviseDraft {
     }
 
     // Takes an action card or a data card of this section.
-    fn take_standing(&mut self, section: Section, card: Card<'_>) -> Result<(), CardStop>
+    fn take_standing(
+        &mut self,
+        section: Section,
+        card: Card<'_>,
+    ) -> Result<(), CardStop<DeckFaultKind>>
         requires { self.old.section ≡ Some section }
         ensures no_fault { OnOk result (standing_fault (state_view self.old) section
             (card_bytes card.entry) ≡ None) }
@@ -179,7 +187,7 @@ impl ReviseDraft {
     }
 
     // Takes an action card or a data card.
-    fn take_inner(&mut self, card: Card<'_>) -> Result<(), CardStop>
+    fn take_inner(&mut self, card: Card<'_>) -> Result<(), CardStop<DeckFaultKind>>
         ensures no_fault { OnOk result (inner_fault (state_view self.old)
             (card_bytes card.entry) ≡ None) }
         ensures step { OnOk result (state_view self.new ≡ inner_with (state_view self.old)
@@ -188,16 +196,16 @@ impl ReviseDraft {
             (card_bytes card.entry))) }
     {
         let Some(section) = self.section else {
-            return Err(CardStop::Refused(DeckFaultKind::SectionOrder));
+            return Err(CardStop::Fault(DeckFaultKind::SectionOrder));
         };
         if is_header(section) {
-            return Err(CardStop::Refused(DeckFaultKind::SectionOrder));
+            return Err(CardStop::Fault(DeckFaultKind::SectionOrder));
         }
         self.take_standing(section, card)
     }
 
     // Takes a section card.
-    fn take_section(&mut self, card: Card<'_>) -> Result<(), CardStop>
+    fn take_section(&mut self, card: Card<'_>) -> Result<(), CardStop<DeckFaultKind>>
         ensures no_fault { OnOk result (section_card_fault may_come_after self.old.section
             (card_bytes card.entry) ≡ None) }
         ensures step { OnOk result (state_view self.new ≡ record (state_view self.old) {
@@ -220,7 +228,7 @@ impl ReviseDraft {
     }
 
     // Takes a card.
-    fn take_card(&mut self, card: Card<'_>) -> Result<(), CardStop>
+    fn take_card(&mut self, card: Card<'_>) -> Result<(), CardStop<DeckFaultKind>>
         ensures no_fault { OnOk result (fault_at (state_view self.old)
             (card_bytes card.entry) ≡ None) }
         ensures step { OnOk result (state_view self.new ≡ state_with (state_view self.old)
@@ -262,7 +270,7 @@ impl Draft for ReviseDraft {
         }
     }
 
-    fn take(&mut self, card: Card<'_>) -> Result<(), CardStop> {
+    fn take(&mut self, card: Card<'_>) -> Result<(), CardStop<DeckFaultKind>> {
         self.take_card(card)
     }
 }

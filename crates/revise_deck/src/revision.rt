@@ -12,7 +12,7 @@ ghost use Rattle.revise_deck.specs.Revision.{Refuses};
 use crate::draft::ReviseDraft;
 use crate::naming::named;
 use card_reader::Cards;
-use deck_fields::{DeckStop, read_cards};
+use deck_fields::{CardStop, DeckFault, read_cards};
 use mps_convert::problem_name;
 use name_table::Name;
 use problem_file::Problem;
@@ -26,7 +26,7 @@ fn problem_of(
     first: u32,
     last: u32,
     name: Option<Name>,
-) -> Result<Problem, DeckStop>
+) -> Result<Problem, CardStop<DeckFault>>
     requires from_one { 1 ≤ first }
     requires ordered { first ≤ last }
     requires within { last ≤ length cards.now }
@@ -43,7 +43,7 @@ fn problem_of(
     let own = problem_name(cards, first, last, name);
     match draft.problem(own) {
         Ok(problem) => Ok(problem),
-        Err(_) => Err(DeckStop::NoMemory),
+        Err(_) => Err(CardStop::NoMemory),
     }
 }
 
@@ -58,7 +58,7 @@ pub fn revise(
     first: u32,
     last: u32,
     name: Option<Name>,
-) -> Result<Problem, DeckStop>
+) -> Result<Problem, CardStop<DeckFault>>
     requires from_one { 1 ≤ first }
     requires ordered { first ≤ last }
     requires within { last ≤ length cards.now }
@@ -67,7 +67,7 @@ pub fn revise(
     ensures stop { IfErr result (Refuses old.now (cards_between first last cards.now) name) }
 {
     let Ok(problem) = named(alloc, old) else {
-        return Err(DeckStop::NoMemory);
+        return Err(CardStop::NoMemory);
     };
     let mut draft = ReviseDraft::new(alloc, problem);
     read_cards(&mut draft, cards, first, last)?;

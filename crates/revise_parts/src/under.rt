@@ -4,7 +4,7 @@ ghost use Rattle.card_definitions.specs.Words.{is_empty};
 ghost use Rattle.deck_fields.specs.Views.{viewed};
 ghost use Rattle.revise_parts.specs.Summary.{combination_on, goes_on_from, goes_on_row_from, with_card_under, place_at};
 
-use deck_fields::{DataCard, combination_kind, is_blank, is_card_of};
+use deck_fields::{DataCard, DeckFaultKind, combination_kind, is_blank, is_card_of};
 use deck_parts::CardStop;
 use indexmap::IndexSet;
 use name_table::Name;
@@ -110,7 +110,7 @@ impl UnderAction {
     }
 
     /// One more data card.
-    pub fn add(&mut self, card: &DataCard<'_>) -> Result<(), CardStop>
+    pub fn add(&mut self, card: &DataCard<'_>) -> Result<(), CardStop<DeckFaultKind>>
         ensures added { OnOk result (self.new ≡ with_card_under self.old (viewed card.now)) }
         ensures stop { IfErr result (λ stop. stop ≡ CardStop.NoMemory) }
     {
