@@ -303,11 +303,8 @@ impl<'a> Draft for BasisDraft<'a> {
 
     ghost is_made_of = { λ start draft seen. state_view draft ≡ state_of start.problem.now start.lp.now seen };
 
-    fn is_ended(&self) -> bool {
-        match self.section {
-            Some(section) => is_last(section),
-            None => false,
-        }
+    fn section(&self) -> Option<Section> {
+        self.section
     }
 
     fn take(&mut self, card: Card<'_>) -> Result<(), CardStop<DeckFaultKind>> {

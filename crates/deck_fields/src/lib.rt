@@ -19,6 +19,7 @@ mod style;
 mod texts;
 
 pub use card_definitions::NumberFault;
+pub use card_fields::has_blank;
 pub use card_reader::CardStop;
 pub use card_reading::{
     first_pair, first_part, is_card_of, name_in, read_data_card, read_fixed_card, second_pair,

@@ -4,14 +4,15 @@ ghost use Rattle.card_definitions.specs.Cards.{Card as Numbered, live, cards_bet
 ghost use Rattle.card_reader.specs.Card.{card_bytes};
 ghost use Rattle.deck_definitions.specs.declared.DeckFaultKind.{DeckFaultKind as Kind};
 ghost use Rattle.deck_definitions.specs.declared.Section.TheVariants.{Endata};
-ghost use Rattle.deck_definitions.specs.Sections.{is_section_after};
+ghost use Rattle.deck_definitions.specs.Sections.{section_after, is_section_after};
 ghost use Rattle.deck_definitions.specs.Conversion.{fault_by, first_faulty};
 ghost use Rattle.deck_definitions.proofs.Converted.{ArePrintable};
 ghost use Rattle.deck_fields.specs.Reported.{ReportsDeckFault};
 ghost use Rattle.deck_fields.specs.Stops.{Stops, StopsAt};
 
+use crate::sections::is_last;
 use card_reader::{Card, CardStop, Cards};
-use deck_definitions::{DeckFault, DeckFaultKind};
+use deck_definitions::{DeckFault, DeckFaultKind, Section};
 
 /// What is made of the cards of a deck, one after another.
 pub trait Draft {
@@ -21,10 +22,10 @@ pub trait Draft {
     /// Begun with the first draft, the second is made of these cards.
     ghost is_made_of: { Self → Self → List Numbered → Type 0 };
 
-    /// Whether the section of the ENDATA card goes on.
-    fn is_ended(&self) -> bool
+    /// The section that goes on.
+    fn section(&self) -> Option<Section>
         ensures { (start : Self) (seen : List Numbered) → is_made_of start self.now seen → result ≡
-            is_section_after Endata seen };
+            section_after seen };
 
     /// Takes one more card that isn't skipped. After an `Err` the draft is of no use.
     fn take(&mut self, card: Card<'_>) -> Result<(), CardStop<DeckFaultKind>>
@@ -35,6 +36,17 @@ pub trait Draft {
             (seen ++ record { number = number; bytes = card_bytes card.entry } ∷ [])) }
         ensures stop { (start : Self) (seen : List Numbered) → is_made_of start self.old seen →
             IfErr result (ReportsDeckFault (test start seen (card_bytes card.entry))) };
+}
+
+// Whether the section of the ENDATA card goes on.
+fn is_ended<D: Draft>(draft: &D) -> bool
+    ensures { (start : D) (seen : List Numbered) → D.is_made_of start draft.now seen → result ≡
+        is_section_after Endata seen }
+{
+    match draft.section() {
+        Some(section) => is_last(section),
+        None => false,
+    }
 }
 
 // Reads one more card, which may be skipped.
@@ -86,7 +98,7 @@ pub fn read_cards<D: Draft>(
     for number in first..end {
         read_card(draft, number, cards.card(number))?;
     }
-    if !draft.is_ended() {
+    if !is_ended(draft) {
         let kind = DeckFaultKind::NoEndata;
         return Err(CardStop::Fault(DeckFault { card: last, kind }));
     }

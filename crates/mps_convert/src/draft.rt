@@ -1,18 +1,18 @@
 // A problem in the making, card by card.
-ghost use Rattle.std.specs.Prelude.{◌≡◌, ◌≤◌, ◌++◌, None, length, sum_by, unwrap_or, OnOk, IfErr};
-ghost use Rattle.card_reader.specs.Card.{card_bytes};
+ghost use Rattle.std.specs.Prelude.{◌≡◌, ◌≤◌, ◌++◌, None, length, sum_by, OnOk, IfErr};
 ghost use Rattle.problem_definitions.specs.Groups.{in_set};
-ghost use Rattle.deck_definitions.specs.DataCards.{style_begun, entries_of};
+ghost use Rattle.deck_definitions.specs.DataCards.{entries_of};
 ghost use Rattle.deck_definitions.specs.Tests.{columns_fault};
 ghost use Rattle.deck_fields.specs.Reported.{ReportsDeckFault};
 ghost use Rattle.deck_parts.specs.Views.{columns_alone};
 ghost use Rattle.deck_fields.specs.Views.{viewed};
 
+use crate::problem_draft::ProblemDraft;
 use card_reader::Card;
 use deck_definitions::Style;
 use deck_fields::{
     CardStop, DataCard, Draft, SectionOrder, begins_section, is_blank as is_empty_text, is_header,
-    is_last, next_section, read_data_card, style_begun,
+    next_section, read_data_card, style_begun,
 };
 use deck_parts::{
     BoundSets, DeckFaultKind, Groups, Rows, Section, follows, take_bound_card, take_column_card,
@@ -31,16 +31,6 @@ fn pair_count(card: &DataCard<'_>) -> u32
         return 1;
     }
     2
-}
-
-// The style of a deck after one more card.
-fn style_after(before: Style, card: Card<'_>) -> Style
-    ensures { result ≡ unwrap_or (style_begun (card_bytes card.entry)) before }
-{
-    match style_begun(card) {
-        Some(style) => style,
-        None => before,
-    }
 }
 
 // Takes a card of COLUMNS, and counts the entries. An `Err` leaves no column.
@@ -93,7 +83,7 @@ pub struct DeckDraft {
 }
 
 impl DeckDraft {
-    ghost use Rattle.std.specs.Prelude.{◌≡◌, [], None, Some, IfOk, OnOk, IfErr};
+    ghost use Rattle.std.specs.Prelude.{◌≡◌, [], None, Some, OnOk, IfErr};
     ghost use Rattle.card_reader.specs.Card.{card_bytes};
     ghost use Rattle.deck_definitions.specs.declared.Style.TheVariants.{FixedFields};
     ghost use Rattle.deck_definitions.specs.DataCards.{style_begun};
@@ -102,9 +92,7 @@ impl DeckDraft {
     ghost use Rattle.mps_convert.specs.State.{with_data, fault_at, state_with};
     ghost use Rattle.deck_fields.specs.Reported.{ReportsDeckFault};
     ghost use Rattle.deck_fields.specs.Views.{viewed};
-    ghost use Rattle.mps_convert.specs.Draft_view.{problem_view, problem_named, state_view};
-    ghost use Rattle.problem_definitions.specs.Numbering.{numbered};
-    ghost use Rattle.problem_definitions.specs.Valid.{IsProblem};
+    ghost use Rattle.mps_convert.specs.Draft_view.{problem_view, state_view};
 
     /// A draft after no card, which grows in this memory.
     pub fn new(alloc: Global) -> DeckDraft
@@ -131,20 +119,6 @@ impl DeckDraft {
             ranges: Groups::new(alloc),
             bounds: BoundSets::new(alloc),
         }
-    }
-
-    /// The problem that the cards so far describe, under this name and with numbers in place of names.
-    #[tactic(auto, unfolding(problem_definitions::specs::Numbering::numbered))]
-    pub fn problem(&self, name: Name) -> Result<Problem, NoMemory>
-        requires { IsProblem (numbered (problem_named name self.now)) }
-        ensures { IfOk result (λ problem. problem ≡ numbered (problem_named name self.now)) }
-    {
-        let rows = self.rows.decls(self.alloc)?;
-        let columns = self.columns.columns(self.alloc, &self.rows)?;
-        let rhs = self.rhs.sets(self.alloc, &self.rows)?;
-        let ranges = self.ranges.sets(self.alloc, &self.rows)?;
-        let bounds = self.bounds.numbered(self.alloc, &self.columns)?;
-        Ok(Problem::new(name, rows, columns, rhs, ranges, bounds))
     }
 
     // Takes a data card of this section.
@@ -228,10 +202,26 @@ impl DeckDraft {
         if begins_section(card.bytes()) {
             let section = next_section::<DeckDraft>(self.section, card.bytes())?;
             self.section = Some(section);
-            self.style = style_after(self.style, card);
+            self.style = style_begun(card).unwrap_or(self.style);
             return Ok(());
         }
         self.take_data(card)
+    }
+}
+
+impl ProblemDraft for DeckDraft {
+    ghost use Rattle.mps_convert.specs.Draft_view.{problem_named};
+
+    ghost problem_under = { problem_named };
+
+    #[tactic(auto, unfolding(problem_definitions::specs::Numbering::numbered))]
+    fn problem(&self, name: Name) -> Result<Problem, NoMemory> {
+        let rows = self.rows.decls(self.alloc)?;
+        let columns = self.columns.columns(self.alloc, &self.rows)?;
+        let rhs = self.rhs.sets(self.alloc, &self.rows)?;
+        let ranges = self.ranges.sets(self.alloc, &self.rows)?;
+        let bounds = self.bounds.numbered(self.alloc, &self.columns)?;
+        Ok(Problem::new(name, rows, columns, rhs, ranges, bounds))
     }
 }
 
@@ -255,11 +245,8 @@ impl Draft for DeckDraft {
 
     ghost is_made_of = { λ _ draft seen. state_view draft ≡ state_of seen };
 
-    fn is_ended(&self) -> bool {
-        match self.section {
-            Some(section) => is_last(section),
-            None => false,
-        }
+    fn section(&self) -> Option<Section> {
+        self.section
     }
 
     fn take(&mut self, card: Card<'_>) -> Result<(), CardStop<DeckFaultKind>> {

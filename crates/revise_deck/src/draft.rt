@@ -6,10 +6,11 @@ use crate::sections::{action_fault_of, action_of, anchor_of, comes_after, is_act
 use card_reader::Card;
 use deck_definitions::Style;
 use deck_fields::{
-    CardStop, DataCard, Draft, SectionOrder, begins_section, is_header, is_last, name_in,
-    next_section, read_data_card, style_begun,
+    CardStop, DataCard, Draft, SectionOrder, begins_section, is_header, name_in, next_section,
+    read_data_card, style_begun,
 };
 use deck_parts::{DeckFaultKind, Section};
+use mps_convert::ProblemDraft;
 use name_table::Name;
 use problem_file::{NoMemory, Problem};
 use revise_definitions::Action;
@@ -30,12 +31,10 @@ pub struct ReviseDraft {
 }
 
 impl ReviseDraft {
-    ghost use Rattle.std.specs.Prelude.{◌≡◌, [], None, Some, IfOk, OnOk, IfErr, unwrap_or};
+    ghost use Rattle.std.specs.Prelude.{◌≡◌, [], None, Some, OnOk, IfErr, unwrap_or};
     ghost use Rattle.std.specs.Option.{option_or};
     ghost use Rattle.card_definitions.specs.Words.{named};
     ghost use Rattle.card_reader.specs.Card.{card_bytes};
-    ghost use Rattle.problem_definitions.specs.Numbering.{numbered};
-    ghost use Rattle.problem_definitions.specs.Valid.{IsProblem};
     ghost use Rattle.deck_definitions.specs.Sections.{section_words, section_word};
     ghost use Rattle.deck_definitions.specs.declared.Style.TheVariants.{FixedFields};
     ghost use Rattle.deck_definitions.specs.DataCards.{style_begun};
@@ -68,15 +67,6 @@ impl ReviseDraft {
             under: UnderAction::new(alloc, name_in(b"")),
             problem,
         }
-    }
-
-    /// The problem after the cards so far, under this name and with numbers in place of names.
-    pub fn problem(&self, name: Name) -> Result<Problem, NoMemory>
-        requires { IsProblem (numbered (record self.now.problem { name = name })) }
-        ensures { IfOk result (λ problem. problem ≡ numbered
-            (record self.now.problem { name = name })) }
-    {
-        renumbered(self.alloc, &self.problem, name)
     }
 
     // Takes a data card of this section under this action.
@@ -243,6 +233,16 @@ impl ReviseDraft {
     }
 }
 
+impl ProblemDraft for ReviseDraft {
+    ghost use Rattle.revise_deck.specs.Draft_view.{problem_named};
+
+    ghost problem_under = { problem_named };
+
+    fn problem(&self, name: Name) -> Result<Problem, NoMemory> {
+        renumbered(self.alloc, &self.problem, name)
+    }
+}
+
 impl SectionOrder for ReviseDraft {
     ghost use Rattle.revise_definitions.specs.Revision.{may_come_after};
 
@@ -263,11 +263,8 @@ impl Draft for ReviseDraft {
 
     ghost is_made_of = { λ start draft seen. state_view draft ≡ state_of start.problem seen };
 
-    fn is_ended(&self) -> bool {
-        match self.section {
-            Some(section) => is_last(section),
-            None => false,
-        }
+    fn section(&self) -> Option<Section> {
+        self.section
     }
 
     fn take(&mut self, card: Card<'_>) -> Result<(), CardStop<DeckFaultKind>> {
