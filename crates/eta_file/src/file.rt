@@ -19,13 +19,14 @@ use crate::carry::{clear, cross, fill_column, last_left, leave};
 use crate::eta::{Eta, EtaEntry, ScaledEta, StoredEta};
 use crate::steps::Steps;
 use crate::whole::{begin_whole, cross_whole, leave_whole, whole_eta};
+use crate::words::{begin_words, cross_words, leave_words};
 use frac128::Frac;
 use lp_model::{Entry, Evidence, Lp, NoMemory, SparseVector, Stop};
 use std::alloc::Global;
 use std::marker::{Brand, Model};
 use std::rc::Rc;
 use std::sync::ledger::{Blank, Ledger};
-use whole_vectors::divide;
+use whole_vectors::{SparseWords, divide};
 
 /// The most etas that a file holds.
 const MOST_ETAS: usize = 4_294_967_294;
@@ -424,9 +425,75 @@ impl EtaFile {
         out.put_around(values, before, j, after)
     }
 
-    /// Makes `out` the direction of the nonbasic `j`, and counts nothing. It is cleared by its list; the new one is taken of the basics and `j`.
-    pub fn direction(&self, j: u32, out: &mut SparseVector) -> Result<(), Stop>
+    /// The same as `begin_at`, in words.
+    fn begin_words_at(&self, first: usize, j: u32, words: &mut SparseWords) -> Option<Frac>
         requires nonbasic { IsNonbasic self.now.matrix self.now.basics j }
+        requires places { length words.old ≡ size self.now.matrix }
+        requires within { first ≤ length self.now.etas }
+        requires none_later { NoneLater self.now.etas j first }
+        requires left { LeftAt self.now.etas j first }
+        requires zero { (k : ℕ) → value_at words.old k ≡ zero_ℚ }
+        ensures direction { IfSome result (λ d. Represent (IsDirectionAfter self.now first j)
+            d words.new) }
+        ensures places { length words.new ≡ length words.old }
+    {
+        if first == 0 {
+            begin_words(self.numbers(j - self.rows), j, words)?;
+            Some(Frac::whole(1))
+        } else {
+            let eta = &self.etas[first - 1];
+            leave_words(eta, words)
+        }
+    }
+
+    /// The same as `carried_whole`, in words.
+    fn carried_words(&self, j: u32, words: &mut SparseWords, out: &mut [Frac]) -> Option<()>
+        requires nonbasic { IsNonbasic self.now.matrix self.now.basics j }
+        requires places { length out.old ≡ size self.now.matrix }
+        requires words { length words.old ≡ size self.now.matrix }
+        requires zero { AreZero out.old }
+        ensures direction { IfSome result (λ _. IsDirectionOf self.now.matrix self.now.basics j
+            (value_at out.new)) }
+        ensures words { length words.new ≡ length words.old }
+    {
+        words.clear();
+        let first = last_left(&self.etas, j);
+        let mut denominator = self.begin_words_at(first, j, words)?;
+        for place in first..self.etas.len() {
+            let eta = &self.etas[place];
+            denominator = cross_words(eta, denominator, words)?;
+        }
+        words.divide_into(denominator, out)
+    }
+
+    /// Fills `out`, which is all 0, with the direction of the nonbasic `j`, in words if they do.
+    fn direction_in(&self, j: u32, words: &mut SparseWords, out: &mut [Frac]) -> Result<(), Stop>
+        requires nonbasic { IsNonbasic self.now.matrix self.now.basics j }
+        requires places { length out.old ≡ size self.now.matrix }
+        requires words { length words.old ≡ size self.now.matrix }
+        requires zero { AreZero out.old }
+        ensures direction { OnOk result (IsDirectionOf self.now.matrix self.now.basics j
+            (value_at out.new)) }
+        ensures overflow { ColumnOverflow result self.now.matrix self.now.basics (ways_of self.now)
+            (ways_of self.now) }
+        ensures words { length words.new ≡ length words.old }
+    {
+        if self.carried_words(j, words, out).is_some() {
+            return Ok(());
+        }
+        self.column(j, out)
+    }
+
+    /// Makes `out` the direction of the nonbasic `j`, and counts nothing. It is cleared by its list; the new one is taken of the basics and `j`.
+    pub fn direction(
+        &self,
+        j: u32,
+        words: &mut SparseWords,
+        out: &mut SparseVector,
+    ) -> Result<(), Stop>
+        requires nonbasic { IsNonbasic self.now.matrix self.now.basics j }
+        requires words { length words.old ≡ size self.now.matrix }
+        ensures words { length words.new ≡ length words.old }
         requires places { length out.old ≡ size self.now.matrix }
         ensures direction { OnOk result (IsDirectionOf self.now.matrix self.now.basics j
             (value_at out.new)) }
@@ -435,7 +502,7 @@ impl EtaFile {
             (ways_of self.now) }
     {
         let mut values = out.take();
-        match self.column_in(j, &mut values) {
+        match self.direction_in(j, words, &mut values) {
             Ok(()) => match self.put_direction(j, values, out) {
                 Ok(()) => Ok(()),
                 Err(_refused) => Err(Stop::NoMemory),

@@ -8,6 +8,7 @@ mod eta;
 mod file;
 mod steps;
 mod whole;
+mod words;
 
 pub use by_columns::{ByColumns, rate_by_column};
 pub use eta::{Eta, EtaEntry, ScaledEta, StoredEta, WholeEta};

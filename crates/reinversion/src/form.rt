@@ -20,6 +20,7 @@ use lp_model::{Engine, Evidence, Lp, NoMemory, Rates, SparseVector, Stop, Wanted
 use price_row::PriceRow;
 use std::alloc::Global;
 use std::marker::Model;
+use whole_vectors::SparseWords;
 
 /// Each of so many exchanges makes the file anew first, counted from the last time.
 const EXCHANGES: u32 = 50;
@@ -39,6 +40,7 @@ pub struct ProductForm {
     file: EtaFile,
     last: LastColumn,
     price: PriceRow,
+    words: SparseWords,
     since: u32,
     kept: bool,
 }
@@ -65,6 +67,7 @@ impl ProductForm {
             file: EtaFile::new(alloc, lp)?,
             last: LastColumn::new(alloc, lp)?,
             price: PriceRow::new(alloc, lp)?,
+            words: SparseWords::zeros(alloc, lp.number_of_variables() as usize)?,
             since: 0,
             kept: false,
         })
@@ -95,7 +98,7 @@ impl ProductForm {
         ensures err { OnErr result (self.new ≡ self.old) }
     {
         let _size = self.file.size();
-        match rebuild(&self.file) {
+        match rebuild(&self.file, &mut self.words) {
             Ok(file) => {
                 self.file = file;
                 self.since = 0;
@@ -218,7 +221,7 @@ impl Rates for ProductForm {
         ensures waypoints { KeepsWaypoints self.old.file.matrix self.old.file.basics
             (ways_of self.old.file) self.new.file.basics (ways_of self.new.file) }
     {
-        self.file.direction(j, out)
+        self.file.direction(j, &mut self.words, out)
     }
 
     /// Takes no memory. The row is carried backwards through the file.

@@ -10,6 +10,7 @@ use crate::order::{Entering, entering_order};
 use eta_file::EtaFile;
 use frac128::Frac;
 use lp_model::{Evidence, SparseVector, Stop};
+use whole_vectors::SparseWords;
 
 /// The evidence, naming no set.
 fn nameless(evidence: Evidence) -> Evidence
@@ -76,6 +77,7 @@ fn enter(
     new: &mut EtaFile,
     c: u32,
     wish: u32,
+    words: &mut SparseWords,
     workspace: &mut SparseVector,
 ) -> Result<(), Stop>
     requires column { IsColumn old.now.matrix c }
@@ -98,7 +100,7 @@ fn enter(
     if new.is_basic(k) {
         return Ok(());
     }
-    if let Err(stop) = new.direction(k, workspace) {
+    if let Err(stop) = new.direction(k, words, workspace) {
         return Err(kept(stop));
     }
     let p = leaver(old, new, workspace.values(), wish);
@@ -111,6 +113,7 @@ fn enter_in_order(
     old: &EtaFile,
     new: &mut EtaFile,
     order: &[Entering],
+    words: &mut SparseWords,
     workspace: &mut SparseVector,
 ) -> Result<(), Stop>
     requires places { length workspace.old ≡ size old.now.matrix }
@@ -123,14 +126,14 @@ fn enter_in_order(
     let cols = old.size() - old.rows();
     for entering in order {
         if entering.column >= 1 && entering.column <= cols {
-            enter(old, new, entering.column, entering.row, workspace)?;
+            enter(old, new, entering.column, entering.row, words, workspace)?;
         }
     }
     Ok(())
 }
 
 /// A new file for the basics of this one. Where the order left a column out, it enters at the end.
-pub fn rebuild(old: &EtaFile) -> Result<EtaFile, Stop>
+pub fn rebuild(old: &EtaFile, words: &mut SparseWords) -> Result<EtaFile, Stop>
     ensures remade { IfOk result (IsRemade old.now) }
     ensures refused { IfErr result
         (λ stop. IfOverflow stop (KeptRefused old.now.matrix old.now.basics)) }
@@ -140,9 +143,9 @@ pub fn rebuild(old: &EtaFile) -> Result<EtaFile, Stop>
     let mut new = old.at_rows()?;
     let order = entering_order(old)?;
     let mut workspace = SparseVector::zeros(old.alloc(), size as usize)?;
-    enter_in_order(old, &mut new, &order, &mut workspace)?;
+    enter_in_order(old, &mut new, &order, words, &mut workspace)?;
     for c in 0..size - rows {
-        enter(old, &mut new, c + 1, 0, &mut workspace)?;
+        enter(old, &mut new, c + 1, 0, words, &mut workspace)?;
     }
     let _new_size = new.size();
     Ok(new)
