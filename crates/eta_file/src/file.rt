@@ -493,8 +493,8 @@ impl EtaFile {
     ) -> Result<(), Stop>
         requires nonbasic { IsNonbasic self.now.matrix self.now.basics j }
         requires words { length words.old ≡ size self.now.matrix }
-        ensures words { length words.new ≡ length words.old }
         requires places { length out.old ≡ size self.now.matrix }
+        ensures words { length words.new ≡ length words.old }
         ensures direction { OnOk result (IsDirectionOf self.now.matrix self.now.basics j
             (value_at out.new)) }
         ensures places { OnOk result (length out.new ≡ size self.now.matrix) }
