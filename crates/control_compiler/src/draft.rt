@@ -1,5 +1,6 @@
 // A program while its cards are read: labels still stand for positions.
 ghost use Rattle.std.specs.Prelude.{◌≡◌, ◌+◌, ◌≤◌, ◌++◌, List, ℕ, All, length, map, bytes_eq, is_some, false, option_to_list, OnOk, IfErr};
+ghost use Rattle.control_definitions.specs.declared.TheConstants.{MAX_STATEMENTS};
 ghost use Rattle.control_verbs.specs.Shown.{shown, statement_shown, IsLawful};
 ghost use Rattle.control_compiler.specs.Cards.{placed, statement_said};
 ghost use Rattle.control_compiler.specs.declared.stop.CompileStop.TheVariants.{NoMemory};
@@ -71,7 +72,7 @@ impl Draft {
 
     /// Takes one more card of the program, and tells whether it is PEND.
     pub fn take(&mut self, number: u32, card: &[u8]) -> Result<bool, CompileStop>
-        requires { length self.old.statements.items ≤ 5000 }
+        requires { length self.old.statements.items ≤ MAX_STATEMENTS }
         ensures { (cards : List Card) → IsAfter cards self.old → length cards ≡ length
             self.old.statements.items + 1 → Takes result cards
             (record { number = number; bytes = card.now }) self.new }

@@ -52,7 +52,7 @@ pub fn number_in(argument: &[u8]) -> Option<Frac>
 #[tactic(auto, using(crate::proofs::Steps::steps_allowed))]
 fn steps_in(value: Frac) -> Option<u32>
     ensures steps { result ≡ steps_of value.numerator value.denominator }
-    ensures at_most { IfSome result (λ steps. steps ≤ 1000000) }
+    ensures at_most { IfSome result (λ steps. steps ≤ MAX_STEPS) }
 {
     if value.den() == 1 && value.num() >= 0 && value.num() <= MAX_STEPS as i128 {
         Some(value.num() as u32)
@@ -64,7 +64,7 @@ fn steps_in(value: Frac) -> Option<u32>
 // A number of steps, at most 1,000,000.
 fn steps_argument(argument: &[u8]) -> Option<u32>
     ensures steps { result ≡ steps_argument argument.now }
-    ensures at_most { IfSome result (λ steps. steps ≤ 1000000) }
+    ensures at_most { IfSome result (λ steps. steps ≤ MAX_STEPS) }
 {
     steps_in(number_in(argument)?)
 }
@@ -72,7 +72,7 @@ fn steps_argument(argument: &[u8]) -> Option<u32>
 /// A limit on steps: a number of them, at most 1,000,000, or none, which is said by the text 'NONE'.
 pub fn limit_in(argument: &[u8]) -> Option<Option<u32>>
     ensures limit { result ≡ limit_argument argument.now }
-    ensures at_most { IfSome result (λ limit. IfSome limit (λ steps. steps ≤ 1000000)) }
+    ensures at_most { IfSome result (λ limit. IfSome limit (λ steps. steps ≤ MAX_STEPS)) }
 {
     if argument == b"'NONE'".as_slice() {
         return Some(None);
@@ -85,7 +85,8 @@ pub fn limit_in(argument: &[u8]) -> Option<Option<u32>>
 fn has_label_bytes(text: &[u8]) -> bool
     ensures { result ≡ list_all is_label_byte text.now }
 {
-    text.iter().all(|byte| 48 <= *byte && *byte <= 57 || 65 <= *byte && *byte <= 90)
+    text.iter()
+        .all(|byte| byte.is_ascii_digit() || byte.is_ascii_uppercase())
 }
 
 /// Whether a text has the form of a label.

@@ -27,6 +27,7 @@ pub struct Cells {
 impl Model for Cells {
     ghost use Rattle.std.specs.Prelude.{◌≤◌};
     ghost use Rattle.std.specs.Option.{ForSome};
+    ghost use Rattle.control_definitions.specs.declared.TheConstants.{MAX_STEPS};
     ghost use Rattle.control_definitions.specs.Cells.{Cells as Values};
 
     ghost Value = { Values };
@@ -46,7 +47,7 @@ impl Model for Cells {
       xdounb = c.xdounb;
     } };
 
-    ghost invariant = { λ c. ForSome c.xiterlim (λ steps. steps ≤ 1000000) };
+    ghost invariant = { λ c. ForSome c.xiterlim (λ steps. steps ≤ MAX_STEPS) };
 
     ghost inverse = { λ v. record {
       xdata = v.xdata;
@@ -114,7 +115,7 @@ impl Cells {
 
     /// Moves the number of steps that one verb may take, at most 1,000,000, or that there is no limit.
     pub fn move_limit(&mut self, limit: Option<u32>)
-        requires { IfSome limit (λ steps. steps ≤ 1000000) }
+        requires { IfSome limit (λ steps. steps ≤ MAX_STEPS) }
         ensures { self.new ≡ move_limit limit self.old }
     {
         self.xiterlim = limit;
@@ -162,7 +163,7 @@ impl Cells {
     /// The number of steps that one verb may take, or none where there is no limit.
     pub fn limit(&self) -> Option<u32>
         ensures limit { result ≡ self.now.xiterlim }
-        ensures at_most { IfSome result (λ steps. steps ≤ 1000000) }
+        ensures at_most { IfSome result (λ steps. steps ≤ MAX_STEPS) }
     {
         self.xiterlim
     }
@@ -170,7 +171,7 @@ impl Cells {
     /// The number of steps that a verb may take which always has a limit: 1,000,000 where there is none.
     pub fn steps_allowed(&self) -> u32
         ensures steps { result ≡ steps_allowed self.now }
-        ensures at_most { result ≤ 1000000 }
+        ensures at_most { result ≤ MAX_STEPS }
     {
         self.xiterlim.unwrap_or(MAX_STEPS)
     }

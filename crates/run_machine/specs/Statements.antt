@@ -6,6 +6,7 @@
 use Rattle.std.specs.Prelude.{◌≡◌, ℕ, ◌≤◌, List, [], Option, Result, Ok, Err, IfSome}
 use Rattle.job_devices.specs.declared.device.WriteStop.{WriteStop}
 use Rattle.job_devices.specs.Text.{Writes}
+use Rattle.control_definitions.specs.declared.TheConstants.{MAX_STEPS}
 use Rattle.control_definitions.specs.Program.{Verb, MoveLimit, Mvadr, Goto}
 use Rattle.problem_file.specs.Filed.{Filed}
 use Rattle.run_definitions.specs.State.{Present, State}
@@ -19,9 +20,9 @@ use Rattle.run_machine.specs.declared.machine.Machine.{Machine}
 use Rattle.run_machine.specs.Ends.{end_shown}
 use Rattle.run_machine.specs.Standing.{Stands}
 
--- positions count from 1, and a verb may be allowed 1,000,000 steps
+-- positions count from 1, and a verb may be allowed MAX_STEPS steps
 abbrev pub IsSoundVerb : Verb ℕ → Type 0
-IsSoundVerb (MoveLimit limit) = IfSome limit (λ steps. steps ≤ 1000000)
+IsSoundVerb (MoveLimit limit) = IfSome limit (λ steps. steps ≤ MAX_STEPS)
 IsSoundVerb (Mvadr demand position) = 1 ≤ position
 IsSoundVerb (Goto position) = 1 ≤ position
 IsSoundVerb _ = Unit {0}
