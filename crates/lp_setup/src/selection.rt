@@ -54,35 +54,37 @@ fn all_limits(
     Ok(limits)
 }
 
-/// The linear program of an objective row and of the items of the sets that apply.
-fn program(
-    alloc: Global,
-    problem: &Problem,
+/// What a choice selects of a problem: the number of the objective row, the items of the sets that apply, and the sense.
+#[derive(Clone, Copy)]
+struct Selection<'a> {
     objective: u32,
-    rhs: &[DeckEntry],
-    ranges: &[DeckEntry],
-    bounds: &[BoundItem],
+    rhs: &'a [DeckEntry],
+    ranges: &'a [DeckEntry],
+    bounds: &'a [BoundItem],
     sense: Sense,
-) -> Result<Lp, Stop>
-    requires lawful { IsLinearProgram (program_with problem.now objective rhs.now ranges.now
-        bounds.now sense) }
-    requires side { AreEntries (length problem.now.rows) rhs.now }
-    requires range { AreEntries (length problem.now.rows) ranges.now }
-    requires bound { AreBounds (length problem.now.columns) bounds.now }
-    ensures program { IfOk result (λ lp. lp ≡ program_with problem.now objective rhs.now ranges.now
-        bounds.now sense) }
+}
+
+/// The linear program of what is selected of a problem.
+fn program(alloc: Global, problem: &Problem, selection: Selection<'_>) -> Result<Lp, Stop>
+    requires lawful { IsLinearProgram (program_with problem.now selection.objective selection.rhs.now
+        selection.ranges.now selection.bounds.now selection.sense) }
+    requires side { AreEntries (length problem.now.rows) selection.rhs.now }
+    requires range { AreEntries (length problem.now.rows) selection.ranges.now }
+    requires bound { AreBounds (length problem.now.columns) selection.bounds.now }
+    ensures program { IfOk result (λ lp. lp ≡ program_with problem.now selection.entry.objective
+        selection.entry.rhs.now selection.entry.ranges.now selection.entry.bounds.now selection.entry.sense) }
     ensures limits_made { IfOk result
-        (λ _. AreRowsMade problem.now.rows (by_number (side_on rhs.now) (length problem.now.rows))
-        (by_number (value_on ranges.now) (length problem.now.rows)) (length problem.now.rows)) }
+        (λ _. AreRowsMade problem.now.rows (by_number (side_on selection.entry.rhs.now) (length problem.now.rows))
+        (by_number (value_on selection.entry.ranges.now) (length problem.now.rows)) (length problem.now.rows)) }
     ensures columns_made { IfOk result (λ _. AreColumnsMade problem.now.rows problem.now.columns
         (length problem.now.columns)) }
     ensures overflow { IfErr result (IsProgramOverflow problem.now
-        (by_number (side_on rhs.now) (length problem.now.rows))
-        (by_number (value_on ranges.now) (length problem.now.rows))) }
+        (by_number (side_on selection.entry.rhs.now) (length problem.now.rows))
+        (by_number (value_on selection.entry.ranges.now) (length problem.now.rows))) }
 {
     let rows = problem.rows();
-    let sides = right_hand_sides(alloc, rows.len(), rhs)?;
-    let limits = all_limits(alloc, problem, &sides, ranges, bounds)?;
+    let sides = right_hand_sides(alloc, rows.len(), selection.rhs)?;
+    let limits = all_limits(alloc, problem, &sides, selection.ranges, selection.bounds)?;
     let columns = matrix_columns(alloc, rows, problem.columns())?;
     let lower = lower_limits(alloc, &limits)?;
     let upper = upper_limits(alloc, &limits)?;
@@ -93,9 +95,9 @@ fn program(
         lower,
         upper,
         rhs: sides,
-        objective,
+        objective: selection.objective,
         change: None,
-        sense,
+        sense: selection.sense,
     })
 }
 
@@ -128,15 +130,14 @@ pub fn select(alloc: Global, problem: &Problem, choice: &Choice) -> Result<Lp, S
     let Some(bounds) = bound_items(problem.bounds(), options.bound) else {
         return Err(SelectStop::NoBoundSet);
     };
-    match program(
-        alloc,
-        problem,
+    let selection = Selection {
         objective,
         rhs,
         ranges,
         bounds,
-        options.sense,
-    ) {
+        sense: options.sense,
+    };
+    match program(alloc, problem, selection) {
         Ok(lp) => Ok(lp),
         Err(Stop::Overflow(evidence)) => Err(SelectStop::Overflow(evidence)),
         Err(Stop::NoMemory) => Err(SelectStop::NoMemory),
