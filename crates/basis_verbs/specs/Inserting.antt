@@ -72,7 +72,7 @@ module _ (problem : Problem ℕ) (lp : LinearProgram) (wanted : Option Name) (fr
       ((deck : List Card) × (rest : List (List Card)) × (fault : DeckFault) × (deck_taken wanted (decks_of from) ≡ Some (deck, rest)) × (basis_reading problem lp deck ≡ Err fault) × (end ≡ ends.Deck fault))
 
 abbrev pub IsGiven : ℕ → Problem ℕ → LinearProgram → Option Name → List Card → List (List ℕ) → Result Given Halt → Type 0
-IsGiven card problem lp wanted from cards (Ok (given.Basis s deck)) = IsBasisOf problem lp wanted from cards s deck.first deck.last
+IsGiven card problem lp wanted from cards (Ok (given.Basis read)) = IsBasisOf problem lp wanted from cards read.basis read.deck.first read.deck.last
 IsGiven card problem lp wanted from cards (Ok (given.Ends end)) = IsDeckEnd problem lp wanted from cards card end
 IsGiven card problem lp wanted from cards (Err h) = h ≡ halt.NoMemory
 

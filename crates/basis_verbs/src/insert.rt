@@ -31,17 +31,31 @@ use name_table::Name;
 use problem_file::{Problem, ProblemFile};
 use report_text::{Report, text_of};
 use run_machine::{
-    Act, End, Halt, Machine, Refusal, SingularBasis, present_choice, select_present,
+    Act, End, Halt, Machine, Refusal, SingularBasis, next_card, present_choice, select_present,
 };
 use run_setup::{Setup, place_at};
 use std::alloc::Global;
 use std::mem::replace;
 
+// Which deck is taken of the cards from this number on: the first of this name, or the first of all.
+#[derive(Clone, Copy)]
+struct WantedDeck {
+    from: u32,
+    name: Option<Name>,
+}
+
+// The status list of a basis, and the deck that stands for it.
+#[derive(Drop)]
+struct DeckBasis {
+    basis: Basis,
+    deck: Deck,
+}
+
 // What the deck that is taken gives.
 #[derive(Drop)]
 enum Given {
-    // The status list of a basis, and the deck that stands for it.
-    Basis { basis: Basis, deck: Deck },
+    // A basis.
+    Basis(DeckBasis),
     // The end of the run.
     Ends(End),
 }
@@ -66,30 +80,29 @@ enum Found<S> {
     Ends(End),
 }
 
-// Takes a deck of the cards from this number on, and reads it.
+// Takes the deck that is wanted, and reads it.
 fn take_basis(
     alloc: Global,
     problem: &Problem,
     lp: &Lp,
     cards: &Cards,
-    from: u32,
-    wanted: Option<Name>,
+    wanted: WantedDeck,
     card: u32,
 ) -> Result<Given, Halt>
     requires names { HasNames problem.now lp.now }
-    requires from_one { 1 ≤ from }
-    requires within { from ≤ length cards.now + 1 }
-    ensures { IsGiven card problem.now lp.now wanted (drop (from - 1) (numbered_cards cards.now))
-        cards.now result }
+    requires from_one { 1 ≤ wanted.from }
+    requires within { wanted.from ≤ length cards.now + 1 }
+    ensures { IsGiven card problem.now lp.now wanted.name
+        (drop (wanted.from - 1) (numbered_cards cards.now)) cards.now result }
 {
-    let Some(deck) = take_deck(cards, from, wanted) else {
+    let Some(deck) = take_deck(cards, wanted.from, wanted.name) else {
         return Ok(Given::Ends(End::Verb {
             fault: VerbFault::DeckNotFound,
             card,
         }));
     };
     match read_basis(alloc, problem, lp, cards, deck.first, deck.last) {
-        Ok(basis) => Ok(Given::Basis { basis, deck }),
+        Ok(basis) => Ok(Given::Basis(DeckBasis { basis, deck })),
         Err(DeckStop::Fault(fault)) => Ok(Given::Ends(End::Deck(fault))),
         Err(DeckStop::NoMemory) => Err(Halt::NoMemory),
     }
@@ -175,28 +188,29 @@ struct Selection {
     lp: Lp,
 }
 
-// Makes the rates of the basis of a deck, for a setup of whose problem this was selected.
+// Makes the rates of the basis that a deck gives, for a setup of whose problem this was selected.
 fn installed<E: Engine>(
     alloc: Global,
     setup: &Setup<E>,
     selection: Selection,
-    basis: Basis,
-    deck: Deck,
+    given: DeckBasis,
     cards: &Cards,
     card: u32,
 ) -> Result<Found<Setup<E>>, Halt>
-    requires basis { IsBasis selection.lp basis }
-    requires from_one { 1 ≤ deck.first }
-    requires ordered { deck.first ≤ deck.last }
-    requires within { deck.last ≤ length cards.now }
-    ensures { IsInstalledFor card setup.now selection.choice selection.lp basis deck.first deck.last cards.now result }
+    requires basis { IsBasis selection.lp given.basis }
+    requires from_one { 1 ≤ given.deck.first }
+    requires ordered { given.deck.first ≤ given.deck.last }
+    requires within { given.deck.last ≤ length cards.now }
+    ensures { IsInstalledFor card setup.now selection.choice selection.lp given.basis
+        given.deck.first given.deck.last cards.now result }
 {
     let Selection { choice, lp } = selection;
+    let DeckBasis { basis, deck } = given;
     match install(alloc, &lp, &basis) {
         Ok(engine) => {
             let name = problem_name(cards, deck.first, deck.last, None);
             let basic = basic_count(&lp, &basis);
-            let _count = cards.count();
+            let next = next_card(cards, deck.last);
             let setup = Setup {
                 name: setup.name,
                 options: setup.options,
@@ -210,7 +224,7 @@ fn installed<E: Engine>(
                 setup,
                 deck: name,
                 basic,
-                next: deck.last + 1,
+                next,
             })
         }
         Err(InstallStop::Singular(dependency)) => Ok(Found::Singular {
@@ -249,13 +263,17 @@ fn find_basis<E: Engine>(
         Ok(lp) => lp,
         Err(refusal) => return ended(refusal, card),
     };
-    let wanted = machine.cells.name(NameCell::Xdata);
-    let given = take_basis(alloc, problem, &lp, cards, machine.decks_from, wanted, card)?;
+    let name = machine.cells.name(NameCell::Xdata);
+    let wanted = WantedDeck {
+        from: machine.decks_from,
+        name,
+    };
+    let given = take_basis(alloc, problem, &lp, cards, wanted, card)?;
     match given {
-        Given::Basis { basis, deck } => {
+        Given::Basis(basis) => {
             let choice = present_choice(&machine.cells, setup.options);
             let selection = Selection { choice, lp };
-            installed(alloc, setup, selection, basis, deck, cards, card)
+            installed(alloc, setup, selection, basis, cards, card)
         }
         Given::Ends(end) => Ok(Found::Ends(end)),
     }

@@ -66,16 +66,19 @@ struct Selection<'a> {
 
 /// The linear program of what is selected of a problem.
 fn program(alloc: Global, problem: &Problem, selection: Selection<'_>) -> Result<Lp, Stop>
-    requires lawful { IsLinearProgram (program_with problem.now selection.objective selection.rhs.now
-        selection.ranges.now selection.bounds.now selection.sense) }
+    requires lawful { IsLinearProgram (program_with problem.now selection.objective
+        selection.rhs.now selection.ranges.now selection.bounds.now selection.sense) }
     requires side { AreEntries (length problem.now.rows) selection.rhs.now }
     requires range { AreEntries (length problem.now.rows) selection.ranges.now }
     requires bound { AreBounds (length problem.now.columns) selection.bounds.now }
     ensures program { IfOk result (λ lp. lp ≡ program_with problem.now selection.entry.objective
-        selection.entry.rhs.now selection.entry.ranges.now selection.entry.bounds.now selection.entry.sense) }
+        selection.entry.rhs.now selection.entry.ranges.now selection.entry.bounds.now
+        selection.entry.sense) }
     ensures limits_made { IfOk result
-        (λ _. AreRowsMade problem.now.rows (by_number (side_on selection.entry.rhs.now) (length problem.now.rows))
-        (by_number (value_on selection.entry.ranges.now) (length problem.now.rows)) (length problem.now.rows)) }
+        (λ _. AreRowsMade problem.now.rows
+        (by_number (side_on selection.entry.rhs.now) (length problem.now.rows))
+        (by_number (value_on selection.entry.ranges.now) (length problem.now.rows))
+        (length problem.now.rows)) }
     ensures columns_made { IfOk result (λ _. AreColumnsMade problem.now.rows problem.now.columns
         (length problem.now.columns)) }
     ensures overflow { IfErr result (IsProgramOverflow problem.now

@@ -24,3 +24,4 @@ pub use finding::{Finding, act_of, mark_left, refused};
 pub use kept::Kept;
 pub use machine::{Machine, wanted_name};
 pub use selecting::{Refusal, present_choice, select_present, setup_choice};
+pub use taking::next_card;

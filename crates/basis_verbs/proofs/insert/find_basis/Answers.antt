@@ -28,10 +28,10 @@ take_basis-requires-clause-names g c = record {
 pub returns-in-Basis : goal.returns-in-Basis
 returns-in-Basis g c =
     basis_found c.args.card c.args.cards.now c.args.machine.now _ (c.in-Some.is ∙ ap Some (sym c.setup.view_is)) c.in-Some-get.problem.now (sym c.in-Some-get.ensures)
-    c.in-Ok.lp c.in-Ok.ensures.selected c.name-wanted.result c.name-wanted.ensures (ready_of c.args.machine.now.file c.args.machine.now.setup _ (c.in-Some.is ∙ ap Some (sym c.setup.view_is)) c.requires.ready) c.in-Basis.basis c.in-Basis.deck.first c.in-Basis.deck.last (subst (IsGiven c.args.card c.in-Some-get.problem.now c.in-Ok.lp c.name-wanted.result (drop (c.args.machine.now.decks_from - 1) (numbered_cards c.args.cards.now)) c.args.cards.now) (ap Ok c.in-Basis.is) c.in_ok-given.ensures) c.present_choice-choice.result c.present_choice-choice.ensures c.installed.result
-    (subst (λ (s : Setup). IsInstalledFor c.args.card s c.present_choice-choice.result c.in-Ok.lp c.in-Basis.basis c.in-Basis.deck.first c.in-Basis.deck.last c.args.cards.now c.installed.result) (sym c.setup.view_is) c.installed.ensures)
+    c.in-Ok.lp c.in-Ok.ensures.selected c.name-name.result c.name-name.ensures (ready_of c.args.machine.now.file c.args.machine.now.setup _ (c.in-Some.is ∙ ap Some (sym c.setup.view_is)) c.requires.ready) c.in-Basis.basis.basis c.in-Basis.basis.deck.first c.in-Basis.basis.deck.last (subst (IsGiven c.args.card c.in-Some-get.problem.now c.in-Ok.lp c.name-name.result (drop (c.args.machine.now.decks_from - 1) (numbered_cards c.args.cards.now)) c.args.cards.now) (ap Ok c.in-Basis.is) c.in_ok-given.ensures) c.present_choice-choice.result c.present_choice-choice.ensures c.installed.result
+    (subst (λ (s : Setup). IsInstalledFor c.args.card s c.present_choice-choice.result c.in-Ok.lp c.in-Basis.basis.basis c.in-Basis.basis.deck.first c.in-Basis.basis.deck.last c.args.cards.now c.installed.result) (sym c.setup.view_is) c.installed.ensures)
 
 pub returns-in-Ends : goal.returns-in-Ends
 returns-in-Ends g c =
     deck_ends c.args.card c.args.cards.now c.args.machine.now _ (c.in-Some.is ∙ ap Some (sym c.setup.view_is)) c.in-Some-get.problem.now (sym c.in-Some-get.ensures)
-    c.in-Ok.lp c.in-Ok.ensures.selected c.name-wanted.result c.name-wanted.ensures c.in-Ends.end (subst (IsGiven c.args.card c.in-Some-get.problem.now c.in-Ok.lp c.name-wanted.result (drop (c.args.machine.now.decks_from - 1) (numbered_cards c.args.cards.now)) c.args.cards.now) (ap Ok c.in-Ends.is) c.in_ok-given.ensures)
+    c.in-Ok.lp c.in-Ok.ensures.selected c.name-name.result c.name-name.ensures c.in-Ends.end (subst (IsGiven c.args.card c.in-Some-get.problem.now c.in-Ok.lp c.name-name.result (drop (c.args.machine.now.decks_from - 1) (numbered_cards c.args.cards.now)) c.args.cards.now) (ap Ok c.in-Ends.is) c.in_ok-given.ensures)

@@ -20,13 +20,13 @@ returns-in-Ok g c = record {
   within = c.in-Ok.ensures.within;
   is_deck = c.problem_name-name.ensures.name;
   is_basic = c.basic_count-basic.ensures;
-  is_next = refl;
+  is_next = c.next_card-next.ensures;
 }
 
 pub returns-in-Err-Singular : goal.returns-in-Err-Singular
 returns-in-Err-Singular g c =
-    let stops = subst (InstallStops g.E.Rates.matrix g.E.Rates.basics g.E.Rates.waypoints c.args.selection.lp c.args.basis) c.in-Err-Singular.field-0-is c.in-Err-Singular.ensures.stops in
-    subst (λ (d : List ℚ). IsSingularFor c.args.card c.args.setup.now c.args.selection.choice c.args.selection.lp c.args.basis c.args.deck.first c.args.deck.last c.args.cards.now c.setup.inside.name c.args.selection.lp d) (sym c.in-Err-Singular.dependency-is) (record {
+    let stops = subst (InstallStops g.E.Rates.matrix g.E.Rates.basics g.E.Rates.waypoints c.args.selection.lp c.args.given.basis) c.in-Err-Singular.field-0-is c.in-Err-Singular.ensures.stops in
+    subst (λ (d : List ℚ). IsSingularFor c.args.card c.args.setup.now c.args.selection.choice c.args.selection.lp c.args.given.basis c.args.given.deck.first c.args.given.deck.last c.args.cards.now c.setup.inside.name c.args.selection.lp d) (sym c.in-Err-Singular.dependency-is) (record {
       same_name = ap (λ (s : Setup). s.name) c.setup.view_is;
       same_lp = refl;
       full = stops.0;
@@ -36,7 +36,7 @@ returns-in-Err-Singular g c =
 
 pub returns-in-Ok-overflow_end : goal.returns-in-Ok-overflow_end
 returns-in-Ok-overflow_end g c =
-    let stops = subst (InstallStops g.E.Rates.matrix g.E.Rates.basics g.E.Rates.waypoints c.args.selection.lp c.args.basis) c.in-Err-Overflow.field-0-is c.in-Err-Overflow.ensures.stops in
+    let stops = subst (InstallStops g.E.Rates.matrix g.E.Rates.basics g.E.Rates.waypoints c.args.selection.lp c.args.given.basis) c.in-Err-Overflow.field-0-is c.in-Err-Overflow.ensures.stops in
     record {
       evidence = c.in-Err-Overflow.evidence;
       way = waypoint (g.E.Rates.basics c.in-Err-Overflow.engine) (g.E.Rates.waypoints c.in-Err-Overflow.engine) c.in-Err-Overflow.evidence.way;
