@@ -100,9 +100,9 @@ module _ (high : Bool) (b : Bound) (apart : b.slope ≢ zero_ℚ) (side : high �
   }
 
   pub made_end : (kept : Option End) (present : End) → kept ≡ Some present → (made : End) → made ≡ end_of b → (test : Bool) → test ≡ false → (IsOnSide high made.value present.value → test ≡ true) → IsNearer high b kept (Some made)
-  made_end kept present is made made_is test fails told =
+  made_end kept present is made made_is test fails reported =
       subst₂ (λ k m. IsNearer high b k (Some m)) (sym is) (sym made_is)
-      (made_there present (subst (λ (m : End). IsOnSide high present.value m.value) made_is (side_total high present.value made.value (λ h. both_ways _ fails (told h)))))
+      (made_there present (subst (λ (m : End). IsOnSide high present.value m.value) made_is (side_total high present.value made.value (λ h. both_ways _ fails (reported h)))))
 
 -- ---- an interval
 

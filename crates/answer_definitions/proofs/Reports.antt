@@ -17,9 +17,9 @@ use Rattle.deck_definitions.specs.Conversion.{card_fault, deck_fault, conversion
 use Rattle.listing_definitions.specs.Numbers.{digits}
 use Rattle.listing_definitions.specs.Report.{Ranges, Parametric}
 use Rattle.listing_definitions.specs.Text.{report_text}
-use Rattle.question_definitions.specs.Answers.{Basis, Sheet, Changing, Row, Set, changing_name, sweeper}
+use Rattle.question_definitions.specs.Answers.{Basis, Sheet, Changing, Row, Set, changing_name, parametric_solver}
 use Rattle.answer_definitions.specs.Sections.{range_lines}
-use Rattle.answer_definitions.specs.Sweeps.{sheet_at, interval_of, end_of}
+use Rattle.answer_definitions.specs.ParametricRuns.{sheet_at, interval_of, end_of}
 use Rattle.answer_definitions.proofs.Rows.{sheet_of}
 
 ends : ℕ → Option ℚ → Option ℚ → Ends
@@ -34,7 +34,7 @@ range_text (Some sheet) s report = report_text (Ranges (range_lines sheet s (tab
 chain_text : Option Sheet → Changing → ℚ → ℚ → List Part → ChainEnd → List ℕ
 chain_text None changing from to parts end = []
 chain_text (Some sheet) changing from to parts end =
-    report_text (Parametric (sweeper changing) (record {
+    report_text (Parametric (parametric_solver changing) (record {
       from = from;
       change = changing_name changing;
       intervals = map (interval_of (sheet_at sheet changing from)) parts;

@@ -1,7 +1,7 @@
 pub mod Lines
 pub mod Verdicts
 pub mod Sections
-pub mod Sweeps
+pub mod ParametricRuns
 pub mod Bases
 pub mod Evidence
 pub mod Real

@@ -1,5 +1,5 @@
 -- What SOLUTION and RANGE print of a basis.
---     IsShown sheet s lines        the lines of SOLUTION
+--     IsSolutionOf sheet s lines        the lines of SOLUTION
 --     IsRanged sheet s lines       the lines of RANGE
 use Rattle.std.specs.Prelude.{◌≡◌, ℕ, ◌-◌, not, ◌&&◌, List, [], ◌∷◌, ◌++◌, Some, None, filter, find, nat_eq}
 use Rattle.exact_values.specs.Rational.{◌-ℚ◌}
@@ -32,7 +32,7 @@ module _ (sheet : Sheet) (s : Basis) (t : Tableau) where
   abbrev pub solution_lines : SolutionLines
   solution_lines = record { rows = lines_of sheet solution_row (row_numbers p); columns = lines_of sheet solution_column (column_numbers p) }
 
-pub record IsShown (sheet : Sheet) (s : Basis) (lines : SolutionLines) : Type 0 where
+pub record IsSolutionOf (sheet : Sheet) (s : Basis) (lines : SolutionLines) : Type 0 where
   pub tableau : Tableau
   pub is_tableau : IsTableau sheet.lp s tableau
   pub are_lines : lines ≡ solution_lines sheet s tableau

@@ -3,10 +3,10 @@ use crate::jobs::JOBS;
 use crate::listings::{Listing, answer_to, first_other};
 use crate::plans::{BLANKS, STORE, TESTPROB, TIES, TWO_SOLUTIONS};
 use crate::refused::{FAR_POINT, GREAT, RANGE_AFTER_PRIMAL, RANGE_REFUSED};
-use crate::sweeps::{
+use crate::parametric_runs::{
     INFEASIBLE_PAST, LAMPS, MILK, RHS_INTERVALS, RHS_POINT, TWO_INTERVALS, UNBOUNDED_OPENING,
 };
-use crate::verdicts::{CONFLICT, ENDLESS, INFEASIBLE};
+use crate::verdicts::{CONFLICT, UNBOUNDED, INFEASIBLE};
 use std::alloc::Global;
 use std::test::Fail;
 
@@ -38,7 +38,7 @@ fn plans_are_attested(rt: HostRuntime) -> Result<(), Fail> {
 #[test]
 fn verdicts_are_attested(rt: HostRuntime) -> Result<(), Fail> {
     assert_eq!(rt;
-        first_wrong(rt.alloc(), &[&CONFLICT, &INFEASIBLE, &ENDLESS])?,
+        first_wrong(rt.alloc(), &[&CONFLICT, &INFEASIBLE, &UNBOUNDED])?,
         None
     );
     Ok(())
@@ -65,7 +65,7 @@ fn parametric_runs_are_attested(rt: HostRuntime) -> Result<(), Fail> {
 }
 
 #[test]
-fn refused_operations_are_told(rt: HostRuntime) -> Result<(), Fail> {
+fn refused_operations_are_reported(rt: HostRuntime) -> Result<(), Fail> {
     assert_eq!(rt;
         first_wrong(
             rt.alloc(),

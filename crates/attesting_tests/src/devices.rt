@@ -30,9 +30,9 @@ fn in_pieces(
     )
 }
 
-// A read that fails is told, the job's before the listing's; and where the print fails as well, that is.
+// A read that fails is reported, the job's before the listing's; and where the print fails as well, that is.
 #[test]
-fn a_read_that_fails_is_told(rt: HostRuntime) -> Result<(), Fail> {
+fn a_read_that_fails_is_reported(rt: HostRuntime) -> Result<(), Fail> {
     let cases: [(&[u64], &[u64], &[u64], u8, &[u8]); 8] = [
         (&[1], &[], &[], 24, READ_FAULT),
         (&[2], &[1], &[], 24, READ_FAULT),

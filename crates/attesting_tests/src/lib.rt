@@ -16,6 +16,6 @@ mod plans;
 #[cfg(test)]
 mod refused;
 #[cfg(test)]
-mod sweeps;
+mod parametric_runs;
 #[cfg(test)]
 mod verdicts;

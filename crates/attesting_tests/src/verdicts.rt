@@ -125,7 +125,7 @@ pub const INFEASIBLE: Listing = Listing {
 };
 
 /// A profit without a bound.
-pub const ENDLESS: Listing = Listing {
+pub const UNBOUNDED: Listing = Listing {
     name: "endless",
     job: b"* A row was forgotten: nothing limits what is sold, so the profit has no bound.\n* It shows a direction along which the profit grows for ever.\n         PROGRAM\n         TITLE('A ROW IS MISSING')\n         CONVERT\n         SETUP('MAX')\n         PRIMAL\n         SOLUTION\n         EXIT\n         PEND\nNAME          ENDLESS\nROWS\n N  PROFIT\n L  MILLING\nCOLUMNS\n    BUY       PROFIT    -3             MILLING   -1\n    SELL      PROFIT    5              MILLING   1\nRHS\n    DAY       MILLING   40\nENDATA\n",
     text: b"TITLE A ROW IS MISSING\nCONVERT ENDLESS  ROWS 2 COLUMNS 2 ENTRIES 4\nSETUP   ENDLESS  MAX\nPRIMAL UNBOUNDED STEPS 1 OBJECTIVE 200 CHECKED\n    1 PROFIT   200 2\n    2 MILLING  40 0\n    3 BUY      0 1\n    4 SELL     40 1\nEND 2\n",

@@ -1,6 +1,6 @@
 pub mod OnWay
 pub mod Punched
-pub mod Stuck
+pub mod Dependent
 mod Marks
 mod Named
 mod Variables

@@ -11,7 +11,7 @@ use Rattle.lp_definitions.specs.Waypoints.{HasColumnsWithin, IsKept, KeepsWaypoi
 use Rattle.lp_definitions.specs.RatesEvidence.{ExchangeRefused}
 use Rattle.lp_definitions.specs.declared.Evidence.{Evidence}
 use Rattle.lp_laws.proofs.Values.{clash}
-use Rattle.lp_laws.proofs.Exchange.{marked_is, enterer_in, others_stay, IsNonsingular-exchanged}
+use Rattle.lp_laws.proofs.Exchange.{marked_is, entering_in, others_stay, IsNonsingular-exchanged}
 use Rattle.lp_laws.proofs.Opening.{is_in-row_basics, IsNonsingular-row_basics}
 use Rattle.lp_laws.proofs.WaypointLaws.{Covers-all, covered, within_trans}
 use Rattle.lp_model.specs.RatesCalls.{HasPivot, IfOverflow}
@@ -20,7 +20,7 @@ use Rattle.lp_model.specs.declared.Stop.TheVariants as stops
 use Rattle.reinversion.proofs.Marks.{same_marks}
 use Rattle.basis_deck_definitions.specs.Dependencies.{IsDependency, InstallRefused}
 use Rattle.basis_deck.specs.Installing.{IsOnWay, IsUnderWay, IsLeaver, HasNoLeaver, RefusesWay, fill_stop, FillStops}
-use Rattle.basis_deck.proofs.Stuck.{stuck}
+use Rattle.basis_deck.proofs.Dependent.{dependent}
 
 -- ---- at the rows
 
@@ -114,7 +114,7 @@ module _ (a : Matrix) (b w : Basics) (ways : List Basics) (c : ℕ) (h : IsUnder
 
     -- no row may leave
     pub depends : HasNoLeaver a b xs → IsDependency a b c (value_at xs)
-    depends none = stuck a b w c (value_at xs) h.on_way column basic direction vanishes
+    depends none = dependent a b w c (value_at xs) h.on_way column basic direction vanishes
       where
         vanishes : (k : ℕ) → IsVariable a k → k ≤ a.rows → is_in b k ≡ false → is_in w k ≡ true → value_at xs k ≡ zero_ℚ
         vanishes k is low out inside = by (zero_or_not (value_at xs k))
@@ -160,7 +160,7 @@ module _ (a : Matrix) (b w : Basics) (ways : List Basics) (c : ℕ) (h : IsUnder
         where
           by : (k : ℕ) → IsVariable a k → a.rows < k → k < c + 1 → (((eqb k c ≡ true) × (k ≡ c)) ⊎ ((eqb k c ≡ false) × (k ≢ c))) → is_in (exchanged w p c) k ≡ is_in b k
           by k is past before (inl same) =
-              ap (is_in (exchanged w p c)) same.1 ∙ enterer_in a w h.on_way.nonsingular.counted p c leaves enters ∙ sym (ap (is_in b) same.1 ∙ basic.1)
+              ap (is_in (exchanged w p c)) same.1 ∙ entering_in a w h.on_way.nonsingular.counted p c leaves enters ∙ sym (ap (is_in b) same.1 ∙ basic.1)
           by k is past before (inr apart) =
               let not_p : k ≢ p = λ e. absurd (omega (arith, e, past, leaver.is_row.1)) in
               remains k is not_p apart.1 ∙ h.on_way.done k is past (omega (arith, before, apart.1))
@@ -223,14 +223,14 @@ same_basics a b w c counted marks all h =
 
 -- ---- one column of b, by an engine: its matrix is m, and then m'
 
-shown : (a : Matrix) (b : Basics) (xs : List ℚ) (after : Basics) (now : List Basics) (stop : Stop) (P : Evidence → Type 0) → ((e : Evidence) → P e → RefusesWay a b after now e) → IfOverflow stop P → FillStops a b xs after now (fill_stop stop)
-shown a b xs after now (stops.Overflow e) P gives refused = gives e refused
-shown a b xs after now stops.NoMemory P gives refused = tt
+viewed : (a : Matrix) (b : Basics) (xs : List ℚ) (after : Basics) (now : List Basics) (stop : Stop) (P : Evidence → Type 0) → ((e : Evidence) → P e → RefusesWay a b after now e) → IfOverflow stop P → FillStops a b xs after now (fill_stop stop)
+viewed a b xs after now (stops.Overflow e) P gives refused = gives e refused
+viewed a b xs after now stops.NoMemory P gives refused = tt
 
 module _ (a : Matrix) (b : Basics) (m : Matrix) (w : Basics) (ways : List Basics) (k : ℕ) (same_m : m ≡ a) (h : IsUnderWay a b w ways k) where
   pub column_stops : (xs : List ℚ) (after : Basics) (now : List Basics) (stop : Stop) → after ≡ w → KeepsWaypoints m w ways after now → IfOverflow stop (ExchangeRefused m (w ∷ ways) w now) → FillStops a b xs after now (fill_stop stop)
   column_stops xs after now stop same keeps refused =
-      shown a b xs after now stop (ExchangeRefused m (w ∷ ways) w now)
+      viewed a b xs after now stop (ExchangeRefused m (w ∷ ways) w now)
       (λ e r. column_refuses a b w ways k h after now e same (subst (λ m. KeepsWaypoints m w ways after now) same_m keeps) (subst (λ m. ExchangeRefused m (w ∷ ways) w now e) same_m r)) refused
 
   module _ (column : a.rows < k) (is : IsVariable a k) (mark : is_in b k ≡ true) (m' : Matrix) (w' : Basics) (mid : List Basics) (same_m' : m' ≡ m) (same_w' : w' ≡ w) (keeps : KeepsWaypoints m w ways w' mid)
@@ -256,6 +256,6 @@ module _ (a : Matrix) (b : Basics) (m : Matrix) (w : Basics) (ways : List Basics
 
       pub exchange_stops : (after : Basics) (now : List Basics) (stop : Stop) → after ≡ w' → KeepsWaypoints m' w' mid after now → IfOverflow stop (ExchangeRefused m' (w' ∷ exchanged w' p k ∷ mid) w' now) → FillStops a b xs after now (fill_stop stop)
       exchange_stops after now stop same kept refused =
-          shown a b xs after now stop (ExchangeRefused m' (w' ∷ exchanged w' p k ∷ mid) w' now)
+          viewed a b xs after now stop (ExchangeRefused m' (w' ∷ exchanged w' p k ∷ mid) w' now)
           (λ e r. exchange_refuses a b w' mid k after_column column (is, mark) xs at_w' p leaver after now e same (subst (λ m. KeepsWaypoints m w' mid after now) (same_m' ∙ same_m) kept)
           (subst (λ m. ExchangeRefused m (w' ∷ exchanged w' p k ∷ mid) w' now e) (same_m' ∙ same_m) r)) refused

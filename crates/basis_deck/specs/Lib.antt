@@ -1,4 +1,4 @@
 pub mod Installing
 pub mod Punching
 pub mod Reading
-pub mod Draft_shown
+pub mod Draft_view

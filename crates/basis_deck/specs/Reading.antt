@@ -90,7 +90,7 @@ state_with state card =
     if is_section_card card then record state { section = option_or (section_begun card) state.section }
     else with_data state (reading_of Fixed card)
 
--- a fault is what the deck gives, and memory may be wanted at any time
+-- a fault is what the deck gives, and memory may run out at any time
 abbrev pub Refuses : Problem ℕ → LinearProgram → List Card → DeckStop → Type 0
 Refuses problem lp deck (Fault fault) = basis_reading problem lp deck ≡ Err fault
 Refuses problem lp deck NoMemory = Unit {0}

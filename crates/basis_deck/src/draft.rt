@@ -51,17 +51,17 @@ impl<'a> BasisDraft<'a> {
     ghost use Rattle.card_definitions.specs.Fields.{Fixed, reading_of};
     ghost use Rattle.card_reader.specs.Card.{card_bytes};
     ghost use Rattle.problem_definitions.specs.Problem.{has_row, has_group};
-    ghost use Rattle.deck_cards.specs.Told.{TellsDeckFault};
-    ghost use Rattle.deck_cards.specs.Shown.{shown};
+    ghost use Rattle.deck_cards.specs.Reported.{ReportsDeckFault};
+    ghost use Rattle.deck_cards.specs.Views.{viewed};
     ghost use Rattle.basis_deck_definitions.specs.declared.Code.TheVariants.{Exchanges, Stands};
     ghost use Rattle.basis_deck_definitions.specs.Placings.{code_words, HasNames, row_variable, column_variable};
     ghost use Rattle.basis_deck.specs.Reading.{State, state_of, code_test, read_test, inner_test, fault_at, with_placing, with_code, with_read, with_data, state_with};
-    ghost use Rattle.basis_deck.specs.Draft_shown.{state_shown};
+    ghost use Rattle.basis_deck.specs.Draft_view.{state_view};
 
     /// A draft after no card: each variable stands as it opens.
     pub fn new(alloc: Global, problem: &'a Problem, lp: &'a Lp) -> Result<BasisDraft<'a>, NoMemory>
         requires { HasNames problem.now lp.now }
-        ensures { IfOk result (λ draft. state_shown draft ≡ state_of problem.now lp.now []) }
+        ensures { IfOk result (λ draft. state_view draft ≡ state_of problem.now lp.now []) }
     {
         let size = lp.number_of_variables() as usize;
         let rows = names_of_rows(alloc, problem.rows())?;
@@ -81,7 +81,7 @@ impl<'a> BasisDraft<'a> {
 
     /// The basis after the cards so far.
     pub fn into_basis(self) -> Basis
-        ensures { result ≡ (state_shown self.entry).statuses }
+        ensures { result ≡ (state_view self.entry).statuses }
     {
         let _size = self.lp.number_of_variables();
         Basis::of(self.statuses)
@@ -119,9 +119,9 @@ impl<'a> BasisDraft<'a> {
 
     // What a card with a code for an exchange says, or its fault.
     fn exchange_on(&self, card: &DataCard<'_>, to: Status) -> Result<Exchange, DeckFaultKind>
-        ensures fault { IfErr result (λ kind. code_test (state_shown self.now) (shown card.now)
+        ensures fault { IfErr result (λ kind. code_test (state_view self.now) (viewed card.now)
             (Exchanges to) ≡ Some kind) }
-        ensures no_fault { OnOk result (code_test (state_shown self.now) (shown card.now)
+        ensures no_fault { OnOk result (code_test (state_view self.now) (viewed card.now)
             (Exchanges to) ≡ None) }
         ensures column { IfOk result (λ e. e.column ≡ column_variable self.now.problem.now
             card.now.name1) }
@@ -150,9 +150,9 @@ impl<'a> BasisDraft<'a> {
 
     // The column that a card puts at this limit, or its fault.
     fn column_on(&self, card: &DataCard<'_>, at: Status) -> Result<u32, DeckFaultKind>
-        ensures fault { IfErr result (λ kind. code_test (state_shown self.now) (shown card.now)
+        ensures fault { IfErr result (λ kind. code_test (state_view self.now) (viewed card.now)
             (Stands at) ≡ Some kind) }
-        ensures no_fault { OnOk result (code_test (state_shown self.now) (shown card.now)
+        ensures no_fault { OnOk result (code_test (state_view self.now) (viewed card.now)
             (Stands at) ≡ None) }
         ensures column { IfOk result (λ k. k ≡ column_variable self.now.problem.now
             card.now.name1) }
@@ -176,7 +176,7 @@ impl<'a> BasisDraft<'a> {
     // Puts a variable where a card says.
     fn place(&mut self, k: u32, to: Status)
         requires { IsVariable self.old.lp.now.matrix k }
-        ensures { state_shown self.new ≡ with_placing (state_shown self.old)
+        ensures { state_view self.new ≡ with_placing (state_view self.old)
             (record { variable = k; status = to }) }
     {
         let place = k as usize - 1;
@@ -186,12 +186,12 @@ impl<'a> BasisDraft<'a> {
 
     // Takes a card with a code for an exchange.
     fn take_exchange(&mut self, card: &DataCard<'_>, to: Status) -> Result<(), CardStop>
-        ensures no_fault { OnOk result (code_test (state_shown self.old) (shown card.now)
+        ensures no_fault { OnOk result (code_test (state_view self.old) (viewed card.now)
             (Exchanges to) ≡ None) }
-        ensures step { OnOk result (state_shown self.new ≡ with_code (state_shown self.old)
-            (shown card.now) (Exchanges to)) }
-        ensures stop { IfErr result (TellsDeckFault (code_test (state_shown self.old)
-            (shown card.now) (Exchanges to))) }
+        ensures step { OnOk result (state_view self.new ≡ with_code (state_view self.old)
+            (viewed card.now) (Exchanges to)) }
+        ensures stop { IfErr result (ReportsDeckFault (code_test (state_view self.old)
+            (viewed card.now) (Exchanges to))) }
     {
         match self.exchange_on(card, to) {
             Ok(exchange) => {
@@ -205,12 +205,12 @@ impl<'a> BasisDraft<'a> {
 
     // Takes a card with a code for a limit.
     fn take_limit(&mut self, card: &DataCard<'_>, at: Status) -> Result<(), CardStop>
-        ensures no_fault { OnOk result (code_test (state_shown self.old) (shown card.now)
+        ensures no_fault { OnOk result (code_test (state_view self.old) (viewed card.now)
             (Stands at) ≡ None) }
-        ensures step { OnOk result (state_shown self.new ≡ with_code (state_shown self.old)
-            (shown card.now) (Stands at)) }
-        ensures stop { IfErr result (TellsDeckFault (code_test (state_shown self.old)
-            (shown card.now) (Stands at))) }
+        ensures step { OnOk result (state_view self.new ≡ with_code (state_view self.old)
+            (viewed card.now) (Stands at)) }
+        ensures stop { IfErr result (ReportsDeckFault (code_test (state_view self.old)
+            (viewed card.now) (Stands at))) }
     {
         match self.column_on(card, at) {
             Ok(column) => {
@@ -223,12 +223,12 @@ impl<'a> BasisDraft<'a> {
 
     // Takes what was read of a data card.
     fn take_read(&mut self, card: &DataCard<'_>) -> Result<(), CardStop>
-        ensures no_fault { OnOk result (read_test (state_shown self.old) (shown card.now)
+        ensures no_fault { OnOk result (read_test (state_view self.old) (viewed card.now)
             (named code_words card.now.kind.now) ≡ None) }
-        ensures step { OnOk result (state_shown self.new ≡ with_read (state_shown self.old)
-            (shown card.now) (named code_words card.now.kind.now)) }
-        ensures stop { IfErr result (TellsDeckFault (read_test (state_shown self.old)
-            (shown card.now) (named code_words card.now.kind.now))) }
+        ensures step { OnOk result (state_view self.new ≡ with_read (state_view self.old)
+            (viewed card.now) (named code_words card.now.kind.now)) }
+        ensures stop { IfErr result (ReportsDeckFault (read_test (state_view self.old)
+            (viewed card.now) (named code_words card.now.kind.now))) }
     {
         match code_named(card.kind) {
             Some(Code::Exchanges(to)) => self.take_exchange(card, to),
@@ -239,11 +239,11 @@ impl<'a> BasisDraft<'a> {
 
     // Takes a data card.
     fn take_data(&mut self, card: Card<'_>) -> Result<(), CardStop>
-        ensures no_fault { OnOk result (inner_test (state_shown self.old)
+        ensures no_fault { OnOk result (inner_test (state_view self.old)
             (card_bytes card.entry) ≡ None) }
-        ensures step { OnOk result (state_shown self.new ≡ with_data (state_shown self.old)
+        ensures step { OnOk result (state_view self.new ≡ with_data (state_view self.old)
             (reading_of Fixed (card_bytes card.entry))) }
-        ensures stop { IfErr result (TellsDeckFault (inner_test (state_shown self.old)
+        ensures stop { IfErr result (ReportsDeckFault (inner_test (state_view self.old)
             (card_bytes card.entry))) }
     {
         let Some(section) = self.section else {
@@ -260,12 +260,12 @@ impl<'a> BasisDraft<'a> {
 
     // Takes a card.
     fn take_card(&mut self, card: Card<'_>) -> Result<(), CardStop>
-        ensures no_fault { OnOk result (fault_at (state_shown self.old)
+        ensures no_fault { OnOk result (fault_at (state_view self.old)
             (card_bytes card.entry) ≡ None) }
-        ensures step { OnOk result (state_shown self.new ≡ state_with (state_shown self.old)
+        ensures step { OnOk result (state_view self.new ≡ state_with (state_view self.old)
             (card_bytes card.entry)) }
         ensures stop { IfErr result
-            (TellsDeckFault (fault_at (state_shown self.old) (card_bytes card.entry))) }
+            (ReportsDeckFault (fault_at (state_view self.old) (card_bytes card.entry))) }
     {
         if begins_section(card.bytes()) {
             let section = next_section::<NameToEndata>(self.section, card.bytes())?;
@@ -293,11 +293,11 @@ impl<'a> Draft for BasisDraft<'a> {
     ghost use Rattle.std.specs.Prelude.{◌≡◌};
     ghost use Rattle.basis_deck_definitions.specs.Reading.{basis_card_fault};
     ghost use Rattle.basis_deck.specs.Reading.{state_of};
-    ghost use Rattle.basis_deck.specs.Draft_shown.{state_shown};
+    ghost use Rattle.basis_deck.specs.Draft_view.{state_view};
 
     ghost test = { λ start. basis_card_fault start.problem.now start.lp.now };
 
-    ghost is_made_of = { λ start draft seen. state_shown draft ≡ state_of start.problem.now start.lp.now seen };
+    ghost is_made_of = { λ start draft seen. state_view draft ≡ state_of start.problem.now start.lp.now seen };
 
     fn is_ended(&self) -> bool {
         match self.section {

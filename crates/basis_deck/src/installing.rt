@@ -97,7 +97,7 @@ fn is_unit(rate: Frac) -> bool {
 
 // Whether row `p` keeps the file shorter than `best`: fewer of the columns that are still to come have a number on it; or as many,
 // and its rate alone is 1 or -1.
-fn is_better(direction: &[Frac], later: &[u32], p: u32, best: u32) -> bool
+fn is_improved(direction: &[Frac], later: &[u32], p: u32, best: u32) -> bool
     requires p { IsNumberOf (length later.now) p }
     requires best { IsNumberOf (length later.now) best }
     requires places { length later.now ≤ length direction.now }
@@ -112,14 +112,14 @@ fn is_better(direction: &[Frac], later: &[u32], p: u32, best: u32) -> bool
 }
 
 // The better of a row that may leave and one that was found before it.
-fn better(direction: &[Frac], later: &[u32], p: u32, found: Option<u32>) -> u32
+fn improve(direction: &[Frac], later: &[u32], p: u32, found: Option<u32>) -> u32
     requires p { IsNumberOf (length later.now) p }
     requires found { IfSome found (IsNumberOf (length later.now)) }
     requires places { length later.now ≤ length direction.now }
     ensures { result ≡ p ⊎ found ≡ Some result }
 {
     match found {
-        Some(best) if !is_better(direction, later, p, best) => best,
+        Some(best) if !is_improved(direction, later, p, best) => best,
         _ => p,
     }
 }
@@ -136,7 +136,7 @@ fn leaver(lp: &Lp, basis: &Basis, direction: &[Frac], later: &[u32]) -> Option<u
     let mut found = None;
     for k in 0..lp.rows {
         if may_leave(lp, basis, direction, k + 1) {
-            found = Some(better(direction, later, k + 1, found));
+            found = Some(improve(direction, later, k + 1, found));
         }
     }
     found

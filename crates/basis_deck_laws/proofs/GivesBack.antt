@@ -295,8 +295,8 @@ module _ (lp : LinearProgram) (s : List Status) (basis : IsBasis lp s) where
       by (inr later) rest = either (nat_eq j k || false) _ (inr (rest later))
 
   -- a variable opens where it stands, or is placed
-  pub told : (k : ℕ) → IsVariable lp.matrix k → (opening_at_of lp k ≡ status_of s k) ⊎ (places all_placings k ≡ true)
-  told k is = by_half (nat_le k lp.rows) refl
+  pub reported : (k : ℕ) → IsVariable lp.matrix k → (opening_at_of lp k ≡ status_of s k) ⊎ (places all_placings k ≡ true)
+  reported k is = by_half (nat_le k lp.rows) refl
     where
       first : places (flat_map (exchange_placings s) (pairs lp s)) k ≡ true → (opening_at_of lp k ≡ status_of s k) ⊎ (places all_placings k ≡ true)
       first h = inr (places-append (flat_map (exchange_placings s) (pairs lp s)) (flat_map limit_placings (raised lp s)) k ∙ either _ _ (inl h))
@@ -395,7 +395,7 @@ module _ (lp : LinearProgram) (s : List Status) (basis : IsBasis lp s) where
           let in_s : k < length s = omega (arith, within, basis.counted) in
           let is : IsVariable lp.matrix (k + 1) = (omega arith, omega (arith, within)) in
           let place : k + 1 - 1 ≡ k = omega arith in
-          let opens : (status_of (opening_statuses lp) (k + 1) ≡ status_of s (k + 1)) ⊎ (places all_placings (k + 1) ≡ true) = opened (k + 1) is (told (k + 1) is) in
+          let opens : (status_of (opening_statuses lp) (k + 1) ≡ status_of s (k + 1)) ⊎ (places all_placings (k + 1) ≡ true) = opened (k + 1) is (reported (k + 1) is) in
           let same : status_of (put (opening_statuses lp) all_placings) (k + 1) ≡ status_of s (k + 1) = placed_so all_placings (opening_statuses lp) opening_long all_agree (k + 1) is opens in
           get_or_default (put (opening_statuses lp) all_placings) k d Bs below
           ∙ ap (λ i. get_or (put (opening_statuses lp) all_placings) i Bs) (sym place) ∙ same ∙ ap (λ i. get_or s i Bs) place

@@ -8,13 +8,13 @@ use Rattle.exact_values.proofs.Order.{lt_irrefl}
 use Rattle.exact_values.proofs.Ring.{by_ring1, by_ring2, number, ◌⊗◌, ◌≐◌, opposite}
 use Rattle.exact_values.proofs.Tests_laws.{lt_from_test}
 use Rattle.lp_definitions.specs.LinearProgram.{LinearProgram, Vector, lower_of, upper_of}
-use Rattle.simplex_definitions.specs.Moves.{limit_ahead, room, signed}
+use Rattle.simplex_definitions.specs.Moves.{limit_ahead, step_length, signed}
 use Rattle.basis_values.specs.Motions.{motion}
 use Rattle.frac128.specs.declared.Op.TheVariants.{Sub, Div}
 use Rattle.lp_definitions.specs.declared.Evidence.{Evidence}
 use Rattle.basis_values.specs.Formulas.{IsRefusal}
 use Rattle.basis_values.specs.declared.formula.Formula.{Formula}
-use Rattle.basis_values.specs.Reach.{IsAhead, IsNearest, sooner, reach_formula, RoomRefused, of_distance, of_quotient}
+use Rattle.basis_values.specs.Reach.{IsAhead, IsNearest, sooner, reach_formula, StepLengthRefused, of_distance, of_quotient}
 use Rattle.basis_values.specs.declared.reach.Ahead.{Ahead}
 use Rattle.basis_values.specs.declared.reach.Reach.{Reach}
 use Rattle.basis_values.proofs.Nearest.{next_nearest}
@@ -55,11 +55,11 @@ pub signed_over : (up : Bool) (x d : ℚ) → d ≢ zero_ℚ → signed up (x /�
 signed_over true x d some = refl
 signed_over false x d some = over_opposite x d some
 
-pub length_found : (p : LinearProgram) (z d : Vector) (up : Bool) (k : ℕ) (l change : ℚ) → limit_ahead p (motion d up) k ≡ Some l → d k ≢ zero_ℚ → change ≡ (l -ℚ z k) /ℚ d k → Some (signed up change) ≡ room p z (motion d up) k
+pub length_found : (p : LinearProgram) (z d : Vector) (up : Bool) (k : ℕ) (l change : ℚ) → limit_ahead p (motion d up) k ≡ Some l → d k ≢ zero_ℚ → change ≡ (l -ℚ z k) /ℚ d k → Some (signed up change) ≡ step_length p z (motion d up) k
 length_found p z d up k l change ahead moves is =
     ap (λ x. Some (signed up x)) is ∙ ap Some (signed_over up (l -ℚ z k) (d k) moves) ∙ sym (ap (option_map (λ l. (l -ℚ z k) /ℚ motion d up k)) ahead)
 
-pub no_length : (p : LinearProgram) (z v : Vector) (k : ℕ) → limit_ahead p v k ≡ None → None ≡ room p z v k
+pub no_length : (p : LinearProgram) (z v : Vector) (k : ℕ) → limit_ahead p v k ≡ None → None ≡ step_length p z v k
 no_length p z v k e = sym (ap (option_map (λ l. (l -ℚ z k) /ℚ v k)) e)
 
 -- ---- what is refused
@@ -71,18 +71,18 @@ module _ (p : LinearProgram) (z d : Vector) (up : Bool) (q k : ℕ) (a : Ahead) 
   pub moves : rate ≢ zero_ℚ
   moves = signed_apart up rate (λ e. ahead.3 (speed_is ∙ e))
 
-  pub distance_refused : (f : Formula) (e : Evidence) → f ≡ reach_formula 6 0 k a.term → IsRefusal f Sub a.limit value e → RoomRefused p z d up q k e
+  pub distance_refused : (f : Formula) (e : Evidence) → f ≡ reach_formula 6 0 k a.term → IsRefusal f Sub a.limit value e → StepLengthRefused p z d up q k e
   distance_refused f e is h =
       of_distance a.term a.limit there.2 there.0 there.1
       (subst (λ (x : ℚ). IsRefusal (reach_formula 6 0 k a.term) Sub a.limit x e) value_is (subst (λ (g : Formula). IsRefusal g Sub a.limit value e) is h))
 
-  pub change_refused : (f : Formula) (e : Evidence) (distance : ℚ) → distance ≡ a.limit -ℚ value → f ≡ reach_formula 7 q k a.term → IsRefusal f Div distance rate e → rate ≢ one_ℚ → RoomRefused p z d up q k e
+  pub change_refused : (f : Formula) (e : Evidence) (distance : ℚ) → distance ≡ a.limit -ℚ value → f ≡ reach_formula 7 q k a.term → IsRefusal f Div distance rate e → rate ≢ one_ℚ → StepLengthRefused p z d up q k e
   change_refused f e distance far is h other =
       of_quotient a.term a.limit there.0 there.1 (λ vanishes. moves (rate_is ∙ vanishes)) (λ own. other (rate_is ∙ own))
       (subst (λ (x : ℚ). IsRefusal (reach_formula 7 q k a.term) Div (a.limit -ℚ z k) x e) rate_is
       (subst (λ (x : ℚ). IsRefusal (reach_formula 7 q k a.term) Div x rate e) (far ∙ ap (λ v. a.limit -ℚ v) value_is) (subst (λ (g : Formula). IsRefusal g Div distance rate e) is h)))
 
-  pub length_is : (distance change length : ℚ) → distance ≡ a.limit -ℚ value → change ≡ distance /ℚ rate → length ≡ signed up change → Some length ≡ room p z (motion d up) k
+  pub length_is : (distance change length : ℚ) → distance ≡ a.limit -ℚ value → change ≡ distance /ℚ rate → length ≡ signed up change → Some length ≡ step_length p z (motion d up) k
   length_is distance change length far is counted =
       ap Some counted
       ∙ length_found p z d up k a.limit change there.0 (λ vanishes. moves (rate_is ∙ vanishes)) (is ∙ ap₂ (λ x y. x /ℚ y) (far ∙ ap (λ v. a.limit -ℚ v) value_is) rate_is)

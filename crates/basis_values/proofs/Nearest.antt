@@ -7,7 +7,7 @@ use Rattle.exact_values.specs.Tests.{le_ℚ}
 use Rattle.exact_values.proofs.Order.{le_refl, le_of_lt, lt_of_lt_of_le}
 use Rattle.exact_values.proofs.Tests_laws.{le_fails_from_lt, lt_from_le_fails, le_from_test, test_from_le}
 use Rattle.lp_definitions.specs.LinearProgram.{LinearProgram, Vector, size}
-use Rattle.simplex_definitions.specs.Moves.{is_no_later, room, stopper}
+use Rattle.simplex_definitions.specs.Moves.{is_no_later, step_length, stopper}
 use Rattle.simplex_laws.proofs.Searches.{stopper_is, stopper_nothing}
 use Rattle.basis_values.specs.Reach.{reach_of, sooner, IsFirst, IsNearest}
 use Rattle.basis_values.specs.declared.reach.Reach.{Reach}
@@ -77,10 +77,10 @@ module _ (f : ℕ → Option ℚ) (n : ℕ) where
 
 -- at the end it is what the definition finds
 module _ (p : LinearProgram) (z v : Vector) where
-  pub nearest_stops : (r : Reach) → IsNearest (room p z v) (size p.matrix) (Some r) → stopper p z v ≡ Some r.p
+  pub nearest_stops : (r : Reach) → IsNearest (step_length p z v) (size p.matrix) (Some r) → stopper p z v ≡ Some r.p
   nearest_stops r h = stopper_is p z v r.p (h.low, h.high) (λ i is. h.first i is.0 is.1) h.later
 
-  pub nothing_stops : IsNearest (room p z v) (size p.matrix) None → stopper p z v ≡ None
+  pub nothing_stops : IsNearest (step_length p z v) (size p.matrix) None → stopper p z v ≡ None
   nothing_stops h = stopper_nothing p z v (λ k is. h k is.0 is.1)
 
 -- it is a variable

@@ -10,7 +10,7 @@ use Rattle.exact_values.proofs.Ring_laws.{mul_comm}
 use Rattle.exact_values.proofs.Tests_laws.{le_fails_from_lt, lt_from_test, le_from_lt_fails, test_from_le}
 use Rattle.exact_values.proofs.Signs.{neg_above}
 use Rattle.lp_definitions.specs.LinearProgram.{LinearProgram, Vector}
-use Rattle.simplex_definitions.specs.Moves.{room, signed, is_no_later}
+use Rattle.simplex_definitions.specs.Moves.{step_length, signed, is_no_later}
 use Rattle.basis_values.specs.Motions.{motion}
 use Rattle.basis_values.specs.Reach.{IsAhead, IsFirst, Reaches, Yields, reach_of, sooner}
 use Rattle.basis_values.specs.declared.reach.Ahead.{Ahead}
@@ -53,18 +53,18 @@ later z limit v l up h = lt_of_not-le reached
         lt_not_le h (le_by_one (subst (λ x. x ≤ℚ v *ℚ l) distance (mul-le-mul_left (le_of_lt up) e)) (by_ring4 z limit v l (λ z a v l. z ⊕ l ⊗ v ≐ a ⊕ (v ⊗ l ⊖ (a ⊖ z))) refl))
 
 module _ (p : LinearProgram) (z d : Vector) (up : Bool) (k : ℕ) (r : Reach) (speed : ℚ) (speed_is : speed ≡ motion d up k) where
-  by_room : (o : Option ℚ) → room p z (motion d up) k ≡ o → is_no_later (Some r.length) o ≡ true → (k < r.p → is_no_later o (Some r.length) ≡ false) → Yields (room p z (motion d up)) r k
-  by_room o is first second = (ap (is_no_later (Some r.length)) is ∙ first, λ below. ap (λ x. is_no_later x (Some r.length)) is ∙ second below)
+  by_step_length : (o : Option ℚ) → step_length p z (motion d up) k ≡ o → is_no_later (Some r.length) o ≡ true → (k < r.p → is_no_later o (Some r.length) ≡ false) → Yields (step_length p z (motion d up)) r k
+  by_step_length o is first second = (ap (is_no_later (Some r.length)) is ∙ first, λ below. ap (λ x. is_no_later x (Some r.length)) is ∙ second below)
 
   -- what has no limit ahead
-  pub none_yields : IsAhead p (λ _. speed) k None → Yields (room p z (motion d up)) r k
-  none_yields h = by_room None (sym (no_length p z (motion d up) k (ahead_at p (motion d up) k speed None speed_is h))) refl (λ _. refl)
+  pub none_yields : IsAhead p (λ _. speed) k None → Yields (step_length p z (motion d up)) r k
+  none_yields h = by_step_length None (sym (no_length p z (motion d up) k (ahead_at p (motion d up) k speed None speed_is h))) refl (λ _. refl)
 
   module _ (a : Ahead) (value place : ℚ) (rises : Bool) (ahead : IsAhead p (λ _. speed) k (Some a)) (value_is : value ≡ z k) (place_is : place ≡ value +ℚ r.length *ℚ speed) (rises_is : rises ≡ lt_ℚ zero_ℚ speed) where
     toward : zero_ℚ <ℚ signed rises speed
     toward = subst (λ (b : Bool). zero_ℚ <ℚ signed b speed) (sym rises_is) (forward speed ahead.3)
 
-    found : room p z (motion d up) k ≡ Some ((signed rises a.limit -ℚ signed rises value) /ℚ signed rises speed)
+    found : step_length p z (motion d up) k ≡ Some ((signed rises a.limit -ℚ signed rises value) /ℚ signed rises speed)
     found =
         ap (option_map (λ l. (l -ℚ z k) /ℚ motion d up k)) (ahead_at p (motion d up) k speed (Some a) speed_is ahead).0
         ∙ ap₂ (λ x y. Some ((a.limit -ℚ x) /ℚ y)) (sym value_is) (sym speed_is)
@@ -74,16 +74,16 @@ module _ (p : LinearProgram) (z d : Vector) (up : Bool) (k : ℕ) (r : Reach) (s
     stands = ap (signed rises) place_is ∙ turned_place rises value r.length speed
 
     -- it hasn't reached the limit
-    pub before_yields : (b : Bool) → b ≡ lt_ℚ (signed rises place) (signed rises a.limit) → IsTrue b → Yields (room p z (motion d up)) r k
+    pub before_yields : (b : Bool) → b ≡ lt_ℚ (signed rises place) (signed rises a.limit) → IsTrue b → Yields (step_length p z (motion d up)) r k
     before_yields b is holds =
         let less = later (signed rises value) (signed rises a.limit) (signed rises speed) r.length toward (subst (λ x. x <ℚ signed rises a.limit) stands (lt_from_test (signed rises place) (signed rises a.limit) (sym is ∙ holds))) in
-        by_room _ found (test_from_le _ _ (le_of_lt less)) (λ _. le_fails_from_lt _ _ less)
+        by_step_length _ found (test_from_le _ _ (le_of_lt less)) (λ _. le_fails_from_lt _ _ less)
 
     -- it hasn't passed the limit, and its number is not the smaller one
-    pub within_yields : r.p ≤ k → (b : Bool) → b ≡ lt_ℚ (signed rises a.limit) (signed rises place) → IsTrue (not b) → Yields (room p z (motion d up)) r k
+    pub within_yields : r.p ≤ k → (b : Bool) → b ≡ lt_ℚ (signed rises a.limit) (signed rises place) → IsTrue (not b) → Yields (step_length p z (motion d up)) r k
     within_yields not_smaller b is holds =
         let least = no_sooner (signed rises value) (signed rises a.limit) (signed rises speed) r.length toward (subst (λ x. x ≤ℚ signed rises a.limit) stands (le_from_lt_fails (signed rises a.limit) (signed rises place) (sym is ∙ fails b holds))) in
-        by_room _ found (test_from_le _ _ least) (λ below. absurd (omega (arith, not_smaller, below)))
+        by_step_length _ found (test_from_le _ _ least) (λ below. absurd (omega (arith, not_smaller, below)))
 
 -- ---- what all others yield to is the first
 

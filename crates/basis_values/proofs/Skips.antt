@@ -13,9 +13,9 @@ use Rattle.simplex_laws.proofs.Searches.{least_is, least_none}
 use Rattle.basis_values.specs.Motions.{motion}
 
 -- a value that is had at all
-pub value_had : (o : Option ℚ) (P : Type 0) (v w : ℚ) → SomeIff o P v → v ≡ w → IfSome o (λ x. x ≡ w)
-value_had None P v w h e = tt
-value_had (Some x) P v w h e = h.1 ∙ e
+pub value_computed : (o : Option ℚ) (P : Type 0) (v w : ℚ) → SomeIff o P v → v ≡ w → IfSome o (λ x. x ≡ w)
+value_computed None P v w h e = tt
+value_computed (Some x) P v w h e = h.1 ∙ e
 
 pub stays_put : (x y z : ℚ) → z ≡ zero_ℚ → x ≡ x +ℚ y *ℚ z
 stays_put x y z e = sym (ap (λ u. x +ℚ y *ℚ u) e ∙ ap (λ u. x +ℚ u) (mul-zero y) ∙ add-zero x)

@@ -1,9 +1,9 @@
 -- The search for what stops a motion, variable by variable.
---     sooner nearest room k        k, if it reaches a limit before what is nearest so far
+--     sooner nearest step_length k        k, if it reaches a limit before what is nearest so far
 --     IsNearest f n nearest        what reaches a limit first of the variables up to n, where f has the lengths
 --     Yields f r k                 r reaches a limit no later than k, and sooner where k has the smaller number
 --     Reaches f n r                r is one of the variables up to n, and reaches a limit after its length
---     RoomRefused                  the distance of k to the limit ahead is refused, or that over the rate of k
+--     StepLengthRefused                  the distance of k to the limit ahead is refused, or that over the rate of k
 use Rattle.std.specs.Prelude.{◌≡◌, ◌≢◌, ℕ, ◌≤◌, ◌<◌, Bool, true, false, Option, Some, None, option_map, if◌then◌else◌}
 use Rattle.exact_values.specs.Rational.{ℚ, zero_ℚ, one_ℚ, ◌-ℚ◌}
 use Rattle.frac128.specs.declared.Op.TheVariants.{Sub, Div}
@@ -24,7 +24,7 @@ abbrev pub reach_of : ℕ → ℚ → Reach
 reach_of k l = record { p = k; length = l }
 
 abbrev pub sooner : Option Reach → Option ℚ → ℕ → Option Reach
-sooner nearest room k = if is_no_later (length_of nearest) room then nearest else option_map (reach_of k) room
+sooner nearest step_length k = if is_no_later (length_of nearest) step_length then nearest else option_map (reach_of k) step_length
 
 abbrev pub Yields : (ℕ → Option ℚ) → Reach → ℕ → Type 0
 Yields f r k = (is_no_later (Some r.length) (f k) ≡ true) × (k < r.p → is_no_later (f k) (Some r.length) ≡ false)
@@ -48,11 +48,11 @@ IsNearest f n (Some r) = IsFirst f n r
 abbrev pub reach_formula : ℕ → ℕ → ℕ → ℕ → Formula
 reach_formula number q k term = record { number = number; p = 0; q = q; i = k; j = 0; term = term; theta = zero_ℚ }
 
-pub data RoomRefused (p : LinearProgram) (z d : Vector) (up : Bool) (q k : ℕ) (e : Evidence) : Type 0 where
+pub data StepLengthRefused (p : LinearProgram) (z d : Vector) (up : Bool) (q k : ℕ) (e : Evidence) : Type 0 where
   of_distance : (term : ℕ) (l : ℚ) → term < 3 → limit_ahead p (motion d up) k ≡ Some l → limit_numbered p k term ≡ Some l →
-      IsRefusal (reach_formula 6 0 k term) Sub l (z k) e → RoomRefused p z d up q k e
+      IsRefusal (reach_formula 6 0 k term) Sub l (z k) e → StepLengthRefused p z d up q k e
   of_quotient : (term : ℕ) (l : ℚ) → limit_ahead p (motion d up) k ≡ Some l → limit_numbered p k term ≡ Some l → d k ≢ zero_ℚ → d k ≢ one_ℚ →
-      IsRefusal (reach_formula 7 q k term) Div (l -ℚ z k) (d k) e → RoomRefused p z d up q k e
+      IsRefusal (reach_formula 7 q k term) Div (l -ℚ z k) (d k) e → StepLengthRefused p z d up q k e
 
 -- the limit ahead of k with its number, if there is one
 abbrev pub IsAhead : LinearProgram → Vector → ℕ → Option Ahead → Type 0
@@ -60,5 +60,5 @@ IsAhead p v k None = limit_ahead p v k ≡ None
 IsAhead p v k (Some a) = (limit_ahead p v k ≡ Some a.limit) × (limit_numbered p k a.term ≡ Some a.limit) × (a.term < 3) × (v k ≢ zero_ℚ)
 
 -- the length of some variable is refused
-abbrev pub SomeRoomRefused : LinearProgram → Vector → Vector → Bool → ℕ → Evidence → Type 0
-SomeRoomRefused p z d up q e = (k : ℕ) × IsVariable p.matrix k × RoomRefused p z d up q k e
+abbrev pub SomeStepLengthRefused : LinearProgram → Vector → Vector → Bool → ℕ → Evidence → Type 0
+SomeStepLengthRefused p z d up q e = (k : ℕ) × IsVariable p.matrix k × StepLengthRefused p z d up q k e

@@ -136,7 +136,7 @@ pub fn may_lower(lp: &Lp, basis: &Basis, rate: Frac, k: u32) -> bool
 
 /// The least-numbered nonbasic that may move so as to lower a quantity with these rates, or, where they don't count up, one with
 /// the opposite rates.
-pub fn enterer(lp: &Lp, basis: &Basis, rates: &[Frac], up: bool) -> Option<u32>
+pub fn entering_variable(lp: &Lp, basis: &Basis, rates: &[Frac], up: bool) -> Option<u32>
     requires counted { length basis.now ≡ size lp.now.matrix }
     requires places { length rates.now ≡ size lp.now.matrix }
     ensures { result ≡ entering lp.now basis.now (motion (value_at rates.now) up) }
@@ -166,5 +166,5 @@ pub fn wrong_price(lp: &Lp, basis: &Basis, prices: &[Frac]) -> Option<u32>
     requires places { length prices.now ≡ size lp.now.matrix }
     ensures { result ≡ entering lp.now basis.now (worth_by lp.now (value_at prices.now)) }
 {
-    enterer(lp, basis, prices, is_minimized(lp))
+    entering_variable(lp, basis, prices, is_minimized(lp))
 }

@@ -28,7 +28,7 @@ fn is_one(x: Frac) -> bool
     x == Frac::whole(1)
 }
 
-/// The sum with the product, also where the product doesn't fit but the sum can be had by its parts.
+/// The sum with the product, also where the product doesn't fit but the sum can be computed by its parts.
 pub fn plus_product(sum: Frac, x: Frac, y: Frac) -> Option<Frac>
     ensures { IfSome result (λ more. more ≡ sum +ℚ x *ℚ y) }
 {

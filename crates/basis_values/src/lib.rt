@@ -11,7 +11,7 @@ pub mod reach;
 mod wants;
 
 pub use choices::{
-    counted, crossed, enterer, is_less, is_minimized, lies_below, may_lower, outside, stands_basic,
+    counted, crossed, entering_variable, is_less, is_minimized, lies_below, may_lower, outside, stands_basic,
     wrong_price,
 };
 pub use formula::{Formula, plus_product};

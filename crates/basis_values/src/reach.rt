@@ -2,9 +2,9 @@
 
 ghost use Rattle.std.specs.Prelude.{◌≡◌, length, IfOk, IfErr, IsTrue};
 ghost use Rattle.lp_definitions.specs.LinearProgram.{size, value_at, IsVariable};
-ghost use Rattle.simplex_definitions.specs.Moves.{room};
+ghost use Rattle.simplex_definitions.specs.Moves.{step_length};
 ghost use Rattle.basis_values.specs.Motions.{motion};
-ghost use Rattle.basis_values.specs.Reach.{RoomRefused, IsAhead, Yields, sooner, reach_formula};
+ghost use Rattle.basis_values.specs.Reach.{StepLengthRefused, IsAhead, Yields, sooner, reach_formula};
 
 use crate::choices::{counted, is_less};
 use crate::formula::{Formula, plus_product};
@@ -78,9 +78,9 @@ pub fn length_to(
     requires variable { IsVariable lp.now.matrix k }
     requires point_places { length point.now ≡ size lp.now.matrix }
     requires direction_places { length direction.now ≡ size lp.now.matrix }
-    ensures length { IfOk result (λ found. found ≡ room lp.now (value_at point.now)
+    ensures length { IfOk result (λ found. found ≡ step_length lp.now (value_at point.now)
         (motion (value_at direction.now) up) k) }
-    ensures refused { IfErr result (RoomRefused lp.now (value_at point.now)
+    ensures refused { IfErr result (StepLengthRefused lp.now (value_at point.now)
         (value_at direction.now) up q k) }
 {
     let rate = direction[k as usize - 1];
@@ -111,12 +111,12 @@ pub fn nearer(nearest: Option<Reach>, length: Option<Frac>, k: u32) -> Option<Re
 }
 
 /// Whether `k` lets `first` stop the move: after the length of `first` it hasn't passed the limit ahead of it, nor reached it where its
-/// number is the smaller. Its place there tells it, so no length of its own is needed; where the place can't be had, nothing is told.
+/// number is the smaller. Its place there tells it, so no length of its own is needed; where the place can't be computed, nothing is reported.
 pub fn yields(lp: &Lp, point: &[Frac], direction: &[Frac], up: bool, first: &Reach, k: u32) -> bool
     requires variable { IsVariable lp.now.matrix k }
     requires point_places { length point.now ≡ size lp.now.matrix }
     requires direction_places { length direction.now ≡ size lp.now.matrix }
-    ensures { IsTrue result → Yields (room lp.now (value_at point.now)
+    ensures { IsTrue result → Yields (step_length lp.now (value_at point.now)
         (motion (value_at direction.now) up)) first.now k }
 {
     let speed = counted(direction[k as usize - 1], up);

@@ -44,11 +44,11 @@ use Rattle.run_machine.specs.declared.end.End.TheVariants as ends
 use Rattle.run_machine.specs.declared.selecting.Refusal.{Refusal}
 use Rattle.run_machine.specs.declared.selecting.Refusal.TheVariants.{Fault, Overflow, NoMemory}
 use Rattle.run_machine.specs.Choosing.{IsUnselected}
-use Rattle.run_machine.specs.Ends.{end_shown}
+use Rattle.run_machine.specs.Ends.{end_view}
 use Rattle.run_setup.specs.Kept.{Setup}
 use Rattle.run_setup.specs.Machines.{Machine}
-use Rattle.run_machine.specs.Singular.{IsSheetOf, lines_shown}
-use Rattle.run_setup.specs.Standing.{IsReady, IsSolved, IsPresent, Stands, IsSound}
+use Rattle.run_machine.specs.Singular.{IsSheetOf, lines_view}
+use Rattle.run_setup.specs.Standing.{IsReady, IsSolved, IsPresent, Represents, IsSound}
 use Rattle.run_setup.specs.Statements.{Executes}
 use Rattle.run_machine.proofs.Giving.{quietly, loudly, cut_off}
 use Rattle.run_setup.proofs.Giving.{gives_fault, gives_found}
@@ -58,7 +58,7 @@ use Rattle.basis_verbs.specs.declared.insert.Given.{Given}
 use Rattle.basis_verbs.specs.declared.insert.Given.TheVariants as given
 use Rattle.basis_verbs.specs.declared.insert.Found.TheVariants as found
 use Rattle.basis_verbs.specs.Inserting.{Found, IsBasisOf, IsDeckEnd, IsGiven, overflow_ending, IsInstalledSetup, IsSingularFor, IsRefusedFor, IsInstalledFor, IsInserted, EndsSo, IsSingularAt, IsFound, refused_found}
-use Rattle.basis_verbs.proofs.Selecting.{setup_gone, shown, present, selected_gives, fault_gives, overflow_gives}
+use Rattle.basis_verbs.proofs.Selecting.{setup_gone, viewed, present, selected_gives, fault_gives, overflow_gives}
 
 -- what INSERT does with what is selected
 abbrev go : ℕ → State → Present → LinearProgram → Move
@@ -84,11 +84,11 @@ lies a s ways within = λ k way lt. inl (within k way lt)
 
 -- the ending of a refused exchange, by the same setup, evidence and engine
 pub ended_at : {N : Type 0} (basics : N → Basics) (ways : N → List Basics) (card : ℕ) (a b : Setup) → a ≡ b → (d e : Evidence) → d ≡ e → (m n : N) → m ≡ n → (end : End) →
-    end_shown end ≡ overflow_ending card a.basis (waypoint (basics m) (ways m) d.way) d → end_shown end ≡ overflow_ending card b.basis (waypoint (basics n) (ways n) e.way) e
+    end_view end ≡ overflow_ending card a.basis (waypoint (basics m) (ways m) d.way) d → end_view end ≡ overflow_ending card b.basis (waypoint (basics n) (ways n) e.way) e
 ended_at {N} basics ways card a b setup d e evidence m n engine end h =
-    subst (λ (x : Setup). end_shown end ≡ overflow_ending card x.basis (waypoint (basics n) (ways n) e.way) e) setup
-    (subst (λ (y : Evidence). end_shown end ≡ overflow_ending card a.basis (waypoint (basics n) (ways n) y.way) y) evidence
-    (subst (λ (k : N). end_shown end ≡ overflow_ending card a.basis (waypoint (basics k) (ways k) d.way) d) engine h))
+    subst (λ (x : Setup). end_view end ≡ overflow_ending card x.basis (waypoint (basics n) (ways n) e.way) e) setup
+    (subst (λ (y : Evidence). end_view end ≡ overflow_ending card a.basis (waypoint (basics n) (ways n) y.way) y) evidence
+    (subst (λ (k : N). end_view end ≡ overflow_ending card a.basis (waypoint (basics k) (ways k) d.way) d) engine h))
 
 module _ (card : ℕ) (cards : List (List ℕ)) (machine : Machine) where
   pub no_setup : machine.setup ≡ None → IsFound card cards machine (refused_found card (Fault NoSetup))
@@ -106,10 +106,10 @@ module _ (card : ℕ) (cards : List (List ℕ)) (machine : Machine) where
       abbrev decks : List Card
       decks = drop (machine.decks_from - 1) (numbered_cards cards)
 
-      module _ {position executed : ℕ} {state : State} (s : Stands cards machine position executed state) where
+      module _ {position executed : ℕ} {state : State} (s : Represents cards machine position executed state) where
         -- the deck that the machine takes is the one that the state gives
-        deck_shown : deck_taken state.cells.xdata state.decks ≡ deck_taken wanted (decks_of decks)
-        deck_shown =
+        deck_view : deck_taken state.cells.xdata state.decks ≡ deck_taken wanted (decks_of decks)
+        deck_view =
             ap (λ (c : Cells). deck_taken c.xdata state.decks) s.cells ∙ ap (deck_taken machine.cells.xdata) s.decks ∙
             ap (λ (w : Option Name). deck_taken w (decks_of decks)) (sym same_name)
 
@@ -120,17 +120,17 @@ module _ (card : ℕ) (cards : List (List ℕ)) (machine : Machine) where
         gives_deck outcome g = selected_gives Insert card (go card) (begins card) cards machine setup is_setup problem on_file s lp ok outcome (inl g)
 
         no_deck : deck_taken wanted (decks_of decks) ≡ None → Gives linear_programming card (verb_move Insert card state) (stops (endings.VerbStop (record { fault = DeckNotFound; card = card })))
-        no_deck none = gives_deck _ (gives_fault card DeckNotFound (deck_taken state.cells.xdata state.decks) _ (deck_shown ∙ none))
+        no_deck none = gives_deck _ (gives_fault card DeckNotFound (deck_taken state.cells.xdata state.decks) _ (deck_view ∙ none))
 
         bad_deck : (deck : List Card) (rest : List (List Card)) (fault : DeckFault) → deck_taken wanted (decks_of decks) ≡ Some (deck, rest) → basis_reading problem lp deck ≡ Err fault →
             Gives linear_programming card (verb_move Insert card state) (stops (deck_stop fault))
         bad_deck deck rest fault taken err =
-            gives_deck _ (gives_found card DeckNotFound (deck_taken state.cells.xdata state.decks) _ (deck, rest) _ (deck_shown ∙ taken) (gives_deck_fault card (basis_reading problem lp deck) _ fault err))
+            gives_deck _ (gives_found card DeckNotFound (deck_taken state.cells.xdata state.decks) _ (deck, rest) _ (deck_view ∙ taken) (gives_deck_fault card (basis_reading problem lp deck) _ fault err))
 
         asked : (deck : List Card) (rest : List (List Card)) (t : Basis) (outcome : Outcome) → deck_taken wanted (decks_of decks) ≡ Some (deck, rest) → basis_reading problem lp deck ≡ Ok t →
             Gives linear_programming card (asks (OfInstall t) (record { problem = problem; lp = lp }) there (after_install card lp t (deck, rest) there state)) outcome → Gives linear_programming card (verb_move Insert card state) outcome
         asked deck rest t outcome taken read g =
-            gives_deck outcome (gives_found card DeckNotFound (deck_taken state.cells.xdata state.decks) _ (deck, rest) outcome (deck_shown ∙ taken)
+            gives_deck outcome (gives_found card DeckNotFound (deck_taken state.cells.xdata state.decks) _ (deck, rest) outcome (deck_view ∙ taken)
             (gives_read card (basis_reading problem lp deck) _ t outcome read g))
 
         gives_installed : (deck : List Card) (rest : List (List Card)) (t : Basis) → deck_taken wanted (decks_of decks) ≡ Some (deck, rest) → basis_reading problem lp deck ≡ Ok t → IsNonsingular lp.matrix (basics_of t) →
@@ -141,12 +141,12 @@ module _ (card : ℕ) (cards : List (List ℕ)) (machine : Machine) where
 
         gives_dependency : (deck : List Card) (rest : List (List Card)) (t : Basis) (column : ℕ) (d : List ℚ) → deck_taken wanted (decks_of decks) ≡ Some (deck, rest) → basis_reading problem lp deck ≡ Ok t →
             length d ≡ size lp.matrix → IsDependency lp.matrix (basics_of t) column (value_at d) →
-            Gives linear_programming card (verb_move Insert card state) (stops (endings.SingularStop (record { card = card; lines = lines_shown (Some problem) lp d })))
+            Gives linear_programming card (verb_move Insert card state) (stops (endings.SingularStop (record { card = card; lines = lines_view (Some problem) lp d })))
         unfolding linear_programming
         gives_dependency deck rest t column d taken read full depends =
             let sheet : Sheet = record { problem = problem; lp = lp } in
             asked deck rest t _ taken read
-            (inl (DependsBy (lines_shown (Some problem) lp d), (column, value_at d, depends, ap (ray_lines sheet) (listed_is lp.matrix d (value_at d) full (λ k is. refl))), refl))
+            (inl (DependsBy (lines_view (Some problem) lp d), (column, value_at d, depends, ap (ray_lines sheet) (listed_is lp.matrix d (value_at d) full (λ k is. refl))), refl))
 
         gives_overflow : (deck : List Card) (rest : List (List Card)) (t : Basis) → deck_taken wanted (decks_of decks) ≡ Some (deck, rest) → basis_reading problem lp deck ≡ Ok t →
             (evidence : Evidence) (way : Basics) → InstallRefused lp.matrix (basics_of t) way evidence →
@@ -160,15 +160,15 @@ module _ (card : ℕ) (cards : List (List ℕ)) (machine : Machine) where
               record {
                 way = way;
                 is_refused = refused;
-                is_place = ap (λ (b : Basis). Some (record { basis = b; way = way })) (sym (shown Insert card (go card) (begins card) cards machine setup is_setup problem on_file s).reached);
+                is_place = ap (λ (b : Basis). Some (record { basis = b; way = way })) (sym (viewed Insert card (go card) (begins card) cards machine setup is_setup problem on_file s).reached);
               },
               refl,
             ))
 
       -- the deck ends the run
-      pub deck_ends : (end : End) → IsDeckEnd problem lp wanted decks cards card end → EndsSo card cards machine (end_shown end)
-      deck_ends end (inl none) = λ position executed state s. subst (λ (e : End). Gives linear_programming card (verb_move Insert card state) (stops (end_shown e))) (sym none.1) (no_deck s none.0)
-      deck_ends end (inr bad) = λ position executed state s. subst (λ (e : End). Gives linear_programming card (verb_move Insert card state) (stops (end_shown e))) (sym bad.5) (bad_deck s bad.0 bad.1 bad.2 bad.3 bad.4)
+      pub deck_ends : (end : End) → IsDeckEnd problem lp wanted decks cards card end → EndsSo card cards machine (end_view end)
+      deck_ends end (inl none) = λ position executed state s. subst (λ (e : End). Gives linear_programming card (verb_move Insert card state) (stops (end_view e))) (sym none.1) (no_deck s none.0)
+      deck_ends end (inr bad) = λ position executed state s. subst (λ (e : End). Gives linear_programming card (verb_move Insert card state) (stops (end_view e))) (sym bad.5) (bad_deck s bad.0 bad.1 bad.2 bad.3 bad.4)
 
       module _ (ready : IsReady machine.file setup) (t : Basis) (first last : ℕ) (b : IsBasisOf problem lp wanted decks cards t first last) where
         inserted : (new : Setup) (deck : Name) (basic next_card : ℕ) → IsInstalledSetup card setup (choice_of machine.cells setup.options) lp t first last cards new deck basic next_card → IsInserted card cards machine new deck basic next_card
@@ -218,7 +218,7 @@ module _ (card : ℕ) (cards : List (List ℕ)) (machine : Machine) where
               );
               full = h.full;
               ends = λ position executed state s.
-                  subst (λ (o : Option (Problem ℕ)). Gives linear_programming card (verb_move Insert card state) (stops (endings.SingularStop (record { card = card; lines = lines_shown o lp d })))) (sym filed)
+                  subst (λ (o : Option (Problem ℕ)). Gives linear_programming card (verb_move Insert card state) (stops (endings.SingularStop (record { card = card; lines = lines_view o lp d })))) (sym filed)
                   (gives_dependency s (cards_between first last cards) (decks_of (drop last (numbered_cards cards))) t h.column d b.taken b.is_read h.full h.is_dependency);
             })
 
@@ -244,7 +244,7 @@ pub sound_emptied : (cards : List (List ℕ)) (machine : Machine) (file : Filed)
 sound_emptied cards machine file s = record { first = s.first; last = s.last; demands = s.demands; ready = tt; solved = nothing_solved machine.cells file machine.mark }
 
 module _ (card : ℕ) {P : Type 0} (written stopped_at : P → Option (List ℕ)) (faults refusals : P → ℕ) (cards : List (List ℕ)) (machine : Machine) where
-  pub ends_quietly : (print : P) (new : Machine) (end : End) (ending : endings.Ending) → end_shown end ≡ ending → EndsSo card cards machine ending →
+  pub ends_quietly : (print : P) (new : Machine) (end : End) (ending : endings.Ending) → end_view end ≡ ending → EndsSo card cards machine ending →
       Executes linear_programming Insert card written stopped_at faults refusals print print cards machine new (Ok (act.Ends end))
   ends_quietly print new end ending is ends =
       quietly IsPresent (Gives linear_programming) Insert card written stopped_at faults refusals cards machine print

@@ -27,10 +27,10 @@ use Rattle.run_machine.specs.declared.selecting.Refusal.TheVariants.{Fault}
 use Rattle.run_machine.specs.Choosing.{IsUnselected, refused_act}
 use Rattle.run_setup.specs.Kept.{Setup}
 use Rattle.run_setup.specs.Machines.{Machine}
-use Rattle.run_setup.specs.Standing.{IsPresent, Stands}
+use Rattle.run_setup.specs.Standing.{IsPresent, Represents}
 use Rattle.run_setup.specs.Statements.{Performs}
 use Rattle.run_machine.proofs.Punching.{punches_nothing, wrote, stopped}
-use Rattle.basis_verbs.proofs.Selecting.{without_setup, shown, selected_gives, unselected}
+use Rattle.basis_verbs.proofs.Selecting.{without_setup, viewed, selected_gives, unselected}
 
 -- what PUNCH does with what is selected
 abbrev go : State → Present → LinearProgram → Move
@@ -64,11 +64,11 @@ module _ (card : ℕ) {P U : Type 0} (written stopped_at : P → Option (List �
       abbrev punched : State → Outcome
       punched state = next (Punches (BasisOut problem.name (min (length deck) max_counted)) deck) state
 
-      gives : {position executed : ℕ} {state : State} → Stands cards machine position executed state → Gives linear_programming card (verb_move Punch card state) (punched state)
+      gives : {position executed : ℕ} {state : State} → Represents cards machine position executed state → Gives linear_programming card (verb_move Punch card state) (punched state)
       unfolding linear_programming
       gives {state = state} s =
           selected_gives Punch card go (begins card) cards machine setup is_setup problem on_file s lp ok (punched state)
-          (inl (deck, ap (λ (b : Basis). basis_deck problem lp b) (sym (shown Punch card go (begins card) cards machine setup is_setup problem on_file s).reached), refl))
+          (inl (deck, ap (λ (b : Basis). basis_deck problem lp b) (sym (viewed Punch card go (begins card) cards machine setup is_setup problem on_file s).reached), refl))
 
       -- the punch stops in the deck
       pub deck_cut : (print : P) {punch_old punch_new : U} {T : Type 0} (stop : WriteStop) → Writes {T = T} punch_written punch_stopped_at punch_faults punch_refusals punch_old punch_new (Err stop) (card_text deck) →

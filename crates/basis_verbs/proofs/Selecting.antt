@@ -19,14 +19,14 @@ use Rattle.run_machine.specs.declared.selecting.Refusal.TheVariants.{Fault, Over
 use Rattle.run_machine.specs.Choosing.{HasSelectionFault, HasSelectionOverflow, IsUnselected, refused_act}
 use Rattle.run_setup.specs.Kept.{Setup}
 use Rattle.run_setup.specs.Machines.{Machine}
-use Rattle.run_setup.specs.Standing.{IsPresent, ShowsSetup, Stands}
+use Rattle.run_setup.specs.Standing.{IsPresent, ShowsSetup, Represents}
 use Rattle.run_setup.specs.Statements.{Executes}
 use Rattle.run_machine.proofs.Giving.{quietly}
 use Rattle.run_setup.proofs.Giving.{gives_fault, gives_found, gives_unselected, gives_selected}
 use Rattle.run_setup.proofs.Present.{present_with, IsPresentOf, present_at}
 
 -- the state has no setup where the machine has none
-pub setup_gone : (cards : List (List ℕ)) (machine : Machine) → machine.setup ≡ None → {position executed : ℕ} {state : State} → Stands cards machine position executed state → state.setup ≡ None
+pub setup_gone : (cards : List (List ℕ)) (machine : Machine) → machine.setup ≡ None → {position executed : ℕ} {state : State} → Represents cards machine position executed state → state.setup ≡ None
 setup_gone cards machine none {state = state} s = subst (λ (kept : Option Setup). ShowsSetup machine.file kept state.setup) none s.setup
 
 -- what the statement does with a setup, and with what is selected
@@ -46,15 +46,15 @@ module _ (verb : Verb ℕ) (card : ℕ) (go : State → Present → LinearProgra
       (gives_fault card NoSetup state.setup (with_setup state) (setup_gone cards machine none s)))
 
   module _ (cards : List (List ℕ)) (old : Machine) (setup : Setup) (is_setup : old.setup ≡ Some setup) (problem : Problem ℕ) (on_file : filed_under setup.name old.file ≡ Some problem) where
-    module _ {position executed : ℕ} {state : State} (s : Stands cards old position executed state) where
-      pub shown : IsPresentOf problem setup state.setup
-      shown = present_at old.file setup state.setup problem on_file (subst (λ (kept : Option Setup). ShowsSetup old.file kept state.setup) is_setup s.setup)
+    module _ {position executed : ℕ} {state : State} (s : Represents cards old position executed state) where
+      pub viewed : IsPresentOf problem setup state.setup
+      viewed = present_at old.file setup state.setup problem on_file (subst (λ (kept : Option Setup). ShowsSetup old.file kept state.setup) is_setup s.setup)
 
       abbrev pub present : Present
-      present = present_with problem setup.options shown.opening shown.steps
+      present = present_with problem setup.options viewed.opening viewed.steps
 
       setup_gives : (outcome : Outcome) → Gives linear_programming card (with_setup state present) outcome → Gives linear_programming card (verb_move verb card state) outcome
-      setup_gives outcome g = begins state outcome (gives_found card NoSetup state.setup (with_setup state) present outcome shown.is_shown g)
+      setup_gives outcome g = begins state outcome (gives_found card NoSetup state.setup (with_setup state) present outcome viewed.is_viewed g)
 
       pub selected_gives : (lp : LinearProgram) → selected problem (choice_of old.cells setup.options) ≡ Ok lp → (outcome : Outcome) → Gives linear_programming card (selecting_move state present lp) outcome →
           Gives linear_programming card (verb_move verb card state) outcome

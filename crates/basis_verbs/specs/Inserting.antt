@@ -37,12 +37,12 @@ use Rattle.run_machine.specs.declared.end.End.{End}
 use Rattle.run_machine.specs.declared.end.End.TheVariants as ends
 use Rattle.run_machine.specs.declared.selecting.Refusal.{Refusal}
 use Rattle.run_machine.specs.declared.selecting.Refusal.TheVariants as refusals
-use Rattle.run_machine.specs.Ends.{end_shown}
+use Rattle.run_machine.specs.Ends.{end_view}
 use Rattle.selection_definitions.specs.Choice.{Choice}
 use Rattle.run_setup.specs.Kept.{Setup, chosen}
 use Rattle.run_setup.specs.Machines.{Machine}
-use Rattle.run_machine.specs.Singular.{IsSheetOf, lines_shown}
-use Rattle.run_setup.specs.Standing.{IsReady, Stands}
+use Rattle.run_machine.specs.Singular.{IsSheetOf, lines_view}
+use Rattle.run_setup.specs.Standing.{IsReady, Represents}
 use Rattle.run_setup.specs.Statements.{Comes}
 use Rattle.basis_verbs.specs.declared.insert.Given.{Given}
 use Rattle.basis_verbs.specs.declared.insert.Given.TheVariants as given
@@ -83,7 +83,7 @@ abbrev pub overflow_ending : ℕ → Basis → Basics → Evidence → endings.E
 overflow_ending card present way e = endings.OverflowStop (record { evidence = e; place = Some (record { basis = present; way = way }); card = card })
 
 abbrev pub IsOverflowEnd : {X : Type 0} → ℕ → Basis → Basics → Evidence → Result End X → Type 0
-IsOverflowEnd card present way e (Ok end) = end_shown end ≡ overflow_ending card present way e
+IsOverflowEnd card present way e (Ok end) = end_view end ≡ overflow_ending card present way e
 IsOverflowEnd card present way e (Err refused) = Unit {0}
 
 module _ (card : ℕ) (setup : Setup) (choice : Choice) (lp : LinearProgram) (s : Basis) (first last : ℕ) (cards : List (List ℕ)) where
@@ -113,7 +113,7 @@ module _ (card : ℕ) (setup : Setup) (choice : Choice) (lp : LinearProgram) (s 
     pub evidence : Evidence
     pub way : Basics
     pub is_refused : InstallRefused lp.matrix (basics_of s) way evidence
-    pub is_end : end_shown end ≡ overflow_ending card setup.basis way evidence
+    pub is_end : end_view end ≡ overflow_ending card setup.basis way evidence
 
   abbrev pub IsInstalledFor : Result Found Halt → Type 0
   IsInstalledFor (Ok (found.Inserted new deck basic next)) = IsInstalledSetup new deck basic next
@@ -132,7 +132,7 @@ refused_found card refusals.NoMemory = Err halt.NoMemory
 module _ (card : ℕ) (cards : List (List ℕ)) (machine : Machine) where
   -- from each state that the machine shows, the statement prints this line and goes on with this setup
   pub record IsInserted (new : Setup) (deck : Name) (basic next : ℕ) : Type 0 where
-    pub comes : (position executed : ℕ) (state : State) → Stands cards machine position executed state →
+    pub comes : (position executed : ℕ) (state : State) → Represents cards machine position executed state →
         Comes linear_programming Insert card cards position executed state (record machine { setup = Some new; decks_from = next; mark = None }) (Prints (Inserted deck basic)) act.Next
     pub ready : IsReady machine.file new
     pub first : 1 ≤ next
@@ -140,16 +140,16 @@ module _ (card : ℕ) (cards : List (List ℕ)) (machine : Machine) where
 
   -- from each state that the machine shows, the statement ends the run so
   abbrev pub EndsSo : endings.Ending → Type 0
-  EndsSo ending = (position executed : ℕ) (state : State) → Stands cards machine position executed state → Gives linear_programming card (verb_move Insert card state) (stops ending)
+  EndsSo ending = (position executed : ℕ) (state : State) → Represents cards machine position executed state → Gives linear_programming card (verb_move Insert card state) (stops ending)
 
   -- the run ends with the lines of a dependency, and the problem that has their names is on file
   pub record IsSingularAt (name : Name) (p : LinearProgram) (d : List ℚ) : Type 0 where
     pub on_file : IsSheetOf (filed_under name machine.file) p
     pub full : length d ≡ size p.matrix
-    pub ends : EndsSo (endings.SingularStop (record { card = card; lines = lines_shown (filed_under name machine.file) p d }))
+    pub ends : EndsSo (endings.SingularStop (record { card = card; lines = lines_view (filed_under name machine.file) p d }))
 
   abbrev pub IsFound : Result Found Halt → Type 0
   IsFound (Ok (found.Inserted new deck basic next)) = IsInserted new deck basic next
   IsFound (Ok (found.Singular name p d)) = IsSingularAt name p d
-  IsFound (Ok (found.Ends end)) = EndsSo (end_shown end)
+  IsFound (Ok (found.Ends end)) = EndsSo (end_view end)
   IsFound (Err h) = h ≡ halt.NoMemory

@@ -12,8 +12,8 @@ ghost use Rattle.run_setup.specs.Statements.{Executes};
 ghost use Rattle.problem_file.specs.Filed.{filed_under};
 ghost use Rattle.listing_definitions.specs.Ending.{SingularStop};
 ghost use Rattle.lp_definitions.specs.Basis.{IsBasis};
-ghost use Rattle.run_machine.specs.Ends.{end_shown};
-ghost use Rattle.run_machine.specs.Singular.{IsSheetOf, lines_shown};
+ghost use Rattle.run_machine.specs.Ends.{end_view};
+ghost use Rattle.run_machine.specs.Singular.{IsSheetOf, lines_view};
 ghost use Rattle.basis_verbs.specs.Inserting.{IsGiven, IsFound, IsInstalledFor, IsOverflowEnd, refused_found};
 
 use basis_deck::{InstallStop, install, read_basis};
@@ -150,9 +150,9 @@ fn overflow_end<E: Engine>(
 fn singular_end(file: ProblemFile, name: Name, lp: Lp, dependency: Direction, card: u32) -> End
     requires on_file { IsSheetOf (filed_under name file) lp }
     requires full { length dependency ≡ size lp.matrix }
-    ensures { end_shown result ≡ SingularStop (record {
+    ensures { end_view result ≡ SingularStop (record {
       card = card;
-      lines = lines_shown (filed_under name file) lp dependency;
+      lines = lines_view (filed_under name file) lp dependency;
     }) }
 {
     End::Singular {

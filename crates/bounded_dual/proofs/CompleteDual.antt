@@ -13,7 +13,7 @@ use Rattle.simplex_definitions.specs.Statements.{Dual}
 use Rattle.simplex_laws.specs.Laws.{IsNonsingularBasis}
 use Rattle.basis_values.specs.Calls.{HasRates}
 use Rattle.bounded_primal.specs.Calls.{RuleCallEnds, outcome_of}
-use Rattle.bounded_primal.specs.Complete.{RuleEndsUnhindered, IsEndOr}
+use Rattle.bounded_primal.specs.Complete.{RuleEndsOverflowFree, IsEndOr}
 use Rattle.bounded_primal.specs.Outcomes.{IsTrueOutcome}
 use Rattle.bounded_primal.proofs.CompletePaths.{answers_end}
 use Rattle.bounded_primal.proofs.TrueOutcomes.{true_end}
@@ -64,7 +64,7 @@ module _ (p : LinearProgram) (lawful : IsLinearProgram p) (no_change : p.change 
 
   -- where the path ends from right prices and nothing stops the call, it answers this end
   pub dual_answered : (now : List Status) (limit : ℕ) (before more : List Basics) (bases : List (List Status)) (ending : PathEnding) (result : Result Outcome DualStop) → IfOk result (DualEnds p s now limit) → IfErr result (DualStops p s now limit before more) →
-      HasRightPrices p s → RuleEndsUnhindered dual_turn (Dual p) p s limit before bases ending → IsEndOr NoMemory s bases ending now result
+      HasRightPrices p s → RuleEndsOverflowFree dual_turn (Dual p) p s limit before bases ending → IsEndOr NoMemory s bases ending now result
   dual_answered now limit before more bases ending (Ok outcome) ends stops right goes = answers_end dual_turn p (one_path p lawful) s at now bases ending limit NoMemory outcome goes.ends ends.call
   dual_answered now limit before more bases ending (Err (NotDualFeasible j)) ends stops right goes = absurd (not_both_prices p s j lawful at right stops.0)
   dual_answered now limit before more bases ending (Err Limit) ends stops right goes =

@@ -10,7 +10,7 @@ use Rattle.lp_model.specs.declared.reports.Outcome.{Outcome}
 use Rattle.lp_model.specs.declared.reports.Outcome.TheVariants.{Optimal, Crossed}
 use Rattle.simplex_definitions.specs.DualPath.{dual_for, dual_turn, HasRightPrices, IsWrongAt}
 use Rattle.simplex_definitions.specs.Moves.{least, is_crossed, entering}
-use Rattle.simplex_definitions.specs.Path.{EndsOptimal, EndsCrossed, listed, crossed, outside, mover, worth_rate}
+use Rattle.simplex_definitions.specs.Path.{EndsOptimal, EndsCrossed, listed, crossed, outside, entering_variable, worth_rate}
 use Rattle.simplex_laws.specs.Laws.{IsNonsingularBasis}
 use Rattle.basis_values.specs.Prices.{worth_by}
 use Rattle.basis_values.proofs.RatesStops.{tableau_of, IsTableau-of}
@@ -55,7 +55,7 @@ module _ (p : LinearProgram) (s : List Status) (at : IsNonsingularBasis p s) (y 
   crossed_call before ways keeps k limit found = ends_there dual_turn p s before s ways 0 (begins_at dual_turn p s before ways keeps) limit 0 (Crossed k) (omega arith) refl (crossed_ends k 0 found)
 
   -- the prices of the basis tell which one is wrong
-  wrong_is : mover p s t None ≡ entering p s (worth_by p y)
+  wrong_is : entering_variable p s t None ≡ entering p s (worth_by p y)
   wrong_is = entering_same p s at.is_basis (worth_rate p s t) (worth_by p y) (λ k out. ap (for_min p.sense) (sym (priced.prices k out.0 ∙ ap (λ m. if m then zero_ℚ else objective_rate p priced.rate k) out.1)))
 
   pub all_right : None ≡ entering p s (worth_by p y) → HasRightPrices p s

@@ -15,10 +15,10 @@ use Rattle.lp_model.specs.declared.Stop.{Stop}
 use Rattle.lp_model.specs.declared.Stop.TheVariants as stop
 use Rattle.lp_model.specs.declared.reports.Outcome.TheVariants.{Infeasible}
 use Rattle.simplex_definitions.specs.DualPath.{dual_for, dual_turn}
-use Rattle.simplex_definitions.specs.DualRatio.{brings_back, cheapest}
+use Rattle.simplex_definitions.specs.DualRatio.{restores_feasibility, cheapest}
 use Rattle.simplex_definitions.specs.Formulas.{limit_numbered, number_of_limit}
 use Rattle.simplex_definitions.specs.Moves.{is_below, signed}
-use Rattle.simplex_definitions.specs.Path.{Moves, EndsInfeasible, listed, ray_of, crossed, outside, bring_back, after}
+use Rattle.simplex_definitions.specs.Path.{Moves, EndsInfeasible, listed, ray_of, crossed, outside, restore_feasibility, after}
 use Rattle.simplex_definitions.specs.Statements.{Dual, RuleMoves, BringsAt}
 use Rattle.simplex_laws.specs.Laws.{IsNonsingularBasis}
 use Rattle.simplex_laws.proofs.Searches.{found_passes}
@@ -33,7 +33,7 @@ use Rattle.bounded_primal.proofs.Agreement.{basis_point, outside_same, below_sam
 use Rattle.bounded_primal.proofs.SameChoices.{listed_is, row_ray}
 use Rattle.bounded_primal.proofs.TurnCalls.{outside_basic}
 use Rattle.bounded_primal.proofs.TurnChoices.{limit_some, return_step}
-use Rattle.dual_laws.proofs.Movers.{is_mover}
+use Rattle.dual_laws.proofs.EnteringVariables.{is_entering_variable}
 use Rattle.dual_step.specs.Cheapest.{brings, cheapest_by, SomeRatioRefused}
 use Rattle.dual_step.proofs.BestRatio.{brings_apart}
 use Rattle.dual_step.proofs.RatioChoice.{row_at, brings_is, cheapest_is}
@@ -76,19 +76,19 @@ module _ (p : LinearProgram) (lawful : IsLinearProgram p) (no_change : p.change 
   choice : cheapest_by p s prices xs below ≡ cheapest p s t r (is_below p z r)
   choice = cheapest_is p s lawful no_change at prices xs priced r leaves.0 row below z ∙ ap (cheapest p s t r) mark
 
-  turn_is : (o : Option ℕ) → cheapest_by p s prices xs below ≡ o → dual_turn p s t ≡ bring_back p s t r o
+  turn_is : (o : Option ℕ) → cheapest_by p s prices xs below ≡ o → dual_turn p s t ≡ restore_feasibility p s t r o
   unfolding dual_turn
-  turn_is o is = ap₂ (dual_for p s t) uncrossed broken ∙ ap (bring_back p s t r) (sym choice ∙ is)
+  turn_is o is = ap₂ (dual_for p s t) uncrossed broken ∙ ap (restore_feasibility p s t r) (sym choice ∙ is)
 
   -- a ratio is refused
   pub ratio_evidence : (left : ℕ) (before now : List Basics) (e : Evidence) → SomeRatioRefused p s prices xs r below e → EvidenceHere (Dual p) p.matrix None left s before now e
   ratio_evidence left before now e h =
       of_ratio p (Dual p) None s (dual_own p no_change s) left before now e lawful at z point r below leaves prices xs priced row h
-      (t, is_t, uncrossed, broken, subst (λ m. brings_back p s t r m h.j ≡ true) mark (sym (brings_is p s lawful no_change at prices xs priced r leaves.0 row below z h.j h.is_variable) ∙ h.brings_back))
+      (t, is_t, uncrossed, broken, subst (λ m. restores_feasibility p s t r m h.j ≡ true) mark (sym (brings_is p s lawful no_change at prices xs priced r leaves.0 row below z h.j h.is_variable) ∙ h.restores_feasibility))
 
   -- nothing brings it back
-  pub stuck_ends : cheapest_by p s prices xs below ≡ None → (ray : List ℚ) (steps : ℕ) → length ray ≡ size p.matrix → ((k : ℕ) → IsVariable p.matrix k → value_at ray k ≡ ray_from xs r below k) → RuleEndsHere dual_turn p s steps (Infeasible steps ray)
-  stuck_ends none ray steps counted values = record {
+  pub infeasible_ends : cheapest_by p s prices xs below ≡ None → (ray : List ℚ) (steps : ℕ) → length ray ≡ size p.matrix → ((k : ℕ) → IsVariable p.matrix k → value_at ray k ≡ ray_from xs r below k) → RuleEndsHere dual_turn p s steps (Infeasible steps ray)
+  infeasible_ends none ray steps counted values = record {
     ending = EndsInfeasible (listed p.matrix (ray_of (basics_of s) row.rate r (is_below p z r)));
     ends = record { tableau = t; is_tableau = is_t; turns = turn_is None none };
     is_outcome = ap (Infeasible steps) (listed_is p.matrix ray (ray_of (basics_of s) row.rate r (is_below p z r)) counted
@@ -100,7 +100,7 @@ module _ (p : LinearProgram) (lawful : IsLinearProgram p) (no_change : p.change 
     found = let passes = found_passes p _ q chosen in (passes.0, (and_parts _ _ passes.1).0)
 
     pub return_nonbasic : IsNonbasic p.matrix (basics_of s) q
-    return_nonbasic = (is_mover p s (λ k. signed (not below) (xs k)) q at found.0 found.1).nonbasic
+    return_nonbasic = (is_entering_variable p s (λ k. signed (not below) (xs k)) q at found.0 found.1).nonbasic
 
     row_pivot : xs q ≢ zero_ℚ
     row_pivot = brings_apart p s prices xs below q found.1

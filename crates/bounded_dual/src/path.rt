@@ -10,7 +10,7 @@ ghost use Rattle.simplex_definitions.specs.Statements.{Dual};
 ghost use Rattle.basis_values.specs.Calls.{HasRates, KeepsRates};
 ghost use Rattle.basis_values.specs.Stops.{PointOverflow};
 ghost use Rattle.bounded_primal.specs.Calls.{RuleCallEnds, RuleNeverReturned, RuleWaypointsFollow};
-ghost use Rattle.bounded_primal.specs.Complete.{RuleEndsUnhindered, IsEndOr};
+ghost use Rattle.bounded_primal.specs.Complete.{RuleEndsOverflowFree, IsEndOr};
 ghost use Rattle.bounded_primal.specs.Outcomes.{IsTrueOutcome};
 ghost use Rattle.bounded_primal.specs.Turns.{IsUncrossed};
 ghost use Rattle.termination_laws.specs.Laws.{lists_of};
@@ -137,7 +137,7 @@ pub fn dual<R: Rates>(
     ensures limited { IsErrOf result DualStop.Limit → limit < lists_of lp.now }
     ensures complete { (bases : List (List Status)) (ending : PathEnding) →
         HasRightPrices lp.now basis.old →
-        RuleEndsUnhindered dual_turn (Dual lp.now) lp.now basis.old limit (R.waypoints rates.old)
+        RuleEndsOverflowFree dual_turn (Dual lp.now) lp.now basis.old limit (R.waypoints rates.old)
         bases ending → IsEndOr DualStop.NoMemory basis.old bases ending basis.new result }
 {
     let size = lp.number_of_variables() as usize;

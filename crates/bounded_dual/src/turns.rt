@@ -19,7 +19,7 @@ use std::alloc::Global;
 
 /// Brings the basic `r` back to the limit that it broke, at the least loss, or answers why nothing does. `row` takes the rates of `r`,
 /// and `direction` is a workspace.
-fn bring_back<R: Rates>(
+fn restore_feasibility<R: Rates>(
     alloc: Global,
     at: &Position<'_>,
     rates: &mut R,
@@ -119,7 +119,7 @@ pub fn next_turn<R: Rates>(
         (R.waypoints rates.old) (R.waypoints rates.new) }
 {
     match at.broken {
-        Some(r) => bring_back(alloc, at, rates, prices, row, direction, r),
+        Some(r) => restore_feasibility(alloc, at, rates, prices, row, direction, r),
         None => optimal(alloc, at, rates, prices),
     }
 }

@@ -12,13 +12,13 @@ use Rattle.lp_definitions.specs.declared.Status.{Status}
 use Rattle.lp_laws.specs.Vectors.{along}
 use Rattle.lp_laws.proofs.Uniqueness.{one_point}
 use Rattle.frac128.specs.declared.Op.TheVariants.{Sub, Div}
-use Rattle.simplex_definitions.specs.Moves.{on_limit, is_below, is_above, is_outside, limit_ahead, room, stopper, is_no_later, reaches_first, signed, reached}
+use Rattle.simplex_definitions.specs.Moves.{on_limit, is_below, is_above, is_outside, limit_ahead, step_length, stopper, is_no_later, reaches_first, signed, reached}
 use Rattle.simplex_laws.proofs.Numbered.{find_same, list_all_same}
 use Rattle.simplex_laws.proofs.Stoppers.{stopper_some}
 use Rattle.simplex_definitions.specs.Formulas.{limit_numbered, number_of_limit}
 use Rattle.basis_values.specs.Formulas.{IsRefusal}
 use Rattle.basis_values.specs.Motions.{motion}
-use Rattle.basis_values.specs.Reach.{reach_formula, RoomRefused, SomeRoomRefused}
+use Rattle.basis_values.specs.Reach.{reach_formula, StepLengthRefused, SomeStepLengthRefused}
 use Rattle.basis_values.specs.Reach as reach
 use Rattle.basis_values.proofs.Existence.{rates_exist}
 use Rattle.basis_values.proofs.RatesStops.{tableau_of, IsTableau-of}
@@ -117,28 +117,28 @@ module _ (p : LinearProgram) (z w : Vector) (agrees : AgreesAtLimits p z w) wher
 
   -- ---- what stops a motion
 
-  room_agrees : (v : Vector) (k : ℕ) → IsVariable p.matrix k → room p z v k ≡ room p w v k
-  room_agrees v k is = length_same (limit_ahead p v k) (z k) (w k) (v k) (λ some. agrees k is (ahead_counts p k (lt_ℚ zero_ℚ (v k)) (lt_ℚ (v k) zero_ℚ) some))
+  step_length_agrees : (v : Vector) (k : ℕ) → IsVariable p.matrix k → step_length p z v k ≡ step_length p w v k
+  step_length_agrees v k is = length_same (limit_ahead p v k) (z k) (w k) (v k) (λ some. agrees k is (ahead_counts p k (lt_ℚ zero_ℚ (v k)) (lt_ℚ (v k) zero_ℚ) some))
 
   stopper_agrees : (v : Vector) → stopper p z v ≡ stopper p w v
   stopper_agrees v =
       find_same (reaches_first p z v) (reaches_first p w v) (size p.matrix) 1 (λ k low high.
-      list_all_same (λ i. is_no_later (room p z v k) (room p z v i)) (λ i. is_no_later (room p w v k) (room p w v i)) (size p.matrix) 1 (λ i from to.
-      ap₂ is_no_later (room_agrees v k (low, omega (arith, high))) (room_agrees v i (from, omega (arith, to)))))
+      list_all_same (λ i. is_no_later (step_length p z v k) (step_length p z v i)) (λ i. is_no_later (step_length p w v k) (step_length p w v i)) (size p.matrix) 1 (λ i from to.
+      ap₂ is_no_later (step_length_agrees v k (low, omega (arith, high))) (step_length_agrees v i (from, omega (arith, to)))))
 
   module _ (d : Vector) (up : Bool) where
     stop_same : (o : Option ℕ) → stopper p w (motion d up) ≡ o → option_map (stop_at p z d up) o ≡ option_map (stop_at p w d up) o
     stop_same None found = refl
     stop_same (Some k) found =
-        ap (λ (r : Option ℚ). Some (record { p = k; step = signed up (unwrap_or r zero_ℚ); to = reached (motion d up) k })) (room_agrees (motion d up) k (stopper_some p w (motion d up) k found).0)
+        ap (λ (r : Option ℚ). Some (record { p = k; step = signed up (unwrap_or r zero_ℚ); to = reached (motion d up) k })) (step_length_agrees (motion d up) k (stopper_some p w (motion d up) k found).0)
 
     pub stopper_of_same : stopper_of p z d up ≡ stopper_of p w d up
     stopper_of_same = ap (option_map (stop_at p z d up)) (stopper_agrees (motion d up)) ∙ stop_same (stopper p w (motion d up)) refl
 
-    pub room_refused : (q : ℕ) (e : Evidence) → SomeRoomRefused p z d up q e → SomeRoomRefused p w d up q e
-    room_refused q e h = (h.0, h.1, at h.0 h.1 h.2)
+    pub step_length_refused : (q : ℕ) (e : Evidence) → SomeStepLengthRefused p z d up q e → SomeStepLengthRefused p w d up q e
+    step_length_refused q e h = (h.0, h.1, at h.0 h.1 h.2)
       where
-        at : (k : ℕ) → IsVariable p.matrix k → RoomRefused p z d up q k e → RoomRefused p w d up q k e
+        at : (k : ℕ) → IsVariable p.matrix k → StepLengthRefused p z d up q k e → StepLengthRefused p w d up q k e
         at k is (reach.of_distance term l low ahead limit f) = reach.of_distance term l low ahead limit (subst (λ (x : ℚ). IsRefusal (reach_formula 6 0 k term) Sub l x e) (numbered_same k term l is limit) f)
         at k is (reach.of_quotient term l ahead limit moves other f) =
             reach.of_quotient term l ahead limit moves other (subst (λ (x : ℚ). IsRefusal (reach_formula 7 q k term) Div (l -ℚ x) (d k) e) (numbered_same k term l is limit) f)

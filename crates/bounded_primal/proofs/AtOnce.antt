@@ -10,7 +10,7 @@ use Rattle.exact_values.proofs.Tests_laws.{lt_from_test, test_from_le}
 use Rattle.exact_values.proofs.Signs.{neg_above}
 use Rattle.lp_definitions.specs.LinearProgram.{LinearProgram, Vector, size, lower_of, upper_of}
 use Rattle.lp_definitions.specs.Solutions.{IsWithinLimits}
-use Rattle.simplex_definitions.specs.Moves.{is_no_later, room}
+use Rattle.simplex_definitions.specs.Moves.{is_no_later, step_length}
 use Rattle.basis_values.specs.Reach.{length_of, IsNearest}
 use Rattle.basis_values.specs.declared.reach.Reach.{Reach}
 use Rattle.simplex_laws.proofs.Motions.{difference_above}
@@ -45,17 +45,17 @@ forward low high z v x within e = by_tests (lt_ℚ zero_ℚ v) refl (lt_ℚ v ze
 
 -- what is reached at once among the first n is nearest of all
 module _ (p : LinearProgram) (z v : Vector) (all_within : IsWithinLimits p z) (n : ℕ) (within : n ≤ size p.matrix) where
-  pub nearest_at_once : (nearest : Option Reach) → length_of nearest ≡ Some zero_ℚ → IsNearest (room p z v) n nearest → IsNearest (room p z v) (size p.matrix) nearest
+  pub nearest_at_once : (nearest : Option Reach) → length_of nearest ≡ Some zero_ℚ → IsNearest (step_length p z v) n nearest → IsNearest (step_length p z v) (size p.matrix) nearest
   nearest_at_once None now h = cc
   nearest_at_once (Some r) now h = record {
     low = h.low;
     high = omega (arith, h.high, within);
     reaches = h.reaches;
-    first = λ i low high. no_sooner i low high (room p z v i) refl;
+    first = λ i low high. no_sooner i low high (step_length p z v i) refl;
     later = h.later;
   }
     where
-      no_sooner : (i : ℕ) → 1 ≤ i → i ≤ size p.matrix → (o : Option ℚ) → room p z v i ≡ o → is_no_later (room p z v r.p) (room p z v i) ≡ true
+      no_sooner : (i : ℕ) → 1 ≤ i → i ≤ size p.matrix → (o : Option ℚ) → step_length p z v i ≡ o → is_no_later (step_length p z v r.p) (step_length p z v i) ≡ true
       no_sooner i low high None is = rw (h.reaches, is) refl
       no_sooner i low high (Some l) is =
           let ahead : zero_ℚ ≤ℚ l = forward (lower_of p i) (upper_of p i) (z i) (v i) l (all_within i (low, high)) is in

@@ -15,7 +15,7 @@ use Rattle.termination_laws.specs.Laws.{lists_of}
 use Rattle.basis_values.specs.Calls.{HasRates}
 use Rattle.bounded_primal.specs.Calls.{CallEnds, RuleCallEnds, outcome_of}
 use Rattle.bounded_primal.specs.Stops.{PrimalStops, FreeStops}
-use Rattle.bounded_primal.specs.Complete.{EndsUnhindered, EndsFreely, IsEndOr, IsEndOrMemory, IsFreeEndOrMemory}
+use Rattle.bounded_primal.specs.Complete.{EndsOverflowFree, EndsFreely, IsEndOr, IsEndOrMemory, IsFreeEndOrMemory}
 use Rattle.bounded_primal.specs.declared.moves.PrimalStop.{PrimalStop}
 use Rattle.bounded_primal.specs.declared.moves.PrimalStop.TheVariants.{Limit, Overflow, NoMemory}
 
@@ -37,7 +37,7 @@ module _ (p : LinearProgram) (lawful : IsLinearProgram p) (a : Matrix) (b : Basi
   begun = record { is_basis = has.is_basis; nonsingular = has.nonsingular }
 
   pub path_answered : (limit : ℕ) (before after : List Basics) (result : Result Outcome PrimalStop) → IfOk result (CallEnds p s now limit) → IfErr result (PrimalStops p s now limit before after) →
-      EndsUnhindered p s limit before bases ending → IsEndOrMemory s bases ending now result
+      EndsOverflowFree p s limit before bases ending → IsEndOrMemory s bases ending now result
   path_answered limit before after (Ok outcome) ends stops goes = answers_end turn p (one_path p lawful) s begun now bases ending limit NoMemory outcome goes.ends ends
   path_answered limit before after (Err Limit) ends stops goes =
       absurd (not_both p lawful limit s begun (record { bases = bases; ending = ending; ends = goes.ends; within = goes.within }) stops.goes_on)

@@ -1,4 +1,4 @@
--- What the first wanted rate of a row tells: what brings a basic back, and what betters the objective.
+-- What the first wanted rate of a row tells: what brings a basic back, and what improves the objective.
 use Rattle.std.proofs.Common.{◌≡◌, ℕ, List, Bool, sym, ap, ◌∙◌, subst, arith}
 use Rattle.std.specs.Prelude.{Option, Some, None, not, option_map}
 use Rattle.exact_values.specs.Rational.{ℚ}
@@ -15,9 +15,9 @@ use Rattle.basis_values.specs.Wants.{AreWants, AreWantsBut}
 use Rattle.basis_values.proofs.PriceLaws.{plain_prices}
 use Rattle.basis_values.proofs.WantLaws.{wanted_enters, wants_after}
 use Rattle.bounded_primal.specs.Moves.{move_by}
-use Rattle.bounded_primal.specs.Turns.{IsReturner, moved_by, mover_by, Betters, IsMoverFound, MovesOn}
+use Rattle.bounded_primal.specs.Turns.{IsRestoring, moved_by, entering_variable_by, Improves, IsEnteringVariableFound, MovesOn}
 use Rattle.bounded_primal.specs.declared.moves.Stopper.{Stopper}
-use Rattle.bounded_primal.specs.declared.turns.Mover.{Mover}
+use Rattle.bounded_primal.specs.declared.turns.EnteringVariable.{EnteringVariable}
 use Rattle.bounded_primal.proofs.SameChoices.{entering_same}
 use Rattle.bounded_primal.proofs.StepFacts.{step_reaches}
 
@@ -30,8 +30,8 @@ pub prices_same : (p : LinearProgram) (s : List Status) (x y : Vector) → ArePr
 prices_same p s x y h same = record { rate = h.rate; are_rates = h.are_rates; prices = λ k is. same k is ∙ h.prices k is }
 
 module _ (p : LinearProgram) (s : List Status) (basis : IsBasis p s) (ws : List Wanted) (wants : AreWants p s ws) where
-  pub returner_found : (r : ℕ) (below : Bool) (xs : Vector) (found : Option ℕ) → IsFirstWanted p.matrix (basics_of s) r ws (not below) xs found → IsReturner p s r below xs found
-  returner_found r below xs found h = record {
+  pub restoring_found : (r : ℕ) (below : Bool) (xs : Vector) (found : Option ℕ) → IsFirstWanted p.matrix (basics_of s) r ws (not below) xs found → IsRestoring p s r below xs found
+  restoring_found r below xs found h = record {
     rates = h.rates;
     is_row = h.is_row;
     enters = wanted_enters p s ws wants (not below) h.rates found h.least;
@@ -43,8 +43,8 @@ module _ (p : LinearProgram) (s : List Status) (basis : IsBasis p s) (ws : List 
     worth_is : (ys : Vector) → entering p s (worth_by p ys) ≡ entering p s (motion ys min)
     worth_is ys = entering_same p s basis (worth_by p ys) (motion ys min) (λ k out. counts (ys k))
 
-    pub none_betters : (found : Option ℕ) → found ≡ None → IsFirstWanted p.matrix (basics_of s) p.objective ws min xs found → IsMoverFound p s xs None
-    none_betters found none h =
+    pub none_improves : (found : Option ℕ) → found ≡ None → IsFirstWanted p.matrix (basics_of s) p.objective ws min xs found → IsEnteringVariableFound p s xs None
+    none_improves found none h =
         let same : (k : ℕ) → IsVariable p.matrix k → xs k ≡ h.rates k = λ k is. h.filled k is (filled_all found k none) in
         let enters : None ≡ entering p s (motion h.rates min) = sym none ∙ wanted_enters p s ws wants min h.rates found h.least in
         let moved : entering p s (motion h.rates min) ≡ entering p s (motion xs min) =
@@ -53,7 +53,7 @@ module _ (p : LinearProgram) (s : List Status) (basis : IsBasis p s) (ws : List 
           ap (option_map (moved_by p xs)) (enters ∙ moved ∙ sym (worth_is xs)),
         )
 
-    found_one : (q : ℕ) → IsFirstWanted p.matrix (basics_of s) p.objective ws min xs (Some q) → Betters p s (moved_by p xs q)
+    found_one : (q : ℕ) → IsFirstWanted p.matrix (basics_of s) p.objective ws min xs (Some q) → Improves p s (moved_by p xs q)
     found_one q h =
         let enters : Some q ≡ entering p s (motion h.rates min) = wanted_enters p s ws wants min h.rates (Some q) h.least in
         let same : xs q ≡ h.rates q = h.filled q (h.least.low, omega (arith, h.least.high, wants.places)) (omega arith) in
@@ -61,11 +61,11 @@ module _ (p : LinearProgram) (s : List Status) (basis : IsBasis p s) (ws : List 
         record {
           price = h.rates;
           prices = plain_prices p s h.rates plain h.is_row;
-          chosen = ap (λ (m : Mover). Some m) moved ∙ ap (option_map (moved_by p h.rates)) (enters ∙ sym (worth_is h.rates));
+          chosen = ap (λ (m : EnteringVariable). Some m) moved ∙ ap (option_map (moved_by p h.rates)) (enters ∙ sym (worth_is h.rates));
         }
 
-    pub one_betters : (found : Option ℕ) (q : ℕ) (m : Mover) → found ≡ Some q → m ≡ moved_by p xs q → IsFirstWanted p.matrix (basics_of s) p.objective ws min xs found → Betters p s m
-    one_betters found q m is m_is h = subst (Betters p s) (sym m_is) (found_one q (subst (IsFirstWanted p.matrix (basics_of s) p.objective ws min xs) is h))
+    pub one_improves : (found : Option ℕ) (q : ℕ) (m : EnteringVariable) → found ≡ Some q → m ≡ moved_by p xs q → IsFirstWanted p.matrix (basics_of s) p.objective ws min xs found → Improves p s m
+    one_improves found q m is m_is h = subst (Improves p s) (sym m_is) (found_one q (subst (IsFirstWanted p.matrix (basics_of s) p.objective ws min xs) is h))
 
 -- what is wanted after a step, but for what is renewed
 pub wants_moved : (p : LinearProgram) (s : List Status) (basis : IsBasis p s) (ws : List Wanted) (wants : AreWants p s ws) (d : Vector) (q : ℕ) (by : Stopper) (left : ℕ) (h : MovesOn p s d q by left) (next : List Status)
@@ -77,7 +77,7 @@ wants_moved p s basis ws wants d q by left h next is =
 pub leaves_variable : (p : LinearProgram) (s : List Status) (d : Vector) (q : ℕ) (by : Stopper) (left : ℕ) → MovesOn p s d q by left → IsVariable p.matrix by.p
 leaves_variable p s d q by left h = (step_reaches p s h.step.point d q by h.step.is_step h.pivot).is_variable
 
--- what betters the objective by all prices
-pub mover_found : (p : LinearProgram) (s : List Status) (y : Vector) (o : Option Mover) → ArePricesOf p s y → o ≡ mover_by p s y → IsMoverFound p s y o
-mover_found p s y None prices is = (prices, is)
-mover_found p s y (Some m) prices is = record { price = y; prices = prices; chosen = is }
+-- what improves the objective by all prices
+pub entering_variable_found : (p : LinearProgram) (s : List Status) (y : Vector) (o : Option EnteringVariable) → ArePricesOf p s y → o ≡ entering_variable_by p s y → IsEnteringVariableFound p s y o
+entering_variable_found p s y None prices is = (prices, is)
+entering_variable_found p s y (Some m) prices is = record { price = y; prices = prices; chosen = is }

@@ -77,12 +77,12 @@ module _ (p : LinearProgram) (lawful : IsLinearProgram p) (a : Matrix) (b : Basi
       let few = fewer in
       stops_there p s before now ways steps h (lists_of p) more (primal_stop_of why) (omega (arith, few)) (stops_free p now ways more (lists_of p - steps) why (omega (arith, few)) stops)
 
-  pub free_ends : (told : ℕ) (outcome : Outcome) → told ≡ counted_steps steps → EndsHere p now told outcome → CallEnds p s now (lists_of p) outcome
-  free_ends told outcome is_told ends = let few = fewer in ends_there turn p s before now ways steps h (lists_of p) told outcome (omega (arith, few)) is_told ends
+  pub free_ends : (reported : ℕ) (outcome : Outcome) → reported ≡ counted_steps steps → EndsHere p now reported outcome → CallEnds p s now (lists_of p) outcome
+  free_ends reported outcome is_reported ends = let few = fewer in ends_there turn p s before now ways steps h (lists_of p) reported outcome (omega (arith, few)) is_reported ends
 
 -- the count of steps stands still
-pub counted_more : (told steps : ℕ) → told ≡ counted_steps steps → min (told + 1) 4294967295 ≡ counted_steps (steps + 1)
-counted_more told steps e = omega (arith, e)
+pub counted_more : (reported steps : ℕ) → reported ≡ counted_steps steps → min (reported + 1) 4294967295 ≡ counted_steps (steps + 1)
+counted_more reported steps e = omega (arith, e)
 
 -- a step more leaves one less
 pub one_less : (lists steps more : ℕ) → more ≡ steps + 1 → steps + 1 < lists → lists - more < lists - steps

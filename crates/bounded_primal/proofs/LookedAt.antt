@@ -7,7 +7,7 @@ use Rattle.std.proofs.lemmas.List.{drop_all, drop_more, get_or_past, get_or-set_
 use Rattle.exact_values.specs.Rational.{ℚ, zero_ℚ, ◌+ℚ◌, ◌*ℚ◌}
 use Rattle.lp_definitions.specs.LinearProgram.{LinearProgram, Vector, value_at, numbers_from}
 use Rattle.lp_model.specs.Sparse.{AreNonzeroFrom, no_more, next_nonzero, CoverNonzeroFrom, no_more_listed, next_listed}
-use Rattle.simplex_definitions.specs.Moves.{room, is_no_later}
+use Rattle.simplex_definitions.specs.Moves.{step_length, is_no_later}
 use Rattle.basis_values.specs.Motions.{motion}
 use Rattle.basis_values.specs.Reach.{IsNearest, sooner}
 use Rattle.basis_values.specs.declared.reach.Reach.{Reach}
@@ -15,7 +15,7 @@ use Rattle.basis_values.proofs.Lengths.{nearest_more}
 use Rattle.basis_values.proofs.Skips.{stays_put}
 use Rattle.bounded_primal.specs.KeptPoints.{has_limit}
 use Rattle.bounded_primal.specs.Steps.{IsMoved, IsMovedAtLimits}
-use Rattle.bounded_primal.proofs.Still.{no_room}
+use Rattle.bounded_primal.proofs.Still.{no_step_length}
 
 -- ---- which variables they are
 
@@ -119,14 +119,14 @@ nearest_beyond f n m (Some r) within none h = record {
 
 module _ (p : LinearProgram) (z d : Vector) (up : Bool) where
   abbrev pub NearestUpTo : Option Reach → ℕ → Type 0
-  NearestUpTo nearest n = IsNearest (room p z (motion d up)) n nearest
+  NearestUpTo nearest n = IsNearest (step_length p z (motion d up)) n nearest
 
   pub nearest_over : (nearest : Option Reach) (n m : ℕ) → n ≤ m → StandStill d n m → NearestUpTo nearest n → NearestUpTo nearest m
-  nearest_over nearest n m within still = nearest_beyond (room p z (motion d up)) n m nearest within (λ k more high. sym (no_room p z d up k (still k more high)))
+  nearest_over nearest n m within still = nearest_beyond (step_length p z (motion d up)) n m nearest within (λ k more high. sym (no_step_length p z d up k (still k more high)))
 
-  pub nearest_by : (n k : ℕ) (nearest next : Option Reach) (length : Option ℚ) → n + 1 ≡ k → NearestUpTo nearest n → length ≡ room p z (motion d up) k → next ≡ sooner nearest length k → NearestUpTo next k
+  pub nearest_by : (n k : ℕ) (nearest next : Option Reach) (length : Option ℚ) → n + 1 ≡ k → NearestUpTo nearest n → length ≡ step_length p z (motion d up) k → next ≡ sooner nearest length k → NearestUpTo next k
   nearest_by n k nearest next length e h is found =
-      subst (NearestUpTo next) e (nearest_more (room p z (motion d up)) n nearest next length h (is ∙ ap (room p z (motion d up)) (sym e)) (found ∙ ap (sooner nearest length) (sym e)))
+      subst (NearestUpTo next) e (nearest_more (step_length p z (motion d up)) n nearest next length h (is ∙ ap (step_length p z (motion d up)) (sym e)) (found ∙ ap (sooner nearest length) (sym e)))
 
   -- one that stands still
   pub nearest_past : (n k : ℕ) (nearest : Option Reach) → n + 1 ≡ k → d k ≡ zero_ℚ → NearestUpTo nearest n → NearestUpTo nearest k

@@ -123,14 +123,14 @@ module _ (rule : Rule) (p : LinearProgram) (s : List Status) (before : List Basi
             (within_suffix p.matrix (basics_of next) (earlier ++ s ∷ h.bases) (next ∷ []) (inl (within_itself p.matrix (basics_of next))))
 
     -- the path ends
-    pub ends_there : (limit told : ℕ) (outcome : Outcome) → steps ≤ limit → told ≡ counted_steps steps → RuleEndsHere rule p now told outcome → RuleCallEnds rule p s now limit outcome
-    ends_there limit told outcome within is_told e = record {
+    pub ends_there : (limit reported : ℕ) (outcome : Outcome) → steps ≤ limit → reported ≡ counted_steps steps → RuleEndsHere rule p now reported outcome → RuleCallEnds rule p s now limit outcome
+    ends_there limit reported outcome within is_reported e = record {
       bases = h.bases;
       ending = e.ending;
       ends = record { is_path = h.path.0; ends = subst (λ (x : List Status). RuleEnd rule p x e.ending) (sym h.path.1) e.ends };
       reaches = h.path.1;
       within = omega (arith, h.taken, within);
-      is_outcome = subst (λ (n : ℕ). outcome ≡ outcome_of n e.ending) (is_told ∙ ap counted_steps (sym h.taken)) e.is_outcome;
+      is_outcome = subst (λ (n : ℕ). outcome ≡ outcome_of n e.ending) (is_reported ∙ ap counted_steps (sym h.taken)) e.is_outcome;
     }
 
     -- or goes on, after as many steps as the limit

@@ -108,18 +108,18 @@ module _ (p : LinearProgram) (o : Option Change) (other : SolvingStatement) (s :
 
   -- ---- at the basis s, in a run
 
-  module _ (no_change : p.change ≡ None) (break : Option ℚ) (left : ℕ) (before now : List Basics)
-      (is_theta : (ends : List ℚ) → Contains (thetas_of other ends) e.theta) (of_move : IsOfMove other break s e) (of_statement : IsTrue (belongs other e)) where
-    module _ (Goes : Status → Type 0) (goes : (to : Status) → Goes to → is_between 8 9 e.formula ≡ true → GoesTo other break s e to) where
-      shown : (around : List Basics) → StopsAt Goes p around s now e → ShowsRefusal (Primal p) Goes around s (waypoint (basics_of s) now e.way) e
-      shown around h = subst (λ (c : Option Change). ShowsRefusal (job_of p c) Goes around s (waypoint (basics_of s) now e.way) e) no_change h.shows
+  module _ (no_change : p.change ≡ None) (breakpoint : Option ℚ) (left : ℕ) (before now : List Basics)
+      (is_theta : (ends : List ℚ) → Contains (thetas_of other ends) e.theta) (of_move : IsOfMove other breakpoint s e) (of_statement : IsTrue (belongs other e)) where
+    module _ (Goes : Status → Type 0) (goes : (to : Status) → Goes to → is_between 8 9 e.formula ≡ true → GoesTo other breakpoint s e to) where
+      viewed : (around : List Basics) → StopsAt Goes p around s now e → ShowsRefusal (Primal p) Goes around s (waypoint (basics_of s) now e.way) e
+      viewed around h = subst (λ (c : Option Change). ShowsRefusal (job_of p c) Goes around s (waypoint (basics_of s) now e.way) e) no_change h.shows
 
       own_within : (xs : List (List Status)) → IsWithinOne p.matrix (basics_of s) (map basics_of (xs ++ s ∷ []))
       own_within [] = inl (within_itself p.matrix (basics_of s))
       own_within (x ∷ xs) = inr (own_within xs)
 
       -- with no other basis ahead
-      pub evidence_here : StopsAt Goes p (basics_of s ∷ before) s now e → EvidenceHere other p.matrix break left s before now e
+      pub evidence_here : StopsAt Goes p (basics_of s ∷ before) s now e → EvidenceHere other p.matrix breakpoint left s before now e
       evidence_here h = record {
         is_way = h.is_way;
         shows = λ ends earlier lie. record {
@@ -127,8 +127,8 @@ module _ (p : LinearProgram) (o : Option Change) (other : SolvingStatement) (s :
           reached = refl;
           ahead = None;
           is_ahead = tt;
-          shows = shows_as Goes (GoesTo other break s e) goes (basics_of s ∷ before) (map basics_of (earlier ++ s ∷ [])) (waypoint (basics_of s) now e.way)
-              (own_within earlier, Covers-all p.matrix before (map basics_of (earlier ++ s ∷ [])) lie) (shown (basics_of s ∷ before) h);
+          shows = shows_as Goes (GoesTo other breakpoint s e) goes (basics_of s ∷ before) (map basics_of (earlier ++ s ∷ [])) (waypoint (basics_of s) now e.way)
+              (own_within earlier, Covers-all p.matrix before (map basics_of (earlier ++ s ∷ [])) lie) (viewed (basics_of s ∷ before) h);
           is_theta = is_theta ends;
           of_move = of_move;
           of_statement = of_statement;
@@ -149,8 +149,8 @@ module _ (p : LinearProgram) (o : Option Change) (other : SolvingStatement) (s :
       covers_more (w ∷ ways) xs ys h = (within_more w xs ys h.0, covers_more ways xs ys h.1)
 
       -- with the basis ahead to which the move m leads
-      pub evidence_ahead : (m : Move) → MovesAt other break s m → basics_of (after s m) ≡ exchanged (basics_of s) m.leaves m.enters → 1 ≤ left →
-          StopsAt Goes p (basics_of s ∷ exchanged (basics_of s) m.leaves m.enters ∷ before) s now e → EvidenceHere other p.matrix break left s before now e
+      pub evidence_ahead : (m : Move) → MovesAt other breakpoint s m → basics_of (after s m) ≡ exchanged (basics_of s) m.leaves m.enters → 1 ≤ left →
+          StopsAt Goes p (basics_of s ∷ exchanged (basics_of s) m.leaves m.enters ∷ before) s now e → EvidenceHere other p.matrix breakpoint left s before now e
       evidence_ahead m moves leads one_left h = record {
         is_way = h.is_way;
         shows = λ ends earlier lie. record {
@@ -158,7 +158,7 @@ module _ (p : LinearProgram) (o : Option Change) (other : SolvingStatement) (s :
           reached = refl;
           ahead = Some (after s m);
           is_ahead = (one_left, (m, moves, refl));
-          shows = shows_as Goes (GoesTo other break s e) goes (basics_of s ∷ exchanged (basics_of s) m.leaves m.enters ∷ before)
+          shows = shows_as Goes (GoesTo other breakpoint s e) goes (basics_of s ∷ exchanged (basics_of s) m.leaves m.enters ∷ before)
               (map basics_of ((earlier ++ s ∷ []) ++ after s m ∷ [])) (waypoint (basics_of s) now e.way) (
                 within_more (basics_of s) (earlier ++ s ∷ []) (after s m ∷ []) (own_within earlier),
                 (
@@ -166,7 +166,7 @@ module _ (p : LinearProgram) (o : Option Change) (other : SolvingStatement) (s :
                   covers_more before (earlier ++ s ∷ []) (after s m ∷ []) (Covers-all p.matrix before (map basics_of (earlier ++ s ∷ [])) lie),
                 ),
               )
-              (shown (basics_of s ∷ exchanged (basics_of s) m.leaves m.enters ∷ before) h);
+              (viewed (basics_of s ∷ exchanged (basics_of s) m.leaves m.enters ∷ before) h);
           is_theta = is_theta ends;
           of_move = of_move;
           of_statement = of_statement;
@@ -188,15 +188,15 @@ module _ (statement : SolvingStatement) (Other : Status → Type 0) (s : List St
   any_move t w rate (by_objective f) = by_objective f
   any_move t w rate (by_slope u is f) = by_slope u is f
 
-module _ (statement : SolvingStatement) (a : Matrix) (s : List Status) (e : Evidence) (break : Option ℚ) (left : ℕ) (before now : List Basics)
-    (is_theta : (ends : List ℚ) → Contains (thetas_of statement ends) e.theta) (of_move : IsOfMove statement break s e) (of_statement : IsTrue (belongs statement e)) where
+module _ (statement : SolvingStatement) (a : Matrix) (s : List Status) (e : Evidence) (breakpoint : Option ℚ) (left : ℕ) (before now : List Basics)
+    (is_theta : (ends : List ℚ) → Contains (thetas_of statement ends) e.theta) (of_move : IsOfMove statement breakpoint s e) (of_statement : IsTrue (belongs statement e)) where
   in_last : (b : Matrix) (w : Basics) → IsWithinOne b w (basics_of s ∷ []) → (xs : List (List Status)) → IsWithinOne b w (map basics_of (xs ++ s ∷ []))
   in_last b w (inl h) [] = inl h
   in_last b w (inr h) [] = inr h
   in_last b w h (x ∷ xs) = inr (in_last b w h xs)
 
   -- at the basis itself
-  pub evidence_own : e.way ≡ 0 → ShowsRefusal statement (λ to. ⊥) (basics_of s ∷ []) s (basics_of s) e → EvidenceHere statement a break left s before now e
+  pub evidence_own : e.way ≡ 0 → ShowsRefusal statement (λ to. ⊥) (basics_of s ∷ []) s (basics_of s) e → EvidenceHere statement a breakpoint left s before now e
   evidence_own no_way h = record {
     is_way = omega (arith, no_way);
     shows = λ ends earlier lie. record {
@@ -204,12 +204,12 @@ module _ (statement : SolvingStatement) (a : Matrix) (s : List Status) (e : Evid
       reached = refl;
       ahead = None;
       is_ahead = tt;
-      shows = subst (λ (w : Basics). ShowsRefusal statement (GoesTo statement break s e) (map basics_of (earlier ++ s ∷ [])) s w e) (sym (ap (waypoint (basics_of s) now) no_way)) (record {
+      shows = subst (λ (w : Basics). ShowsRefusal statement (GoesTo statement breakpoint s e) (map basics_of (earlier ++ s ∷ [])) s w e) (sym (ap (waypoint (basics_of s) now) no_way)) (record {
         tableau = h.tableau;
         is_tableau = h.is_tableau;
         way_rate = h.way_rate;
         are_way_rates = h.are_way_rates;
-        formula = any_move statement (GoesTo statement break s e) s e h.tableau (basics_of s) h.way_rate h.formula;
+        formula = any_move statement (GoesTo statement breakpoint s e) s e h.tableau (basics_of s) h.way_rate h.formula;
         is_way = (h.is_way.0, in_last (program_at statement e.theta).matrix (basics_of s) h.is_way.1 earlier);
         reaches = λ names. let there = h.reaches names in (there.0, in_last (program_at statement e.theta).matrix (exchanged (basics_of s) e.p e.q) there.1 earlier);
         no_way = h.no_way;

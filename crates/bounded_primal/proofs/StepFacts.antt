@@ -19,7 +19,7 @@ use Rattle.lp_laws.proofs.Exchange.{IsNonsingular-exchanged}
 use Rattle.lp_laws.proofs.Statuses.{basics_of-replaced, basics_of-flipped, status_of_basic, status_of_nonbasic, IsBasis-replaced, IsBasis-flipped}
 use Rattle.lp_laws.proofs.Uniqueness.{one_point}
 use Rattle.lp_laws.proofs.Points.{IsPointOf-replaced, IsPointOf-flipped}
-use Rattle.simplex_definitions.specs.Moves.{signed, limit_ahead, room, stopper}
+use Rattle.simplex_definitions.specs.Moves.{signed, limit_ahead, step_length, stopper}
 use Rattle.simplex_laws.proofs.Stoppers.{stopper_some, reaches_limit}
 use Rattle.simplex_laws.proofs.Steps.{ahead_some}
 use Rattle.simplex_definitions.specs.Formulas.{limit_numbered, number_of_limit}
@@ -51,7 +51,7 @@ signed_twice false x = by_ring1 x (λ x. opposite (opposite x) ≐ x) refl
 stop_reaches : (p : LinearProgram) (z d : Vector) (up : Bool) (k : ℕ) → stopper p z (motion d up) ≡ Some k → d k ≢ zero_ℚ → ReachesLimit p z d (stop_at p z d up k)
 stop_reaches p z d up k found moves =
     let first = stopper_some p z (motion d up) k found in
-    let reach = reaches_limit (room p z (motion d up) k) (room p z (motion d up) k) (first.1 k first.0) in
+    let reach = reaches_limit (step_length p z (motion d up) k) (step_length p z (motion d up) k) (first.1 k first.0) in
     let there = ahead_some (limit_ahead p (motion d up) k) (z k) (motion d up k) reach.0 reach.1 in
     record {
       is_variable = first.0;

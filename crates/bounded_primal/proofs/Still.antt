@@ -3,14 +3,14 @@ use Rattle.std.proofs.Common.{◌≡◌, ℕ, ◌+◌, ◌≤◌, Bool, sym, ap,
 use Rattle.std.specs.Prelude.{None}
 use Rattle.exact_values.specs.Rational.{zero_ℚ}
 use Rattle.lp_definitions.specs.LinearProgram.{LinearProgram, Vector}
-use Rattle.simplex_definitions.specs.Moves.{room, signed}
+use Rattle.simplex_definitions.specs.Moves.{step_length, signed}
 use Rattle.simplex_laws.proofs.Steps.{signed_zero}
 use Rattle.basis_values.specs.Motions.{motion}
 use Rattle.basis_values.proofs.Lengths.{none_ahead, no_length}
 use Rattle.basis_values.proofs.Nearest.{up_to}
 
-pub no_room : (p : LinearProgram) (z d : Vector) (up : Bool) (k : ℕ) → d k ≡ zero_ℚ → None ≡ room p z (motion d up) k
-no_room p z d up k still = no_length p z (motion d up) k (none_ahead p k (motion d up k) (ap (signed up) still ∙ signed_zero up))
+pub no_step_length : (p : LinearProgram) (z d : Vector) (up : Bool) (k : ℕ) → d k ≡ zero_ℚ → None ≡ step_length p z (motion d up) k
+no_step_length p z d up k still = no_length p z (motion d up) k (none_ahead p k (motion d up k) (ap (signed up) still ∙ signed_zero up))
 
 -- a fact of each number up to n, and of the next
 pub and_next : (P : ℕ → Type 0) (n : ℕ) → ((k : ℕ) → 1 ≤ k → k ≤ n → P k) → P (n + 1) → (k : ℕ) → 1 ≤ k → k ≤ n + 1 → P k

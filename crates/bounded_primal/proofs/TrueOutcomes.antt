@@ -14,9 +14,9 @@ use Rattle.lp_model.specs.declared.reports.Outcome.TheVariants.{Crossed}
 use Rattle.simplex_definitions.specs.Moves.{least, is_crossed, is_below}
 use Rattle.simplex_definitions.specs.Path.{turn, PathEnding, EndsOptimal, EndsCrossed, EndsInfeasible, EndsUnbounded, Ends, EndsAt, listed, ray_of, last_of}
 use Rattle.simplex_laws.specs.Laws.{IsNonsingularBasis}
-use Rattle.simplex_laws.proofs.Turns.{bettering, rule_of, optimal_turn, stuck_turn, endless_turn}
+use Rattle.simplex_laws.proofs.Turns.{improving, rule_of, optimal_turn, infeasible_turn, unbounded_turn}
 use Rattle.simplex_laws.proofs.Ends.{optimal_end}
-use Rattle.simplex_laws.proofs.Endless.{crossed_end, unbounded_end}
+use Rattle.simplex_laws.proofs.UnboundedEnds.{crossed_end, unbounded_end}
 use Rattle.simplex_laws.proofs.Rays.{infeasible_end}
 use Rattle.simplex_laws.proofs.OnePath.{path_leads}
 use Rattle.simplex_definitions.specs.Counts.{counted_steps}
@@ -44,33 +44,33 @@ module _ (p : LinearProgram) (s : List Status) where
   ray_places : (w : List ℚ) → EndsAt p s (EndsInfeasible w) → length w ≡ size p.matrix
   ray_places w h =
       let t = h.tableau in
-      let stuck = stuck_turn p s t w (rule_of p s t (Ends (EndsInfeasible w)) h.turns) in
-      let gives = stuck.1.gives in
-      let first : w ≡ listed p.matrix (ray_of (basics_of s) t.rate stuck.0 (is_below p t.point stuck.0)) = cc in
-      has_places p.matrix (ray_of (basics_of s) t.rate stuck.0 (is_below p t.point stuck.0)) w first
+      let infeasible_ending = infeasible_turn p s t w (rule_of p s t (Ends (EndsInfeasible w)) h.turns) in
+      let gives = infeasible_ending.1.gives in
+      let first : w ≡ listed p.matrix (ray_of (basics_of s) t.rate infeasible_ending.0 (is_below p t.point infeasible_ending.0)) = cc in
+      has_places p.matrix (ray_of (basics_of s) t.rate infeasible_ending.0 (is_below p t.point infeasible_ending.0)) w first
 
-  endless_places : (z d : List ℚ) → EndsAt p s (EndsUnbounded z d) → (length z ≡ size p.matrix) × (length d ≡ size p.matrix)
-  endless_places z d h =
+  unbounded_places : (z d : List ℚ) → EndsAt p s (EndsUnbounded z d) → (length z ≡ size p.matrix) × (length d ≡ size p.matrix)
+  unbounded_places z d h =
       let t = h.tableau in
-      let endless = endless_turn p s t z d (rule_of p s t (Ends (EndsUnbounded z d)) h.turns) in
-      let gives = endless.1.gives in
+      let unbounded_ending = unbounded_turn p s t z d (rule_of p s t (Ends (EndsUnbounded z d)) h.turns) in
+      let gives = unbounded_ending.1.gives in
       let first : z ≡ listed p.matrix t.point = cc in
-      let second : d ≡ listed p.matrix (bettering p s t endless.0) = cc in
-      (has_places p.matrix t.point z first, has_places p.matrix (bettering p s t endless.0) d second)
+      let second : d ≡ listed p.matrix (improving p s t unbounded_ending.0) = cc in
+      (has_places p.matrix t.point z first, has_places p.matrix (improving p s t unbounded_ending.0) d second)
 
 module _ (p : LinearProgram) (lawful : IsLinearProgram p) where
   pub true_end : (s : List Status) → IsNonsingularBasis p s → (steps : ℕ) (ending : PathEnding) → EndsAt p s ending → IsTrueOutcome p (outcome_of steps ending)
   true_end s at steps (EndsOptimal z y) ends =
       let proved = optimal_end p s z y lawful at ends in
       let places = optimal_places p s z y ends in
-      record { point_places = places.0; price_places = places.1; best = proved.best; proving = proved.proving }
+      record { point_places = places.0; price_places = places.1; best = proved.best; certificate = proved.certificate }
   true_end s at steps (EndsCrossed k) ends = let crossed = crossed_end p s k ends in record { crossed = crossed; infeasible = infeasible_by_crossed p k crossed }
   true_end s at steps (EndsInfeasible w) ends =
-      let ray = infeasible_end p s w at.is_basis at.nonsingular ends in record { ray_places = ray_places p s w ends; proving = ray; infeasible = infeasible_by_ray p (value_at w) ray }
+      let ray = infeasible_end p s w at.is_basis at.nonsingular ends in record { ray_places = ray_places p s w ends; certificate = ray; infeasible = infeasible_by_ray p (value_at w) ray }
   true_end s at steps (EndsUnbounded z d) ends =
-      let proving = unbounded_end p s z d lawful at.is_basis ends in
-      let places = endless_places p s z d ends in
-      record { point_places = places.0; direction_places = places.1; proving = proving; unbounded = unbounded_by_direction p (value_at z) (value_at d) proving }
+      let certificate = unbounded_end p s z d lawful at.is_basis ends in
+      let places = unbounded_places p s z d ends in
+      record { point_places = places.0; direction_places = places.1; certificate = certificate; unbounded = unbounded_by_direction p (value_at z) (value_at d) certificate }
 
   module _ (matrix : Matrix) (basics : Basics) (s : List Status) (has : HasRates matrix basics p s) where
     begun : IsNonsingularBasis p s

@@ -20,14 +20,14 @@ use Rattle.basis_values.specs.Motions.{may_move, motion}
 use Rattle.bounded_primal.specs.KeptPoints.{AgreesWithPoint}
 use Rattle.bounded_primal.specs.Moves.{stopper_of, return_by, move_by}
 use Rattle.bounded_primal.specs.Stops.{primal_stop_of}
-use Rattle.bounded_primal.specs.Turns.{IsUncrossed, least_outside, ray_from, mover_by, Betters, IsEndless, ReturnStops, by_column, by_return, RunStopsAtPoint, EndsHere, MovesOn, TurnStops}
+use Rattle.bounded_primal.specs.Turns.{IsUncrossed, least_outside, ray_from, entering_variable_by, Improves, IsUnboundedEnd, ReturnStops, by_column, by_return, RunStopsAtPoint, EndsHere, MovesOn, TurnStops}
 use Rattle.bounded_primal.specs.declared.moves.PrimalStop.TheVariants.{Limit}
 use Rattle.bounded_primal.specs.declared.moves.Stopper.{Stopper}
-use Rattle.bounded_primal.specs.declared.turns.Mover.{Mover}
+use Rattle.bounded_primal.specs.declared.turns.EnteringVariable.{EnteringVariable}
 use Rattle.bounded_primal.proofs.Agreement.{basis_point, outside_same, below_same, within_same, stopper_of_same, return_same, return_refused}
 use Rattle.bounded_primal.proofs.TurnEvidence.{of_point, turn_stops}
 use Rattle.bounded_primal.proofs.TurnCalls.{step_of, outside_basic, stops_later, return_evidence, run_evidence}
-use Rattle.bounded_primal.proofs.TurnChoices.{stuck_ends, limit_some, return_move, returner_nonbasic, return_pivot, return_on, point_feasible, best_ends, better_nonbasic, better_may, endless_ends, run_move, run_on}
+use Rattle.bounded_primal.proofs.TurnChoices.{infeasible_ends, limit_some, return_move, restoring_nonbasic, return_pivot, return_on, point_feasible, best_ends, improve_nonbasic, improve_may, unbounded_ends, run_move, run_on}
 
 -- a stop of the rates, of a point or of prices
 pub point_stops : (p : LinearProgram) (s : List Status) (left : ℕ) (before now : List Basics) (why : Stop) → IfOverflow why (PointRefused p before s now) → TurnStops p s left before now (primal_stop_of why)
@@ -58,7 +58,7 @@ module _ (p : LinearProgram) (s : List Status) (v : Vector) (a : Matrix) (b : Ba
 
     pub first_ends : (ray : List ℚ) (steps : ℕ) → None ≡ entering p s (motion xs (not below)) → length ray ≡ size p.matrix → ((k : ℕ) → IsVariable p.matrix k → value_at ray k ≡ ray_from xs r below k) → EndsHere p s steps (Infeasible steps ray)
     first_ends ray steps none counted values =
-        stuck_ends p s z has.is_basis has.nonsingular point uncrossed r xs row broken ray steps (none ∙ ap (λ (m : Bool). entering p s (motion xs (not m))) mark) counted
+        infeasible_ends p s z has.is_basis has.nonsingular point uncrossed r xs row broken ray steps (none ∙ ap (λ (m : Bool). entering p s (motion xs (not m))) mark) counted
         (λ k is. values k is ∙ ap (λ (m : Bool). ray_from xs r m k) mark)
 
     module _ (q : ℕ) (found : Some q ≡ entering p s (motion xs (not below))) where
@@ -66,7 +66,7 @@ module _ (p : LinearProgram) (s : List Status) (v : Vector) (a : Matrix) (b : Ba
       found_is = found ∙ ap (λ (m : Bool). entering p s (motion xs (not m))) mark
 
       pub first_nonbasic : IsNonbasic p.matrix (basics_of s) q
-      first_nonbasic = returner_nonbasic p s z has.is_basis has.nonsingular point uncrossed r xs row broken q found_is
+      first_nonbasic = restoring_nonbasic p s z has.is_basis has.nonsingular point uncrossed r xs row broken q found_is
 
       pub first_pivot : (d : ℕ → ℚ) → IsDirectionOf p.matrix (basics_of s) q d → d r ≢ zero_ℚ
       first_pivot d direction = return_pivot p s z has.is_basis has.nonsingular point uncrossed r xs row broken q found_is d direction
@@ -104,12 +104,12 @@ module _ (p : LinearProgram) (s : List Status) (v : Vector) (a : Matrix) (b : Ba
     inside : least_outside p s z ≡ None
     inside = inside_of z point
 
-    pub second_ends : (y : Vector) → ArePricesOf p s y → (zs ys : List ℚ) (steps : ℕ) → None ≡ mover_by p s y → length zs ≡ size p.matrix → IsPointOf p s (value_at zs) →
+    pub second_ends : (y : Vector) → ArePricesOf p s y → (zs ys : List ℚ) (steps : ℕ) → None ≡ entering_variable_by p s y → length zs ≡ size p.matrix → IsPointOf p s (value_at zs) →
         length ys ≡ size p.matrix → ((k : ℕ) → IsVariable p.matrix k → value_at ys k ≡ y k) → (outcome : Outcome) → outcome ≡ Optimal steps zs ys → EndsHere p s steps outcome
     second_ends y prices zs ys steps none zs_counted zs_are ys_counted ys_are outcome is =
         subst (EndsHere p s steps) (sym is) (best_ends p s (value_at zs) has.is_basis has.nonsingular zs_are uncrossed y prices (inside_of (value_at zs) zs_are) zs ys steps none zs_counted (λ k is. refl) ys_counted ys_are)
 
-    module _ (m : Mover) (moves : Betters p s m) where
+    module _ (m : EnteringVariable) (moves : Improves p s m) where
       feasible : IsFeasible p z
       feasible = point_feasible p s z has.is_basis has.nonsingular point uncrossed moves.price moves.prices inside
 
@@ -117,10 +117,10 @@ module _ (p : LinearProgram) (s : List Status) (v : Vector) (a : Matrix) (b : Ba
       run_within = within_same p v z (agrees z point) feasible.within
 
       pub run_nonbasic : IsNonbasic p.matrix (basics_of s) m.q
-      run_nonbasic = better_nonbasic p s z has.is_basis has.nonsingular point uncrossed moves.price moves.prices inside m moves.chosen
+      run_nonbasic = improve_nonbasic p s z has.is_basis has.nonsingular point uncrossed moves.price moves.prices inside m moves.chosen
 
       pub run_may : IsTrue (may_move p s m.up m.q)
-      run_may = better_may p s z has.is_basis has.nonsingular point uncrossed moves.price moves.prices inside m moves.chosen
+      run_may = improve_may p s z has.is_basis has.nonsingular point uncrossed moves.price moves.prices inside m moves.chosen
 
       pub run_stops : (left : ℕ) (before now : List Basics) (why : Stop) → IfOverflow why (RunStopsAtPoint p s m.q m.up before now) → TurnStops p s left before now (primal_stop_of why)
       run_stops left before now why h = turn_stops p s left before now why (RunStopsAtPoint p s m.q m.up before now) (λ e x. run_evidence p s z has.is_basis has.nonsingular point uncrossed left before now e moves.price moves.prices inside m moves.chosen (x z point)) h
@@ -129,9 +129,9 @@ module _ (p : LinearProgram) (s : List Status) (v : Vector) (a : Matrix) (b : Ba
         same : stopper_of p v d m.up ≡ stopper_of p z d m.up
         same = stopper_of_same p v z (agrees z point) d m.up
 
-        pub run_ends : (zs : List ℚ) (steps : ℕ) (outcome : Outcome) → None ≡ stopper_of p v d m.up → length zs ≡ size p.matrix → IsPointOf p s (value_at zs) → IsEndless p zs d m.up steps outcome → EndsHere p s steps outcome
+        pub run_ends : (zs : List ℚ) (steps : ℕ) (outcome : Outcome) → None ≡ stopper_of p v d m.up → length zs ≡ size p.matrix → IsPointOf p s (value_at zs) → IsUnboundedEnd p zs d m.up steps outcome → EndsHere p s steps outcome
         run_ends zs steps outcome none counted are h =
-            endless_ends p s (value_at zs) has.is_basis has.nonsingular are uncrossed moves.price moves.prices (inside_of (value_at zs) are) m moves.chosen d direction zs steps outcome (none ∙ stopper_of_same p v (value_at zs) (agrees (value_at zs) are) d m.up) counted (λ k is. refl) h
+            unbounded_ends p s (value_at zs) has.is_basis has.nonsingular are uncrossed moves.price moves.prices (inside_of (value_at zs) are) m moves.chosen d direction zs steps outcome (none ∙ stopper_of_same p v (value_at zs) (agrees (value_at zs) are) d m.up) counted (λ k is. refl) h
 
         pub run_at_limit : (left : ℕ) (before now : List Basics) (by : Stopper) → Some by ≡ stopper_of p v d m.up → left ≡ 0 → TurnStops p s left before now Limit
         run_at_limit left before now by stops none = (none, step_of p s (move_by m.q by) (run_move p s z has.is_basis has.nonsingular point uncrossed moves.price moves.prices inside m moves.chosen d direction by (stops ∙ same)))

@@ -15,13 +15,13 @@ use Rattle.lp_model.specs.declared.reports.Outcome.{Outcome}
 use Rattle.lp_model.specs.declared.reports.Outcome.TheVariants.{Optimal, Crossed, Infeasible, Unbounded}
 use Rattle.lp_laws.proofs.Uniqueness.{one_direction}
 use Rattle.lp_laws.proofs.Values.{clash}
-use Rattle.simplex_definitions.specs.Moves.{least, is_crossed, is_below, signed, goes_up, lowers, may_rise, may_fall, entering, limit_ahead, room, stopper}
-use Rattle.simplex_definitions.specs.Path.{Move, Moves, EndsOptimal, EndsCrossed, EndsInfeasible, EndsUnbounded, listed, ray_of, excess_rate, outside, worth_rate, mover, bring_back, run_until, better, turn_for, turn}
+use Rattle.simplex_definitions.specs.Moves.{least, is_crossed, is_below, signed, goes_up, lowers, may_rise, may_fall, entering, limit_ahead, step_length, stopper}
+use Rattle.simplex_definitions.specs.Path.{Move, Moves, EndsOptimal, EndsCrossed, EndsInfeasible, EndsUnbounded, listed, ray_of, excess_rate, outside, worth_rate, entering_variable, restore_feasibility, run_until, improve, turn_for, turn}
 use Rattle.simplex_laws.proofs.Numbered.{find_some}
 use Rattle.simplex_laws.proofs.Stoppers.{stopper_some, reaches_limit}
-use Rattle.simplex_laws.proofs.Turns.{IsFirstPhase, IsSecondPhase, bettering}
+use Rattle.simplex_laws.proofs.Turns.{IsFirstPhase, IsSecondPhase, improving}
 use Rattle.simplex_laws.proofs.Ends.{feasible}
-use Rattle.simplex_laws.proofs.Endless.{IsEntering, enters}
+use Rattle.simplex_laws.proofs.UnboundedEnds.{IsEntering, enters}
 use Rattle.simplex_laws.proofs.Rays.{Breaks, breaks_lower, breaks_upper, broken_basic, broken_limit}
 use Rattle.simplex_laws.proofs.Steps.{rate_apart, signed_zero}
 use Rattle.simplex_definitions.specs.Formulas.{limit_numbered, number_of_limit}
@@ -29,8 +29,8 @@ use Rattle.simplex_definitions.specs.Statements.{PathMoves, PathEnters}
 use Rattle.basis_values.specs.Motions.{may_move, motion}
 use Rattle.basis_values.specs.Prices.{worth_by}
 use Rattle.bounded_primal.specs.Moves.{stop_at, stopper_of, return_by, IsStepBy, is_stopper, brings, StepsFromPoint, move_by}
-use Rattle.bounded_primal.specs.Turns.{IsUncrossed, least_outside, ray_from, moved_by, mover_by, IsEndless, EndsHere, MovesOn}
-use Rattle.bounded_primal.specs.declared.turns.Mover.{Mover}
+use Rattle.bounded_primal.specs.Turns.{IsUncrossed, least_outside, ray_from, moved_by, entering_variable_by, IsUnboundedEnd, EndsHere, MovesOn}
+use Rattle.bounded_primal.specs.declared.turns.EnteringVariable.{EnteringVariable}
 use Rattle.bounded_primal.specs.declared.moves.Stopper.{Stopper}
 use Rattle.basis_values.proofs.Existence.{rates_exist}
 use Rattle.basis_values.proofs.RatesStops.{tableau_of, IsTableau-of}
@@ -60,27 +60,27 @@ module _ (p : LinearProgram) (s : List Status) (z : Vector) (basis : IsBasis p s
     phase : IsFirstPhase p s t r
     phase = record { uncrossed = uncrossed; broken = broken }
 
-    first_turn : (o : Option ℕ) → mover p s t (Some r) ≡ o → turn p s t ≡ bring_back p s t r o
+    first_turn : (o : Option ℕ) → entering_variable p s t (Some r) ≡ o → turn p s t ≡ restore_feasibility p s t r o
     unfolding turn
-    first_turn o moves = ap₂ (turn_for p s t) uncrossed broken ∙ ap (bring_back p s t r) moves
+    first_turn o moves = ap₂ (turn_for p s t) uncrossed broken ∙ ap (restore_feasibility p s t r) moves
 
     entry : (k : ℕ) → IsVariable p.matrix k → (mark : Bool) → is_in (basics_of s) k ≡ mark → xs k ≡ (if mark then zero_ℚ else row.rate r k)
     entry k is mark e = row.entries k is ∙ ap (λ m. if m then zero_ℚ else row.rate r k) e
 
-    mover_is : mover p s t (Some r) ≡ entering p s (motion xs (not below))
-    mover_is = entering_same p s basis (excess_rate row.rate r below) (motion xs (not below)) (λ k out. ap (signed (not below)) (sym (entry k out.0 false out.1)))
+    entering_variable_is : entering_variable p s t (Some r) ≡ entering p s (motion xs (not below))
+    entering_variable_is = entering_same p s basis (excess_rate row.rate r below) (motion xs (not below)) (λ k out. ap (signed (not below)) (sym (entry k out.0 false out.1)))
 
     -- nothing brings r back
-    pub stuck_ends : (ray : List ℚ) (steps : ℕ) → None ≡ entering p s (motion xs (not below)) → length ray ≡ size p.matrix → ((k : ℕ) → IsVariable p.matrix k → value_at ray k ≡ ray_from xs r below k) → EndsHere p s steps (Infeasible steps ray)
-    stuck_ends ray steps none counted values = record {
+    pub infeasible_ends : (ray : List ℚ) (steps : ℕ) → None ≡ entering p s (motion xs (not below)) → length ray ≡ size p.matrix → ((k : ℕ) → IsVariable p.matrix k → value_at ray k ≡ ray_from xs r below k) → EndsHere p s steps (Infeasible steps ray)
+    infeasible_ends ray steps none counted values = record {
       ending = EndsInfeasible (listed p.matrix (ray_of (basics_of s) row.rate r below));
-      ends = record { tableau = t; is_tableau = is_t; turns = first_turn None (mover_is ∙ sym none) };
+      ends = record { tableau = t; is_tableau = is_t; turns = first_turn None (entering_variable_is ∙ sym none) };
       is_outcome = ap (Infeasible steps) (listed_is p.matrix ray (ray_of (basics_of s) row.rate r below) counted (λ k is. values k is ∙ row_ray p s r xs row below k is));
     }
 
     -- the basic r, and its limit that is broken
-    pub returner_basic : IsBasic p.matrix (basics_of s) r
-    returner_basic = broken_basic p s t r phase
+    pub restoring_basic : IsBasic p.matrix (basics_of s) r
+    restoring_basic = broken_basic p s t r phase
 
     abbrev to_limit : Status
     to_limit = if below then Ll else Ul
@@ -99,35 +99,35 @@ module _ (p : LinearProgram) (s : List Status) (z : Vector) (basis : IsBasis p s
 
     -- whatever brings it back, brings it to that limit
     pub return_step : (q : ℕ) (d : Vector) → StepsFromPoint p s d q (return_by p z d r to_limit)
-    return_step q d = record { point = z; is_point = point; is_step = brings limit_there.0 returner_basic limit_there.1 (ap (λ o. (unwrap_or o zero_ℚ -ℚ z r) /ℚ d r) limit_there.1) }
+    return_step q d = record { point = z; is_point = point; is_step = brings limit_there.0 restoring_basic limit_there.1 (ap (λ o. (unwrap_or o zero_ℚ -ℚ z r) /ℚ d r) limit_there.1) }
 
     module _ (q : ℕ) (found : Some q ≡ entering p s (motion xs (not below))) where
-      moves : mover p s t (Some r) ≡ Some q
-      moves = mover_is ∙ sym found
+      moves : entering_variable p s t (Some r) ≡ Some q
+      moves = entering_variable_is ∙ sym found
 
       pub return_move : PathMoves p s (record { enters = q; leaves = r; to = to_limit })
       return_move = (t, is_t, first_turn (Some q) moves)
 
       pub return_enters : PathEnters p s q
-      return_enters = (t, is_t, uncrossed, ap (mover p s t) broken ∙ moves)
+      return_enters = (t, is_t, uncrossed, ap (entering_variable p s t) broken ∙ moves)
 
       entered : IsEntering p s (excess_rate row.rate r below) q
       entered = enters p s (excess_rate row.rate r below) q basis moves
 
-      pub returner_nonbasic : IsNonbasic p.matrix (basics_of s) q
-      returner_nonbasic = entered.nonbasic
+      pub restoring_nonbasic : IsNonbasic p.matrix (basics_of s) q
+      restoring_nonbasic = entered.nonbasic
 
       module _ (d : Vector) (direction : IsDirectionOf p.matrix (basics_of s) q d) where
         pub return_pivot : d r ≢ zero_ℚ
         return_pivot vanishes =
             rate_apart p s (excess_rate row.rate r below) q entered
-            (ap (signed (not below)) (one_direction p.matrix (basics_of s) q (λ i. row.rate i q) d nonsingular (row.are_rates q entered.nonbasic) direction r returner_basic.0 ∙ vanishes) ∙ signed_zero (not below))
+            (ap (signed (not below)) (one_direction p.matrix (basics_of s) q (λ i. row.rate i q) d nonsingular (row.are_rates q entered.nonbasic) direction r restoring_basic.0 ∙ vanishes) ∙ signed_zero (not below))
 
         pub return_on : (left : ℕ) → 1 ≤ left → MovesOn p s d q (return_by p z d r to_limit) left
         return_on left was_left = record {
           enters = return_enters;
           moves = return_move;
-          nonbasic = returner_nonbasic;
+          nonbasic = restoring_nonbasic;
           direction = direction;
           pivot = return_pivot;
           step = return_step q d;
@@ -146,15 +146,15 @@ module _ (p : LinearProgram) (s : List Status) (z : Vector) (basis : IsBasis p s
     second : IsSecondPhase p s u
     second = record { uncrossed = uncrossed; unbroken = inside }
 
-    second_turn : (o : Option ℕ) → mover p s u None ≡ o → turn p s u ≡ better p s u o
+    second_turn : (o : Option ℕ) → entering_variable p s u None ≡ o → turn p s u ≡ improve p s u o
     unfolding turn
-    second_turn o moves = ap₂ (turn_for p s u) uncrossed inside ∙ ap (better p s u) moves
+    second_turn o moves = ap₂ (turn_for p s u) uncrossed inside ∙ ap (improve p s u) moves
 
     worth_is : (k : ℕ) → IsNonbasic p.matrix (basics_of s) k → worth_rate p s u k ≡ worth_by p y k
     worth_is k out = ap (for_min p.sense) (sym (prices.prices k out.0 ∙ ap (λ m. if m then zero_ℚ else objective_rate p prices.rate k) out.1))
 
-    better_is : mover p s u None ≡ entering p s (worth_by p y)
-    better_is = entering_same p s basis (worth_rate p s u) (worth_by p y) worth_is
+    improve_is : entering_variable p s u None ≡ entering p s (worth_by p y)
+    improve_is = entering_same p s basis (worth_rate p s u) (worth_by p y) worth_is
 
     pub point_feasible : IsFeasible p z
     point_feasible = feasible p s u basis is_u second
@@ -163,41 +163,41 @@ module _ (p : LinearProgram) (s : List Status) (z : Vector) (basis : IsBasis p s
     none_moves None e = refl
     none_moves (Some q) e = cc
 
-    -- nothing betters the objective
-    pub best_ends : (zs ys : List ℚ) (steps : ℕ) → None ≡ mover_by p s y → length zs ≡ size p.matrix → ((k : ℕ) → IsVariable p.matrix k → value_at zs k ≡ z k) →
+    -- nothing improves the objective
+    pub best_ends : (zs ys : List ℚ) (steps : ℕ) → None ≡ entering_variable_by p s y → length zs ≡ size p.matrix → ((k : ℕ) → IsVariable p.matrix k → value_at zs k ≡ z k) →
         length ys ≡ size p.matrix → ((k : ℕ) → IsVariable p.matrix k → value_at ys k ≡ y k) → EndsHere p s steps (Optimal steps zs ys)
     best_ends zs ys steps none zs_counted zs_are ys_counted ys_are = record {
       ending = EndsOptimal (listed p.matrix z) (listed p.matrix (price_at p (basics_of s) prices.rate));
-      ends = record { tableau = u; is_tableau = is_u; turns = second_turn None (better_is ∙ none_moves (entering p s (worth_by p y)) none) };
+      ends = record { tableau = u; is_tableau = is_u; turns = second_turn None (improve_is ∙ none_moves (entering p s (worth_by p y)) none) };
       is_outcome = ap₂ (Optimal steps) (listed_is p.matrix zs z zs_counted zs_are) (listed_is p.matrix ys (price_at p (basics_of s) prices.rate) ys_counted (λ k is. ys_are k is ∙ prices.prices k is));
     }
 
-    some_moves : (m : Mover) (o : Option ℕ) → Some m ≡ option_map (moved_by p y) o → (o ≡ Some m.q) × (m.up ≡ goes_up (worth_by p y) m.q)
+    some_moves : (m : EnteringVariable) (o : Option ℕ) → Some m ≡ option_map (moved_by p y) o → (o ≡ Some m.q) × (m.up ≡ goes_up (worth_by p y) m.q)
     some_moves m None e = cc
-    some_moves m (Some q) e = let same : moved_by p y q ≡ m = cc in (ap (λ (x : Mover). Some x.q) same, sym (ap (λ (x : Mover). x.up) same) ∙ ap (λ (x : Mover). goes_up (worth_by p y) x.q) same)
+    some_moves m (Some q) e = let same : moved_by p y q ≡ m = cc in (ap (λ (x : EnteringVariable). Some x.q) same, sym (ap (λ (x : EnteringVariable). x.up) same) ∙ ap (λ (x : EnteringVariable). goes_up (worth_by p y) x.q) same)
 
-    module _ (m : Mover) (chosen : Some m ≡ mover_by p s y) where
+    module _ (m : EnteringVariable) (chosen : Some m ≡ entering_variable_by p s y) where
       found : entering p s (worth_by p y) ≡ Some m.q
       found = (some_moves m (entering p s (worth_by p y)) chosen).0
 
       up_is : m.up ≡ lt_ℚ (worth_by p y m.q) zero_ℚ
       up_is = (some_moves m (entering p s (worth_by p y)) chosen).1
 
-      betters : mover p s u None ≡ Some m.q
-      betters = better_is ∙ found
+      improves : entering_variable p s u None ≡ Some m.q
+      improves = improve_is ∙ found
 
-      pub better_enters : PathEnters p s m.q
-      better_enters = (u, is_u, uncrossed, ap (mover p s u) inside ∙ betters)
+      pub improve_enters : PathEnters p s m.q
+      improve_enters = (u, is_u, uncrossed, ap (entering_variable p s u) inside ∙ improves)
 
       entering_one : IsEntering p s (worth_by p y) m.q
       entering_one = enters p s (worth_by p y) m.q basis found
 
-      pub better_nonbasic : IsNonbasic p.matrix (basics_of s) m.q
-      better_nonbasic = entering_one.nonbasic
+      pub improve_nonbasic : IsNonbasic p.matrix (basics_of s) m.q
+      improve_nonbasic = entering_one.nonbasic
 
-      -- q may move the way in which it betters the objective
-      pub better_may : IsTrue (may_move p s m.up m.q)
-      better_may =
+      -- q may move the way in which it improves the objective
+      pub improve_may : IsTrue (may_move p s m.up m.q)
+      improve_may =
           subst (λ (b : Bool). may_move p s b m.q ≡ true) (sym up_is)
           (way (lt_ℚ (worth_by p y m.q) zero_ℚ) (lt_ℚ zero_ℚ (worth_by p y m.q)) (may_rise p s m.q) (may_fall p s m.q) (find_some (lowers p s (worth_by p y)) (size p.matrix) 1 m.q found).passes one_way)
         where
@@ -213,25 +213,25 @@ module _ (p : LinearProgram) (s : List Status) (z : Vector) (basis : IsBasis p s
           one_way low high = lt_not_le (lt_from_test (worth_by p y m.q) zero_ℚ low) (le_of_lt (lt_from_test zero_ℚ (worth_by p y m.q) high))
 
       module _ (d : Vector) (direction : IsDirectionOf p.matrix (basics_of s) m.q d) where
-        speeds_are : (k : ℕ) → IsVariable p.matrix k → bettering p s u m.q k ≡ motion d m.up k
+        speeds_are : (k : ℕ) → IsVariable p.matrix k → improving p s u m.q k ≡ motion d m.up k
         speeds_are k is =
-            ap₂ (λ b v. signed b v) (ap (λ w. lt_ℚ w zero_ℚ) (worth_is m.q better_nonbasic) ∙ sym up_is)
-            (one_direction p.matrix (basics_of s) m.q (λ i. prices.rate i m.q) d nonsingular (prices.are_rates m.q better_nonbasic) direction k is)
+            ap₂ (λ b v. signed b v) (ap (λ w. lt_ℚ w zero_ℚ) (worth_is m.q improve_nonbasic) ∙ sym up_is)
+            (one_direction p.matrix (basics_of s) m.q (λ i. prices.rate i m.q) d nonsingular (prices.are_rates m.q improve_nonbasic) direction k is)
 
-        run_turn : (o : Option ℕ) → stopper p z (motion d m.up) ≡ o → turn p s u ≡ run_until p s u m.q (bettering p s u m.q) o
-        run_turn o stops = second_turn (Some m.q) betters ∙ ap (run_until p s u m.q (bettering p s u m.q)) (stopper_same p z (bettering p s u m.q) (motion d m.up) speeds_are ∙ stops)
+        run_turn : (o : Option ℕ) → stopper p z (motion d m.up) ≡ o → turn p s u ≡ run_until p s u m.q (improving p s u m.q) o
+        run_turn o stops = second_turn (Some m.q) improves ∙ ap (run_until p s u m.q (improving p s u m.q)) (stopper_same p z (improving p s u m.q) (motion d m.up) speeds_are ∙ stops)
 
         none_stops : (o : Option ℕ) → option_map (stop_at p z d m.up) o ≡ None → o ≡ None
         none_stops None e = refl
         none_stops (Some k) e = cc
 
         -- nothing stops q
-        pub endless_ends : (zs : List ℚ) (steps : ℕ) (outcome : Outcome) → None ≡ stopper_of p z d m.up → length zs ≡ size p.matrix → ((k : ℕ) → IsVariable p.matrix k → value_at zs k ≡ z k) →
-            IsEndless p zs d m.up steps outcome → EndsHere p s steps outcome
-        endless_ends zs steps outcome none zs_counted zs_are h = record {
-          ending = EndsUnbounded (listed p.matrix z) (listed p.matrix (bettering p s u m.q));
+        pub unbounded_ends : (zs : List ℚ) (steps : ℕ) (outcome : Outcome) → None ≡ stopper_of p z d m.up → length zs ≡ size p.matrix → ((k : ℕ) → IsVariable p.matrix k → value_at zs k ≡ z k) →
+            IsUnboundedEnd p zs d m.up steps outcome → EndsHere p s steps outcome
+        unbounded_ends zs steps outcome none zs_counted zs_are h = record {
+          ending = EndsUnbounded (listed p.matrix z) (listed p.matrix (improving p s u m.q));
           ends = record { tableau = u; is_tableau = is_u; turns = run_turn None (none_stops (stopper p z (motion d m.up)) (sym none)) };
-          is_outcome = h.is_outcome ∙ ap₂ (Unbounded steps) (listed_is p.matrix zs z zs_counted zs_are) (listed_is p.matrix h.ds (bettering p s u m.q) h.counted (λ k is. h.speeds k is ∙ sym (speeds_are k is)));
+          is_outcome = h.is_outcome ∙ ap₂ (Unbounded steps) (listed_is p.matrix zs z zs_counted zs_are) (listed_is p.matrix h.ds (improving p s u m.q) h.counted (λ k is. h.speeds k is ∙ sym (speeds_are k is)));
         }
 
         some_stops : (by : Stopper) (o : Option ℕ) → option_map (stop_at p z d m.up) o ≡ Some by → (k : ℕ) × (o ≡ Some k) × (stop_at p z d m.up k ≡ by)
@@ -254,7 +254,7 @@ module _ (p : LinearProgram) (s : List Status) (z : Vector) (basis : IsBasis p s
             by_value (Some by) e some = (move_by m.q by, run_move by (sym e))
 
         pub run_step : (by : Stopper) → Some by ≡ stopper_of p z d m.up → IsStepBy p s z d m.q by
-        run_step by stops = is_stopper m.up point_feasible better_may (sym stops)
+        run_step by stops = is_stopper m.up point_feasible improve_may (sym stops)
 
         moves_ahead : (low high : Option ℚ) (v l : ℚ) (a b : Bool) → lt_ℚ zero_ℚ v ≡ a → lt_ℚ v zero_ℚ ≡ b → (if a then high else (if b then low else None)) ≡ Some l → v ≢ zero_ℚ
         moves_ahead low high v l true b a_is b_is e = λ vanishes. lt_irrefl (subst (λ x. zero_ℚ <ℚ x) vanishes (lt_from_test zero_ℚ v a_is))
@@ -269,7 +269,7 @@ module _ (p : LinearProgram) (s : List Status) (z : Vector) (basis : IsBasis p s
         run_pivot by stops vanishes =
             let at = some_stops by (stopper p z (motion d m.up)) (sym stops) in
             let first = stopper_some p z (motion d m.up) at.0 at.1 in
-            let reach = reaches_limit (room p z (motion d m.up) at.0) (room p z (motion d m.up) at.0) (first.1 at.0 first.0) in
+            let reach = reaches_limit (step_length p z (motion d m.up) at.0) (step_length p z (motion d m.up) at.0) (first.1 at.0 first.0) in
             let there = limit_of (limit_ahead p (motion d m.up) at.0) (z at.0) (motion d m.up at.0) reach.0 reach.1 in
             let same : d at.0 ≡ zero_ℚ = ap (λ (b : Stopper). d b.p) at.2 ∙ vanishes in
             moves_ahead (lower_of p at.0) (upper_of p at.0) (motion d m.up at.0) there.0 (lt_ℚ zero_ℚ (motion d m.up at.0)) (lt_ℚ (motion d m.up at.0) zero_ℚ) refl refl there.1
@@ -277,9 +277,9 @@ module _ (p : LinearProgram) (s : List Status) (z : Vector) (basis : IsBasis p s
 
         pub run_on : (by : Stopper) (left : ℕ) → Some by ≡ stopper_of p z d m.up → 1 ≤ left → MovesOn p s d m.q by left
         run_on by left stops was_left = record {
-          enters = better_enters;
+          enters = improve_enters;
           moves = run_move by stops;
-          nonbasic = better_nonbasic;
+          nonbasic = improve_nonbasic;
           direction = direction;
           pivot = run_pivot by stops;
           step = record { point = z; is_point = point; is_step = run_step by stops };
@@ -291,8 +291,8 @@ pub entering_within : (p : LinearProgram) (s : List Status) (f : Vector) (q : �
 entering_within p s f q e = let found = find_some (lowers p s f) (size p.matrix) 1 q (sym e) in (found.low, omega (arith, found.high))
 
 -- the variable whose price is wrong, with the way in which it moves
-pub some_betters : (p : LinearProgram) (s : List Status) (y : Vector) (q : ℕ) (m : Mover) → Some q ≡ entering p s (worth_by p y) → m ≡ moved_by p y q → Some m ≡ mover_by p s y
-some_betters p s y q m found is = ap (λ (x : Mover). Some x) is ∙ ap (option_map (moved_by p y)) found
+pub some_improves : (p : LinearProgram) (s : List Status) (y : Vector) (q : ℕ) (m : EnteringVariable) → Some q ≡ entering p s (worth_by p y) → m ≡ moved_by p y q → Some m ≡ entering_variable_by p s y
+some_improves p s y q m found is = ap (λ (x : EnteringVariable). Some x) is ∙ ap (option_map (moved_by p y)) found
 
 -- how the price of q says which way it moves
 pub moved_at : (p : LinearProgram) (y : Vector) (min up : Bool) (q : ℕ) → ((v : ℚ) → for_min p.sense v ≡ signed min v) → up ≡ lt_ℚ (signed min (y q)) zero_ℚ → moved_by p y q ≡ record { q = q; up = up }

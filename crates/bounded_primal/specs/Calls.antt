@@ -68,11 +68,11 @@ pub record RuleStopsOnPath (rule : Rule) (statement : SolvingStatement) (p : Lin
       EvidenceHolds statement None (limit - length bases) (earlier ++ s ∷ bases) [] now (waypoint (basics_of now) after e.way) e
 
 -- for every list of bases that ends with now, and in which the waypoints lay before the call, the evidence holds on that list
-pub record EvidenceHere (statement : SolvingStatement) (a : Matrix) (break : Option ℚ) (left : ℕ) (now : List Status)
+pub record EvidenceHere (statement : SolvingStatement) (a : Matrix) (breakpoint : Option ℚ) (left : ℕ) (now : List Status)
     (before after : List Basics) (e : Evidence) : Type 0 where
   pub is_way : e.way ≤ length after
   pub shows : (ends : List ℚ) (earlier : List (List Status)) → LieIn a before (earlier ++ now ∷ []) →
-      EvidenceHolds statement break left (earlier ++ now ∷ []) ends now (waypoint (basics_of now) after e.way) e
+      EvidenceHolds statement breakpoint left (earlier ++ now ∷ []) ends now (waypoint (basics_of now) after e.way) e
 
 -- ---- those of the simplex method
 

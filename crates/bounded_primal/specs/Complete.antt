@@ -1,6 +1,6 @@
 -- Completeness of the solving calls: where the path ends and nothing stops a call on it, the call answers this end.
 --     HasNoEvidence p s limit before     wherever a call may be on the path, no evidence of an overflow holds
---     EndsUnhindered ..                  the path ends within the limit of the call, and no evidence holds on the way
+--     EndsOverflowFree ..                  the path ends within the limit of the call, and no evidence holds on the way
 --     EndsFreely ..                      the path ends, after however many steps, and no evidence holds on the way
 --     IsEndOr stop ..                    the answer is that end, at the basis where the path ends; or the call stops so
 --     IsEndOrMemory ..                   the answer is that end, or there is no memory
@@ -30,14 +30,14 @@ RuleNoEvidence rule statement p s limit before =
 abbrev pub HasNoEvidence : LinearProgram → List Status → ℕ → List Basics → Type 0
 HasNoEvidence p = RuleNoEvidence turn (job_of p p.change) p
 
-pub record RuleEndsUnhindered (rule : Rule) (statement : SolvingStatement) (p : LinearProgram) (s : List Status) (limit : ℕ) (before : List Basics)
+pub record RuleEndsOverflowFree (rule : Rule) (statement : SolvingStatement) (p : LinearProgram) (s : List Status) (limit : ℕ) (before : List Basics)
     (bases : List (List Status)) (ending : PathEnding) : Type 0 where
   pub ends : RulePathEnds rule p s bases ending
   pub within : length bases ≤ limit
   pub no_evidence : RuleNoEvidence rule statement p s limit before
 
-abbrev pub EndsUnhindered : LinearProgram → List Status → ℕ → List Basics → List (List Status) → PathEnding → Type 0
-EndsUnhindered p = RuleEndsUnhindered turn (job_of p p.change) p
+abbrev pub EndsOverflowFree : LinearProgram → List Status → ℕ → List Basics → List (List Status) → PathEnding → Type 0
+EndsOverflowFree p = RuleEndsOverflowFree turn (job_of p p.change) p
 
 -- no path has as many steps as there are status lists, so that is no limit
 pub record EndsFreely (p : LinearProgram) (s : List Status) (before : List Basics)

@@ -16,7 +16,7 @@ use Rattle.lp_definitions.specs.declared.Evidence.{Evidence}
 use Rattle.lp_definitions.specs.declared.Status.{Status}
 use Rattle.lp_model.specs.declared.Stop.{Stop}
 use Rattle.lp_model.specs.RatesCalls.{IfOverflow}
-use Rattle.simplex_definitions.specs.Moves.{signed, room, stopper, reached}
+use Rattle.simplex_definitions.specs.Moves.{signed, step_length, stopper, reached}
 use Rattle.simplex_definitions.specs.Path.{Move}
 use Rattle.simplex_definitions.specs.Formulas.{limit_numbered, number_of_limit}
 use Rattle.simplex_definitions.specs.Statements.{Primal, belongs, is_between}
@@ -26,7 +26,7 @@ use Rattle.bounded_primal.specs.declared.moves.Stopper.{Stopper}
 
 -- k as what stops the motion: the change of what moves, and the limit that k reaches
 abbrev pub stop_at : LinearProgram → Vector → Vector → Bool → ℕ → Stopper
-stop_at p z d up k = record { p = k; step = signed up (unwrap_or (room p z (motion d up) k) zero_ℚ); to = reached (motion d up) k }
+stop_at p z d up k = record { p = k; step = signed up (unwrap_or (step_length p z (motion d up) k) zero_ℚ); to = reached (motion d up) k }
 
 -- the least-numbered of the variables that reach a limit first
 abbrev pub stopper_of : LinearProgram → Vector → Vector → Bool → Option Stopper

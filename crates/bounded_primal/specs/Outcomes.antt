@@ -7,7 +7,7 @@
 use Rattle.std.specs.Prelude.{◌≡◌, ℕ, List, length}
 use Rattle.exact_values.specs.Rational.{ℚ}
 use Rattle.lp_definitions.specs.LinearProgram.{LinearProgram, size, value_at}
-use Rattle.lp_definitions.specs.Solutions.{IsBest, AreProvingPrices, IsCrossed, IsRay, ProvesUnbounded, IsInfeasible, IsUnbounded}
+use Rattle.lp_definitions.specs.Solutions.{IsBest, IsDualCertificate, IsCrossed, IsRay, ProvesUnbounded, IsInfeasible, IsUnbounded}
 use Rattle.lp_model.specs.declared.reports.Outcome.{Outcome}
 use Rattle.lp_model.specs.declared.reports.Outcome.TheVariants.{Optimal, Crossed, Infeasible, Unbounded}
 
@@ -15,7 +15,7 @@ pub record IsProvedBest (p : LinearProgram) (point prices : List ℚ) : Type 0 w
   pub point_places : length point ≡ size p.matrix
   pub price_places : length prices ≡ size p.matrix
   pub best : IsBest p (value_at point)
-  pub proving : AreProvingPrices p (value_at point) (value_at prices)
+  pub certificate : IsDualCertificate p (value_at point) (value_at prices)
 
 pub record IsProvedCrossed (p : LinearProgram) (k : ℕ) : Type 0 where
   pub crossed : IsCrossed p k
@@ -23,13 +23,13 @@ pub record IsProvedCrossed (p : LinearProgram) (k : ℕ) : Type 0 where
 
 pub record IsProvedInfeasible (p : LinearProgram) (ray : List ℚ) : Type 0 where
   pub ray_places : length ray ≡ size p.matrix
-  pub proving : IsRay p (value_at ray)
+  pub certificate : IsRay p (value_at ray)
   pub infeasible : IsInfeasible p
 
 pub record IsProvedUnbounded (p : LinearProgram) (point direction : List ℚ) : Type 0 where
   pub point_places : length point ≡ size p.matrix
   pub direction_places : length direction ≡ size p.matrix
-  pub proving : ProvesUnbounded p (value_at point) (value_at direction)
+  pub certificate : ProvesUnbounded p (value_at point) (value_at direction)
   pub unbounded : IsUnbounded p
 
 abbrev pub IsTrueOutcome : LinearProgram → Outcome → Type 0

@@ -2,9 +2,9 @@
 --     IsUncrossed p                no variable is crossed
 --     least_outside p s z          the least-numbered basic outside its limits
 --     ray_from xs r below          the multipliers that show why r cannot come back, from the rates xs of r
---     IsReturner p s r below xs q  q is what brings r back, if something does
---     mover_by p s y               the variable that betters the objective, by the prices y, and whether it rises
---     IsMoverFound p s xs m        m is that variable at the basis s, if there is one
+--     IsRestoring p s r below xs q  q is what brings r back, if something does
+--     entering_variable_by p s y               the variable that improves the objective, by the prices y, and whether it rises
+--     IsEnteringVariableFound p s xs m        m is that variable at the basis s, if there is one
 --     RuleEndsHere rule            the path by a rule ends at s, after so many steps; EndsHere: that of the simplex method
 --     EvidenceAt                   the evidence of a turn at s, whatever path led there
 --     TurnFound result             the path ends at s, or moves a variable, or the call stops
@@ -34,7 +34,7 @@ use Rattle.bounded_primal.specs.Steps.{ReturnRefused}
 use Rattle.bounded_primal.specs.declared.moves.PrimalStop.{PrimalStop}
 use Rattle.bounded_primal.specs.declared.moves.PrimalStop.TheVariants.{Limit, Overflow, NoMemory}
 use Rattle.bounded_primal.specs.declared.moves.Stopper.{Stopper}
-use Rattle.bounded_primal.specs.declared.turns.Mover.{Mover}
+use Rattle.bounded_primal.specs.declared.turns.EnteringVariable.{EnteringVariable}
 use Rattle.bounded_primal.specs.declared.turns.Turn.{Turn}
 use Rattle.bounded_primal.specs.declared.turns.Turn.TheVariants.{Ends, Moves}
 
@@ -47,32 +47,32 @@ least_outside p s z = least p (λ k. is_in (basics_of s) k && is_outside p z k)
 abbrev pub ray_from : Vector → ℕ → Bool → Vector
 ray_from xs r below k = signed below (if nat_eq k r then neg_ℚ one_ℚ else xs k)
 
-abbrev pub moved_by : LinearProgram → Vector → ℕ → Mover
+abbrev pub moved_by : LinearProgram → Vector → ℕ → EnteringVariable
 moved_by p y q = record { q = q; up = goes_up (worth_by p y) q }
 
-abbrev pub mover_by : LinearProgram → List Status → Vector → Option Mover
-mover_by p s y = option_map (moved_by p y) (entering p s (worth_by p y))
+abbrev pub entering_variable_by : LinearProgram → List Status → Vector → Option EnteringVariable
+entering_variable_by p s y = option_map (moved_by p y) (entering p s (worth_by p y))
 
 -- q lowers the excess of the basic r, and nothing before it does; where nothing does, xs has the rates of r
-pub record IsReturner (p : LinearProgram) (s : List Status) (r : ℕ) (below : Bool) (xs : Vector) (q : Option ℕ) : Type 0 where
+pub record IsRestoring (p : LinearProgram) (s : List Status) (r : ℕ) (below : Bool) (xs : Vector) (q : Option ℕ) : Type 0 where
   pub rates : Vector
   pub is_row : IsRowOf p.matrix (basics_of s) r rates
   pub enters : q ≡ entering p s (motion rates (not below))
   pub at_end : q ≡ None → (k : ℕ) → IsVariable p.matrix k → xs k ≡ rates k
 
 -- it is that variable
-pub record Betters (p : LinearProgram) (s : List Status) (m : Mover) : Type 0 where
+pub record Improves (p : LinearProgram) (s : List Status) (m : EnteringVariable) : Type 0 where
   pub price : Vector
   pub prices : ArePricesOf p s price
-  pub chosen : Some m ≡ mover_by p s price
+  pub chosen : Some m ≡ entering_variable_by p s price
 
--- what betters the objective, if something does; where nothing does, xs are the prices
-abbrev pub IsMoverFound : LinearProgram → List Status → Vector → Option Mover → Type 0
-IsMoverFound p s xs None = ArePricesOf p s xs × (None ≡ mover_by p s xs)
-IsMoverFound p s xs (Some m) = Betters p s m
+-- what improves the objective, if something does; where nothing does, xs are the prices
+abbrev pub IsEnteringVariableFound : LinearProgram → List Status → Vector → Option EnteringVariable → Type 0
+IsEnteringVariableFound p s xs None = ArePricesOf p s xs × (None ≡ entering_variable_by p s xs)
+IsEnteringVariableFound p s xs (Some m) = Improves p s m
 
 -- the outcome has the motion of what has the direction d
-pub record IsEndless (p : LinearProgram) (zs : List ℚ) (d : Vector) (up : Bool) (steps : ℕ) (outcome : Outcome) : Type 0 where
+pub record IsUnboundedEnd (p : LinearProgram) (zs : List ℚ) (d : Vector) (up : Bool) (steps : ℕ) (outcome : Outcome) : Type 0 where
   pub ds : List ℚ
   pub is_outcome : outcome ≡ Unbounded steps zs ds
   pub counted : length ds ≡ size p.matrix

@@ -7,7 +7,7 @@ ghost use Rattle.simplex_definitions.specs.Path.{PathEnding};
 ghost use Rattle.basis_values.specs.Calls.{HasRates};
 ghost use Rattle.basis_values.specs.Wants.{AreWants};
 ghost use Rattle.bounded_primal.specs.Calls.{CallEnds, NeverReturned, WaypointsFollow};
-ghost use Rattle.bounded_primal.specs.Complete.{EndsUnhindered, IsEndOrMemory};
+ghost use Rattle.bounded_primal.specs.Complete.{EndsOverflowFree, IsEndOrMemory};
 ghost use Rattle.bounded_primal.specs.Outcomes.{IsTrueOutcome};
 ghost use Rattle.bounded_primal.specs.Stops.{PrimalStops};
 ghost use Rattle.bounded_primal.specs.Turns.{IsUncrossed, least_outside};
@@ -98,7 +98,7 @@ fn walk<R: Rates>(
 
 /// Follows the path from the basis until it ends, for at most `limit` steps: the bounded simplex method with the least-index rule.
 /// A crossed variable ends it; else the least-numbered basic outside its limits is brought back to the limit that it broke; else
-/// the least-numbered nonbasic that betters the objective moves until something stops it. `Limit` comes exactly where the path has
+/// the least-numbered nonbasic that improves the objective moves until something stops it. `Limit` comes exactly where the path has
 /// not ended after so many steps. The basis and the rates are those that the path has reached, after a stop too.
 pub fn primal<R: Rates>(
     alloc: Global,
@@ -120,7 +120,7 @@ pub fn primal<R: Rates>(
     // No path has as many steps as there are status lists, three for each variable.
     ensures limited { IsErrOf result PrimalStop.Limit → limit < lists_of lp.now }
     ensures complete { (bases : List (List Status)) (ending : PathEnding) →
-        EndsUnhindered lp.now basis.old limit (R.waypoints rates.old) bases ending →
+        EndsOverflowFree lp.now basis.old limit (R.waypoints rates.old) bases ending →
         IsEndOrMemory basis.old bases ending basis.new result }
 {
     let size = lp.number_of_variables() as usize;

@@ -5,12 +5,12 @@ ghost use Rattle.exact_values.specs.Rational.{zero_ℚ};
 ghost use Rattle.lp_definitions.specs.LinearProgram.{size, value_at, IsVariable};
 ghost use Rattle.lp_definitions.specs.Solutions.{IsFeasible, IsWithinLimits};
 ghost use Rattle.lp_definitions.specs.Basis.{basics_of, IsBasis, IsNonbasic, IsNonsingular, IsPointOf, IsDirectionOf};
-ghost use Rattle.simplex_definitions.specs.Moves.{room, signed, reached};
+ghost use Rattle.simplex_definitions.specs.Moves.{step_length, signed, reached};
 ghost use Rattle.basis_values.specs.Motions.{may_move, motion};
 ghost use Rattle.lp_model.specs.Sparse.{CoverNonzero};
 ghost use Rattle.bounded_primal.specs.Moving.{variables_of};
 ghost use Rattle.bounded_primal.specs.Moves.{stopper_of, StopperRefused};
-ghost use Rattle.basis_values.specs.Reach.{length_of, IsFirst, IsNearest, Reaches, SomeRoomRefused};
+ghost use Rattle.basis_values.specs.Reach.{length_of, IsFirst, IsNearest, Reaches, SomeStepLengthRefused};
 
 use crate::moves::Stopper;
 use crate::moving::Moving;
@@ -43,9 +43,9 @@ fn nearest_by_lengths(
     requires direction_places { length direction.now ≡ size lp.now.matrix }
     requires covered { CoverNonzero direction.now (variables_of moving.now) }
     requires within { IsWithinLimits lp.now (value_at point.now) }
-    ensures nearest { IfOk result (IsNearest (room lp.now (value_at point.now)
+    ensures nearest { IfOk result (IsNearest (step_length lp.now (value_at point.now)
         (motion (value_at direction.now) up)) (size lp.now.matrix)) }
-    ensures refused { IfErr result (SomeRoomRefused lp.now (value_at point.now)
+    ensures refused { IfErr result (SomeStepLengthRefused lp.now (value_at point.now)
         (value_at direction.now) up q) }
 {
     let mut nearest: Option<Reach> = None;
@@ -63,11 +63,11 @@ fn nearest_by_lengths(
     Ok(nearest)
 }
 
-/// The nearest of the variables whose lengths can be had.
-fn nearest_had(lp: &Lp, point: &[Frac], direction: &[Frac], q: u32, up: bool) -> Option<Reach>
+/// The nearest of the variables whose lengths can be computed.
+fn nearest_computed(lp: &Lp, point: &[Frac], direction: &[Frac], q: u32, up: bool) -> Option<Reach>
     requires point_places { length point.now ≡ size lp.now.matrix }
     requires direction_places { length direction.now ≡ size lp.now.matrix }
-    ensures { IfSome result (Reaches (room lp.now (value_at point.now)
+    ensures { IfSome result (Reaches (step_length lp.now (value_at point.now)
         (motion (value_at direction.now) up)) (size lp.now.matrix)) }
 {
     let mut nearest: Option<Reach> = None;
@@ -84,9 +84,9 @@ fn nearest_had(lp: &Lp, point: &[Frac], direction: &[Frac], q: u32, up: bool) ->
 fn is_first(lp: &Lp, point: &[Frac], direction: &[Frac], up: bool, first: &Reach) -> bool
     requires point_places { length point.now ≡ size lp.now.matrix }
     requires direction_places { length direction.now ≡ size lp.now.matrix }
-    requires reaches { Reaches (room lp.now (value_at point.now)
+    requires reaches { Reaches (step_length lp.now (value_at point.now)
         (motion (value_at direction.now) up)) (size lp.now.matrix) first.now }
-    ensures { IsTrue result → IsFirst (room lp.now (value_at point.now)
+    ensures { IsTrue result → IsFirst (step_length lp.now (value_at point.now)
         (motion (value_at direction.now) up)) (size lp.now.matrix) first.now }
 {
     for k in 0..lp.number_of_variables() {
@@ -97,14 +97,14 @@ fn is_first(lp: &Lp, point: &[Frac], direction: &[Frac], up: bool, first: &Reach
     true
 }
 
-/// What reaches a limit first, where its length and the places of all variables after it can be had.
+/// What reaches a limit first, where its length and the places of all variables after it can be computed.
 fn first_by_places(lp: &Lp, point: &[Frac], direction: &[Frac], q: u32, up: bool) -> Option<Reach>
     requires point_places { length point.now ≡ size lp.now.matrix }
     requires direction_places { length direction.now ≡ size lp.now.matrix }
-    ensures { IfSome result (IsFirst (room lp.now (value_at point.now)
+    ensures { IfSome result (IsFirst (step_length lp.now (value_at point.now)
         (motion (value_at direction.now) up)) (size lp.now.matrix)) }
 {
-    let first = nearest_had(lp, point, direction, q, up)?;
+    let first = nearest_computed(lp, point, direction, q, up)?;
     if is_first(lp, point, direction, up, &first) {
         Some(first)
     } else {
@@ -112,7 +112,7 @@ fn first_by_places(lp: &Lp, point: &[Frac], direction: &[Frac], q: u32, up: bool
     }
 }
 
-/// What reaches a limit first where `q` moves up or down from within all limits: by all lengths, and where one of them can't be had,
+/// What reaches a limit first where `q` moves up or down from within all limits: by all lengths, and where one of them can't be computed,
 /// by the places of the variables after the least of the others.
 fn nearest(
     lp: &Lp,
@@ -126,9 +126,9 @@ fn nearest(
     requires direction_places { length direction.now ≡ size lp.now.matrix }
     requires covered { CoverNonzero direction.now (variables_of moving.now) }
     requires within { IsWithinLimits lp.now (value_at point.now) }
-    ensures nearest { IfOk result (IsNearest (room lp.now (value_at point.now)
+    ensures nearest { IfOk result (IsNearest (step_length lp.now (value_at point.now)
         (motion (value_at direction.now) up)) (size lp.now.matrix)) }
-    ensures refused { IfErr result (SomeRoomRefused lp.now (value_at point.now)
+    ensures refused { IfErr result (SomeStepLengthRefused lp.now (value_at point.now)
         (value_at direction.now) up q) }
 {
     match nearest_by_lengths(lp, point, direction, moving, q, up) {
@@ -166,7 +166,7 @@ pub fn stopper_from(
     requires within { IsWithinLimits lp.now (value_at point.now) }
     ensures stopper { IfOk result (λ found. found ≡ stopper_of lp.now (value_at point.now)
         (value_at direction.now) up) }
-    ensures refused { IfErr result (SomeRoomRefused lp.now (value_at point.now)
+    ensures refused { IfErr result (SomeStepLengthRefused lp.now (value_at point.now)
         (value_at direction.now) up q) }
 {
     let found = nearest(lp, point, direction, moving, q, up)?;

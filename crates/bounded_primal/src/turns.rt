@@ -13,7 +13,7 @@ ghost use Rattle.basis_values.specs.Motions.{may_move, motion};
 ghost use Rattle.basis_values.specs.Wants.{AreWants};
 ghost use Rattle.bounded_primal.specs.KeptPoints.{all_kept, AgreesWithPoint};
 ghost use Rattle.bounded_primal.specs.Moves.{return_by, stopper_of as stopper_by};
-ghost use Rattle.bounded_primal.specs.Turns.{IsUncrossed, least_outside, ray_from, IsReturner, moved_by, mover_by, Betters, IsMoverFound, IsEndless, ReturnStops, RunStopsAtPoint, TurnFound};
+ghost use Rattle.bounded_primal.specs.Turns.{IsUncrossed, least_outside, ray_from, IsRestoring, moved_by, entering_variable_by, Improves, IsEnteringVariableFound, IsUnboundedEnd, ReturnStops, RunStopsAtPoint, TurnFound};
 
 use crate::kept::Kept;
 use crate::moves::{PrimalStop, Stopper};
@@ -105,7 +105,7 @@ pub fn limit_broken(below: bool) -> Status
 
 /// The nonbasic that brings the basic `r` back, if there is one; `wanted` has the signs of the rates that let a nonbasic lower a
 /// quantity. Where there is none, `row` takes the rates of `r`.
-fn returner<R: Rates>(
+fn restoring<R: Rates>(
     lp: &Lp,
     basis: &Basis,
     rates: &mut R,
@@ -118,7 +118,7 @@ fn returner<R: Rates>(
     requires wants { AreWants lp.now basis.now wanted.now }
     requires places { length row.old ≡ size lp.now.matrix }
     requires basic { IsBasic lp.now.matrix (basics_of basis.now) r }
-    ensures found { IfOk result (IsReturner lp.now basis.now r below (value_at row.new)) }
+    ensures found { IfOk result (IsRestoring lp.now basis.now r below (value_at row.new)) }
     ensures rates { KeepsRates (R.matrix rates.new) (R.basics rates.new) lp.now basis.now
         (R.waypoints rates.old) (R.waypoints rates.new) }
     ensures overflow { IfErr result (λ stop. IfOverflow stop
@@ -240,71 +240,71 @@ fn stopper_of<R: Rates>(
     }
 }
 
-/// The variable that betters the objective, and whether it rises.
+/// The variable that improves the objective, and whether it rises.
 #[derive(Clone, Copy)]
-struct Mover {
+struct EnteringVariable {
     q: u32,
     up: bool,
 }
 
-/// The variable with the way in which it betters the objective, by its price.
-fn mover_at(lp: &Lp, prices: &[Frac], q: u32) -> Mover
+/// The variable with the way in which it improves the objective, by its price.
+fn entering_variable_at(lp: &Lp, prices: &[Frac], q: u32) -> EnteringVariable
     requires variable { IsVariable lp.now.matrix q }
     requires places { length prices.now ≡ size lp.now.matrix }
     ensures { result ≡ moved_by lp.now (value_at prices.now) q }
 {
     let price = prices[q as usize - 1];
     let up = is_less(counted(price, is_minimized(lp)), Frac::whole(0));
-    Mover { q, up }
+    EnteringVariable { q, up }
 }
 
-/// The variable that betters the objective with these prices, if there is one.
-fn bettering(lp: &Lp, basis: &Basis, prices: &[Frac]) -> Option<Mover>
+/// The variable that improves the objective with these prices, if there is one.
+fn improving(lp: &Lp, basis: &Basis, prices: &[Frac]) -> Option<EnteringVariable>
     requires counted { length basis.now ≡ size lp.now.matrix }
     requires places { length prices.now ≡ size lp.now.matrix }
-    ensures { result ≡ mover_by lp.now basis.now (value_at prices.now) }
+    ensures { result ≡ entering_variable_by lp.now basis.now (value_at prices.now) }
 {
     let q = wrong_price(lp, basis, prices)?;
-    Some(mover_at(lp, prices, q))
+    Some(entering_variable_at(lp, prices, q))
 }
 
-/// The variable that betters the objective, if there is one, by the prices of all variables, which `prices` takes.
-fn mover_by_prices<R: Rates>(
+/// The variable that improves the objective, if there is one, by the prices of all variables, which `prices` takes.
+fn entering_variable_by_prices<R: Rates>(
     alloc: Global,
     lp: &Lp,
     basis: &Basis,
     rates: &mut R,
     prices: &mut [Frac],
-) -> Result<Option<Mover>, Stop>
+) -> Result<Option<EnteringVariable>, Stop>
     requires rates { HasRates (R.matrix rates.old) (R.basics rates.old) lp.now basis.now }
     requires lawful { IsLinearProgram lp.now }
     requires places { length prices.old ≡ size lp.now.matrix }
-    ensures found { IfOk result (IsMoverFound lp.now basis.now (value_at prices.new)) }
+    ensures found { IfOk result (IsEnteringVariableFound lp.now basis.now (value_at prices.new)) }
     ensures rates { KeepsRates (R.matrix rates.new) (R.basics rates.new) lp.now basis.now
         (R.waypoints rates.old) (R.waypoints rates.new) }
     ensures overflow { IfErr result (λ stop. IfOverflow stop
         (PointRefused lp.now (R.waypoints rates.old) basis.now (R.waypoints rates.new))) }
 {
     match prices_of(alloc, lp, basis, rates, prices) {
-        Ok(()) => Ok(bettering(lp, basis, prices)),
+        Ok(()) => Ok(improving(lp, basis, prices)),
         Err(stop) => Err(stop),
     }
 }
 
 /// The same where there is no change row: the prices are the rates of the objective, and no more of them are had than are needed.
-fn mover_by_row<R: Rates>(
+fn entering_variable_by_row<R: Rates>(
     lp: &Lp,
     basis: &Basis,
     rates: &mut R,
     wanted: &[Wanted],
     prices: &mut [Frac],
-) -> Result<Option<Mover>, Stop>
+) -> Result<Option<EnteringVariable>, Stop>
     requires rates { HasRates (R.matrix rates.old) (R.basics rates.old) lp.now basis.now }
     requires lawful { IsLinearProgram lp.now }
     requires wants { AreWants lp.now basis.now wanted.now }
     requires unchanged { lp.now.change ≡ None }
     requires places { length prices.old ≡ size lp.now.matrix }
-    ensures found { IfOk result (IsMoverFound lp.now basis.now (value_at prices.new)) }
+    ensures found { IfOk result (IsEnteringVariableFound lp.now basis.now (value_at prices.new)) }
     ensures rates { KeepsRates (R.matrix rates.new) (R.basics rates.new) lp.now basis.now
         (R.waypoints rates.old) (R.waypoints rates.new) }
     ensures overflow { IfErr result (λ stop. IfOverflow stop
@@ -312,33 +312,33 @@ fn mover_by_row<R: Rates>(
 {
     match rates.first_wanted(lp.objective, wanted, is_minimized(lp), prices) {
         Ok(None) => Ok(None),
-        Ok(Some(q)) => Ok(Some(mover_at(lp, prices, q))),
+        Ok(Some(q)) => Ok(Some(entering_variable_at(lp, prices, q))),
         Err(stop) => Err(stop),
     }
 }
 
-/// The variable that betters the objective, if there is one. Where there is none, `prices` takes the prices.
-fn mover_of<R: Rates>(
+/// The variable that improves the objective, if there is one. Where there is none, `prices` takes the prices.
+fn entering_variable_of<R: Rates>(
     alloc: Global,
     lp: &Lp,
     basis: &Basis,
     rates: &mut R,
     wanted: &[Wanted],
     prices: &mut [Frac],
-) -> Result<Option<Mover>, Stop>
+) -> Result<Option<EnteringVariable>, Stop>
     requires rates { HasRates (R.matrix rates.old) (R.basics rates.old) lp.now basis.now }
     requires lawful { IsLinearProgram lp.now }
     requires wants { AreWants lp.now basis.now wanted.now }
     requires places { length prices.old ≡ size lp.now.matrix }
-    ensures found { IfOk result (IsMoverFound lp.now basis.now (value_at prices.new)) }
+    ensures found { IfOk result (IsEnteringVariableFound lp.now basis.now (value_at prices.new)) }
     ensures rates { KeepsRates (R.matrix rates.new) (R.basics rates.new) lp.now basis.now
         (R.waypoints rates.old) (R.waypoints rates.new) }
     ensures overflow { IfErr result (λ stop. IfOverflow stop
         (PointRefused lp.now (R.waypoints rates.old) basis.now (R.waypoints rates.new))) }
 {
     match lp.change {
-        None => mover_by_row(lp, basis, rates, wanted, prices),
-        Some(_) => mover_by_prices(alloc, lp, basis, rates, prices),
+        None => entering_variable_by_row(lp, basis, rates, wanted, prices),
+        Some(_) => entering_variable_by_prices(alloc, lp, basis, rates, prices),
     }
 }
 
@@ -374,7 +374,7 @@ fn first_phase<R: Rates>(
         (R.waypoints rates.old) (R.waypoints rates.new) }
 {
     let below = lies_below(at.lp, at.point, r);
-    let Some(q) = returner(at.lp, at.basis, rates, wanted, row, r, below)? else {
+    let Some(q) = restoring(at.lp, at.basis, rates, wanted, row, r, below)? else {
         let ray = ray_of(alloc, at.lp, row, r, below)?;
         return Ok(Turn::Ends(Outcome::Infeasible {
             steps: at.steps,
@@ -431,7 +431,7 @@ pub fn best(
 }
 
 /// The end without a bound.
-fn endless(
+fn unbounded_ending(
     alloc: Global,
     lp: &Lp,
     point: Vec<Frac>,
@@ -440,7 +440,7 @@ fn endless(
     steps: u32,
 ) -> Result<Outcome, NoMemory>
     requires { length direction.now ≡ size lp.now.matrix }
-    ensures { IfOk result (IsEndless lp.now point.items (value_at direction.now) up steps) }
+    ensures { IfOk result (IsUnboundedEnd lp.now point.items (value_at direction.now) up steps) }
 {
     let point = Point::new(point);
     let direction = signed_direction(alloc, lp, direction, up)?;
@@ -457,7 +457,7 @@ fn run<R: Rates>(
     at: &Position<'_>,
     rates: &mut R,
     direction: &mut SparseVector,
-    moved: Mover,
+    moved: EnteringVariable,
 ) -> Result<Turn, PrimalStop>
     requires rates { HasRates (R.matrix rates.old) (R.basics rates.old) at.now.lp.now at.now.basis.now }
     requires point_places { length at.now.point.now ≡ size at.now.lp.now.matrix }
@@ -466,7 +466,7 @@ fn run<R: Rates>(
     requires kept { IsTrue (all_kept at.now.kept) → IsPointOf at.now.lp.now at.now.basis.now (value_at at.now.point.now) }
     requires uncrossed { IsUncrossed at.now.lp.now }
     requires inside { least_outside at.now.lp.now at.now.basis.now (value_at at.now.point.now) ≡ None }
-    requires moves { Betters at.now.lp.now at.now.basis.now moved }
+    requires moves { Improves at.now.lp.now at.now.basis.now moved }
     ensures turn { TurnFound result at.now.lp.now at.now.basis.now at.now.steps at.now.left
         (value_at direction.new) (R.waypoints rates.old) (R.waypoints rates.new) }
     ensures direction_places { OnOk result (length direction.new ≡ size at.now.lp.now.matrix) }
@@ -478,7 +478,7 @@ fn run<R: Rates>(
     )? {
         None => {
             let point = whole_point(alloc, at, rates)?;
-            Ok(Turn::Ends(endless(alloc, at.lp, point, direction.values(), moved.up, at.steps)?))
+            Ok(Turn::Ends(unbounded_ending(alloc, at.lp, point, direction.values(), moved.up, at.steps)?))
         }
         Some(by) => {
             if at.left == 0 {
@@ -490,7 +490,7 @@ fn run<R: Rates>(
     }
 }
 
-/// The second phase: moves the least-numbered variable that betters the objective, or answers that none does or that nothing stops
+/// The second phase: moves the least-numbered variable that improves the objective, or answers that none does or that nothing stops
 /// it. `row` and `direction` are workspaces.
 fn second_phase<R: Rates>(
     alloc: Global,
@@ -516,7 +516,7 @@ fn second_phase<R: Rates>(
     ensures rates { KeepsRates (R.matrix rates.new) (R.basics rates.new) at.now.lp.now at.now.basis.now
         (R.waypoints rates.old) (R.waypoints rates.new) }
 {
-    match mover_of(alloc, at.lp, at.basis, rates, wanted, row)? {
+    match entering_variable_of(alloc, at.lp, at.basis, rates, wanted, row)? {
         None => {
             let point = whole_point(alloc, at, rates)?;
             Ok(Turn::Ends(best(alloc, point, row, at.steps)?))

@@ -13,7 +13,7 @@ use Rattle.card_definitions.specs.Cards.{Card, card_fault, is_printable, cards_o
 use Rattle.card_definitions.specs.declared.CardFault.{CardFault}
 use Rattle.card_definitions.specs.declared.CardFault.TheVariants.{TooLong, NotPrintable, CardTooLong}
 use Rattle.card_definitions.proofs.Numbered.{numbered_from-append}
-use Rattle.card_reader.specs.Reading.{TellsCardFault}
+use Rattle.card_reader.specs.Reading.{ReportsCardFault}
 use Rattle.card_reader.specs.Spans.{IsFaultless}
 use Rattle.card_reader.specs.Stop.{stop_of}
 use Rattle.card_reader.specs.declared.stop.ReadStop.{ReadStop}
@@ -61,10 +61,10 @@ job_fault-within job cards short few all =
     ∙ ap fault_of_cards (sym all)
 
 -- the answer that tells a fault
-pub tells_fault : (fault : CardFault) (stop : ReadStop) (found : Option CardFault) → stop ≡ stop_of fault → found ≡ Some fault → TellsCardFault stop found
-tells_fault fault stop found same e = let Goal : ReadStop → Type 0 = λ s. TellsCardFault s found in subst Goal (sym same) (each fault e)
+pub tells_fault : (fault : CardFault) (stop : ReadStop) (found : Option CardFault) → stop ≡ stop_of fault → found ≡ Some fault → ReportsCardFault stop found
+tells_fault fault stop found same e = let Goal : ReadStop → Type 0 = λ s. ReportsCardFault s found in subst Goal (sym same) (each fault e)
   where
-    each : (fault : CardFault) → found ≡ Some fault → TellsCardFault (stop_of fault) found
+    each : (fault : CardFault) → found ≡ Some fault → ReportsCardFault (stop_of fault) found
     each TooLong e = e
     each (NotPrintable number) e = e
     each (CardTooLong number) e = e

@@ -29,7 +29,7 @@ ReadsJob old new = ReadsWhole read_limit old new
 abbrev pub ReadsPrefix : Option (List ℕ) → Option (List ℕ) → Type 0
 ReadsPrefix old new = ReadsUpTo read_limit old new
 
--- how far a job was read that isn't given: a fault of the source or want of memory may come before the end
+-- how far a job was read that isn't given: a fault of the source or running out of memory may come before the end
 abbrev pub ReadsAtStop : ReadStop → Option (List ℕ) → Option (List ℕ) → Type 0
 ReadsAtStop ReadFault old new = ReadsPrefix old new
 ReadsAtStop NoMemory old new = ReadsPrefix old new
@@ -40,26 +40,26 @@ abbrev pub Reads : {T : Type 0} → Result T ReadStop → Option (List ℕ) → 
 Reads (Ok cards) old new = ReadsJob old new
 Reads (Err stop) old new = ReadsAtStop stop old new
 
--- a fault of a card is told only where the job was read to its end
+-- a fault of a card is reported only where the job was read to its end
 abbrev pub EndsAtStop : ReadStop → Option (List ℕ) → Type 0
 EndsAtStop (CardTooLong number) new = IsAtEnd new
 EndsAtStop (NotPrintable number) new = IsAtEnd new
 EndsAtStop stop new = Unit {0}
 
--- the cards, or a fault of a card, are told only where the job was read to its end
+-- the cards, or a fault of a card, are reported only where the job was read to its end
 abbrev pub Ends : {T : Type 0} → Result T ReadStop → Option (List ℕ) → Type 0
 Ends (Ok cards) new = IsAtEnd new
 Ends (Err stop) new = EndsAtStop stop new
 
--- the stop tells the fault that was found; a fault of the source or want of memory may come in its place
-abbrev pub TellsCardFault : ReadStop → Option CardFault → Type 0
-TellsCardFault ReadFault found = Unit {0}
-TellsCardFault NoMemory found = Unit {0}
-TellsCardFault TooLong found = found ≡ Some fault.TooLong
-TellsCardFault (CardTooLong number) found = found ≡ Some (fault.CardTooLong number)
-TellsCardFault (NotPrintable number) found = found ≡ Some (fault.NotPrintable number)
+-- the stop tells the fault that was found; a fault of the source or running out of memory may come in its place
+abbrev pub ReportsCardFault : ReadStop → Option CardFault → Type 0
+ReportsCardFault ReadFault found = Unit {0}
+ReportsCardFault NoMemory found = Unit {0}
+ReportsCardFault TooLong found = found ≡ Some fault.TooLong
+ReportsCardFault (CardTooLong number) found = found ≡ Some (fault.CardTooLong number)
+ReportsCardFault (NotPrintable number) found = found ≡ Some (fault.NotPrintable number)
 
 -- Where the job is known, `Ok` says that its cards have no fault, and else the stop tells the fault.
 abbrev pub Judges : {T : Type 0} → Result T ReadStop → Option (List ℕ) → Type 0
 Judges (Ok cards) known = IfSome known (λ job. job_fault job ≡ None)
-Judges (Err stop) known = IfSome known (λ job. TellsCardFault stop (job_fault job))
+Judges (Err stop) known = IfSome known (λ job. ReportsCardFault stop (job_fault job))

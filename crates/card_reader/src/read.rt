@@ -3,7 +3,7 @@ ghost use Rattle.std.specs.Prelude.{◌≡◌, ◌≤◌, ◌<◌, Option, lengt
 ghost use Rattle.std.specs.Io.KnownBytes.{Consumes, IsAtEnd};
 ghost use Rattle.card_definitions.specs.Cards.{cards_of};
 ghost use Rattle.card_definitions.specs.declared.CardFault.{CardFault};
-ghost use Rattle.card_reader.specs.Reading.{HasCause, Judges, Reads, ReadsPrefix, Ends, EndsAtStop, TellsCardFault, read_limit};
+ghost use Rattle.card_reader.specs.Reading.{HasCause, Judges, Reads, ReadsPrefix, Ends, EndsAtStop, ReportsCardFault, read_limit};
 
 use crate::ReadStop;
 use crate::cards::Cards;
@@ -12,7 +12,7 @@ use card_definitions::MAX_JOB_BYTES;
 use job_devices::{Source, read_up_to};
 use std::alloc::Global;
 
-// The bytes of the source, and one at most after those that a job may have. A fault of the source and want of memory
+// The bytes of the source, and one at most after those that a job may have. A fault of the source and running out of memory
 // stop it, and nothing else.
 fn read_bytes<S: Source>(alloc: Global, source: &mut S) -> Result<Vec<u8>, ReadStop>
     ensures bytes { IfOk result (λ bytes. IfSome (S.left source.old)
@@ -23,7 +23,7 @@ fn read_bytes<S: Source>(alloc: Global, source: &mut S) -> Result<Vec<u8>, ReadS
         (S.left source.new)) }
     ensures cause { HasCause (S.faults source.old) (S.faults source.new) result }
     ensures no_card { IfErr result (λ stop. (found : Option CardFault) →
-        TellsCardFault stop found) }
+        ReportsCardFault stop found) }
     ensures no_end { IfErr result (λ stop. EndsAtStop stop (S.left source.new)) }
 {
     Ok(read_up_to(alloc, source, MAX_JOB_BYTES + 1)?)
@@ -31,7 +31,7 @@ fn read_bytes<S: Source>(alloc: Global, source: &mut S) -> Result<Vec<u8>, ReadS
 
 /// Reads the job to its end and cuts it into cards. Of a job that is too long, no byte after 16,400,001 is read.
 ///
-/// A fault of the source is told first, then a job that is too long, then the first card with a fault. Want of memory
+/// A fault of the source is reported first, then a job that is too long, then the first card with a fault. Running out of memory
 /// may come before any of these.
 pub fn read_job<S: Source>(alloc: Global, source: &mut S) -> Result<Cards, ReadStop>
     ensures cards { IfOk result (λ cards. IfSome (S.left source.old)

@@ -16,11 +16,11 @@ use Rattle.exact_values.proofs.Compare.{lt_from_compare, same_from_compare, comp
 use Rattle.exact_values.proofs.Tests_laws.{same_from_test, le_from_test}
 use Rattle.exact_values.proofs.Order.{lt_not_le, le_of_lt, apart_from_above, apart_from_below}
 use Rattle.lp_definitions.specs.LinearProgram.{LinearProgram, Vector, IsMatrix, IsColumn, IsVariable, KeepsEquations, numbers_from, variables, column, entry, lower_of, upper_of, cost, for_min, size}
-use Rattle.lp_definitions.specs.Solutions.{IsWithinLimits, IsFeasible, AreProvingPrices, IsCrossed, IsRay, ProvesUnbounded, limit_against}
+use Rattle.lp_definitions.specs.Solutions.{IsWithinLimits, IsFeasible, IsDualCertificate, IsCrossed, IsRay, ProvesUnbounded, limit_against}
 use Rattle.lp_definitions.proofs.Lawful.{none as no_limit}
 use Rattle.check_definitions.specs.declared.Verdict.TheVariants.{Checked, Unchecked}
 use Rattle.check_definitions.specs.Steps.{Step, operation, comparison, verdict_of, product_of, sum_steps, sum_of}
-use Rattle.check_definitions.specs.Checks.{is_not_below, is_not_above, is_at, is_crossed, by_sign, row_products, equation, equations, within_limit, within_limits, feasible_point, column_products, combined_steps, reduced_cost, reduced_costs, standing_price, standing_prices, ray_column, ray_columns, multiplied, limit_product, ray_limits, ray_sum, free_to_move, free_direction, bettering, optimal_check, crossed_check, infeasible_check, unbounded_check}
+use Rattle.check_definitions.specs.Checks.{is_not_below, is_not_above, is_at, is_crossed, by_sign, row_products, equation, equations, within_limit, within_limits, feasible_point, column_products, combined_steps, reduced_cost, reduced_costs, standing_price, standing_prices, ray_column, ray_columns, multiplied, limit_product, ray_limits, ray_sum, free_to_move, free_direction, improving, optimal_check, crossed_check, infeasible_check, unbounded_check}
 use Rattle.check_definitions.proofs.Passing.{checked-append, holds_if_checked, each_checked}
 use Rattle.lp_laws.proofs.Entries.{sum_of_entries}
 use Rattle.lp_laws.proofs.Duality.{below_of_test}
@@ -187,7 +187,7 @@ module _ (p : LinearProgram) where
         negative = negative_if_checked w limits.1;
       }
 
-  pub optimal_if_checked : IsMatrix p.matrix → (z y : Vector) → optimal_check p z y ≡ Checked → IsFeasible p z × AreProvingPrices p z y
+  pub optimal_if_checked : IsMatrix p.matrix → (z y : Vector) → optimal_check p z y ≡ Checked → IsFeasible p z × IsDualCertificate p z y
   optimal_if_checked matrix z y e =
       let point = checked-append (feasible_point p z) _ e in
       let priced = checked-append (reduced_costs p y) (standing_prices p z y) point.1 in (
@@ -203,15 +203,15 @@ module _ (p : LinearProgram) where
   unbounded_if_checked z d e =
       let point = checked-append (feasible_point p z) _ e in
       let kept = checked-append (equations p 3 d) _ point.1 in
-      let free = checked-append (free_direction p d) (bettering p d) kept.1 in
-      let better = checked-append (combined_steps p d) _ free.1 in
+      let free = checked-append (free_direction p d) (improving p d) kept.1 in
+      let improve = checked-append (combined_steps p d) _ free.1 in
       let moves = free_if_checked d free.0 in
       record {
         feasible = feasible_if_checked z point.0;
         keeps = keeps_if_checked 3 d kept.0;
         falls = moves.falls;
         rises = moves.rises;
-        betters = below_of_test (holds_if_checked 5 0 _ better.1);
+        improves = below_of_test (holds_if_checked 5 0 _ improve.1);
       }
 
   pub crossed_if_checked : (k : ℕ) → IsVariable p.matrix k → crossed_check p k ≡ Checked → IsCrossed p k

@@ -16,13 +16,13 @@ use Rattle.exact_values.proofs.Compare.{lt_from_compare, same_from_compare, gt_f
 use Rattle.exact_values.proofs.Ring_laws.{zero-add}
 use Rattle.lp_definitions.specs.declared.Change.{Change}
 use Rattle.lp_definitions.specs.LinearProgram.{LinearProgram, Vector, IsMatrix, IsColumn, IsVariable, KeepsEquations, numbers_from, entry, lower_of, upper_of, cost, for_min, size}
-use Rattle.lp_definitions.specs.Solutions.{IsWithinLimits, IsFeasible, AreProvingPrices, IsCrossed, IsRay, ProvesUnbounded, limit_against}
+use Rattle.lp_definitions.specs.Solutions.{IsWithinLimits, IsFeasible, IsDualCertificate, IsCrossed, IsRay, ProvesUnbounded, limit_against}
 use Rattle.lp_laws.proofs.Duality.{test_of_below}
 use Rattle.lp_laws.proofs.Rays.{limit_of_positive, limit_of_negative}
 use Rattle.check_definitions.specs.declared.Verdict.{Verdict}
 use Rattle.check_definitions.specs.declared.Verdict.TheVariants.{Checked, Failed, Unchecked}
 use Rattle.check_definitions.specs.Steps.{Step, operation, comparison, verdict_of, Product, product_of, sum_steps, sum_of, followed_by}
-use Rattle.check_definitions.specs.Checks.{is_not_below, is_not_above, is_at, is_crossed, by_sign, change_steps, combined_steps, row_products, equation, equations, within_limit, within_limits, feasible_point, column_products, reduced_cost, reduced_costs, standing_price, standing_prices, ray_column, ray_columns, multiplied, limit_product, ray_limits, ray_sum, free_to_move, free_direction, bettering, crossed_check}
+use Rattle.check_definitions.specs.Checks.{is_not_below, is_not_above, is_at, is_crossed, by_sign, change_steps, combined_steps, row_products, equation, equations, within_limit, within_limits, feasible_point, column_products, reduced_cost, reduced_costs, standing_price, standing_prices, ray_column, ray_columns, multiplied, limit_product, ray_limits, ray_sum, free_to_move, free_direction, improving, crossed_check}
 use Rattle.check_definitions.proofs.Passing.{verdict-append}
 use Rattle.certificate_check.specs.Parts.{AreReducedCosts, VanishesOnColumns, MeetsLimits, IsFreeDirection}
 use Rattle.certificate_check.proofs.Products.{sum_of-all}
@@ -130,13 +130,13 @@ module _ (p : LinearProgram) where
       (never_sum zero_ℚ (column_products p y j))
       (never_operation Sub (cost p j) total ending (never_comparison 3 (p.rows + j) (eq_ℚ (cost p j -ℚ total) (y (p.rows + j))) (test_from_same _ _ same)))))
 
-  pub never_optimal : IsMatrix p.matrix → (z y : Vector) → IsFeasible p z → AreProvingPrices p z y → NeverFails (feasible_point p z ++ (reduced_costs p y ++ standing_prices p z y))
-  never_optimal matrix z y feasible proving =
+  pub never_optimal : IsMatrix p.matrix → (z y : Vector) → IsFeasible p z → IsDualCertificate p z y → NeverFails (feasible_point p z ++ (reduced_costs p y ++ standing_prices p z y))
+  never_optimal matrix z y feasible certificate =
       never-append (feasible_point p z) (reduced_costs p y ++ standing_prices p z y) (never_point z feasible)
-      (never-append (reduced_costs p y) (standing_prices p z y) (never_costs matrix y proving.reduced)
+      (never-append (reduced_costs p y) (standing_prices p z y) (never_costs matrix y certificate.reduced)
       (never_each (standing_price p z y) 1 (size p.matrix) (λ k low high.
       let is : IsVariable p.matrix k = (low, omega arith) in
-      let holds = sign_holds (for_min p.sense (y k)) (is_at (upper_of p k) (z k)) (is_at (lower_of p k) (z k)) (λ below. stands (upper_of p k) (z k) (proving.at_upper k is below)) (λ above. stands (lower_of p k) (z k) (proving.at_lower k is above)) in
+      let holds = sign_holds (for_min p.sense (y k)) (is_at (upper_of p k) (z k)) (is_at (lower_of p k) (z k)) (λ below. stands (upper_of p k) (z k) (certificate.at_upper k is below)) (λ above. stands (lower_of p k) (z k) (certificate.at_lower k is above)) in
       never_comparison 4 k (by_sign (compare_ℚ (for_min p.sense (y k)) zero_ℚ) (is_at (upper_of p k) (z k)) (is_at (lower_of p k) (z k))) holds)))
 
   pub never_free : (d : Vector) → IsFreeDirection p d → NeverFails (free_direction p d)
@@ -145,12 +145,12 @@ module _ (p : LinearProgram) where
       let holds = sign_holds (d k) (is_none (lower_of p k)) (is_none (upper_of p k)) (λ below. absent (lower_of p k) (free.falls k is below)) (λ above. absent (upper_of p k) (free.rises k is above)) in
       never_comparison 4 k (by_sign (compare_ℚ (d k) zero_ℚ) (is_none (lower_of p k)) (is_none (upper_of p k))) holds)
 
-  pub never_unbounded : (z d : Vector) → ProvesUnbounded p z d → NeverFails (feasible_point p z ++ (equations p 3 d ++ (free_direction p d ++ bettering p d)))
+  pub never_unbounded : (z d : Vector) → ProvesUnbounded p z d → NeverFails (feasible_point p z ++ (equations p 3 d ++ (free_direction p d ++ improving p d)))
   never_unbounded z d h =
-      never-append (feasible_point p z) (equations p 3 d ++ (free_direction p d ++ bettering p d)) (never_point z h.feasible)
-      (never-append (equations p 3 d) (free_direction p d ++ bettering p d) (never_equations 3 d h.keeps)
-      (never-append (free_direction p d) (bettering p d) (never_free d (record { falls = h.falls; rises = h.rises }))
-      (never-append (combined_steps p d) _ (never_combined d) (never_comparison 5 0 _ (test_of_below h.betters)))))
+      never-append (feasible_point p z) (equations p 3 d ++ (free_direction p d ++ improving p d)) (never_point z h.feasible)
+      (never-append (equations p 3 d) (free_direction p d ++ improving p d) (never_equations 3 d h.keeps)
+      (never-append (free_direction p d) (improving p d) (never_free d (record { falls = h.falls; rises = h.rises }))
+      (never-append (combined_steps p d) _ (never_combined d) (never_comparison 5 0 _ (test_of_below h.improves)))))
 
   pub crossed_holds : (k : ℕ) → IsCrossed p k → crossed_check p k ≡ Checked
   crossed_holds k h =

@@ -1,9 +1,9 @@
-//! The parts of a check on a direction: it keeps the limits however far it goes, and it betters the objective.
+//! The parts of a check on a direction: it keeps the limits however far it goes, and it improves the objective.
 
 ghost use Rattle.std.specs.Prelude.{◌≡◌, length};
 ghost use Rattle.lp_definitions.specs.LinearProgram.{IsVariable, size, value_at};
 ghost use Rattle.check_definitions.specs.Steps.{verdict_of};
-ghost use Rattle.check_definitions.specs.Checks.{free_to_move, free_direction, bettering};
+ghost use Rattle.check_definitions.specs.Checks.{free_to_move, free_direction, improving};
 ghost use Rattle.certificate_check.specs.Results.{verdict_from};
 
 use crate::comparisons::{counted_for, holds_by_sign, is_less};
@@ -39,9 +39,9 @@ pub fn direction_is_free(lp: &Lp, direction: &[Frac]) -> Result<(), Stopped>
 }
 
 /// The objective of the direction is negative where it is to be small, and positive where it is to be great.
-pub fn direction_betters(lp: &Lp, direction: &[Frac]) -> Result<(), Stopped>
+pub fn direction_improves(lp: &Lp, direction: &[Frac]) -> Result<(), Stopped>
     requires { length direction.now ≡ size lp.now.matrix }
-    ensures { verdict_from result ≡ verdict_of (bettering lp.now (value_at direction.now)) }
+    ensures { verdict_from result ≡ verdict_of (improving lp.now (value_at direction.now)) }
 {
     let change = counted_for(lp.sense, objective(lp, direction)?);
     compare(is_less(change, Frac::whole(0)), 5, 0)

@@ -6,7 +6,7 @@
 ghost use Rattle.std.specs.Prelude.{◌≡◌, ◌≢◌, ◌↔◌, length};
 ghost use Rattle.frac128.specs.declared.Refused.{Refused};
 ghost use Rattle.lp_definitions.specs.LinearProgram.{IsVariable, size, value_at};
-ghost use Rattle.lp_definitions.specs.Solutions.{IsFeasible, IsBest, AreProvingPrices, IsCrossed, IsRay, ProvesUnbounded, IsInfeasible, IsUnbounded};
+ghost use Rattle.lp_definitions.specs.Solutions.{IsFeasible, IsBest, IsDualCertificate, IsCrossed, IsRay, ProvesUnbounded, IsInfeasible, IsUnbounded};
 ghost use Rattle.check_definitions.specs.Checks.{optimal_check, crossed_check, infeasible_check, unbounded_check};
 ghost use Rattle.certificate_check.specs.Results.{verdict_from, IsNotFailed};
 
@@ -21,7 +21,7 @@ mod sums;
 
 pub use check_definitions::Verdict;
 use comparisons::is_crossed_by;
-use direction::{direction_betters, direction_is_free};
+use direction::{direction_improves, direction_is_free};
 use frac128::Frac;
 use lp_model::Lp;
 pub use parts::{
@@ -41,9 +41,9 @@ pub fn check_optimal(lp: &Lp, point: &[Frac], prices: &[Frac]) -> Verdict
     ensures exact { result ≡ optimal_check lp.now (value_at point.now) (value_at prices.now) }
     ensures feasible { result ≡ Verdict.Checked → IsFeasible lp.now (value_at point.now) }
     ensures best { result ≡ Verdict.Checked → IsBest lp.now (value_at point.now) }
-    ensures prices { result ≡ Verdict.Checked → AreProvingPrices lp.now (value_at point.now)
+    ensures prices { result ≡ Verdict.Checked → IsDualCertificate lp.now (value_at point.now)
         (value_at prices.now) }
-    ensures never_fails { IsFeasible lp.now (value_at point.now) → AreProvingPrices lp.now
+    ensures never_fails { IsFeasible lp.now (value_at point.now) → IsDualCertificate lp.now
         (value_at point.now) (value_at prices.now) → IsNotFailed result }
 {
     let size = lp.number_of_variables() as usize;
@@ -77,7 +77,7 @@ pub fn check_infeasible(lp: &Lp, ray: &[Frac]) -> Verdict
     verdict(infeasible(lp, ray))
 }
 
-/// Checks that the point is feasible and that the objective betters without end in the direction: it keeps the equations, no limit is
+/// Checks that the point is feasible and that the objective improves without end in the direction: it keeps the equations, no limit is
 /// ahead of it, and its own objective is on the better side of 0. Both slices hold the rows and then the columns.
 pub fn check_unbounded(lp: &Lp, point: &[Frac], direction: &[Frac]) -> Verdict
     requires point_places { length point.now ≡ size lp.now.matrix }
@@ -120,5 +120,5 @@ fn unbounded(lp: &Lp, point: &[Frac], direction: &[Frac]) -> Result<(), Stopped>
     point_is_feasible(lp, point)?;
     equations_hold(lp, 3, direction)?;
     direction_is_free(lp, direction)?;
-    direction_betters(lp, direction)
+    direction_improves(lp, direction)
 }

@@ -98,9 +98,9 @@ unfolding refuses shared_factor raised_numerator raised_sum sum_denominator ◌+
 limit_ahead = refl
 
 -- the objective does not change
-no_better : unbounded_check (falling None) (value_at (zero_ℚ ∷ zero_ℚ ∷ [])) (value_at (zero_ℚ ∷ zero_ℚ ∷ [])) ≡ Failed 5 0
+no_improvement : unbounded_check (falling None) (value_at (zero_ℚ ∷ zero_ℚ ∷ [])) (value_at (zero_ℚ ∷ zero_ℚ ∷ [])) ≡ Failed 5 0
 unfolding refuses shared_factor raised_numerator raised_sum sum_denominator ◌+ℚ◌ ◌*ℚ◌ neg_ℚ fraction whole gcd compare_ℚ
-no_better = refl
+no_improvement = refl
 
 -- with the second row as its change row, 3 times
 abbrev changed : LinearProgram

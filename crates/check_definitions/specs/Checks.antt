@@ -145,8 +145,8 @@ module _ (p : LinearProgram) where
   free_direction d = flat_map (free_to_move d) (variables p.matrix)
 
   -- the objective of the direction is negative for MIN, and positive for MAX
-  abbrev pub bettering : Vector → List Step
-  bettering d = combined_steps d ++ comparison 5 0 (lt_ℚ (for_min p.sense (objective_value p d)) zero_ℚ) ∷ []
+  abbrev pub improving : Vector → List Step
+  improving d = combined_steps d ++ comparison 5 0 (lt_ℚ (for_min p.sense (objective_value p d)) zero_ℚ) ∷ []
 
   -- ---- the checks
 
@@ -160,4 +160,4 @@ module _ (p : LinearProgram) where
   infeasible_check w = verdict_of (ray_columns w ++ (ray_limits w zero_ℚ (multiplied w) ++ ray_sum w))
 
   abbrev pub unbounded_check : Vector → Vector → Verdict
-  unbounded_check z d = verdict_of (feasible_point z ++ (equations 3 d ++ (free_direction d ++ bettering d)))
+  unbounded_check z d = verdict_of (feasible_point z ++ (equations 3 d ++ (free_direction d ++ improving d)))

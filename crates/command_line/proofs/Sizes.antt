@@ -22,8 +22,8 @@ tested size word = nat_le 1 size && (nat_le size max_size && bytes_eq (decimal s
 both_hold : {a b : Bool} → a ≡ true → b ≡ true → (a && b) ≡ true
 both_hold p q = λ i. p i && q i
 
-told : (size : ℕ) (word : List ℕ) → tested size word ≡ true → IsSize word size
-told size word e =
+reported : (size : ℕ) (word : List ℕ) → tested size word ≡ true → IsSize word size
+reported size word e =
     let p = both (nat_le 1 size) _ e in
     let q = both (nat_le size max_size) _ p.1 in
     record { least = leb-true 1 size p.0; most = leb-true size max_size q.0; digits = (bytes_eq-Decides (decimal size) word).0 q.1 }
@@ -41,14 +41,14 @@ pub unwritten : (word : List ℕ) → ((size : ℕ) → IsSize word size → ⊥
 unwritten word none = go (tested (digits_value 10 word) word) refl
   where
     go : (b : Bool) → tested (digits_value 10 word) word ≡ b → (if b then Some (digits_value 10 word) else None) ≡ None
-    go true e = absurd (none (digits_value 10 word) (told (digits_value 10 word) word e))
+    go true e = absurd (none (digits_value 10 word) (reported (digits_value 10 word) word e))
     go false e = refl
 
 pub size_is : (word : List ℕ) {size : ℕ} → size_written word ≡ Some size → IsSize word size
 size_is word {size} is = go (tested (digits_value 10 word) word) refl is
   where
     go : (b : Bool) → tested (digits_value 10 word) word ≡ b → (if b then Some (digits_value 10 word) else None) ≡ Some size → IsSize word size
-    go true e same = let n : digits_value 10 word ≡ size = cc in subst (IsSize word) n (told (digits_value 10 word) word e)
+    go true e same = let n : digits_value 10 word ≡ size = cc in subst (IsSize word) n (reported (digits_value 10 word) word e)
     go false e same = cc
 
 -- what a parse of the word gives

@@ -11,7 +11,7 @@ use Rattle.control_definitions.specs.Program.{Verb, Statement, MoveLimit, Mvadr,
 use Rattle.control_definitions.specs.Statements.{label_of}
 use Rattle.control_definitions.specs.Verbs.{verb_of}
 use Rattle.control_definitions.specs.Compiled.{position_of, misses_label, positioned, statement_on}
-use Rattle.control_verbs.specs.Shown.{IsLawful}
+use Rattle.control_verbs.specs.Views.{IsLawful}
 use Rattle.control_compiler.specs.Cards.{HasPositions, statement_said}
 use Rattle.control_compiler.specs.Settled.{lacks_label, place_in, settled}
 use Rattle.control_compiler.specs.Valid.{moved_limit, IsPosition}
@@ -47,20 +47,20 @@ missing_on whole cards = option_map (λ (card : Card). card.number) (find (misse
 -- ---- by the table and by the cards
 
 module _ (labels : List (List ℕ × ℕ)) (whole : List Card) (holds : HasPositions labels whole) where
-  pub lacks_told : (verb : Verb (List ℕ)) → IsLawful verb → lacks_label labels verb ≡ misses whole verb
-  lacks_told (Mvadr demand label) some = ap is_none (holds label some)
-  lacks_told (Goto label) some = ap is_none (holds label some)
-  lacks_told _ some = refl
+  pub lacks_reported : (verb : Verb (List ℕ)) → IsLawful verb → lacks_label labels verb ≡ misses whole verb
+  lacks_reported (Mvadr demand label) some = ap is_none (holds label some)
+  lacks_reported (Goto label) some = ap is_none (holds label some)
+  lacks_reported _ some = refl
 
-  pub verb_told : (verb : Verb (List ℕ)) → IsLawful verb → verb_by (place_in labels) verb ≡ positioned whole verb
-  verb_told (Mvadr demand label) some = ap (λ (place : Option ℕ). Mvadr demand (unwrap_or place 0)) (holds label some)
-  verb_told (Goto label) some = ap (λ (place : Option ℕ). Goto (unwrap_or place 0)) (holds label some)
-  verb_told _ some = refl
+  pub verb_reported : (verb : Verb (List ℕ)) → IsLawful verb → verb_by (place_in labels) verb ≡ positioned whole verb
+  verb_reported (Mvadr demand label) some = ap (λ (place : Option ℕ). Mvadr demand (unwrap_or place 0)) (holds label some)
+  verb_reported (Goto label) some = ap (λ (place : Option ℕ). Goto (unwrap_or place 0)) (holds label some)
+  verb_reported _ some = refl
 
   -- the first statement without a position for its label
-  pub missing_told : (cards : List Card) → All HoldsLaw (filter_map statement_said cards) → lacking labels (filter_map statement_said cards) ≡ missing_on whole cards
-  missing_told [] lawful = refl
-  missing_told (card ∷ cards) lawful = by (verb_of card.bytes) lawful (missing_told cards)
+  pub missing_reported : (cards : List Card) → All HoldsLaw (filter_map statement_said cards) → lacking labels (filter_map statement_said cards) ≡ missing_on whole cards
+  missing_reported [] lawful = refl
+  missing_reported (card ∷ cards) lawful = by (verb_of card.bytes) lawful (missing_reported cards)
     where
       by : (verb : Option (Verb (List ℕ))) → All HoldsLaw (cons_option (option_map (said_on card.number) verb) (filter_map statement_said cards))
           → (All HoldsLaw (filter_map statement_said cards) → lacking labels (filter_map statement_said cards) ≡ missing_on whole cards)
@@ -69,7 +69,7 @@ module _ (labels : List (List ℕ × ℕ)) (whole : List Card) (holds : HasPosit
       by None lawful rest = rest lawful
       by (Some verb) lawful rest =
           ap (λ (t : Bool). option_map (λ (statement : Statement (List ℕ)). statement.card) (cond t (Some (said_on card.number verb)) (find (λ (statement : Statement (List ℕ)). lacks_label labels statement.verb) (filter_map statement_said cards))))
-          (lacks_told verb (All-head HoldsLaw (said_on card.number verb) (filter_map statement_said cards) lawful))
+          (lacks_reported verb (All-head HoldsLaw (said_on card.number verb) (filter_map statement_said cards) lawful))
           ∙ each (misses whole verb) (rest (All-tail HoldsLaw (said_on card.number verb) (filter_map statement_said cards) lawful))
         where
           each : (t : Bool) → lacking labels (filter_map statement_said cards) ≡ missing_on whole cards
@@ -79,9 +79,9 @@ module _ (labels : List (List ℕ × ℕ)) (whole : List Card) (holds : HasPosit
           each false others = others
 
   -- the statements with positions
-  pub statements_told : (cards : List Card) → All HoldsLaw (filter_map statement_said cards) → map (settled labels) (filter_map statement_said cards) ≡ filter_map (statement_on whole) cards
-  statements_told [] lawful = refl
-  statements_told (card ∷ cards) lawful = by (verb_of card.bytes) lawful (statements_told cards)
+  pub statements_reported : (cards : List Card) → All HoldsLaw (filter_map statement_said cards) → map (settled labels) (filter_map statement_said cards) ≡ filter_map (statement_on whole) cards
+  statements_reported [] lawful = refl
+  statements_reported (card ∷ cards) lawful = by (verb_of card.bytes) lawful (statements_reported cards)
     where
       by : (verb : Option (Verb (List ℕ))) → All HoldsLaw (cons_option (option_map (said_on card.number) verb) (filter_map statement_said cards))
           → (All HoldsLaw (filter_map statement_said cards) → map (settled labels) (filter_map statement_said cards) ≡ filter_map (statement_on whole) cards)
@@ -89,7 +89,7 @@ module _ (labels : List (List ℕ × ℕ)) (whole : List Card) (holds : HasPosit
       by None lawful rest = rest lawful
       by (Some verb) lawful rest =
           ap (λ (verb : Verb ℕ). (record { card = card.number; verb = verb }) ∷ map (settled labels) (filter_map statement_said cards))
-          (verb_told verb (All-head HoldsLaw (said_on card.number verb) (filter_map statement_said cards) lawful))
+          (verb_reported verb (All-head HoldsLaw (said_on card.number verb) (filter_map statement_said cards) lawful))
           ∙ ap (λ (statements : List (Statement ℕ)). positioned_on whole card.number verb ∷ statements) (rest (All-tail HoldsLaw (said_on card.number verb) (filter_map statement_said cards) lawful))
 
 -- ---- positions and limits
@@ -100,19 +100,19 @@ position_within cards label count len there = by (position_or_len (λ (card : Ca
   where
     by : (place n : ℕ) → n ≡ count + 2 → is_none (option_map (max 1) (cond (ltb place n) (Some place) None)) ≡ false
         → IsPosition count (unwrap_or (option_map (max 1) (cond (ltb place n) (Some place) None)) 0)
-    by place n len there = told (ltb place n) refl there
+    by place n len there = reported (ltb place n) refl there
       where
-        told : (t : Bool) → ltb place n ≡ t → is_none (option_map (max 1) (cond t (Some place) None)) ≡ false → IsPosition count (unwrap_or (option_map (max 1) (cond t (Some place) None)) 0)
-        told true e there =
+        reported : (t : Bool) → ltb place n ≡ t → is_none (option_map (max 1) (cond t (Some place) None)) ≡ false → IsPosition count (unwrap_or (option_map (max 1) (cond t (Some place) None)) 0)
+        reported true e there =
             let before : place < n = grind (arith, nat_tests) in
             record { first = omega arith; last = omega arith }
-        told false e there = cc there
+        reported false e there = cc there
 
 module _ (whole : List Card) (count : ℕ) (len : length whole ≡ count + 2) where
-  position_told : (verb : Verb (List ℕ)) → misses whole verb ≡ false → IfSome (label_argument (positioned whole verb)) (IsPosition count)
-  position_told (Mvadr demand label) there = position_within whole label count len there
-  position_told (Goto label) there = position_within whole label count len there
-  position_told _ there = tt
+  position_reported : (verb : Verb (List ℕ)) → misses whole verb ≡ false → IfSome (label_argument (positioned whole verb)) (IsPosition count)
+  position_reported (Mvadr demand label) there = position_within whole label count len there
+  position_reported (Goto label) there = position_within whole label count len there
+  position_reported _ there = tt
 
   -- where no statement misses a label, each names a position of the program
   pub positions_within : (cards : List Card) → find (misses_label whole) cards ≡ None → All (HoldsPosition count) (filter_map (statement_on whole) cards)
@@ -125,16 +125,16 @@ module _ (whole : List Card) (count : ℕ) (len : length whole ≡ count + 2) wh
       by None none rest = rest none
       by (Some verb) none rest =
           let both = not_missing (misses whole verb) none in
-          All-cons (HoldsPosition count) (positioned_on whole card.number verb) (filter_map (statement_on whole) cards) (position_told verb both.0) (rest both.1)
+          All-cons (HoldsPosition count) (positioned_on whole card.number verb) (filter_map (statement_on whole) cards) (position_reported verb both.0) (rest both.1)
         where
           not_missing : (t : Bool) → cond t (Some card) (find (misses_label whole) cards) ≡ None → (t ≡ false) × (find (misses_label whole) cards ≡ None)
           not_missing true none = cc none
           not_missing false none = (refl, none)
 
 module _ (whole : List Card) where
-  limit_told : (verb : Verb (List ℕ)) → IsLawful verb → IfSome (moved_limit (positioned whole verb)) (λ limit. limit ≤ MAX_STEPS)
-  limit_told (MoveLimit limit) few = few
-  limit_told _ lawful = tt
+  limit_reported : (verb : Verb (List ℕ)) → IsLawful verb → IfSome (moved_limit (positioned whole verb)) (λ limit. limit ≤ MAX_STEPS)
+  limit_reported (MoveLimit limit) few = few
+  limit_reported _ lawful = tt
 
   -- and the limits are lawful
   pub limits_within : (cards : List Card) → All HoldsLaw (filter_map statement_said cards) → All HoldsLimit (filter_map (statement_on whole) cards)
@@ -147,5 +147,5 @@ module _ (whole : List Card) where
       by None lawful rest = rest lawful
       by (Some verb) lawful rest =
           All-cons HoldsLimit (positioned_on whole card.number verb) (filter_map (statement_on whole) cards)
-          (limit_told verb (All-head HoldsLaw (said_on card.number verb) (filter_map statement_said cards) lawful))
+          (limit_reported verb (All-head HoldsLaw (said_on card.number verb) (filter_map statement_said cards) lawful))
           (rest (All-tail HoldsLaw (said_on card.number verb) (filter_map statement_said cards) lawful))

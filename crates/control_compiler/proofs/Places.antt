@@ -90,19 +90,19 @@ labelled labels more cards card label position is absent some place added holds 
         none None = refl
 
 -- What a table of labels tells of a card's label is whether it stands on a card before.
-pub twice_told : (labels : List (List ℕ × ℕ)) (cards : List Card) (card : List ℕ) → HasPositions labels cards → has_bad_label card ≡ false
+pub twice_reported : (labels : List (List ℕ × ℕ)) (cards : List Card) (card : List ℕ) → HasPositions labels cards → has_bad_label card ≡ false
     → option_map_or (λ (name : List ℕ). is_some (lookup (bytes_eq name) labels)) (label_text (label_of card)) false ≡ has_label_twice cards card
-twice_told labels cards card holds good = by (label_of card) (list_any (λ (other : Card). bytes_eq (label_of other.bytes) (label_of card)) cards) good
+twice_reported labels cards card holds good = by (label_of card) (list_any (λ (other : Card). bytes_eq (label_of other.bytes) (label_of card)) cards) good
     (λ some. ap is_some (holds (label_of card) some) ∙ sym (stands_where_placed cards (label_of card)))
   where
     by : (label : List ℕ) (any : Bool) → (not (is_empty label) && not (is_label label)) ≡ false → (is_empty label ≡ false → is_some (lookup (bytes_eq label) labels) ≡ any)
         → option_map_or (λ (name : List ℕ). is_some (lookup (bytes_eq name) labels)) (if is_label label then Some label else None) false ≡ (not (is_empty label) && any)
     by [] any good same = refl
-    by (byte ∷ label) any good same = told (is_label (byte ∷ label)) good
+    by (byte ∷ label) any good same = reported (is_label (byte ∷ label)) good
       where
-        told : (t : Bool) → not t ≡ false → option_map_or (λ (name : List ℕ). is_some (lookup (bytes_eq name) labels)) (if t then Some (byte ∷ label) else None) false ≡ any
-        told true good = same refl
-        told false good = cc good
+        reported : (t : Bool) → not t ≡ false → option_map_or (λ (name : List ℕ). is_some (lookup (bytes_eq name) labels)) (if t then Some (byte ∷ label) else None) false ≡ any
+        reported true good = same refl
+        reported false good = cc good
 
 -- The positions of the labels of cards and one more, whose label is in its form and stands on no card before.
 pub next_positions : (labels more : List (List ℕ × ℕ)) (cards : List Card) (card : Card) (label : Option (List ℕ)) (position : ℕ)
@@ -115,14 +115,14 @@ next_positions labels more cards card None position is good once place added hol
   where
     by : (text : List ℕ) → (not (is_empty text) && not (is_label text)) ≡ false → (if is_label text then Some text else None) ≡ None → is_empty text ≡ true
     by [] good none = refl
-    by (byte ∷ text) good none = told (is_label (byte ∷ text)) good none
+    by (byte ∷ text) good none = reported (is_label (byte ∷ text)) good none
       where
-        told : (t : Bool) → not t ≡ false → (if t then Some (byte ∷ text) else None) ≡ None → false ≡ true
-        told true good none = cc none
-        told false good none = cc good
+        reported : (t : Bool) → not t ≡ false → (if t then Some (byte ∷ text) else None) ≡ None → false ≡ true
+        reported true good none = cc none
+        reported false good none = cc good
 next_positions labels more cards card (Some label) position is good once place added holds =
-    let told = by (label_of card.bytes) (is_label (label_of card.bytes)) refl is in
-    labelled labels more cards card label position told.0 (absent (lookup (bytes_eq label) labels) seen) told.1 place added holds
+    let reported = by (label_of card.bytes) (is_label (label_of card.bytes)) refl is in
+    labelled labels more cards card label position reported.0 (absent (lookup (bytes_eq label) labels) seen) reported.1 place added holds
   where
     by : (text : List ℕ) (t : Bool) → is_label text ≡ t → Some label ≡ (if t then Some text else None) → (label ≡ text) × (is_empty label ≡ false)
     by text true e some = let same : label ≡ text = cc some in (same, ap is_empty same ∙ filled text e)
@@ -133,7 +133,7 @@ next_positions labels more cards card (Some label) position is good once place a
     by text false e some = cc some
 
     seen : is_some (lookup (bytes_eq label) labels) ≡ false
-    seen = ap (λ (known : Option (List ℕ)). option_map_or (λ (name : List ℕ). is_some (lookup (bytes_eq name) labels)) known false) is ∙ twice_told labels cards card.bytes holds good ∙ once
+    seen = ap (λ (known : Option (List ℕ)). option_map_or (λ (name : List ℕ). is_some (lookup (bytes_eq name) labels)) known false) is ∙ twice_reported labels cards card.bytes holds good ∙ once
 
     absent : (found : Option ℕ) → is_some found ≡ false → found ≡ None
     absent None e = refl

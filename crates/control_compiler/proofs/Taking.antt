@@ -13,7 +13,7 @@ use Rattle.control_definitions.specs.Statements.{statement_of, is_unclosed, verb
 use Rattle.control_definitions.specs.Verbs.{verb_words, cell_words, demand_words, verb_of, verb_with, EndsProgram}
 use Rattle.control_definitions.specs.declared.ControlFaultKind.TheVariants.{NoProgram, BadLabel, LabelTwice, Unclosed, UnknownVerb, UnknownCell, UnknownDemand, BadArgument, TooManyStatements}
 use Rattle.control_definitions.specs.Compiled.{head_fault, is_program, has_verb, is_program_argument, has_bad_label, has_label_twice, lacks_word, is_lawful_pend, is_pend, control_card_fault}
-use Rattle.control_verbs.specs.Shown.{statement_shown}
+use Rattle.control_verbs.specs.Views.{statement_view}
 use Rattle.control_compiler.specs.Cards.{statement_said}
 use Rattle.control_compiler.specs.After.{IsAfter}
 use Rattle.control_compiler.specs.declared.draft.Draft.{Draft}
@@ -82,13 +82,13 @@ said_on number verb = record { card = number; verb = verb }
 pub statements_more : (cards : List Card) (card : Card) (old new : Draft) → IsAfter cards old → IsAfter (cards ++ card ∷ []) new
     → length new.statements.items ≡ length old.statements.items + length (option_to_list (verb_of card.bytes))
 statements_more cards card old new after more =
-    let now : length (map statement_shown new.statements.items) ≡ length (filter_map statement_said (cards ++ card ∷ [])) = ap (λ (list : List (Statement (List ℕ))). length list) more.statements in
-    let then : length (map statement_shown old.statements.items) ≡ length (filter_map statement_said cards) = ap (λ (list : List (Statement (List ℕ))). length list) after.statements in
+    let now : length (map statement_view new.statements.items) ≡ length (filter_map statement_said (cards ++ card ∷ [])) = ap (λ (list : List (Statement (List ℕ))). length list) more.statements in
+    let then : length (map statement_view old.statements.items) ≡ length (filter_map statement_said cards) = ap (λ (list : List (Statement (List ℕ))). length list) after.statements in
     let split : length (filter_map statement_said (cards ++ card ∷ [])) ≡ length (filter_map statement_said cards) + length (filter_map statement_said (card ∷ [])) =
     ap (λ (list : List (Statement (List ℕ))). length list) (filter_map-append statement_said cards (card ∷ [])) ∙ length-append (filter_map statement_said cards) (filter_map statement_said (card ∷ [])) in
     let last : length (filter_map statement_said (card ∷ [])) ≡ length (option_to_list (verb_of card.bytes)) = by (verb_of card.bytes) in
-    let kept_new : length (map statement_shown new.statements.items) ≡ length new.statements.items = length-map new.statements.items statement_shown in
-    let kept_old : length (map statement_shown old.statements.items) ≡ length old.statements.items = length-map old.statements.items statement_shown in
+    let kept_new : length (map statement_view new.statements.items) ≡ length new.statements.items = length-map new.statements.items statement_view in
+    let kept_old : length (map statement_view old.statements.items) ≡ length old.statements.items = length-map old.statements.items statement_view in
     omega arith
   where
     by : (verb : Option (Verb (List ℕ))) → length (cons_option (option_map (said_on card.number) verb) []) ≡ length (option_to_list verb)

@@ -21,7 +21,7 @@ pub record IsRead (job : List (List ℕ)) (reading : Reading) : Type 0 where
   pub within : IfSome reading.end (λ number. number ≤ length job)
   pub few : length reading.draft.statements.items ≤ MAX_STATEMENTS
 
--- The job's first fault, or what was read. Want of memory comes whenever it comes.
+-- The job's first fault, or what was read. Memory may run out at any time.
 abbrev pub Reads : Result Reading CompileStop → List (List ℕ) → Type 0
 Reads (Ok reading) job = IsRead job reading
 Reads (Err (Fault fault)) job = control_fault job ≡ Some fault
@@ -30,9 +30,9 @@ Reads (Err NoMemory) job = Unit {0}
 -- The number of PEND's card, or the fault of the program as a whole.
 abbrev pub EndsAt : Result ℕ ControlFault → Option ℕ → Option ControlFault → Type 0
 EndsAt (Ok number) pend fault = (pend ≡ Some number) × (fault ≡ None)
-EndsAt (Err told) pend fault = fault ≡ Some told
+EndsAt (Err reported) pend fault = fault ≡ Some reported
 
--- A fault is the one that the cards have, and memory may be wanted at any time.
-abbrev pub TellsControlFault : Result Program ControlFault → CompileStop → Type 0
-TellsControlFault outcome (Fault fault) = outcome ≡ Err fault
-TellsControlFault outcome NoMemory = Unit {0}
+-- A fault is the one that the cards have, and memory may run out at any time.
+abbrev pub ReportsControlFault : Result Program ControlFault → CompileStop → Type 0
+ReportsControlFault outcome (Fault fault) = outcome ≡ Err fault
+ReportsControlFault outcome NoMemory = Unit {0}

@@ -3,7 +3,7 @@ use Rattle.std.specs.Prelude.{ℕ, Bool, false, List, is_none, map, unwrap_or, b
 use Rattle.std.specs.Option.{option_map_or}
 use Rattle.std.specs.Map.{lookup}
 use Rattle.control_definitions.specs.Program.{Verb, Statement, Program, label_argument, verb_by}
-use Rattle.control_verbs.specs.Shown.{statement_shown}
+use Rattle.control_verbs.specs.Views.{statement_view}
 use Rattle.control_compiler.specs.declared.draft.Draft.{Draft}
 
 -- whether a verb names a label that has no position
@@ -19,4 +19,4 @@ settled labels statement = record { card = statement.card; verb = verb_by (place
 
 -- the program of a draft, with the first card after it
 abbrev pub settled_program : Draft → ℕ → Program
-settled_program draft decks_from = record { statements = map (λ statement. settled draft.labels (statement_shown statement)) draft.statements.items; decks_from = decks_from }
+settled_program draft decks_from = record { statements = map (λ statement. settled draft.labels (statement_view statement)) draft.statements.items; decks_from = decks_from }

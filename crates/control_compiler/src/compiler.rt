@@ -2,7 +2,7 @@
 ghost use Rattle.std.specs.Prelude.{◌≡◌, Ok, IfOk, IfErr, Option, option_map, is_some};
 ghost use Rattle.card_definitions.specs.Cards.{Card};
 ghost use Rattle.control_definitions.specs.Compiled.{end_fault, compiled};
-ghost use Rattle.control_compiler.specs.Outcomes.{EndsAt, TellsControlFault};
+ghost use Rattle.control_compiler.specs.Outcomes.{EndsAt, ReportsControlFault};
 
 use crate::program::Program;
 use crate::reading::Reading;
@@ -29,7 +29,7 @@ fn pend_or_fault(pend: Option<u32>, missing: Option<u32>, last: u32) -> Result<u
 /// Compiles the control program at the head of a job's cards, from PROGRAM to PEND, or answers the job's first control fault.
 pub fn compile(alloc: Global, cards: &Cards) -> Result<Program, CompileStop>
     ensures program { IfOk result (λ program. compiled cards.now ≡ Ok program) }
-    ensures fault { IfErr result (TellsControlFault (compiled cards.now)) }
+    ensures fault { IfErr result (ReportsControlFault (compiled cards.now)) }
 {
     let reading = Reading::of(alloc, cards)?;
     let pend = pend_or_fault(reading.end, missing(&reading.draft), cards.count())?;

@@ -1,7 +1,7 @@
 // A program while its cards are read: labels still stand for positions.
 ghost use Rattle.std.specs.Prelude.{◌≡◌, ◌+◌, ◌≤◌, ◌++◌, List, ℕ, All, length, map, bytes_eq, is_some, false, option_to_list, OnOk, IfErr};
 ghost use Rattle.control_definitions.specs.declared.TheConstants.{MAX_STATEMENTS};
-ghost use Rattle.control_verbs.specs.Shown.{shown, statement_shown, IsLawful};
+ghost use Rattle.control_verbs.specs.Views.{viewed, statement_view, IsLawful};
 ghost use Rattle.control_compiler.specs.Cards.{placed, statement_said};
 ghost use Rattle.control_compiler.specs.declared.stop.CompileStop.TheVariants.{NoMemory};
 ghost use Rattle.std.specs.Option.{option_map_or};
@@ -42,11 +42,11 @@ fn push_statement(
     number: u32,
     card: &[u8],
 ) -> Result<(), CompileStop>
-    ensures ok { OnOk result (map statement_shown statements.new.items ≡ map statement_shown
+    ensures ok { OnOk result (map statement_view statements.new.items ≡ map statement_view
         statements.old.items ++ option_to_list (statement_said
         (record { number = number; bytes = card.now }))) }
-    ensures lawful { OnOk result (All (λ statement. IsLawful (shown statement.verb))
-        statements.old.items → All (λ statement. IsLawful (shown statement.verb))
+    ensures lawful { OnOk result (All (λ statement. IsLawful (viewed statement.verb))
+        statements.old.items → All (λ statement. IsLawful (viewed statement.verb))
         statements.new.items) }
     ensures err { IfErr result (λ stop. stop ≡ NoMemory) }
 {

@@ -1,6 +1,6 @@
 // Compiled programs.
 ghost use Rattle.std.specs.Prelude.{◌≡◌, ◌≤◌, ◌-◌, length, map, slice_get, Some};
-ghost use Rattle.control_verbs.specs.Shown.{statement_shown};
+ghost use Rattle.control_verbs.specs.Views.{statement_view};
 ghost use Rattle.control_compiler.specs.Valid.{IsProgram};
 
 use control_verbs::Statement;
@@ -17,26 +17,26 @@ pub struct Program {
 impl Model for Program {
     ghost use Rattle.std.specs.Prelude.{map};
     ghost use Rattle.control_definitions.specs.Program.{Program as Compiled};
-    ghost use Rattle.control_verbs.specs.Shown.{statement_shown};
+    ghost use Rattle.control_verbs.specs.Views.{statement_view};
     ghost use Rattle.control_compiler.specs.Valid.{IsProgram};
 
     ghost Value = { Compiled };
 
-    ghost view = { λ p. record { statements = map statement_shown p.statements.items; decks_from = p.decks_from } };
+    ghost view = { λ p. record { statements = map statement_view p.statements.items; decks_from = p.decks_from } };
 
-    ghost invariant = { λ p. IsProgram (record { statements = map statement_shown p.statements.items; decks_from = p.decks_from }) };
+    ghost invariant = { λ p. IsProgram (record { statements = map statement_view p.statements.items; decks_from = p.decks_from }) };
 }
 
 impl Program {
     // The program of these statements, with the first card after it.
     pub(crate) fn new(statements: Vec<Statement<u32>>, decks_from: u32) -> Program
         requires { IsProgram (record {
-          statements = map statement_shown statements.items;
+          statements = map statement_view statements.items;
           decks_from
               = decks_from;
         }) }
         ensures { result ≡ record {
-          statements = map statement_shown statements.items;
+          statements = map statement_view statements.items;
           decks_from =
               decks_from;
         } }
@@ -59,7 +59,7 @@ impl Program {
     pub fn statement(&self, k: u32) -> &Statement<u32>
         requires first { 1 ≤ k }
         requires last { k ≤ length self.now.statements }
-        ensures { slice_get self.now.statements (k - 1) ≡ Some (statement_shown result.now) }
+        ensures { slice_get self.now.statements (k - 1) ≡ Some (statement_view result.now) }
     {
         &self.statements[k as usize - 1]
     }

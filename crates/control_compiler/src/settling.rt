@@ -1,7 +1,7 @@
 // Labels give way to positions.
 ghost use Rattle.std.specs.Prelude.{◌≡◌, IfErr, IfOk, map, find, option_map};
 ghost use Rattle.control_definitions.specs.Program.{verb_by};
-ghost use Rattle.control_verbs.specs.Shown.{shown, statement_shown};
+ghost use Rattle.control_verbs.specs.Views.{viewed, statement_view};
 ghost use Rattle.control_compiler.specs.Settled.{lacks_label, place_in, settled, settled_program};
 ghost use Rattle.control_compiler.specs.Valid.{IsProgram};
 ghost use Rattle.control_compiler.specs.declared.stop.CompileStop.TheVariants.{NoMemory};
@@ -16,7 +16,7 @@ use std::alloc::Global;
 
 // Whether a verb names a label that has no position.
 fn lacks_label(labels: &Labels, verb: &Verb<Name>) -> bool
-    ensures { result ≡ lacks_label labels.now (shown verb.now) }
+    ensures { result ≡ lacks_label labels.now (viewed verb.now) }
 {
     match verb {
         Verb::Mvadr(_, label) => labels.position(label).is_none(),
@@ -35,7 +35,7 @@ fn place_of(labels: &Labels, label: &Name) -> u32
 // The card of the first statement that names a label without a position.
 pub fn missing(draft: &Draft) -> Option<u32>
     ensures { result ≡ option_map (λ statement. statement.card)
-        (find (λ statement. lacks_label draft.now.labels (shown statement.verb))
+        (find (λ statement. lacks_label draft.now.labels (viewed statement.verb))
         draft.now.statements.items) }
 {
     for statement in &draft.statements {
@@ -48,7 +48,7 @@ pub fn missing(draft: &Draft) -> Option<u32>
 
 // A verb with positions in place of labels.
 fn settled_verb(labels: &Labels, verb: Verb<Name>) -> Verb<u32>
-    ensures { shown result ≡ verb_by (place_in labels.now) (shown verb) }
+    ensures { viewed result ≡ verb_by (place_in labels.now) (viewed verb) }
 {
     match verb {
         Verb::Initialz => Verb::Initialz,
@@ -80,8 +80,8 @@ fn settled_statements(
     labels: &Labels,
     statements: Vec<Statement<Name>>,
 ) -> Result<Vec<Statement<u32>>, CompileStop>
-    ensures ok { IfOk result (λ all. map statement_shown all.items ≡ map
-        (λ statement. settled labels.now (statement_shown statement)) statements.items) }
+    ensures ok { IfOk result (λ all. map statement_view all.items ≡ map
+        (λ statement. settled labels.now (statement_view statement)) statements.items) }
     ensures err { IfErr result (λ stop. stop ≡ NoMemory) }
 {
     let mut all = Vec::new(alloc);

@@ -30,7 +30,7 @@ fault_number UnknownDemand = 9
 fault_number Unclosed = 10
 fault_number TooManyStatements = 11
 
--- a fault as it is told: by its number and its card
+-- a fault as it is reported: by its number and its card
 abbrev pub fault_at : ℕ → ControlFaultKind → ControlFault
 fault_at card kind = record { number = fault_number kind; card = card }
 

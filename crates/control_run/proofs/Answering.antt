@@ -23,7 +23,7 @@ use Rattle.run_machine.specs.declared.end.End.{End}
 use Rattle.run_machine.specs.declared.end.End.TheVariants.{Done, Infeasible, Unbounded, Verb, Singular, WrongPrices, Deck, Limit, Statements, Overflow, Memory}
 use Rattle.control_run.specs.declared.status.Status.{Status}
 use Rattle.control_run.specs.declared.status.Status.TheVariants.{PrintFault, PunchFault}
-use Rattle.run_machine.specs.Ends.{end_shown}
+use Rattle.run_machine.specs.Ends.{end_view}
 use Rattle.control_run.specs.Statuses.{code_of}
 use Rattle.control_run.specs.Finishing.{cut_status, Finishes, FinishesHalted, printed, cut_off}
 use Rattle.control_run.specs.Devices.{Counts, counts, IsReported, IsStill}
@@ -67,7 +67,7 @@ module _ (S : Solving) (program : Program) (cards : List (List ℕ)) {P U : Type
   -- ---- a fault of the print and one of the punch have their own causes
 
   -- the end of a run by itself is neither
-  no_fault : (end : End) (code : ℕ) → 25 ≤ code → code ≤ 26 → status_of (end_shown end) ≡ code → ⊥
+  no_fault : (end : End) (code : ℕ) → 25 ≤ code → code ≤ 26 → status_of (end_view end) ≡ code → ⊥
   no_fault Done code low high e = omega (arith, low, high, e)
   no_fault Infeasible code low high e = omega (arith, low, high, e)
   no_fault Unbounded code low high e = omega (arith, low, high, e)
@@ -150,8 +150,8 @@ module _ (S : Solving) (program : Program) (cards : List (List ℕ)) {P U : Type
     pub punch_fault : status ≡ PunchFault → Rose (punch_faults punch_old) (punch_faults punch_now)
     pub noted : IsNoted old later punch_old punch_now status
 
-  pub finished_by_end : {old now later : P} {punch_old punch_now : U} (end : End) {status : Status} → RunsTo S program cards written stopped_at faults refusals old now punch_written punch_stopped_at punch_faults punch_refusals punch_old punch_now (Ok tt) (end_shown end) →
-      Finishes written stopped_at faults refusals now later (end_shown end) status → IsFinished old later punch_old punch_now status
+  pub finished_by_end : {old now later : P} {punch_old punch_now : U} (end : End) {status : Status} → RunsTo S program cards written stopped_at faults refusals old now punch_written punch_stopped_at punch_faults punch_refusals punch_old punch_now (Ok tt) (end_view end) →
+      Finishes written stopped_at faults refusals now later (end_view end) status → IsFinished old later punch_old punch_now status
   finished_by_end end r f = record {
     answer = finished r f;
     print_fault = print_rose r f (no_fault end 25 (omega arith) (omega arith));

@@ -13,14 +13,14 @@ use Rattle.run_machine.specs.declared.end.End.{End}
 use Rattle.run_machine.specs.declared.end.End.TheVariants as end
 use Rattle.run_machine.specs.declared.finding.Finding.TheVariants.{Ended}
 use Rattle.run_setup.specs.Machines.{Machine}
-use Rattle.run_machine.specs.Ends.{end_shown}
+use Rattle.run_machine.specs.Ends.{end_view}
 use Rattle.run_machine.specs.Standing.{AreDemands}
-use Rattle.run_setup.specs.Standing.{Stands}
+use Rattle.run_setup.specs.Standing.{Represents}
 use Rattle.run_setup.specs.Statements.{Follows}
 use Rattle.run_machine.specs.Findings.{demanded_act, act_of}
 
-module _ (card : ℕ) (cards : List (List ℕ)) (machine : Machine) (position executed : ℕ) (move : Move) (report : Report) (then : State) (t : Stands cards machine position executed then) where
-  demanded_comes : (set : Option ℕ) → IfSome set (λ to. 1 ≤ to) → (end : End) (code : ℕ) → endings.Ended code ≡ end_shown end → Gives linear_programming card move (demanded set code report then) →
+module _ (card : ℕ) (cards : List (List ℕ)) (machine : Machine) (position executed : ℕ) (move : Move) (report : Report) (then : State) (t : Represents cards machine position executed then) where
+  demanded_comes : (set : Option ℕ) → IfSome set (λ to. 1 ≤ to) → (end : End) (code : ℕ) → endings.Ended code ≡ end_view end → Gives linear_programming card move (demanded set code report then) →
       Follows linear_programming card move cards machine position executed (Prints report) (demanded_act set end)
   demanded_comes (Some to) first end code same g = (then, g, t, first)
   demanded_comes None first end code same g = subst (λ (ending : endings.Ending). Gives linear_programming card move (EndsRun (Prints report) ending)) same g

@@ -8,11 +8,11 @@ use Rattle.control_run.specs.declared.status.Status.{Status}
 use Rattle.control_run.specs.Statuses.{code_of}
 use Rattle.control_run.specs.Finishing.{cut_status, Finishes, printed, cut_off}
 
-module _ {P : Type 0} (written stopped_at : P → Option (List ℕ)) (faults refusals : P → ℕ) {old new : P} (shown ending : Ending) (same : shown ≡ ending) where
-  pub lines_printed : (status : Status) → code_of status ≡ status_of ending → Writes {T = Unit {0}} written stopped_at faults refusals old new (Ok tt) (ending_text shown) →
+module _ {P : Type 0} (written stopped_at : P → Option (List ℕ)) (faults refusals : P → ℕ) {old new : P} (viewed ending : Ending) (same : viewed ≡ ending) where
+  pub lines_printed : (status : Status) → code_of status ≡ status_of ending → Writes {T = Unit {0}} written stopped_at faults refusals old new (Ok tt) (ending_text viewed) →
       Finishes written stopped_at faults refusals old new ending status
   lines_printed status is writes = printed is (subst (λ (e : Ending). Writes {T = Unit {0}} written stopped_at faults refusals old new (Ok tt) (ending_text e)) same writes)
 
-  pub lines_cut : (stop : WriteStop) (status : Status) → status ≡ cut_status stop → Writes {T = Unit {0}} written stopped_at faults refusals old new (Err stop) (ending_text shown) →
+  pub lines_cut : (stop : WriteStop) (status : Status) → status ≡ cut_status stop → Writes {T = Unit {0}} written stopped_at faults refusals old new (Err stop) (ending_text viewed) →
       Finishes written stopped_at faults refusals old new ending status
   lines_cut stop status is writes = cut_off stop is (subst (λ (e : Ending). Writes {T = Unit {0}} written stopped_at faults refusals old new (Err stop) (ending_text e)) same writes)

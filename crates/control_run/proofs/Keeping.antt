@@ -4,13 +4,13 @@ use Rattle.problem_file.specs.Filed.{Filed}
 use Rattle.listing_definitions.specs.declared.Mark.{Mark}
 use Rattle.control_definitions.specs.Cells.{Cells}
 use Rattle.run_machine.specs.declared.finding.Finding.{Finding}
-use Rattle.run_machine.specs.declared.finding.Finding.TheVariants.{Refused, Overflow, WrongPrices, Limit, Ended, Shown, Swept}
+use Rattle.run_machine.specs.declared.finding.Finding.TheVariants.{Refused, Overflow, WrongPrices, Limit, Ended, Views, RanThrough}
 use Rattle.run_setup.specs.Machines.{Machine}
 use Rattle.run_setup.specs.Kept.{Setup}
 use Rattle.run_machine.specs.Standing.{AreDemands}
 use Rattle.run_setup.specs.Standing.{IsReady, IsSolved, IsSound}
 use Rattle.run_machine.specs.Findings.{IfEnded, mark_left}
-use Rattle.control_run.specs.Sweeping.{cells_left}
+use Rattle.control_run.specs.ParametricVerbs.{cells_left}
 
 pub solved_of : (cells : Cells) (file : Filed) (mark : Option Mark) (kept : Option Setup) (own : Mark) (setup : Setup) → mark ≡ Some own → kept ≡ Some setup →
     IfSome mark (λ m. IfSome kept (IsSolved m cells.xobj cells.xrhs file)) → IsSolved own cells.xobj cells.xrhs file setup
@@ -29,8 +29,8 @@ module _ (cells : Cells) (file : Filed) (setup new : Setup) where
   after_finding (Overflow e place) ends = tt
   after_finding (WrongPrices variable) ends = tt
   after_finding Limit ends = tt
-  after_finding Shown ends = tt
-  after_finding (Swept value) ends = tt
+  after_finding Views ends = tt
+  after_finding (RanThrough value) ends = tt
 
 module _ (cards : List (List ℕ)) (old : Machine) (setup new : Setup) (ready : IsReady old.file new) (s : IsSound cards old) where
   -- the mark stays
@@ -48,11 +48,11 @@ module _ (cards : List (List ℕ)) (old : Machine) (setup new : Setup) (ready : 
   demands_left (WrongPrices variable) = s.demands
   demands_left Limit = s.demands
   demands_left (Ended mark) = s.demands
-  demands_left Shown = s.demands
-  demands_left (Swept value) = record { infeasible = s.demands.infeasible; unbounded = s.demands.unbounded }
+  demands_left Views = s.demands
+  demands_left (RanThrough value) = record { infeasible = s.demands.infeasible; unbounded = s.demands.unbounded }
 
-  pub sound_swept : (finding : Finding) (cells : Cells) → cells ≡ cells_left finding old.cells → IsSound cards (record old { setup = Some new; mark = None; cells = cells })
-  sound_swept finding cells e = record { first = s.first; last = s.last; demands = subst AreDemands (sym e) (demands_left finding); ready = ready; solved = tt }
+  pub sound_run_through : (finding : Finding) (cells : Cells) → cells ≡ cells_left finding old.cells → IsSound cards (record old { setup = Some new; mark = None; cells = cells })
+  sound_run_through finding cells e = record { first = s.first; last = s.last; demands = subst AreDemands (sym e) (demands_left finding); ready = ready; solved = tt }
 
   -- it is that of a finding
   pub sound_found : (finding : Finding) (mark : Option Mark) → mark ≡ mark_left finding → IfEnded finding (λ m. IsSolved m old.cells.xobj old.cells.xrhs old.file new) → IsSound cards (record old { setup = Some new; mark = mark })

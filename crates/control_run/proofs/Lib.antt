@@ -6,7 +6,7 @@ pub mod Clamping
 pub mod Stepping
 pub mod Ending_lines
 pub mod Sound
-pub mod Telling
+pub mod Reporting
 pub mod Present
 pub mod Solving_steps
 pub mod Solving_comes
@@ -15,7 +15,7 @@ pub mod Selected_again
 mod Showing
 pub mod Ranging
 pub mod Demanded
-pub mod Sweep_comes
-pub mod Sweep_lines
+pub mod Parametric_comes
+pub mod Parametric_lines
 pub mod Limit_formula
-pub mod Sweep_steps
+pub mod Parametric_steps

@@ -10,8 +10,8 @@ use Rattle.simplex_definitions.specs.Formulas.{PointFormula, f6, f7, f10_product
 use Rattle.simplex_definitions.specs.Statements.{SolvingStatement}
 use Rattle.simplex_definitions.specs.Evidence.{Formula, by_exchange, by_entry, by_carried, by_point, by_slack, by_move, by_ratio, by_range, by_objective, by_slope}
 use Rattle.listing_definitions.specs.Ending.{Place}
-use Rattle.question_definitions.specs.Answers.{Basis, Sheet, Sweep}
-use Rattle.answer_definitions.specs.Evidence.{OverflowsOnSweep, at_basis, of_limit}
+use Rattle.question_definitions.specs.Answers.{Basis, Sheet, ParametricRun}
+use Rattle.answer_definitions.specs.Evidence.{OverflowsOnParametricRun, at_basis, of_limit}
 
 not_exchange : (a : Matrix) (w : Basics) (rate : ℕ → ℕ → ℚ) (e : Evidence) → ExchangeFormula a w rate e → e.formula ≡ 13 → ⊥
 not_exchange a w rate e (f1 x0 x1 x2 n y0 y1 y2) is = let h : e.formula ≡ 1 = n.is_formula in omega (arith, h, is)
@@ -78,12 +78,12 @@ of_shift : (p : LinearProgram) (shift : Vector) (e : Evidence) → ShiftFormula 
 of_shift p shift e (f13_product i n x y r) = n.is_formula
 of_shift p shift e (f13_limit i which l n x y r) = n.is_formula
 
-module _ (sheet : Sheet) (bases : List Basis) (sweep : Sweep) (e : Evidence) where
+module _ (sheet : Sheet) (bases : List Basis) (parametric_run : ParametricRun) (e : Evidence) where
   -- evidence at a basis isn't of a limit, and evidence without a place is
-  pub placed_apart : (place : Place) → OverflowsOnSweep sheet bases sweep e (Some place) → e.formula ≡ 13 → ⊥
+  pub placed_apart : (place : Place) → OverflowsOnParametricRun sheet bases parametric_run e (Some place) → e.formula ≡ 13 → ⊥
   placed_apart place (at_basis now is) limit = no_limit _ _ _ _ _ _ e is.holds.shows.formula limit
   placed_apart place (of_limit now is none) limit = absurd (cc none)
 
-  pub unplaced_limit : OverflowsOnSweep sheet bases sweep e None → e.formula ≡ 13
+  pub unplaced_limit : OverflowsOnParametricRun sheet bases parametric_run e None → e.formula ≡ 13
   unplaced_limit (at_basis now is) = let e = is.is_place in absurd (cc e)
   unplaced_limit (of_limit now is none) = of_shift _ _ e is.formula

@@ -19,9 +19,9 @@ use Rattle.question_definitions.specs.Answers.{Basis}
 use Rattle.basis_values.specs.Calls.{HasRates, LieIn}
 use Rattle.bounded_primal.specs.Calls.{WaypointsFollow, RuleWaypointsFollow}
 use Rattle.listing_tables.specs.declared.sheet.Sheet.{Sheet}
-use Rattle.report_text.specs.Verdicts.{verdict_shown, check_shown}
+use Rattle.report_text.specs.Verdicts.{verdict_view, check_view}
 use Rattle.verb_answers.specs.declared.path.PathReport.{PathReport}
-use Rattle.verb_answers.specs.Reports.{sheet_shown, RuleIsReached, IsReached, IsDualReached}
+use Rattle.verb_answers.specs.Reports.{sheet_view, RuleIsReached, IsReached, IsDualReached}
 use Rattle.run_definitions.specs.State.{Present, gone_through}
 use Rattle.run_setup.specs.Kept.{Setup}
 use Rattle.run_setup.specs.Standing.{ShowsSetup}
@@ -29,7 +29,7 @@ use Rattle.control_run.specs.Found.{PathReaches}
 use Rattle.parametric_laws.proofs.Runs.{last_of-append}
 use Rattle.run_setup.proofs.Present.{IsPresentOf, present_with}
 
-module _ (problem : Problem ℕ) (setup : Setup) (shown : Option Present) (p : IsPresentOf problem setup shown) (lp : LinearProgram) (same : matrix_of problem ≡ lp.matrix) where
+module _ (problem : Problem ℕ) (setup : Setup) (viewed : Option Present) (p : IsPresentOf problem setup viewed) (lp : LinearProgram) (same : matrix_of problem ≡ lp.matrix) where
   -- the present basis after a path
   pub goes_through : (file : Filed) (new : Setup) (bases : List Basis) → filed_under setup.name file ≡ Some problem → new.name ≡ setup.name → new.options ≡ setup.options →
       last_of setup.basis bases ≡ new.basis → LieIn lp.matrix new.engine.waypoints (p.initial ++ setup.basis ∷ bases) →
@@ -76,7 +76,7 @@ module _ (sheet : Sheet) (s now : Basis) (before after : List Basics) (report : 
   begins = record { is_basis = has.is_basis; nonsingular = has.nonsingular }
 
   pub path_reached : (limit : Option ℕ) (r : IsReached sheet s now limit report) → WaypointsFollow sheet.lp.now s now before after →
-      PathReaches solvers.Primal (sheet_shown sheet) s now limit before after r.bases (verdict_shown sheet report.outcome) (check_shown report.refused)
+      PathReaches solvers.Primal (sheet_view sheet) s now limit before after r.bases (verdict_view sheet report.outcome) (check_view report.refused)
   path_reached limit r w = record {
     reaches = r.reaches;
     leads = r.leads;
@@ -84,7 +84,7 @@ module _ (sheet : Sheet) (s now : Basis) (before after : List Basics) (report : 
   }
 
   pub dual_reached : (limit : ℕ) (r : IsDualReached sheet s now limit report) → RuleWaypointsFollow dual_turn sheet.lp.now s now before after →
-      PathReaches solvers.Dual (sheet_shown sheet) s now (Some limit) before after r.1.bases (verdict_shown sheet report.outcome) (check_shown report.refused)
+      PathReaches solvers.Dual (sheet_view sheet) s now (Some limit) before after r.1.bases (verdict_view sheet report.outcome) (check_view report.refused)
   dual_reached limit r w = record {
     reaches = (r.0, r.1.reaches);
     leads = r.1.leads;

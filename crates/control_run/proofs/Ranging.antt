@@ -27,7 +27,7 @@ use Rattle.control_definitions.specs.Cells.{Cells}
 use Rattle.answer_definitions.specs.Sections.{IsRanged}
 use Rattle.answer_definitions.specs.Evidence.{IsEvidence}
 use Rattle.listing_tables.specs.declared.sheet.Sheet.{Sheet as OwnSheet}
-use Rattle.verb_answers.specs.Answers.{sheet_shown}
+use Rattle.verb_answers.specs.Answers.{sheet_view}
 use Rattle.verb_answers.specs.Stops.{RangesRefused}
 use Rattle.run_definitions.specs.State.{Present, State, choice_of, present_basis, path_of}
 use Rattle.run_definitions.specs.Moves.{Gain, Nothing, Prints, punched_by, Outcome, next, stops, InAnswer, Move, MayStop, Asks, Gives, or_fault}
@@ -37,21 +37,21 @@ use Rattle.run_machine.specs.declared.act.Halt.{Halt}
 use Rattle.run_machine.specs.declared.act.Halt.TheVariants as halt
 use Rattle.run_machine.specs.declared.end.Place.{Place as OwnPlace}
 use Rattle.run_machine.specs.declared.finding.Finding.{Finding}
-use Rattle.run_machine.specs.declared.finding.Finding.TheVariants.{Overflow, Shown}
+use Rattle.run_machine.specs.declared.finding.Finding.TheVariants.{Overflow, Views}
 use Rattle.run_setup.specs.Machines.{Machine}
 use Rattle.run_setup.specs.Kept.{Setup}
 use Rattle.run_machine.specs.declared.selecting.Refusal.TheVariants.{Fault}
-use Rattle.run_machine.specs.Ends.{place_shown}
+use Rattle.run_machine.specs.Ends.{place_view}
 use Rattle.answer_definitions.specs.Real.{linear_programming}
-use Rattle.run_setup.specs.Standing.{IsPresent, ShowsSetup, Stands}
+use Rattle.run_setup.specs.Standing.{IsPresent, ShowsSetup, Represents}
 use Rattle.run_setup.specs.Statements.{Comes, Executes}
 use Rattle.run_machine.specs.Choosing.{refused_act}
-use Rattle.run_machine.specs.Findings.{TellsFinding, act_of}
+use Rattle.run_machine.specs.Findings.{ReportsFinding, act_of}
 use Rattle.control_run.specs.Found.{RangesFound, ranged, stopped, ShowsRanges, range_fault}
 use Rattle.run_setup.proofs.Selected.{same_matrix}
 use Rattle.run_machine.proofs.Giving.{quietly}
 use Rattle.run_setup.proofs.Giving.{gives_fault, gives_found, gives_selected}
-use Rattle.control_run.proofs.Telling.{told_executes, cut_executes}
+use Rattle.control_run.proofs.Reporting.{reported_executes, cut_executes}
 use Rattle.control_run.proofs.Showing.{IsSameSetup, still_stands}
 use Rattle.run_setup.proofs.Present.{IsPresentOf, lie_up_to, one_problem, present_at, present_with}
 
@@ -59,36 +59,36 @@ use Rattle.run_setup.proofs.Present.{IsPresentOf, lie_up_to, one_problem, presen
 
 -- they are printed or broken off
 module _ {P : Type 0} (written stopped_at : P → Option (List ℕ)) (faults refusals : P → ℕ) {print_old print_new : P} (sheet : OwnSheet) (s : Basis) (before : List Basics) (point : List ℚ) (report : RangeReport)
-    (is_ranged : IsRanged (sheet_shown sheet) s (range_lines sheet.lp.now s point report sheet.problem.now)) where
-  pub ranges_told : Writes {T = Unit {0}} written stopped_at faults refusals print_old print_new (Ok tt) (report_text (Ranges (range_lines sheet.lp.now s point report sheet.problem.now))) →
-      TellsFinding (RangesFound (sheet_shown sheet) s before) written stopped_at faults refusals print_old print_new (Ok Shown)
-  ranges_told writes = record {
+    (is_ranged : IsRanged (sheet_view sheet) s (range_lines sheet.lp.now s point report sheet.problem.now)) where
+  pub ranges_reported : Writes {T = Unit {0}} written stopped_at faults refusals print_old print_new (Ok tt) (report_text (Ranges (range_lines sheet.lp.now s point report sheet.problem.now))) →
+      ReportsFinding (RangesFound (sheet_view sheet) s before) written stopped_at faults refusals print_old print_new (Ok Views)
+  ranges_reported writes = record {
     gain = Prints (Ranges (range_lines sheet.lp.now s point report sheet.problem.now));
     holds = ranged is_ranged;
     writes = writes;
   }
 
   pub ranges_cut : (stop : WriteStop) → Writes {T = Unit {0}} written stopped_at faults refusals print_old print_new (Err stop) (report_text (Ranges (range_lines sheet.lp.now s point report sheet.problem.now))) →
-      TellsFinding (RangesFound (sheet_shown sheet) s before) written stopped_at faults refusals print_old print_new (Err (halt.Print stop))
+      ReportsFinding (RangesFound (sheet_view sheet) s before) written stopped_at faults refusals print_old print_new (Err (halt.Print stop))
   ranges_cut stop writes = record {
     gain = Prints (Ranges (range_lines sheet.lp.now s point report sheet.problem.now));
-    finding = Shown;
+    finding = Views;
     holds = ranged is_ranged;
     writes = writes;
   }
 
 pub ranges_overflow : (sheet : OwnSheet) (s : Basis) (before after : List Basics) (e : Evidence) → RangesRefused sheet.lp.now before s after e →
-    (place : OwnPlace) → place_shown place ≡ record { basis = s; way = waypoint (basics_of s) after e.way } → RangesFound (sheet_shown sheet) s before Nothing (Overflow e (Some place))
+    (place : OwnPlace) → place_view place ≡ record { basis = s; way = waypoint (basics_of s) after e.way } → RangesFound (sheet_view sheet) s before Nothing (Overflow e (Some place))
 ranges_overflow sheet s before after e o place is =
     stopped (λ earlier lie. subst (λ (p : endings.Place). IsEvidence (RangeStatement sheet.lp.now) None 0 (earlier ++ s ∷ []) [] e (Some p)) (sym is) (o.shows earlier lie))
 
 -- the setup that code has opened, which is the one that is spoken of
 module _ {P : Type 0} (written stopped_at : P → Option (List ℕ)) (faults refusals : P → ℕ) (file : Filed) {setup old : Setup} (is_old : setup ≡ old) (there : Problem ℕ) (is_there : filed_under setup.name file ≡ Some there) where
-  pub ranges_at : (print_old print_new : P) (result : Result Finding Halt) → TellsFinding (ShowsRanges there setup) written stopped_at faults refusals print_old print_new result →
-      (problem : Problem ℕ) → filed_under old.name file ≡ Some problem → TellsFinding (ShowsRanges problem old) written stopped_at faults refusals print_old print_new result
+  pub ranges_at : (print_old print_new : P) (result : Result Finding Halt) → ReportsFinding (ShowsRanges there setup) written stopped_at faults refusals print_old print_new result →
+      (problem : Problem ℕ) → filed_under old.name file ≡ Some problem → ReportsFinding (ShowsRanges problem old) written stopped_at faults refusals print_old print_new result
   ranges_at print_old print_new result t problem on_file =
-      subst (λ (s : Setup). TellsFinding (ShowsRanges problem s) written stopped_at faults refusals print_old print_new result) is_old
-      (subst (λ (q : Problem ℕ). TellsFinding (ShowsRanges q setup) written stopped_at faults refusals print_old print_new result)
+      subst (λ (s : Setup). ReportsFinding (ShowsRanges problem s) written stopped_at faults refusals print_old print_new result) is_old
+      (subst (λ (q : Problem ℕ). ReportsFinding (ShowsRanges q setup) written stopped_at faults refusals print_old print_new result)
       (one_problem file setup there problem is_there (ap (λ (s : Setup). filed_under s.name file) is_old ∙ on_file)) t)
 
 -- without a fault the mark is OPTIMAL
@@ -111,11 +111,11 @@ module _ (card : ℕ) (state : State) where
   abbrev printed : RangeLines → Outcome
   printed lines = next (Prints (Ranges lines)) state
 
-  abbrev go_shown : Present → LinearProgram → Move
-  go_shown present lp = MayStop (InAnswer OfRanges (sheet_of present lp) (path_of present)) (Asks OfRanges (sheet_of present lp) (present_basis present) printed)
+  abbrev go_view : Present → LinearProgram → Move
+  go_view present lp = MayStop (InAnswer OfRanges (sheet_of present lp) (path_of present)) (Asks OfRanges (sheet_of present lp) (present_basis present) printed)
 
   abbrev go_optimal : Present → Mark → Move
-  go_optimal present mark = or_selection_fault card (selected present.problem (choice_of state.cells present.options)) (go_shown present)
+  go_optimal present mark = or_selection_fault card (selected present.problem (choice_of state.cells present.options)) (go_view present)
 
   abbrev go_marked : Present → Mark → Move
   go_marked present mark = or_fault card verb_fault.NotOptimal (if_optimal mark) (go_optimal present)
@@ -155,7 +155,7 @@ ranges_no_setup card written stopped_at faults refusals cards machine print none
     gives_no_setup card state (subst (λ (kept : Option Setup). ShowsSetup machine.file kept state.setup) none s.setup))
 
 module _ (card : ℕ) (cards : List (List ℕ)) (old : Machine) (setup : Setup) (is_setup : old.setup ≡ Some setup) (problem : Problem ℕ) (on_file : filed_under setup.name old.file ≡ Some problem) where
-  module _ (position executed : ℕ) (state : State) (s : Stands cards old position executed state) where
+  module _ (position executed : ℕ) (state : State) (s : Represents cards old position executed state) where
     p : IsPresentOf problem setup state.setup
     p = present_at old.file setup state.setup problem on_file (subst (λ (kept : Option Setup). ShowsSetup old.file kept state.setup) is_setup s.setup)
 
@@ -163,15 +163,15 @@ module _ (card : ℕ) (cards : List (List ℕ)) (old : Machine) (setup : Setup) 
     present = present_with problem setup.options p.opening p.steps
 
     not_optimal : (fault : VerbFault) → range_fault old.mark ≡ Some fault → Gives linear_programming card (verb_move Ranging card state) (stops (endings.VerbStop (record { fault = fault; card = card })))
-    not_optimal fault is = gives_set_up card state present (stops (endings.VerbStop (record { fault = fault; card = card }))) p.is_shown (gives_refused card state present old.mark fault s.mark is)
+    not_optimal fault is = gives_set_up card state present (stops (endings.VerbStop (record { fault = fault; card = card }))) p.is_viewed (gives_refused card state present old.mark fault s.mark is)
 
     module _ (new : Setup) (is_mark : old.mark ≡ Some Optimal) (ok : selected problem (choice_of old.cells setup.options) ≡ Ok setup.lp) (k : IsSameSetup setup new) where
-      optimal_gives : (outcome : Outcome) → Gives linear_programming card (go_shown card state present setup.lp) outcome → Gives linear_programming card (verb_move Ranging card state) outcome
+      optimal_gives : (outcome : Outcome) → Gives linear_programming card (go_view card state present setup.lp) outcome → Gives linear_programming card (verb_move Ranging card state) outcome
       optimal_gives outcome g =
-          gives_set_up card state present outcome p.is_shown
+          gives_set_up card state present outcome p.is_viewed
           (gives_found card verb_fault.NotSolved state.mark (go_marked card state present) Optimal outcome (s.mark ∙ is_mark)
           (gives_found card verb_fault.NotOptimal (if_optimal Optimal) (go_optimal card state present) Optimal outcome refl
-          (gives_selected card (selected problem (choice_of state.cells setup.options)) (go_shown card state present) setup.lp outcome
+          (gives_selected card (selected problem (choice_of state.cells setup.options)) (go_view card state present) setup.lp outcome
           (ap (λ (c : Cells). selected problem (choice_of c setup.options)) s.cells ∙ ok) g)))
 
       pub ranged_comes : (gain : Gain) (finding : Finding) → ShowsRanges problem setup gain finding →
@@ -184,11 +184,11 @@ module _ (card : ℕ) (cards : List (List ℕ)) (old : Machine) (setup : Setup) 
       )
       ranged_comes _ _ (stopped {e = e} {place = place} h) =
           let same : matrix_of problem ≡ setup.lp.matrix = same_matrix problem (choice_of old.cells setup.options) setup.lp ok in
-          optimal_gives (stops (endings.OverflowStop (record { evidence = e; place = option_map place_shown place; card = card })))
+          optimal_gives (stops (endings.OverflowStop (record { evidence = e; place = option_map place_view place; card = card })))
           (inr (
             e,
-            option_map place_shown place,
-            subst (λ (bs : List Basis). IsEvidence (RangeStatement setup.lp) None 0 bs [] e (option_map place_shown place)) (sym p.ends) (h p.initial (lie_up_to problem setup state.setup p setup.lp same)),
+            option_map place_view place,
+            subst (λ (bs : List Basis). IsEvidence (RangeStatement setup.lp) None 0 bs [] e (option_map place_view place)) (sym p.ends) (h p.initial (lie_up_to problem setup state.setup p setup.lp same)),
             refl,
           ))
 
@@ -198,14 +198,14 @@ module _ (card : ℕ) (cards : List (List ℕ)) (old : Machine) (setup : Setup) 
         quietly IsPresent (Gives linear_programming) Ranging card written stopped_at faults refusals cards old print {new = any} (λ position executed state s. not_optimal position executed state s fault is)
 
     module _ (print_old print_new : P) (new : Setup) (is_mark : old.mark ≡ Some Optimal) (ok : selected problem (choice_of old.cells setup.options) ≡ Ok setup.lp) (k : IsSameSetup setup new) where
-      pub ranges_found : (finding : Finding) (then : Act) → then ≡ act_of old.cells card finding → TellsFinding (ShowsRanges problem setup) written stopped_at faults refusals print_old print_new (Ok finding) →
+      pub ranges_found : (finding : Finding) (then : Act) → then ≡ act_of old.cells card finding → ReportsFinding (ShowsRanges problem setup) written stopped_at faults refusals print_old print_new (Ok finding) →
           Executes linear_programming Ranging card written stopped_at faults refusals print_old print_new cards old (record old { setup = Some new }) (Ok then)
       ranges_found finding then e t =
           subst (λ (a : Act). Executes linear_programming Ranging card written stopped_at faults refusals print_old print_new cards old (record old { setup = Some new }) (Ok a)) (sym e)
-          (told_executes Ranging card written stopped_at faults refusals cards old (ShowsRanges problem setup) (λ found. record old { setup = Some new }) (act_of old.cells card) (no_cards_by problem setup)
+          (reported_executes Ranging card written stopped_at faults refusals cards old (ShowsRanges problem setup) (λ found. record old { setup = Some new }) (act_of old.cells card) (no_cards_by problem setup)
           (λ gain found h position executed state s. ranged_comes position executed state s new is_mark ok k gain found h) print_old print_new finding t)
 
-      pub ranges_broken : (any : Machine) (h : Halt) → TellsFinding (ShowsRanges problem setup) written stopped_at faults refusals print_old print_new (Err h) →
+      pub ranges_broken : (any : Machine) (h : Halt) → ReportsFinding (ShowsRanges problem setup) written stopped_at faults refusals print_old print_new (Err h) →
           Executes linear_programming Ranging card written stopped_at faults refusals print_old print_new cards old any (Err h)
       ranges_broken any h t =
           cut_executes Ranging card written stopped_at faults refusals cards old (ShowsRanges problem setup) (λ found. record old { setup = Some new }) (act_of old.cells card) (no_cards_by problem setup)

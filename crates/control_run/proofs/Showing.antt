@@ -21,10 +21,10 @@ use Rattle.listing_definitions.specs.Report.{SolutionLines, Solution}
 use Rattle.listing_definitions.specs.Ending as endings
 use Rattle.question_definitions.specs.Answers.{Basis, Sheet, OfSolution}
 use Rattle.control_definitions.specs.Cells.{Cells}
-use Rattle.answer_definitions.specs.Sections.{IsShown}
+use Rattle.answer_definitions.specs.Sections.{IsSolutionOf}
 use Rattle.answer_definitions.specs.Evidence.{IsEvidence}
 use Rattle.listing_tables.specs.declared.sheet.Sheet.{Sheet as OwnSheet}
-use Rattle.verb_answers.specs.Answers.{sheet_shown}
+use Rattle.verb_answers.specs.Answers.{sheet_view}
 use Rattle.verb_answers.specs.Stops.{SolutionRefused}
 use Rattle.run_definitions.specs.State.{Present, State, choice_of, present_basis, path_of}
 use Rattle.run_definitions.specs.Moves.{Gain, Nothing, Prints, punched_by, Outcome, next, stops, InAnswer, Move, MayStop, Asks, Gives, or_fault}
@@ -34,21 +34,21 @@ use Rattle.run_machine.specs.declared.act.Halt.{Halt}
 use Rattle.run_machine.specs.declared.act.Halt.TheVariants as halt
 use Rattle.run_machine.specs.declared.end.Place.{Place as OwnPlace}
 use Rattle.run_machine.specs.declared.finding.Finding.{Finding}
-use Rattle.run_machine.specs.declared.finding.Finding.TheVariants.{Overflow, Shown}
+use Rattle.run_machine.specs.declared.finding.Finding.TheVariants.{Overflow, Views}
 use Rattle.run_setup.specs.Machines.{Machine}
 use Rattle.run_setup.specs.Kept.{Setup}
 use Rattle.run_machine.specs.declared.selecting.Refusal.TheVariants.{Fault}
-use Rattle.run_machine.specs.Ends.{place_shown}
+use Rattle.run_machine.specs.Ends.{place_view}
 use Rattle.answer_definitions.specs.Real.{linear_programming}
-use Rattle.run_setup.specs.Standing.{IsPresent, IsSolved, ShowsSetup, Stands}
+use Rattle.run_setup.specs.Standing.{IsPresent, IsSolved, ShowsSetup, Represents}
 use Rattle.run_setup.specs.Statements.{Comes, Executes}
 use Rattle.run_machine.specs.Choosing.{refused_act, IsSelected}
-use Rattle.run_machine.specs.Findings.{TellsFinding, act_of}
-use Rattle.control_run.specs.Found.{LinesFound, shown, overflows, Shows}
+use Rattle.run_machine.specs.Findings.{ReportsFinding, act_of}
+use Rattle.control_run.specs.Found.{LinesFound, viewed, overflows, Shows}
 use Rattle.run_setup.proofs.Selected.{same_matrix}
 use Rattle.run_machine.proofs.Giving.{quietly}
 use Rattle.run_setup.proofs.Giving.{gives_fault, gives_found, gives_selected}
-use Rattle.control_run.proofs.Telling.{told_executes, cut_executes}
+use Rattle.control_run.proofs.Reporting.{reported_executes, cut_executes}
 use Rattle.control_run.proofs.Present.{lie_later}
 use Rattle.run_setup.proofs.Present.{IsPresentOf, lie_up_to, one_problem, present_at, present_with}
 
@@ -56,26 +56,26 @@ use Rattle.run_setup.proofs.Present.{IsPresentOf, lie_up_to, one_problem, presen
 
 -- they are printed or broken off
 module _ {P : Type 0} (written stopped_at : P → Option (List ℕ)) (faults refusals : P → ℕ) {print_old print_new : P} (sheet : OwnSheet) (s : Basis) (before : List Basics) (mark : Mark) (point prices slack list : List ℚ) (same : list ≡ slack)
-    (is_shown : IsShown (sheet_shown sheet) s (solution_lines sheet.problem.now sheet.lp.now s point prices slack)) where
-  pub lines_told : Writes {T = Unit {0}} written stopped_at faults refusals print_old print_new (Ok tt) (report_text (Solution mark (solution_lines sheet.problem.now sheet.lp.now s point prices list))) →
-      TellsFinding (LinesFound (sheet_shown sheet) s before mark) written stopped_at faults refusals print_old print_new (Ok Shown)
-  lines_told writes = record {
+    (is_viewed : IsSolutionOf (sheet_view sheet) s (solution_lines sheet.problem.now sheet.lp.now s point prices slack)) where
+  pub lines_reported : Writes {T = Unit {0}} written stopped_at faults refusals print_old print_new (Ok tt) (report_text (Solution mark (solution_lines sheet.problem.now sheet.lp.now s point prices list))) →
+      ReportsFinding (LinesFound (sheet_view sheet) s before mark) written stopped_at faults refusals print_old print_new (Ok Views)
+  lines_reported writes = record {
     gain = Prints (Solution mark (solution_lines sheet.problem.now sheet.lp.now s point prices slack));
-    holds = shown is_shown;
+    holds = viewed is_viewed;
     writes = subst (λ (xs : List ℚ). Writes {T = Unit {0}} written stopped_at faults refusals print_old print_new (Ok tt) (report_text (Solution mark (solution_lines sheet.problem.now sheet.lp.now s point prices xs)))) same writes;
   }
 
   pub lines_cut : (stop : WriteStop) → Writes {T = Unit {0}} written stopped_at faults refusals print_old print_new (Err stop) (report_text (Solution mark (solution_lines sheet.problem.now sheet.lp.now s point prices list))) →
-      TellsFinding (LinesFound (sheet_shown sheet) s before mark) written stopped_at faults refusals print_old print_new (Err (halt.Print stop))
+      ReportsFinding (LinesFound (sheet_view sheet) s before mark) written stopped_at faults refusals print_old print_new (Err (halt.Print stop))
   lines_cut stop writes = record {
     gain = Prints (Solution mark (solution_lines sheet.problem.now sheet.lp.now s point prices slack));
-    finding = Shown;
-    holds = shown is_shown;
+    finding = Views;
+    holds = viewed is_viewed;
     writes = subst (λ (xs : List ℚ). Writes {T = Unit {0}} written stopped_at faults refusals print_old print_new (Err stop) (report_text (Solution mark (solution_lines sheet.problem.now sheet.lp.now s point prices xs)))) same writes;
   }
 
 pub lines_overflow : (sheet : OwnSheet) (s : Basis) (before after : List Basics) (mark : Mark) (e : Evidence) → SolutionRefused sheet.lp.now before s after e →
-    (place : OwnPlace) → place_shown place ≡ record { basis = s; way = waypoint (basics_of s) after e.way } → LinesFound (sheet_shown sheet) s before mark Nothing (Overflow e (Some place))
+    (place : OwnPlace) → place_view place ≡ record { basis = s; way = waypoint (basics_of s) after e.way } → LinesFound (sheet_view sheet) s before mark Nothing (Overflow e (Some place))
 lines_overflow sheet s before after mark e o place is =
     overflows (λ earlier lie. subst (λ (p : endings.Place). IsEvidence (SolutionStatement sheet.lp.now) None 0 (earlier ++ s ∷ []) [] e (Some p)) (sym is) (o.shows earlier lie))
 
@@ -101,17 +101,17 @@ still_solved cells file setup new mark k h = record {
 
 -- the setup that code has opened, which is the one that is spoken of
 module _ {P : Type 0} (written stopped_at : P → Option (List ℕ)) (faults refusals : P → ℕ) (file : Filed) {setup old : Setup} (is_old : setup ≡ old) (mark : Mark) (there : Problem ℕ) (is_there : filed_under setup.name file ≡ Some there) where
-  pub lines_at : (print_old print_new : P) (result : Result Finding Halt) → TellsFinding (Shows there setup mark) written stopped_at faults refusals print_old print_new result →
-      (problem : Problem ℕ) → filed_under old.name file ≡ Some problem → TellsFinding (Shows problem old mark) written stopped_at faults refusals print_old print_new result
+  pub lines_at : (print_old print_new : P) (result : Result Finding Halt) → ReportsFinding (Shows there setup mark) written stopped_at faults refusals print_old print_new result →
+      (problem : Problem ℕ) → filed_under old.name file ≡ Some problem → ReportsFinding (Shows problem old mark) written stopped_at faults refusals print_old print_new result
   lines_at print_old print_new result t problem on_file =
-      subst (λ (s : Setup). TellsFinding (Shows problem s mark) written stopped_at faults refusals print_old print_new result) is_old
-      (subst (λ (q : Problem ℕ). TellsFinding (Shows q setup mark) written stopped_at faults refusals print_old print_new result)
+      subst (λ (s : Setup). ReportsFinding (Shows problem s mark) written stopped_at faults refusals print_old print_new result) is_old
+      (subst (λ (q : Problem ℕ). ReportsFinding (Shows q setup mark) written stopped_at faults refusals print_old print_new result)
       (one_problem file setup there problem is_there (ap (λ (s : Setup). filed_under s.name file) is_old ∙ on_file)) t)
 
 -- ---- the statement
 
 no_cards_by : (problem : Problem ℕ) (setup : Setup) (mark : Mark) (gain : Gain) (finding : Finding) → Shows problem setup mark gain finding → punched_by gain ≡ []
-no_cards_by problem setup mark _ _ (shown h) = refl
+no_cards_by problem setup mark _ _ (viewed h) = refl
 no_cards_by problem setup mark _ _ (overflows h) = refl
 
 abbrev sheet_of : Present → LinearProgram → Sheet
@@ -121,11 +121,11 @@ module _ (card : ℕ) (state : State) where
   abbrev printed : Mark → SolutionLines → Outcome
   printed mark lines = next (Prints (Solution mark lines)) state
 
-  abbrev go_shown : Present → Mark → LinearProgram → Move
-  go_shown present mark lp = MayStop (InAnswer (OfSolution mark) (sheet_of present lp) (path_of present)) (Asks (OfSolution mark) (sheet_of present lp) (present_basis present) (printed mark))
+  abbrev go_view : Present → Mark → LinearProgram → Move
+  go_view present mark lp = MayStop (InAnswer (OfSolution mark) (sheet_of present lp) (path_of present)) (Asks (OfSolution mark) (sheet_of present lp) (present_basis present) (printed mark))
 
   abbrev go_marked : Present → Mark → Move
-  go_marked present mark = or_selection_fault card (selected present.problem (choice_of state.cells present.options)) (go_shown present mark)
+  go_marked present mark = or_selection_fault card (selected present.problem (choice_of state.cells present.options)) (go_view present mark)
 
   abbrev go_set_up : Present → Move
   go_set_up present = or_fault card verb_fault.NotSolved state.mark (go_marked present)
@@ -147,7 +147,7 @@ solution_no_setup card written stopped_at faults refusals cards machine print no
     gives_no_setup card state (subst (λ (kept : Option Setup). ShowsSetup machine.file kept state.setup) none s.setup))
 
 module _ (card : ℕ) (cards : List (List ℕ)) (old : Machine) (setup : Setup) (is_setup : old.setup ≡ Some setup) (problem : Problem ℕ) (on_file : filed_under setup.name old.file ≡ Some problem) where
-  module _ (position executed : ℕ) (state : State) (s : Stands cards old position executed state) where
+  module _ (position executed : ℕ) (state : State) (s : Represents cards old position executed state) where
     p : IsPresentOf problem setup state.setup
     p = present_at old.file setup state.setup problem on_file (subst (λ (kept : Option Setup). ShowsSetup old.file kept state.setup) is_setup s.setup)
 
@@ -156,18 +156,18 @@ module _ (card : ℕ) (cards : List (List ℕ)) (old : Machine) (setup : Setup) 
 
     not_solved : old.mark ≡ None → Gives linear_programming card (verb_move SolutionVerb card state) (stops (endings.VerbStop (record { fault = verb_fault.NotSolved; card = card })))
     not_solved none =
-        gives_set_up card state present (stops (endings.VerbStop (record { fault = verb_fault.NotSolved; card = card }))) p.is_shown
+        gives_set_up card state present (stops (endings.VerbStop (record { fault = verb_fault.NotSolved; card = card }))) p.is_viewed
         (gives_fault card verb_fault.NotSolved state.mark (go_marked card state present) (s.mark ∙ none))
 
     module _ (new : Setup) (mark : Mark) (is_mark : old.mark ≡ Some mark) (ok : selected problem (choice_of old.cells setup.options) ≡ Ok setup.lp) (k : IsSameSetup setup new) where
-      marked_gives : (outcome : Outcome) → Gives linear_programming card (go_shown card state present mark setup.lp) outcome → Gives linear_programming card (verb_move SolutionVerb card state) outcome
+      marked_gives : (outcome : Outcome) → Gives linear_programming card (go_view card state present mark setup.lp) outcome → Gives linear_programming card (verb_move SolutionVerb card state) outcome
       marked_gives outcome g =
-          gives_set_up card state present outcome p.is_shown
+          gives_set_up card state present outcome p.is_viewed
           (gives_found card verb_fault.NotSolved state.mark (go_marked card state present) mark outcome (s.mark ∙ is_mark)
-          (gives_selected card (selected problem (choice_of state.cells setup.options)) (go_shown card state present mark) setup.lp outcome
+          (gives_selected card (selected problem (choice_of state.cells setup.options)) (go_view card state present mark) setup.lp outcome
           (ap (λ (c : Cells). selected problem (choice_of c setup.options)) s.cells ∙ ok) g))
 
-      pub still_stands : Stands cards (record old { setup = Some new }) position executed state
+      pub still_stands : Represents cards (record old { setup = Some new }) position executed state
       still_stands =
           let same : matrix_of problem ≡ setup.lp.matrix = same_matrix problem (choice_of old.cells setup.options) setup.lp ok in
           let lie : LieIn setup.lp.matrix new.engine.waypoints (p.initial ++ setup.basis ∷ []) =
@@ -180,7 +180,7 @@ module _ (card : ℕ) (cards : List (List ℕ)) (old : Machine) (setup : Setup) 
             decks = s.decks;
             setup = (
               present,
-              p.is_shown,
+              p.is_viewed,
               record {
                 on_file = ap (λ name. filed_under name old.file) k.name ∙ on_file;
                 has_options = sym k.options;
@@ -191,18 +191,18 @@ module _ (card : ℕ) (cards : List (List ℕ)) (old : Machine) (setup : Setup) 
             mark = s.mark;
           }
 
-      pub shown_comes : (gain : Gain) (finding : Finding) → Shows problem setup mark gain finding →
+      pub reported_comes : (gain : Gain) (finding : Finding) → Shows problem setup mark gain finding →
           Comes linear_programming SolutionVerb card cards position executed state (record old { setup = Some new }) gain (act_of old.cells card finding)
       unfolding linear_programming
-      shown_comes _ _ (shown {lines = lines} h) =
-          (state, marked_gives (printed card state mark lines) (inl (lines, subst (λ (b : Basis). IsShown (record { problem = problem; lp = setup.lp }) b lines) (sym p.reached) h, refl)), still_stands)
-      shown_comes _ _ (overflows {e = e} {place = place} h) =
+      reported_comes _ _ (viewed {lines = lines} h) =
+          (state, marked_gives (printed card state mark lines) (inl (lines, subst (λ (b : Basis). IsSolutionOf (record { problem = problem; lp = setup.lp }) b lines) (sym p.reached) h, refl)), still_stands)
+      reported_comes _ _ (overflows {e = e} {place = place} h) =
           let same : matrix_of problem ≡ setup.lp.matrix = same_matrix problem (choice_of old.cells setup.options) setup.lp ok in
-          marked_gives (stops (endings.OverflowStop (record { evidence = e; place = option_map place_shown place; card = card })))
+          marked_gives (stops (endings.OverflowStop (record { evidence = e; place = option_map place_view place; card = card })))
           (inr (
             e,
-            option_map place_shown place,
-            subst (λ (bs : List Basis). IsEvidence (SolutionStatement setup.lp) None 0 bs [] e (option_map place_shown place)) (sym p.ends) (h p.initial (lie_up_to problem setup state.setup p setup.lp same)),
+            option_map place_view place,
+            subst (λ (bs : List Basis). IsEvidence (SolutionStatement setup.lp) None 0 bs [] e (option_map place_view place)) (sym p.ends) (h p.initial (lie_up_to problem setup state.setup p setup.lp same)),
             refl,
           ))
 
@@ -212,15 +212,15 @@ module _ (card : ℕ) (cards : List (List ℕ)) (old : Machine) (setup : Setup) 
         quietly IsPresent (Gives linear_programming) SolutionVerb card written stopped_at faults refusals cards old print {new = any} (λ position executed state s. not_solved position executed state s none)
 
     module _ (print_old print_new : P) (new : Setup) (mark : Mark) (is_mark : old.mark ≡ Some mark) (ok : selected problem (choice_of old.cells setup.options) ≡ Ok setup.lp) (k : IsSameSetup setup new) where
-      pub solution_found : (finding : Finding) (then : Act) → then ≡ act_of old.cells card finding → TellsFinding (Shows problem setup mark) written stopped_at faults refusals print_old print_new (Ok finding) →
+      pub solution_found : (finding : Finding) (then : Act) → then ≡ act_of old.cells card finding → ReportsFinding (Shows problem setup mark) written stopped_at faults refusals print_old print_new (Ok finding) →
           Executes linear_programming SolutionVerb card written stopped_at faults refusals print_old print_new cards old (record old { setup = Some new }) (Ok then)
       solution_found finding then e t =
           subst (λ (a : Act). Executes linear_programming SolutionVerb card written stopped_at faults refusals print_old print_new cards old (record old { setup = Some new }) (Ok a)) (sym e)
-          (told_executes SolutionVerb card written stopped_at faults refusals cards old (Shows problem setup mark) (λ found. record old { setup = Some new }) (act_of old.cells card) (no_cards_by problem setup mark)
-          (λ gain found h position executed state s. shown_comes position executed state s new mark is_mark ok k gain found h) print_old print_new finding t)
+          (reported_executes SolutionVerb card written stopped_at faults refusals cards old (Shows problem setup mark) (λ found. record old { setup = Some new }) (act_of old.cells card) (no_cards_by problem setup mark)
+          (λ gain found h position executed state s. reported_comes position executed state s new mark is_mark ok k gain found h) print_old print_new finding t)
 
-      pub solution_cut : (any : Machine) (h : Halt) → TellsFinding (Shows problem setup mark) written stopped_at faults refusals print_old print_new (Err h) →
+      pub solution_cut : (any : Machine) (h : Halt) → ReportsFinding (Shows problem setup mark) written stopped_at faults refusals print_old print_new (Err h) →
           Executes linear_programming SolutionVerb card written stopped_at faults refusals print_old print_new cards old any (Err h)
       solution_cut any h t =
           cut_executes SolutionVerb card written stopped_at faults refusals cards old (Shows problem setup mark) (λ found. record old { setup = Some new }) (act_of old.cells card) (no_cards_by problem setup mark)
-          (λ gain found h position executed state s. shown_comes position executed state s new mark is_mark ok k gain found h) print_old print_new any h t
+          (λ gain found h position executed state s. reported_comes position executed state s new mark is_mark ok k gain found h) print_old print_new any h t

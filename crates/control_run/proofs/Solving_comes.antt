@@ -24,19 +24,19 @@ use Rattle.run_setup.specs.Machines.{Machine}
 use Rattle.run_setup.specs.Kept.{Setup}
 use Rattle.run_machine.specs.declared.selecting.Refusal.TheVariants.{Fault}
 use Rattle.run_machine.specs.Choosing.{HasSelectionFault, HasSelectionOverflow, refused_act}
-use Rattle.run_machine.specs.Ends.{place_shown}
+use Rattle.run_machine.specs.Ends.{place_view}
 use Rattle.answer_definitions.specs.Real.{linear_programming}
 use Rattle.run_machine.specs.Standing.{AreDemands}
-use Rattle.run_setup.specs.Standing.{IsPresent, IsReady, ShowsSetup, Stands}
+use Rattle.run_setup.specs.Standing.{IsPresent, IsReady, ShowsSetup, Represents}
 use Rattle.run_setup.specs.Statements.{Comes, Executes}
-use Rattle.run_machine.specs.Findings.{TellsFinding, act_of, mark_left}
+use Rattle.run_machine.specs.Findings.{ReportsFinding, act_of, mark_left}
 use Rattle.control_run.specs.declared.solving.SolvingVerb.{SolvingVerb}
 use Rattle.control_run.specs.declared.solving.SolvingVerb.TheVariants.{Primal, Dual}
 use Rattle.control_run.specs.Found.{verb_of, solver_of, limit_of, PathReaches, PathOverflows, reached, wrong_prices, at_limit, overflows, Finds, unselected, too_large, solved}
 use Rattle.run_setup.proofs.Selected.{same_matrix}
 use Rattle.run_machine.proofs.Giving.{quietly}
 use Rattle.run_setup.proofs.Giving.{gives_fault, gives_found, gives_unselected, gives_selected}
-use Rattle.control_run.proofs.Telling.{told_executes, cut_executes}
+use Rattle.control_run.proofs.Reporting.{reported_executes, cut_executes}
 use Rattle.control_run.proofs.Demanded.{verdict_comes}
 use Rattle.control_run.proofs.Present.{goes_through}
 use Rattle.run_setup.proofs.Present.{IsPresentOf, lie_up_to, present_at, present_with}
@@ -80,7 +80,7 @@ solving_no_setup verb card written stopped_at faults refusals cards machine prin
 
 -- with a setup, whose problem is on file
 module _ (verb : SolvingVerb) (card : ℕ) (cards : List (List ℕ)) (old : Machine) (setup new : Setup) (is_setup : old.setup ≡ Some setup) (problem : Problem ℕ) (on_file : filed_under setup.name old.file ≡ Some problem)
-    (demands : AreDemands old.cells) (position executed : ℕ) (state : State) (s : Stands cards old position executed state) where
+    (demands : AreDemands old.cells) (position executed : ℕ) (state : State) (s : Represents cards old position executed state) where
   p : IsPresentOf problem setup state.setup
   p = present_at old.file setup state.setup problem on_file (subst (λ (kept : Option Setup). ShowsSetup old.file kept state.setup) is_setup s.setup)
 
@@ -91,7 +91,7 @@ module _ (verb : SolvingVerb) (card : ℕ) (cards : List (List ℕ)) (old : Mach
   after mark = record old { setup = Some new; mark = mark }
 
   setup_gives : (outcome : Outcome) → Gives linear_programming card (with_setup verb card state present) outcome → Gives linear_programming card (verb_move (verb_of verb) card state) outcome
-  setup_gives outcome g = solving_gives verb card state outcome (gives_found card NoSetup state.setup (with_setup verb card state) present outcome p.is_shown g)
+  setup_gives outcome g = solving_gives verb card state outcome (gives_found card NoSetup state.setup (with_setup verb card state) present outcome p.is_viewed g)
 
   selected_gives : (lp : LinearProgram) → selected problem (choice_of old.cells setup.options) ≡ Ok lp → (outcome : Outcome) → Gives linear_programming card (path_move verb card state present lp) outcome →
       Gives linear_programming card (verb_move (verb_of verb) card state) outcome
@@ -141,7 +141,7 @@ module _ (verb : SolvingVerb) (card : ℕ) (cards : List (List ℕ)) (old : Mach
 
   after_stands : (lp : LinearProgram) → selected problem (choice_of old.cells setup.options) ≡ Ok lp → new.name ≡ setup.name → new.options ≡ setup.options →
       (bases : List Basis) (verdict : PathVerdict) (check : Check) → PathReaches (solver_of verb) (record { problem = problem; lp = lp }) setup.basis new.basis (limit_of verb old.cells) setup.engine.waypoints new.engine.waypoints bases verdict check →
-      (mark : Mark) → Stands cards (after (Some mark)) position executed (record state { setup = Some (gone_through bases present); mark = Some mark })
+      (mark : Mark) → Represents cards (after (Some mark)) position executed (record state { setup = Some (gone_through bases present); mark = Some mark })
   after_stands lp ok same_name same_options bases verdict check r mark =
       let same = same_matrix problem (choice_of old.cells setup.options) lp ok in
       record {
@@ -164,21 +164,21 @@ module _ (verb : SolvingVerb) (card : ℕ) (cards : List (List ℕ)) (old : Mach
   found_comes _ _ (solved {lp = lp} ok same_name same_options (wrong_prices {variable = variable} right)) = path_gives lp ok (PricesWrong variable) right
   found_comes _ _ (solved {lp = lp} ok same_name same_options (at_limit right)) =
       subst (λ (c : Cells). Gives linear_programming card (verb_move (verb_of verb) card state) (stops (endings.LimitStop (record { limit = steps_allowed c; card = card })))) s.cells (path_gives lp ok PathLimit right)
-  found_comes _ _ (solved {lp = lp} ok same_name same_options (overflows {e = e} {place = place} h)) = overflow_gives lp ok e (option_map place_shown place) h
+  found_comes _ _ (solved {lp = lp} ok same_name same_options (overflows {e = e} {place = place} h)) = overflow_gives lp ok e (option_map place_view place) h
 
 module _ (verb : SolvingVerb) (card : ℕ) {P : Type 0} (written stopped_at : P → Option (List ℕ)) (faults refusals : P → ℕ) (print_old print_new : P) (cards : List (List ℕ)) (old : Machine) (setup new : Setup) (is_setup : old.setup ≡ Some setup)
     (ready : IsReady old.file setup) (demands : AreDemands old.cells) where
   pub solving_found : (finding : Finding) (mark : Option Mark) (then : Act) → mark ≡ mark_left finding → then ≡ act_of old.cells card finding →
-      TellsFinding (Finds verb ready.problem old.cells setup new) written stopped_at faults refusals print_old print_new (Ok finding) →
+      ReportsFinding (Finds verb ready.problem old.cells setup new) written stopped_at faults refusals print_old print_new (Ok finding) →
       Executes linear_programming (verb_of verb) card written stopped_at faults refusals print_old print_new cards old (record old { setup = Some new; mark = mark }) (Ok then)
   solving_found finding mark then e f t =
       subst (λ (m : Option Mark). Executes linear_programming (verb_of verb) card written stopped_at faults refusals print_old print_new cards old (record old { setup = Some new; mark = m }) (Ok then)) (sym e)
       (subst (λ (a : Act). Executes linear_programming (verb_of verb) card written stopped_at faults refusals print_old print_new cards old (record old { setup = Some new; mark = mark_left finding }) (Ok a)) (sym f)
-      (told_executes (verb_of verb) card written stopped_at faults refusals cards old (Finds verb ready.problem old.cells setup new) (λ found. record old { setup = Some new; mark = mark_left found }) (act_of old.cells card)
+      (reported_executes (verb_of verb) card written stopped_at faults refusals cards old (Finds verb ready.problem old.cells setup new) (λ found. record old { setup = Some new; mark = mark_left found }) (act_of old.cells card)
       (no_cards_by verb ready.problem old.cells setup new)
       (λ gain found h position executed state s. found_comes verb card cards old setup new is_setup ready.problem ready.on_file demands position executed state s gain found h) print_old print_new finding t))
 
-  pub solving_cut : (any : Machine) (h : Halt) → TellsFinding (Finds verb ready.problem old.cells setup new) written stopped_at faults refusals print_old print_new (Err h) →
+  pub solving_cut : (any : Machine) (h : Halt) → ReportsFinding (Finds verb ready.problem old.cells setup new) written stopped_at faults refusals print_old print_new (Err h) →
       Executes linear_programming (verb_of verb) card written stopped_at faults refusals print_old print_new cards old any (Err h)
   solving_cut any h t =
       cut_executes (verb_of verb) card written stopped_at faults refusals cards old (Finds verb ready.problem old.cells setup new) (λ found. record old { setup = Some new; mark = mark_left found }) (act_of old.cells card)

@@ -29,7 +29,7 @@ use Rattle.question_definitions.specs.Answers.{Basis, Sheet, Reached, PathLimit}
 use Rattle.answer_definitions.specs.Verdicts.{verdict_of, IsSolvedBy}
 use Rattle.answer_definitions.specs.Evidence.{RuleOverflowsOnPath, OverflowsBy}
 use Rattle.listing_tables.specs.declared.sheet.Sheet.{Sheet as OwnSheet}
-use Rattle.verb_answers.specs.Reports.{sheet_shown, RuleOverflowsThere, PassesLimit}
+use Rattle.verb_answers.specs.Reports.{sheet_view, RuleOverflowsThere, PassesLimit}
 use Rattle.run_definitions.specs.State.{choice_of}
 use Rattle.run_definitions.specs.Moves.{Gain, Nothing, Prints}
 use Rattle.run_definitions.specs.Verbs.{mark_of}
@@ -45,12 +45,12 @@ use Rattle.run_machine.specs.declared.selecting.Refusal.{Refusal}
 use Rattle.run_machine.specs.declared.selecting.Refusal.TheVariants.{Fault, NoMemory}
 use Rattle.run_machine.specs.declared.selecting.Refusal.TheVariants as refusals
 use Rattle.run_machine.specs.Choosing.{IsUnselected}
-use Rattle.run_machine.specs.Ends.{place_shown}
-use Rattle.run_machine.specs.Findings.{TellsFinding, refused_finding, IfEnded}
+use Rattle.run_machine.specs.Ends.{place_view}
+use Rattle.run_machine.specs.Findings.{ReportsFinding, refused_finding, IfEnded}
 use Rattle.control_run.specs.declared.solving.SolvingVerb.{SolvingVerb}
 use Rattle.control_run.specs.Found.{solver_of, limit_of, PathReaches, PathFinds, reached, wrong_prices, at_limit, overflows, Finds, unselected, too_large, solved}
 use Rattle.run_setup.proofs.Selected.{no_change}
-use Rattle.control_run.proofs.Telling.{tells_more, tells_quietly}
+use Rattle.control_run.proofs.Reporting.{tells_more, tells_quietly}
 use Rattle.run_setup.proofs.Present.{one_problem, now_selected}
 use Rattle.control_run.proofs.Selected_again.{name_kept, options_kept, basis_kept, engine_kept, now_is, rates_again}
 
@@ -59,31 +59,31 @@ use Rattle.control_run.proofs.Selected_again.{name_kept, options_kept, basis_kep
 module _ {P : Type 0} (written stopped_at : P → Option (List ℕ)) (faults refusals : P → ℕ) (solver : Solver) (sheet : Sheet) (s now : Basis) (limit : Option ℕ) (before after : List Basics) (bases : List Basis) (verdict : PathVerdict) (check : Check)
     (r : PathReaches solver sheet s now limit before after bases verdict check) where
   -- its verdict is printed or broken off
-  pub verdict_told : (mark : Mark) {print_old print_new : P} → mark ≡ mark_of verdict → Writes {T = Unit {0}} written stopped_at faults refusals print_old print_new (Ok tt) (report_text (Solved solver verdict check)) →
-      TellsFinding (PathFinds solver sheet s now limit before after) written stopped_at faults refusals print_old print_new (Ok (Ended mark))
-  verdict_told mark e writes = record {
+  pub verdict_reported : (mark : Mark) {print_old print_new : P} → mark ≡ mark_of verdict → Writes {T = Unit {0}} written stopped_at faults refusals print_old print_new (Ok tt) (report_text (Solved solver verdict check)) →
+      ReportsFinding (PathFinds solver sheet s now limit before after) written stopped_at faults refusals print_old print_new (Ok (Ended mark))
+  verdict_reported mark e writes = record {
     gain = Prints (Solved solver verdict check);
     holds = subst (λ (m : Mark). PathFinds solver sheet s now limit before after (Prints (Solved solver verdict check)) (Ended m)) (sym e) (reached r);
     writes = writes;
   }
 
   pub verdict_cut : (stop : WriteStop) {print_old print_new : P} → Writes {T = Unit {0}} written stopped_at faults refusals print_old print_new (Err stop) (report_text (Solved solver verdict check)) →
-      TellsFinding (PathFinds solver sheet s now limit before after) written stopped_at faults refusals print_old print_new (Err (halt.Print stop))
+      ReportsFinding (PathFinds solver sheet s now limit before after) written stopped_at faults refusals print_old print_new (Err (halt.Print stop))
   verdict_cut stop writes = record { gain = Prints (Solved solver verdict check); finding = Ended (mark_of verdict); holds = reached r; writes = writes }
 
 -- only a limit is passed
-pub limit_passed : (sheet : OwnSheet) (s now : Basis) (limit : Option ℕ) → PassesLimit sheet s now limit → IsSolvedBy Primal (sheet_shown sheet) s limit PathLimit
+pub limit_passed : (sheet : OwnSheet) (s now : Basis) (limit : Option ℕ) → PassesLimit sheet s now limit → IsSolvedBy Primal (sheet_view sheet) s limit PathLimit
 limit_passed sheet s now (Some most) h = h.goes_on
 limit_passed sheet s now None h = h
 
 -- a path by a rule stops where the solver may stop
 pub path_overflows : (solver : Solver) (rule : Rule) (statement : SolvingStatement) (sheet : OwnSheet) (s now : Basis) (limit : Option ℕ) (before after : List Basics) (e : Evidence) →
-    ((bases : List Basis) (place : Option endings.Place) → RuleOverflowsOnPath rule statement (sheet_shown sheet) bases limit e place → OverflowsBy solver (sheet_shown sheet) bases limit e place) →
+    ((bases : List Basis) (place : Option endings.Place) → RuleOverflowsOnPath rule statement (sheet_view sheet) bases limit e place → OverflowsBy solver (sheet_view sheet) bases limit e place) →
     RuleOverflowsThere rule statement sheet s now limit before after e →
-    (place : OwnPlace) → place_shown place ≡ record { basis = now; way = waypoint (basics_of now) after e.way } → PathFinds solver (sheet_shown sheet) s now limit before after Nothing (Overflow e (Some place))
+    (place : OwnPlace) → place_view place ≡ record { basis = now; way = waypoint (basics_of now) after e.way } → PathFinds solver (sheet_view sheet) s now limit before after Nothing (Overflow e (Some place))
 path_overflows solver rule statement sheet s now limit before after e by o place is =
-    overflows (λ earlier lie. by (earlier ++ s ∷ []) (Some (place_shown place))
-    (subst (λ (p : endings.Place). RuleOverflowsOnPath rule statement (sheet_shown sheet) (earlier ++ s ∷ []) limit e (Some p)) (sym is) (o.overflows earlier lie)))
+    overflows (λ earlier lie. by (earlier ++ s ∷ []) (Some (place_view place))
+    (subst (λ (p : endings.Place). RuleOverflowsOnPath rule statement (sheet_view sheet) (earlier ++ s ∷ []) limit e (Some p)) (sym is) (o.overflows earlier lie)))
 
 -- ---- what is found with a setup
 
@@ -141,23 +141,23 @@ solved_ends solver sheet s now limit before after _ _ lawful no_change from at (
 
 -- The setup that code has opened, which is the one that is spoken of, and what is left of it.
 module _ {P : Type 0} (written stopped_at : P → Option (List ℕ)) (faults refusals : P → ℕ) (verb : SolvingVerb) (cells : Cells) (file : Filed) {setup old : Setup} (is_old : setup ≡ old) (new : Setup) (there : Problem ℕ) (is_there : filed_under setup.name file ≡ Some there) where
-  at_problem : (print_old print_new : P) (result : Result Finding Halt) → TellsFinding (Finds verb there cells setup new) written stopped_at faults refusals print_old print_new result →
-      (problem : Problem ℕ) → filed_under old.name file ≡ Some problem → TellsFinding (Finds verb problem cells old new) written stopped_at faults refusals print_old print_new result
+  at_problem : (print_old print_new : P) (result : Result Finding Halt) → ReportsFinding (Finds verb there cells setup new) written stopped_at faults refusals print_old print_new result →
+      (problem : Problem ℕ) → filed_under old.name file ≡ Some problem → ReportsFinding (Finds verb problem cells old new) written stopped_at faults refusals print_old print_new result
   at_problem print_old print_new result t problem on_file =
-      subst (λ (s : Setup). TellsFinding (Finds verb problem cells s new) written stopped_at faults refusals print_old print_new result) is_old
-      (subst (λ (q : Problem ℕ). TellsFinding (Finds verb q cells setup new) written stopped_at faults refusals print_old print_new result)
+      subst (λ (s : Setup). ReportsFinding (Finds verb problem cells s new) written stopped_at faults refusals print_old print_new result) is_old
+      (subst (λ (q : Problem ℕ). ReportsFinding (Finds verb q cells setup new) written stopped_at faults refusals print_old print_new result)
       (one_problem file setup there problem is_there (ap (λ (s : Setup). filed_under s.name file) is_old ∙ on_file)) t)
 
-  pub refusal_told : (print : P) (refusal : Refusal) → IsUnselected there (choice_of cells setup.options) refusal →
-      (problem : Problem ℕ) → filed_under old.name file ≡ Some problem → TellsFinding (Finds verb problem cells old new) written stopped_at faults refusals print print (refused_finding refusal)
-  refusal_told print refusal u =
+  pub refusal_reported : (print : P) (refusal : Refusal) → IsUnselected there (choice_of cells setup.options) refusal →
+      (problem : Problem ℕ) → filed_under old.name file ≡ Some problem → ReportsFinding (Finds verb problem cells old new) written stopped_at faults refusals print print (refused_finding refusal)
+  refusal_reported print refusal u =
       at_problem print print (refused_finding refusal) (tells_quietly written stopped_at faults refusals (Finds verb there cells setup new) print (refused_finding refusal) (refusal_found verb there cells setup new refusal u))
 
-  pub path_told : (lp : LinearProgram) (limit : Option ℕ) (print_old print_new : P) (result : Result Finding Halt) → limit ≡ limit_of verb cells → selected there (choice_of cells setup.options) ≡ Ok lp →
+  pub path_reported : (lp : LinearProgram) (limit : Option ℕ) (print_old print_new : P) (result : Result Finding Halt) → limit ≡ limit_of verb cells → selected there (choice_of cells setup.options) ≡ Ok lp →
       new.name ≡ setup.name → new.options ≡ setup.options →
-      TellsFinding (PathFinds (solver_of verb) (record { problem = there; lp = lp }) setup.basis new.basis limit setup.engine.waypoints new.engine.waypoints) written stopped_at faults refusals print_old print_new result →
-      (problem : Problem ℕ) → filed_under old.name file ≡ Some problem → TellsFinding (Finds verb problem cells old new) written stopped_at faults refusals print_old print_new result
-  path_told lp limit print_old print_new result within ok same_name same_options t =
+      ReportsFinding (PathFinds (solver_of verb) (record { problem = there; lp = lp }) setup.basis new.basis limit setup.engine.waypoints new.engine.waypoints) written stopped_at faults refusals print_old print_new result →
+      (problem : Problem ℕ) → filed_under old.name file ≡ Some problem → ReportsFinding (Finds verb problem cells old new) written stopped_at faults refusals print_old print_new result
+  path_reported lp limit print_old print_new result within ok same_name same_options t =
       at_problem print_old print_new result
       (tells_more written stopped_at faults refusals (PathFinds (solver_of verb) (record { problem = there; lp = lp }) setup.basis new.basis limit setup.engine.waypoints new.engine.waypoints) (Finds verb there cells setup new) print_old print_new
       (λ gain finding f. solved ok same_name same_options
@@ -167,13 +167,13 @@ module _ {P : Type 0} (written stopped_at : P → Option (List ℕ)) (faults ref
 module _ {P : Type 0} (written stopped_at : P → Option (List ℕ)) (faults refusals : P → ℕ) (verb : SolvingVerb) (cells : Cells) (file : Filed) (setup : Setup) {given mid : Setup} (seen : mid ≡ given)
     (others : given ≡ record setup { objective = given.objective; rhs = given.rhs; lp = given.lp }) (problem : Problem ℕ) (on_file : filed_under setup.name file ≡ Some problem)
     (ok : selected problem (choice_of cells setup.options) ≡ Ok given.lp) (new : Setup) (name : new.name ≡ mid.name) (options : new.options ≡ mid.options) (print_old print_new : P) (result : Result Finding Halt)
-    (t : TellsFinding (PathFinds (solver_of verb) (record { problem = problem; lp = mid.lp }) mid.basis new.basis (limit_of verb cells) mid.engine.waypoints new.engine.waypoints) written stopped_at faults refusals print_old print_new result) where
-  pub again_told : (filed : Problem ℕ) → filed_under setup.name file ≡ Some filed → TellsFinding (Finds verb filed cells setup new) written stopped_at faults refusals print_old print_new result
-  again_told =
-      path_told written stopped_at faults refusals verb cells file refl new problem on_file mid.lp (limit_of verb cells) print_old print_new result refl (now_is setup seen others file problem cells ok)
+    (t : ReportsFinding (PathFinds (solver_of verb) (record { problem = problem; lp = mid.lp }) mid.basis new.basis (limit_of verb cells) mid.engine.waypoints new.engine.waypoints) written stopped_at faults refusals print_old print_new result) where
+  pub again_reported : (filed : Problem ℕ) → filed_under setup.name file ≡ Some filed → ReportsFinding (Finds verb filed cells setup new) written stopped_at faults refusals print_old print_new result
+  again_reported =
+      path_reported written stopped_at faults refusals verb cells file refl new problem on_file mid.lp (limit_of verb cells) print_old print_new result refl (now_is setup seen others file problem cells ok)
       (name ∙ name_kept setup seen others) (options ∙ options_kept setup seen others)
-      (subst (λ (b : Basis). TellsFinding (PathFinds (solver_of verb) (record { problem = problem; lp = mid.lp }) b new.basis (limit_of verb cells) setup.engine.waypoints new.engine.waypoints) written stopped_at faults refusals print_old print_new result) (basis_kept setup seen others)
-      (subst (λ (e : Engine). TellsFinding (PathFinds (solver_of verb) (record { problem = problem; lp = mid.lp }) mid.basis new.basis (limit_of verb cells) e.waypoints new.engine.waypoints) written stopped_at faults refusals print_old print_new result) (engine_kept setup seen others) t))
+      (subst (λ (b : Basis). ReportsFinding (PathFinds (solver_of verb) (record { problem = problem; lp = mid.lp }) b new.basis (limit_of verb cells) setup.engine.waypoints new.engine.waypoints) written stopped_at faults refusals print_old print_new result) (basis_kept setup seen others)
+      (subst (λ (e : Engine). ReportsFinding (PathFinds (solver_of verb) (record { problem = problem; lp = mid.lp }) mid.basis new.basis (limit_of verb cells) e.waypoints new.engine.waypoints) written stopped_at faults refusals print_old print_new result) (engine_kept setup seen others) t))
 
   -- with an optimal verdict the basis is optimal in what is selected
   pub again_solved : IsReady file setup → new.lp ≡ mid.lp → IsLinearProgram mid.lp → HasRates new.engine.matrix new.engine.basics mid.lp new.basis →
@@ -192,10 +192,10 @@ module _ {P : Type 0} (written stopped_at : P → Option (List ℕ)) (faults ref
         optimal = subst (λ (p : LinearProgram). mark ≡ Optimal → IsOptimalBasis p new.basis) (sym same_lp) optimal;
       }
 
-      by : (result : Result Finding Halt) → TellsFinding (PathFinds (solver_of verb) (record { problem = problem; lp = mid.lp }) mid.basis new.basis (limit_of verb cells) mid.engine.waypoints new.engine.waypoints) written stopped_at faults refusals print_old print_new result →
+      by : (result : Result Finding Halt) → ReportsFinding (PathFinds (solver_of verb) (record { problem = problem; lp = mid.lp }) mid.basis new.basis (limit_of verb cells) mid.engine.waypoints new.engine.waypoints) written stopped_at faults refusals print_old print_new result →
           IfOk result (λ finding. IfEnded finding (λ mark. IsSolved mark cells.xobj cells.xrhs file new))
-      by (Ok finding) told =
-          solved_ends (solver_of verb) (record { problem = problem; lp = mid.lp }) mid.basis new.basis (limit_of verb cells) mid.engine.waypoints new.engine.waypoints told.gain finding lawful
-          (no_change problem (choice_of cells setup.options) mid.lp is_now) (record { is_basis = from.is_basis; nonsingular = from.nonsingular }) (record { is_basis = has.is_basis; nonsingular = has.nonsingular }) told.holds
+      by (Ok finding) reported =
+          solved_ends (solver_of verb) (record { problem = problem; lp = mid.lp }) mid.basis new.basis (limit_of verb cells) mid.engine.waypoints new.engine.waypoints reported.gain finding lawful
+          (no_change problem (choice_of cells setup.options) mid.lp is_now) (record { is_basis = from.is_basis; nonsingular = from.nonsingular }) (record { is_basis = has.is_basis; nonsingular = has.nonsingular }) reported.holds
           (λ mark. IsSolved mark cells.xobj cells.xrhs file new) solved_with
-      by (Err halted) told = tt
+      by (Err halted) reported = tt

@@ -12,14 +12,14 @@ use Rattle.run_machine.specs.declared.act.Halt.{Halt}
 use Rattle.run_machine.specs.declared.act.Halt.TheVariants as halt
 use Rattle.run_machine.specs.declared.act.AfterStatement.{AfterStatement}
 use Rattle.run_setup.specs.Machines.{Machine}
-use Rattle.run_setup.specs.Standing.{Stands}
+use Rattle.run_setup.specs.Standing.{Represents}
 use Rattle.run_setup.specs.Statements.{Comes}
 use Rattle.run_setup.specs.Statements.{Performs}
 use Rattle.control_run.specs.Running.{Leads, Steps}
 use Rattle.run_machine.specs.Turning.{turn_of}
 
 -- the state with one more statement counted
-counted_stands : {cards : List (List ℕ)} {machine : Machine} {position executed : ℕ} {state : State} → Stands cards machine position executed state → Stands cards machine position (executed + 1) (counted state)
+counted_stands : {cards : List (List ℕ)} {machine : Machine} {position executed : ℕ} {state : State} → Represents cards machine position executed state → Represents cards machine position (executed + 1) (counted state)
 counted_stands s = record {
   is_position = s.is_position;
   is_executed = ap (λ n. n + 1) s.is_executed;
@@ -31,7 +31,7 @@ counted_stands s = record {
 }
 
 -- the state at another position
-placed_stands : {cards : List (List ℕ)} {machine : Machine} {position executed : ℕ} {state : State} (to by : ℕ) → Stands cards machine position executed state → by ≡ to → Stands cards machine to executed (record state { position = by })
+placed_stands : {cards : List (List ℕ)} {machine : Machine} {position executed : ℕ} {state : State} (to by : ℕ) → Represents cards machine position executed state → by ≡ to → Represents cards machine to executed (record state { position = by })
 placed_stands to by s e = record {
   is_position = e;
   is_executed = s.is_executed;
@@ -43,7 +43,7 @@ placed_stands to by s e = record {
 }
 
 module _ (S : Solving) (program : Program) (cards : List (List ℕ)) (position : ℕ) (statement : Statement ℕ) (there : slice_get program.statements (position - 1) ≡ Some statement) where
-  step_of : {machine : Machine} {executed : ℕ} {state : State} → Stands cards machine position executed state → executed < 100000 → (outcome : Outcome) →
+  step_of : {machine : Machine} {executed : ℕ} {state : State} → Represents cards machine position executed state → executed < 100000 → (outcome : Outcome) →
       Gives S statement.card (verb_move statement.verb statement.card (counted state)) outcome → Step S program state outcome
   step_of {state = state} s within outcome gives = record {
     statement = statement;
@@ -52,7 +52,7 @@ module _ (S : Solving) (program : Program) (cards : List (List ℕ)) (position :
     gives = gives;
   }
 
-  leads_by : (old new : Machine) {executed : ℕ} {state : State} → Stands cards old position executed state → executed < 100000 → (gain : Gain) (act : Act) →
+  leads_by : (old new : Machine) {executed : ℕ} {state : State} → Represents cards old position executed state → executed < 100000 → (gain : Gain) (act : Act) →
       Comes S statement.verb statement.card cards position (executed + 1) (counted state) new gain act → Leads S program cards executed state new gain (turn_of position act)
   leads_by old new s within gain act.Next c =
       (record (c.0) { position = c.0.position + 1 }, step_of s within _ c.1, placed_stands (position + 1) (c.0.position + 1) c.2 (ap (λ n. n + 1) c.2.is_position), omega arith)

@@ -22,8 +22,8 @@ use Rattle.run_machine.specs.declared.act.AfterStatement.{AfterStatement}
 use Rattle.run_machine.specs.declared.act.AfterStatement.TheVariants.{Goes, Ends}
 use Rattle.run_machine.specs.declared.end.End.{End}
 use Rattle.run_setup.specs.Machines.{Machine}
-use Rattle.run_machine.specs.Ends.{end_shown}
-use Rattle.run_setup.specs.Standing.{IsSound, Stands}
+use Rattle.run_machine.specs.Ends.{end_view}
+use Rattle.run_setup.specs.Standing.{IsSound, Represents}
 use Rattle.run_machine.specs.Punching.{gain_cards}
 use Rattle.control_run.specs.Running.{decks_after, by_itself, for_memory, for_memory_of_punch, for_punch_fault, Turns, IsStepCut, IsDeckCut, Steps, RunsTo, IsRunCut, Runs}
 use Rattle.control_run.proofs.Gains.{printed_text, reports_text_more, card_text_more, gains_whole, gains_prefix_at_fault, gains_prefix_for_memory}
@@ -37,7 +37,7 @@ module _ (S : Solving) (program : Program) (cards : List (List ℕ)) {P U : Type
     pub first : 1 ≤ position
     pub within : executed ≤ 100000
     pub state : State
-    pub stands : Stands cards machine position executed state
+    pub stands : Represents cards machine position executed state
     pub reports : List Report
     pub punched : List (List ℕ)
     pub reaches : Reaches S program (decks_after program cards) reports punched state
@@ -46,14 +46,14 @@ module _ (S : Solving) (program : Program) (cards : List (List ℕ)) {P U : Type
 
   -- a machine at the start of the run
   pub underway_first : (print : P) (punch : U) (machine : Machine) (decks_from : ℕ) → drop (decks_from - 1) (numbered_cards cards) ≡ drop (program.decks_from - 1) (numbered_cards cards) →
-      IsSound cards machine → Stands cards machine 1 0 (start (decks_of (drop (decks_from - 1) (numbered_cards cards)))) →
+      IsSound cards machine → Represents cards machine 1 0 (start (decks_of (drop (decks_from - 1) (numbered_cards cards)))) →
       IsUnderway print print punch punch machine 1 0
   underway_first print punch machine decks_from same sound stands = record {
     sound = sound;
     first = omega arith;
     within = omega arith;
     state = start (decks_after program cards);
-    stands = subst (λ d. Stands cards machine 1 0 (start (decks_of d))) same stands;
+    stands = subst (λ d. Represents cards machine 1 0 (start (decks_of d))) same stands;
     reports = [];
     punched = [];
     reaches = begun;
@@ -104,13 +104,13 @@ module _ (S : Solving) (program : Program) (cards : List (List ℕ)) {P U : Type
     -- one more statement ends the run
     underway_ended : {new : Machine} (end : End) →
         Turns S program cards written stopped_at faults refusals now later punch_written punch_stopped_at punch_faults punch_refusals punch_now punch_later executed u.state new (Ends end) →
-        RunsTo S program cards written stopped_at faults refusals old later punch_written punch_stopped_at punch_faults punch_refusals punch_old punch_later (Ok tt) (end_shown end)
+        RunsTo S program cards written stopped_at faults refusals old later punch_written punch_stopped_at punch_faults punch_refusals punch_old punch_later (Ok tt) (end_view end)
     underway_ended end t = record {
       reports = u.reports ++ printed_by t.gain;
       punched = u.punched ++ punched_by t.gain;
       can_end = by_itself (is_ended t.gain u.reaches t.leads);
       prints = writes_same (reports_text_more u.reports t.gain) (writes_then u.prints t.prints);
-      gains = gains_whole (end_shown end) (punch_written punch_old) (punch_written punch_later) (card_text (u.punched ++ punched_by t.gain)) (punches_more u t.gain t.punches).bytes;
+      gains = gains_whole (end_view end) (punch_written punch_old) (punch_written punch_later) (card_text (u.punched ++ punched_by t.gain)) (punches_more u t.gain t.punches).bytes;
       leaves = left (punches_more u t.gain t.punches);
     }
 
@@ -207,7 +207,7 @@ module _ (S : Solving) (program : Program) (cards : List (List ℕ)) {P U : Type
   pub underway_ends : {old now later : P} {punch_old punch_now punch_later : U} {machine : Machine} (new : Machine) {position executed : ℕ} (turn : AfterStatement) (end : End) → turn ≡ Ends end →
       (u : IsUnderway old now punch_old punch_now machine position executed) → executed < 100000 →
       Steps S program cards written stopped_at faults refusals now later punch_written punch_stopped_at punch_faults punch_refusals punch_now punch_later position machine new (Ok turn) →
-      RunsTo S program cards written stopped_at faults refusals old later punch_written punch_stopped_at punch_faults punch_refusals punch_old punch_later (Ok tt) (end_shown end)
+      RunsTo S program cards written stopped_at faults refusals old later punch_written punch_stopped_at punch_faults punch_refusals punch_old punch_later (Ok tt) (end_view end)
   underway_ends {now = now} {later = later} {punch_now = punch_now} {punch_later = punch_later} new {executed = executed} turn end is u within steps =
       underway_ended later punch_later u {new = new} end
       (subst (λ (t : AfterStatement). Turns S program cards written stopped_at faults refusals now later punch_written punch_stopped_at punch_faults punch_refusals punch_now punch_later executed u.state new t) is (steps executed u.state within u.stands))

@@ -23,7 +23,7 @@ pub data Finishes {P : Type 0} (written stopped_at : P → Option (List ℕ)) (f
   printed : code_of status ≡ status_of ending → Writes {T = Unit {0}} written stopped_at faults refusals old new (Ok tt) (ending_text ending) → Finishes written stopped_at faults refusals old new ending status
   cut_off : (stop : WriteStop) → status ≡ cut_status stop → Writes {T = Unit {0}} written stopped_at faults refusals old new (Err stop) (ending_text ending) → Finishes written stopped_at faults refusals old new ending status
 
--- Where the print took no more, nothing is printed; else the listing ends with a fault of the punch or with want of memory.
+-- Where the print took no more, nothing is printed; else the listing ends with a fault of the punch or with running out of memory.
 abbrev pub FinishesHalted : {P : Type 0} (written stopped_at : P → Option (List ℕ)) (faults refusals : P → ℕ) (old new : P) → Halt → Status → Type 0
 FinishesHalted written stopped_at faults refusals old new (halt.Print stop) status = (status ≡ cut_status stop) × (new ≡ old)
 FinishesHalted written stopped_at faults refusals old new (halt.Punch Failed) status = Finishes written stopped_at faults refusals old new endings.PunchFault status

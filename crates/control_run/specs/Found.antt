@@ -28,7 +28,7 @@ use Rattle.control_definitions.specs.Program as program
 use Rattle.control_definitions.specs.Cells.{Cells, steps_allowed}
 use Rattle.question_definitions.specs.Answers.{Basis, Sheet, Reached, PathLimit, PricesWrong}
 use Rattle.answer_definitions.specs.Verdicts.{IsSolvedBy}
-use Rattle.answer_definitions.specs.Sections.{IsShown, IsRanged}
+use Rattle.answer_definitions.specs.Sections.{IsSolutionOf, IsRanged}
 use Rattle.answer_definitions.specs.Evidence.{IsEvidence, OverflowsBy}
 use Rattle.basis_values.specs.Calls.{LieIn}
 use Rattle.run_definitions.specs.State.{choice_of}
@@ -36,10 +36,10 @@ use Rattle.run_definitions.specs.Moves.{Gain, Nothing, Prints}
 use Rattle.run_definitions.specs.Verbs.{mark_of}
 use Rattle.run_machine.specs.declared.end.Place.{Place as OwnPlace}
 use Rattle.run_machine.specs.declared.finding.Finding.{Finding}
-use Rattle.run_machine.specs.declared.finding.Finding.TheVariants.{Refused, Overflow, WrongPrices, Limit, Ended, Shown}
+use Rattle.run_machine.specs.declared.finding.Finding.TheVariants.{Refused, Overflow, WrongPrices, Limit, Ended, Views}
 use Rattle.run_setup.specs.Kept.{Setup}
 use Rattle.run_machine.specs.Choosing.{HasSelectionFault, HasSelectionOverflow}
-use Rattle.run_machine.specs.Ends.{place_shown}
+use Rattle.run_machine.specs.Ends.{place_view}
 use Rattle.control_run.specs.declared.solving.SolvingVerb.{SolvingVerb}
 use Rattle.control_run.specs.declared.solving.SolvingVerb.TheVariants.{Primal, Dual}
 
@@ -82,7 +82,7 @@ module _ (solver : Solver) (sheet : Sheet) (s now : Basis) (limit : Option ℕ) 
         PathFinds Nothing (WrongPrices variable)
     at_limit : IsSolvedBy solver sheet s limit PathLimit → PathFinds Nothing Limit
     overflows : {e : Evidence} {place : Option OwnPlace} →
-        PathOverflows e (option_map place_shown place) → PathFinds Nothing (Overflow e place)
+        PathOverflows e (option_map place_view place) → PathFinds Nothing (Overflow e place)
 
 -- With these cells the selection of a setup's problem is refused; or the path of the verb is followed from the present basis, and the
 -- setup keeps where it has come to.
@@ -110,10 +110,10 @@ module _ (sheet : Sheet) (s : Basis) (before : List Basics) where
 
   -- its lines are printed with the mark; or an operation is refused
   pub data LinesFound (mark : Mark) : Gain → Finding → Type 0 where
-    shown : {lines : SolutionLines} → IsShown sheet s lines →
-        LinesFound mark (Prints (Solution mark lines)) Shown
+    viewed : {lines : SolutionLines} → IsSolutionOf sheet s lines →
+        LinesFound mark (Prints (Solution mark lines)) Views
     overflows : {e : Evidence} {place : Option OwnPlace} →
-        LinesOverflow e (option_map place_shown place) → LinesFound mark Nothing (Overflow e place)
+        LinesOverflow e (option_map place_view place) → LinesFound mark Nothing (Overflow e place)
 
 -- those of a setup's present basis, in the linear program that it keeps
 abbrev pub Shows : Problem ℕ → Setup → Mark → Gain → Finding → Type 0
@@ -131,9 +131,9 @@ module _ (sheet : Sheet) (s : Basis) (before : List Basics) where
 
   -- its intervals are printed; or an operation is refused
   pub data RangesFound : Gain → Finding → Type 0 where
-    ranged : {lines : RangeLines} → IsRanged sheet s lines → RangesFound (Prints (Ranges lines)) Shown
+    ranged : {lines : RangeLines} → IsRanged sheet s lines → RangesFound (Prints (Ranges lines)) Views
     stopped : {e : Evidence} {place : Option OwnPlace} →
-        RangesOverflow e (option_map place_shown place) → RangesFound Nothing (Overflow e place)
+        RangesOverflow e (option_map place_view place) → RangesFound Nothing (Overflow e place)
 
 -- those of a setup's present basis, in the linear program that it keeps
 abbrev pub ShowsRanges : Problem ℕ → Setup → Gain → Finding → Type 0

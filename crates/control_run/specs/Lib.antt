@@ -3,4 +3,4 @@ pub mod Found
 pub mod Devices
 pub mod Finishing
 pub mod Running
-pub mod Sweeping
+pub mod ParametricVerbs

@@ -1,7 +1,7 @@
 -- What a program's run has printed and punched, and how it may be answered.
 --     Leads state turn             executing a statement of the program leads there
 --     Steps result                 a statement leads somewhere, with its report printed and its deck punched; or it is cut off
---     CanEnd reports punched ending     the run ends so by itself, for want of memory, or since the punch takes no more
+--     CanEnd reports punched ending     the run ends so by itself, because memory runs out, or since the punch takes no more
 --     IsCut ..                     the print has stopped in a report or in the lines of an end
 --     Runs result                  the run ends, with its reports printed and its decks punched; or it is cut off
 --     IsRunAnswer status ..        what a run may be answered
@@ -30,8 +30,8 @@ use Rattle.run_machine.specs.declared.act.AfterStatement.{AfterStatement}
 use Rattle.run_machine.specs.declared.act.AfterStatement.TheVariants.{Goes, Ends}
 use Rattle.run_machine.specs.declared.end.End.{End}
 use Rattle.run_setup.specs.Machines.{Machine}
-use Rattle.run_machine.specs.Ends.{end_shown}
-use Rattle.run_setup.specs.Standing.{Stands}
+use Rattle.run_machine.specs.Ends.{end_view}
+use Rattle.run_setup.specs.Standing.{Represents}
 use Rattle.run_machine.specs.Punching.{gain_cards}
 use Rattle.control_run.specs.Devices.{Leaves}
 
@@ -51,12 +51,12 @@ GainsBy ending old new text = (gained : List ℕ) × Appends old new gained × G
 module _ (S : Solving) (program : Program) (cards : List (List ℕ)) where
   -- the run goes on at a position, with a state that the machine shows; or it ends
   abbrev pub Leads : ℕ → State → Machine → Gain → AfterStatement → Type 0
-  Leads executed state new gain (Goes to) = (after : State) × Step S program state (GoesOn gain after) × Stands cards new to (executed + 1) after × (1 ≤ to)
-  Leads executed state new gain (Ends end) = Step S program state (EndsRun gain (end_shown end))
+  Leads executed state new gain (Goes to) = (after : State) × Step S program state (GoesOn gain after) × Represents cards new to (executed + 1) after × (1 ≤ to)
+  Leads executed state new gain (Ends end) = Step S program state (EndsRun gain (end_view end))
 
   module _ (punch_failed punch_wanted : Type 0) where
     -- The run ends so by itself; or it has come so far, and there is no memory; or it has come to a statement that punches a deck, and
-    -- the punch wants memory itself, or has failed. Then that deck is the last of the cards.
+    -- the punch runs out of memory itself, or has failed. Then that deck is the last of the cards.
     pub data CanEnd : List Report → List (List ℕ) → Ending → Type 0 where
       by_itself : {reports : List Report} {punched : List (List ℕ)} {ending : Ending} →
           IsRun S program (decks_after program cards) reports punched ending → CanEnd reports punched ending
@@ -81,7 +81,7 @@ module _ (S : Solving) (program : Program) (cards : List (List ℕ)) where
           IsCut old new punch_old punch_new
 
   -- What a run may be answered: the status of an end, with the whole listing, and with all that is punched by then, or a prefix of it
-  -- where the deck in hand isn't whole; or the print has failed, or wanted memory itself, and has stopped in a report or in the lines of
+  -- where the deck in hand isn't whole; or the print has failed, or ran out of memory itself, and has stopped in a report or in the lines of
   -- an end.
   pub data IsRunAnswer (print_failed print_wanted punch_failed punch_wanted : Type 0) (status : ℕ) (old new punch_old punch_new : Option (List ℕ)) : Type 0 where
     whole : {reports : List Report} {punched : List (List ℕ)} {ending : Ending} → CanEnd punch_failed punch_wanted reports punched ending →
@@ -117,12 +117,12 @@ module _ (S : Solving) (program : Program) (cards : List (List ℕ)) where
     -- What executing the statement at a position does from each state that the machine showed. Where there is no memory, nothing is
     -- printed and nothing is punched.
     abbrev pub Steps : ℕ → Machine → Machine → Result AfterStatement Halt → Type 0
-    Steps position old new (Ok turn) = (executed : ℕ) (state : State) → executed < max_executed → Stands cards old position executed state → Turns executed state new turn
-    Steps position old new (Err (halt.Print stop)) = (executed : ℕ) (state : State) → executed < max_executed → Stands cards old position executed state → IsStepCut state stop
-    Steps position old new (Err (halt.Punch stop)) = (executed : ℕ) (state : State) → executed < max_executed → Stands cards old position executed state → IsDeckCut state stop
+    Steps position old new (Ok turn) = (executed : ℕ) (state : State) → executed < max_executed → Represents cards old position executed state → Turns executed state new turn
+    Steps position old new (Err (halt.Print stop)) = (executed : ℕ) (state : State) → executed < max_executed → Represents cards old position executed state → IsStepCut state stop
+    Steps position old new (Err (halt.Punch stop)) = (executed : ℕ) (state : State) → executed < max_executed → Represents cards old position executed state → IsDeckCut state stop
     Steps position old new (Err halt.NoMemory) = (print_new ≡ print_old) × (punch_new ≡ punch_old)
 
-    -- how the run can end, where the punch has failed or wanted memory only as its counts tell
+    -- how the run can end, where the punch has failed or ran out of memory only as its counts tell
     abbrev pub CanEndNow : List Report → List (List ℕ) → Ending → Type 0
     CanEndNow = CanEnd (Rose (punch_faults punch_old) (punch_faults punch_new)) (Rose (punch_refusals punch_old) (punch_refusals punch_new))
 
@@ -151,7 +151,7 @@ module _ (S : Solving) (program : Program) (cards : List (List ℕ)) where
 
     -- The run ends; or the print stops it; or the punch stops it, since it has failed or has found no memory; or there is no memory.
     abbrev pub Runs : Result End Halt → Type 0
-    Runs (Ok end) = RunsTo (Ok tt) (end_shown end)
+    Runs (Ok end) = RunsTo (Ok tt) (end_view end)
     Runs (Err (halt.Print stop)) = IsRunCut stop
     Runs (Err (halt.Punch stop)) = RunsTo (Err stop) (punch_end stop)
     Runs (Err halt.NoMemory) = RunsTo (Ok tt) Memory

@@ -1,6 +1,6 @@
 // The statements of a program.
 ghost use Rattle.std.specs.Prelude.{◌≡◌, ◌≤◌, length};
-ghost use Rattle.control_verbs.specs.Shown.{shown};
+ghost use Rattle.control_verbs.specs.Views.{viewed};
 ghost use Rattle.control_compiler.specs.Valid.{IsProgram};
 ghost use Rattle.answer_definitions.specs.Real.{linear_programming};
 ghost use Rattle.run_setup.specs.Standing.{IsSound};
@@ -8,7 +8,7 @@ ghost use Rattle.run_machine.specs.Statements.{IsSoundVerb};
 ghost use Rattle.run_setup.specs.Statements.{Performs};
 ghost use Rattle.control_run.specs.Running.{Steps};
 
-use crate::parametric::sweep;
+use crate::parametric::parametric_run;
 use crate::ranges::show_ranges;
 use crate::solution::show_solution;
 use crate::solving::{SolvingVerb, solve};
@@ -33,8 +33,8 @@ fn execute<E: Engine, P: Sink, U: Sink>(
     verb: &Verb<u32>,
 ) -> Result<Act, Halt>
     requires sound { IsSound cards.now machine.old }
-    requires verb { IsSoundVerb (shown verb.now) }
-    ensures acts { Performs linear_programming (shown verb.now) card
+    requires verb { IsSoundVerb (viewed verb.now) }
+    ensures acts { Performs linear_programming (viewed verb.now) card
         P.written P.stopped_at P.faults P.refusals print.old print.new U.written U.stopped_at U.faults U.refusals
         punch.old punch.new
         cards.now machine.old machine.new result }
@@ -55,8 +55,8 @@ fn execute<E: Engine, P: Sink, U: Sink>(
         Verb::Solution => show_solution(alloc, machine, print, card),
         Verb::Revise => machine.revise(alloc, cards, print, card),
         Verb::Ranging => show_ranges(alloc, machine, print, card),
-        Verb::Paraobj => sweep(alloc, machine, print, card, ParametricVerb::Paraobj),
-        Verb::Pararhs => sweep(alloc, machine, print, card, ParametricVerb::Pararhs),
+        Verb::Paraobj => parametric_run(alloc, machine, print, card, ParametricVerb::Paraobj),
+        Verb::Pararhs => parametric_run(alloc, machine, print, card, ParametricVerb::Pararhs),
         Verb::Bcdout => machine.punch_problem(print, punch, card),
         Verb::Punch => punch_present(alloc, machine, print, punch, card),
         Verb::Insert => insert_basis(alloc, machine, cards, print, card),

@@ -3,7 +3,7 @@ ghost use Rattle.std.specs.Prelude.{◌≡◌};
 ghost use Rattle.job_devices.specs.Causes.{Rose};
 ghost use Rattle.job_devices.specs.declared.device.WriteStop as stops;
 ghost use Rattle.run_machine.specs.declared.act.Halt.TheVariants as halts;
-ghost use Rattle.run_machine.specs.Ends.{end_shown};
+ghost use Rattle.run_machine.specs.Ends.{end_view};
 ghost use Rattle.control_run.specs.Statuses.{code_of, IsStatusOfRun};
 ghost use Rattle.control_run.specs.Finishing.{Finishes, FinishesHalted, cut_status};
 ghost use Rattle.listing_definitions.specs.Ending.{status_of, PunchFault};
@@ -15,7 +15,7 @@ use run_machine::{End, Halt, ending_of};
 
 // The status of an end.
 fn status_of(end: &End) -> Status
-    ensures code { code_of result ≡ status_of (end_shown end.now) }
+    ensures code { code_of result ≡ status_of (end_view end.now) }
     ensures own { IsStatusOfRun result }
 {
     match end {
@@ -45,7 +45,7 @@ fn status_of_cut(stop: WriteStop) -> Status
 /// Ends the listing, and answers how the run ended.
 pub fn finish<P: Sink>(print: &mut P, end: &End) -> Status
     ensures finishes { Finishes P.written P.stopped_at P.faults P.refusals print.old print.new
-        (end_shown end.now) result }
+        (end_view end.now) result }
     ensures own { IsStatusOfRun result }
 {
     match text_of(&Report::End(ending_of(end)), print) {

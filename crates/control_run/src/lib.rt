@@ -9,7 +9,7 @@ mod run;
 mod solution;
 mod solving;
 mod status;
-mod sweep;
+mod parametric_run;
 
 pub use run::{RunEngine, run_on, run_program};
 pub use status::Status;

@@ -11,17 +11,17 @@ ghost use Rattle.listing_tables.specs.Sheets.{IsSheet};
 ghost use Rattle.report_text.specs.Verdicts.{IsOutcome};
 ghost use Rattle.report_text.specs.Parametric.{IsParametric};
 ghost use Rattle.answer_definitions.specs.Real.{linear_programming};
-ghost use Rattle.verb_answers.specs.Reports.{sheet_shown};
+ghost use Rattle.verb_answers.specs.Reports.{sheet_view};
 ghost use Rattle.verb_answers.specs.RunReports.{IsAnswered, IsPrintable};
 ghost use Rattle.run_machine.specs.Standing.{AreDemands};
 ghost use Rattle.run_setup.specs.Standing.{IsReady, IsSound};
 ghost use Rattle.run_setup.specs.Statements.{Executes};
-ghost use Rattle.run_machine.specs.Findings.{TellsFinding};
+ghost use Rattle.run_machine.specs.Findings.{ReportsFinding};
 ghost use Rattle.parametric_request.specs.Asking.{verb_of};
-ghost use Rattle.control_run.specs.Sweeping.{refusal_of, sweep_shown, Serves, StopsSweep, SweepFinds, Sweeps, IsRunOverflow, value_left, cells_left};
+ghost use Rattle.control_run.specs.ParametricVerbs.{refusal_of, parametric_run_view, Serves, StopsParametricRun, ParametricRunFinds, ParametricRuns, IsRunOverflow, value_left, cells_left};
 
 use crate::solving::mark_of;
-use crate::sweep::{Sweep, run_of};
+use crate::parametric_run::{ParametricRun, run_of};
 use bounded_primal::PrimalStop;
 use frac128::{Frac, Refused};
 use job_devices::Sink;
@@ -47,43 +47,43 @@ fn run_from<R: Rates>(
     sheet: Sheet<'_>,
     basis: &mut Basis,
     rates: &mut R,
-    sweep: &Sweep,
+    parametric_run: &ParametricRun,
 ) -> Result<RunReport, PrimalStop>
     requires sheet { IsSheet sheet }
     requires no_change { sheet.lp.now.change ≡ None }
     requires rates { HasRates (R.matrix rates.old) (R.basics rates.old) sheet.lp.now basis.old }
-    requires serves { Serves sheet.problem.now sheet.lp.now sweep.now }
-    ensures answered { IfOk result (IsAnswered sheet.entry (sweep_shown sweep.now) basis.old
+    requires serves { Serves sheet.problem.now sheet.lp.now parametric_run.now }
+    ensures answered { IfOk result (IsAnswered sheet.entry (parametric_run_view parametric_run.now) basis.old
         basis.new (R.waypoints rates.old) (R.waypoints rates.new)) }
     ensures printable { IfOk result (λ answer. IsPrintable sheet.entry answer.report) }
-    ensures stops { IfErr result (StopsSweep sheet.entry (sweep_shown sweep.now) basis.old
+    ensures stops { IfErr result (StopsParametricRun sheet.entry (parametric_run_view parametric_run.now) basis.old
         basis.new (R.waypoints rates.old) (R.waypoints rates.new)) }
     ensures rates { HasRates (R.matrix rates.new) (R.basics rates.new)
         sheet.entry.lp.now basis.new }
 {
-    match sweep {
-        Sweep::Row { run, .. } => objective_run_of(alloc, sheet, basis, rates, run),
-        Sweep::Set { run, .. } => rhs_run_of(alloc, sheet, basis, rates, run),
+    match parametric_run {
+        ParametricRun::Row { run, .. } => objective_run_of(alloc, sheet, basis, rates, run),
+        ParametricRun::Set { run, .. } => rhs_run_of(alloc, sheet, basis, rates, run),
     }
 }
 
 // Prints the verdict on an opening that isn't optimal.
 fn print_opening<P: Sink>(
     sheet: Sheet<'_>,
-    sweep: &Sweep,
+    parametric_run: &ParametricRun,
     outcome: &Outcome,
     refused: Option<Refused>,
     print: &mut P,
 ) -> Result<Finding, Halt>
     requires { IsOutcome sheet outcome.now }
     ensures { (s reached : answers.Basis) (before after : List Basics) →
-        IsAnswered sheet.entry (sweep_shown sweep.now) s reached before after
+        IsAnswered sheet.entry (parametric_run_view parametric_run.now) s reached before after
         (record { report = para_reports.Opening outcome.now; refused = refused }) →
-        TellsFinding (SweepFinds (sheet_shown sheet.entry) s reached (sweep_shown sweep.now) before after)
+        ReportsFinding (ParametricRunFinds (sheet_view sheet.entry) s reached (parametric_run_view parametric_run.now) before after)
         P.written P.stopped_at P.faults P.refusals print.old print.new result }
 {
     let verdict = Report::Solved {
-        by: sweep.solver(),
+        by: parametric_run.solver(),
         sheet,
         outcome,
         refused,
@@ -105,49 +105,49 @@ fn last_value(run: &ParaRun, to: Frac) -> Frac
 // Prints the intervals of a run and its end.
 fn print_chain<P: Sink>(
     sheet: Sheet<'_>,
-    sweep: &Sweep,
+    parametric_run: &ParametricRun,
     run: &ParaRun,
     print: &mut P,
 ) -> Result<Finding, Halt>
     requires { IsParametric sheet run.now }
     ensures { (s reached : answers.Basis) (before after : List Basics)
         (refused : Option RefusedOperation) →
-        IsAnswered sheet.entry (sweep_shown sweep.now) s reached before after
+        IsAnswered sheet.entry (parametric_run_view parametric_run.now) s reached before after
         (record { report = para_reports.Run run.now; refused = refused }) →
-        TellsFinding (SweepFinds (sheet_shown sheet.entry) s reached (sweep_shown sweep.now) before after)
+        ReportsFinding (ParametricRunFinds (sheet_view sheet.entry) s reached (parametric_run_view parametric_run.now) before after)
         P.written P.stopped_at P.faults P.refusals print.old print.new result }
 {
-    let to = sweep.to();
+    let to = parametric_run.to();
     let report = Report::Parametric {
-        by: sweep.solver(),
+        by: parametric_run.solver(),
         sheet,
-        change: sweep.change(),
-        from: sweep.from(),
+        change: parametric_run.change(),
+        from: parametric_run.from(),
         to,
         run,
     };
     text_of(&report, print)?;
-    Ok(Finding::Swept(last_value(run, to)))
+    Ok(Finding::RanThrough(last_value(run, to)))
 }
 
 // Prints what a run has come to.
 fn print_run<P: Sink>(
     sheet: Sheet<'_>,
-    sweep: &Sweep,
+    parametric_run: &ParametricRun,
     answer: &RunReport,
     print: &mut P,
 ) -> Result<Finding, Halt>
     requires { IsPrintable sheet answer.now.report }
     ensures { (s reached : answers.Basis) (before after : List Basics) →
-        IsAnswered sheet.entry (sweep_shown sweep.now) s reached before after answer.now →
-        TellsFinding (SweepFinds (sheet_shown sheet.entry) s reached (sweep_shown sweep.now) before after)
+        IsAnswered sheet.entry (parametric_run_view parametric_run.now) s reached before after answer.now →
+        ReportsFinding (ParametricRunFinds (sheet_view sheet.entry) s reached (parametric_run_view parametric_run.now) before after)
         P.written P.stopped_at P.faults P.refusals print.old print.new result }
 {
     match &answer.report {
         ParaReport::Opening(outcome) => {
-            print_opening(sheet, sweep, outcome, answer.refused, print)
+            print_opening(sheet, parametric_run, outcome, answer.refused, print)
         }
-        ParaReport::Run(run) => print_chain(sheet, sweep, run, print),
+        ParaReport::Run(run) => print_chain(sheet, parametric_run, run, print),
     }
 }
 
@@ -178,21 +178,21 @@ fn follow<P: Sink, R: Rates>(
     sheet: Sheet<'_>,
     basis: &mut Basis,
     rates: &mut R,
-    sweep: &Sweep,
+    parametric_run: &ParametricRun,
     print: &mut P,
 ) -> Result<Finding, Halt>
     requires sheet { IsSheet sheet }
     requires no_change { sheet.lp.now.change ≡ None }
     requires rates { HasRates (R.matrix rates.old) (R.basics rates.old) sheet.lp.now basis.old }
-    requires serves { Serves sheet.problem.now sheet.lp.now sweep.now }
-    ensures tells { TellsFinding (SweepFinds (sheet_shown sheet.entry) basis.old basis.new
-        (sweep_shown sweep.now) (R.waypoints rates.old) (R.waypoints rates.new))
+    requires serves { Serves sheet.problem.now sheet.lp.now parametric_run.now }
+    ensures tells { ReportsFinding (ParametricRunFinds (sheet_view sheet.entry) basis.old basis.new
+        (parametric_run_view parametric_run.now) (R.waypoints rates.old) (R.waypoints rates.new))
         P.written P.stopped_at P.faults P.refusals print.old print.new result }
     ensures rates { HasRates (R.matrix rates.new) (R.basics rates.new)
         sheet.entry.lp.now basis.new }
 {
-    match run_from(alloc, sheet, basis, rates, sweep) {
-        Ok(answer) => print_run(sheet, sweep, &answer, print),
+    match run_from(alloc, sheet, basis, rates, parametric_run) {
+        Ok(answer) => print_run(sheet, parametric_run, &answer, print),
         Err(PrimalStop::Limit) => Ok(Finding::Limit),
         Err(PrimalStop::Overflow(evidence)) => {
             overflow_in(alloc, sheet.lp, basis, rates, evidence)
@@ -222,7 +222,7 @@ fn find<E: Engine, P: Sink>(
 ) -> Result<Finding, Halt>
     requires { IsReady file.now setup.old }
     ensures tells { (problem : Problem ℕ) → filed_under setup.old.name file.now ≡ Some problem →
-        TellsFinding (Sweeps problem cells.now verb setup.old setup.new) P.written P.stopped_at P.faults P.refusals
+        ReportsFinding (ParametricRuns problem cells.now verb setup.old setup.new) P.written P.stopped_at P.faults P.refusals
         print.old print.new result }
     ensures ready { IsReady file.now setup.new }
 {
@@ -237,7 +237,7 @@ fn find<E: Engine, P: Sink>(
         Ok(request) => request,
         Err(stop) => return refused(refusal_of(stop)),
     };
-    let sweep = run_of(request, cells.steps_allowed());
+    let parametric_run = run_of(request, cells.steps_allowed());
     let sheet = Sheet {
         problem,
         lp: &setup.lp,
@@ -247,7 +247,7 @@ fn find<E: Engine, P: Sink>(
         sheet,
         &mut setup.basis,
         &mut setup.engine,
-        &sweep,
+        &parametric_run,
         print,
     )
 }
@@ -256,7 +256,7 @@ fn find<E: Engine, P: Sink>(
 fn leave_value(cells: &mut Cells, finding: &Finding)
     ensures { cells.new ≡ cells_left finding.now cells.old }
 {
-    if let Finding::Swept(value) = finding {
+    if let Finding::RanThrough(value) = finding {
         cells.move_number(NumberCell::Xparam, *value);
     }
 }
@@ -268,7 +268,7 @@ fn leave_value(cells: &mut Cells, finding: &Finding)
 /// The statement is refused where there is no setup, where the cells select nothing, where XCHROW names no N row or XCHCOL no
 /// right-hand side set, and where XPARMAX isn't set or is less than XPARAM. It ends the run where the run along the parameter goes on
 /// past the limit of steps, and where an operation is refused. Where there is no memory, nothing is printed.
-pub fn sweep<E: Engine, P: Sink>(
+pub fn parametric_run<E: Engine, P: Sink>(
     alloc: Global,
     machine: &mut Machine<Setup<E>>,
     print: &mut P,

@@ -9,11 +9,11 @@ ghost use Rattle.listing_tables.specs.Lines.{range_lines};
 ghost use Rattle.listing_tables.specs.Sheets.{IsSheet};
 ghost use Rattle.basis_values.specs.Calls.{HasRates, KeepsRates};
 ghost use Rattle.answer_definitions.specs.Sections.{IsRanged};
-ghost use Rattle.verb_answers.specs.Answers.{sheet_shown, AreRanged};
+ghost use Rattle.verb_answers.specs.Answers.{sheet_view, AreRanged};
 ghost use Rattle.answer_definitions.specs.Real.{linear_programming};
 ghost use Rattle.run_setup.specs.Standing.{IsReady, IsSolved, IsSound};
 ghost use Rattle.run_setup.specs.Statements.{Executes};
-ghost use Rattle.run_machine.specs.Findings.{TellsFinding};
+ghost use Rattle.run_machine.specs.Findings.{ReportsFinding};
 ghost use Rattle.control_run.specs.Found.{RangesFound, ShowsRanges, range_fault};
 
 use job_devices::Sink;
@@ -37,11 +37,11 @@ fn print_ranges<P: Sink>(
     requires sheet { IsSheet sheet }
     requires no_change { sheet.lp.now.change ≡ None }
     requires listed { AreRanged sheet.lp.now basis.now ranged.now }
-    requires ranged { IsRanged (sheet_shown sheet) basis.now
+    requires ranged { IsRanged (sheet_view sheet) basis.now
         (range_lines sheet.lp.now basis.now ranged.now.point ranged.now.report
         sheet.problem.now) }
     ensures { (before : List Basics) →
-        TellsFinding (RangesFound (sheet_shown sheet.entry) basis.now before) P.written P.stopped_at P.faults
+        ReportsFinding (RangesFound (sheet_view sheet.entry) basis.now before) P.written P.stopped_at P.faults
         P.refusals print.old print.new result }
 {
     let report = Report::Ranges {
@@ -51,7 +51,7 @@ fn print_ranges<P: Sink>(
         report: &ranged.report,
     };
     text_of(&report, print)?;
-    Ok(Finding::Shown)
+    Ok(Finding::Views)
 }
 
 // Makes the intervals of a basis, and prints them.
@@ -66,7 +66,7 @@ fn range_basis<P: Sink, R: Rates>(
     requires no_change { sheet.lp.now.change ≡ None }
     requires optimal { IsOptimalBasis sheet.lp.now basis.now }
     requires rates { HasRates (R.matrix rates.old) (R.basics rates.old) sheet.lp.now basis.now }
-    ensures tells { TellsFinding (RangesFound (sheet_shown sheet.entry)
+    ensures tells { ReportsFinding (RangesFound (sheet_view sheet.entry)
         basis.now (R.waypoints rates.old))
         P.written P.stopped_at P.faults P.refusals print.old print.new result }
     ensures rates { KeepsRates (R.matrix rates.new) (R.basics rates.new)
@@ -90,7 +90,7 @@ fn range_setup<E: Engine, P: Sink>(
     requires ready { IsReady file.now setup.old }
     requires optimal { IsOptimalBasis setup.old.lp setup.old.basis }
     ensures tells { (problem : Problem ℕ) → filed_under setup.old.name file.now ≡ Some problem →
-        TellsFinding (ShowsRanges problem setup.old) P.written P.stopped_at P.faults P.refusals print.old print.new
+        ReportsFinding (ShowsRanges problem setup.old) P.written P.stopped_at P.faults P.refusals print.old print.new
         result }
     ensures ready { IsReady file.now setup.new }
     ensures name { setup.new.name ≡ setup.old.name }

@@ -105,8 +105,8 @@ fn run_to_end<E: Engine, P: Sink, U: Sink>(
 /// answers how the run ended.
 ///
 /// A run ends by itself; where memory is wanted, or a write to the punch fails, the listing ends with that, if it can. After a
-/// fault of the print, or where the print itself wants memory, nothing more is printed. After a fault of the punch, or where it
-/// wants memory, nothing more is punched: it has gained all that was punched so far, and a prefix of the deck in hand. The
+/// fault of the print, or where the print itself runs out of memory, nothing more is printed. After a fault of the punch, or where it
+/// runs out of memory, nothing more is punched: it has gained all that was punched so far, and a prefix of the deck in hand. The
 /// status reports whichever of these came.
 pub fn run_on<E: Engine, P: Sink, U: Sink>(
     alloc: Global,
@@ -151,8 +151,8 @@ pub fn run_on<E: Engine, P: Sink, U: Sink>(
 /// answers how the run ended, as `run_on` does.
 ///
 /// A run ends by itself; where memory is wanted, or a write to the punch fails, the listing ends with that, if it can. After a
-/// fault of the print, or where the print itself wants memory, nothing more is printed. After a fault of the punch, or where it
-/// wants memory, nothing more is punched: it has gained all that was punched so far, and a prefix of the deck in hand. The
+/// fault of the print, or where the print itself runs out of memory, nothing more is printed. After a fault of the punch, or where it
+/// runs out of memory, nothing more is punched: it has gained all that was punched so far, and a prefix of the deck in hand. The
 /// status reports whichever of these came.
 pub fn run_program<P: Sink, U: Sink>(
     alloc: Global,

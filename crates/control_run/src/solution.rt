@@ -8,12 +8,12 @@ ghost use Rattle.control_definitions.specs.Program as program;
 ghost use Rattle.listing_tables.specs.Lines.{solution_lines};
 ghost use Rattle.listing_tables.specs.Sheets.{IsSheet};
 ghost use Rattle.basis_values.specs.Calls.{HasRates, KeepsRates};
-ghost use Rattle.answer_definitions.specs.Sections.{IsShown};
-ghost use Rattle.verb_answers.specs.Answers.{sheet_shown, AreShown};
+ghost use Rattle.answer_definitions.specs.Sections.{IsSolutionOf};
+ghost use Rattle.verb_answers.specs.Answers.{sheet_view, AreViews};
 ghost use Rattle.answer_definitions.specs.Real.{linear_programming};
 ghost use Rattle.run_setup.specs.Standing.{IsReady, IsSolved, IsSound};
 ghost use Rattle.run_setup.specs.Statements.{Executes};
-ghost use Rattle.run_machine.specs.Findings.{TellsFinding};
+ghost use Rattle.run_machine.specs.Findings.{ReportsFinding};
 ghost use Rattle.control_run.specs.Found.{LinesFound, Shows};
 
 use job_devices::Sink;
@@ -25,36 +25,36 @@ use report_text::{Report, text_of};
 use run_machine::{Act, Finding, Halt, Machine, Refusal, act_of};
 use run_setup::{Setup, overflow_at};
 use std::alloc::Global;
-use verb_answers::{Shown, solution_of};
+use verb_answers::{Views, solution_of};
 
 // Prints the point and the prices of a basis.
 fn print_lines<P: Sink>(
     sheet: Sheet<'_>,
     basis: &Basis,
     mark: Mark,
-    shown: &Shown,
+    viewed: &Views,
     print: &mut P,
 ) -> Result<Finding, Halt>
     requires sheet { IsSheet sheet }
     requires no_change { sheet.lp.now.change ≡ None }
-    requires listed { AreShown sheet.lp.now basis.now shown.now }
-    requires shown { IsShown (sheet_shown sheet) basis.now
-        (solution_lines sheet.problem.now sheet.lp.now basis.now shown.now.point shown.now.prices
-        shown.now.slack.items) }
+    requires listed { AreViews sheet.lp.now basis.now viewed.now }
+    requires viewed { IsSolutionOf (sheet_view sheet) basis.now
+        (solution_lines sheet.problem.now sheet.lp.now basis.now viewed.now.point viewed.now.prices
+        viewed.now.slack.items) }
     ensures { (before : List Basics) →
-        TellsFinding (LinesFound (sheet_shown sheet.entry) basis.now before mark) P.written P.stopped_at P.faults
+        ReportsFinding (LinesFound (sheet_view sheet.entry) basis.now before mark) P.written P.stopped_at P.faults
         P.refusals print.old print.new result }
 {
     let report = Report::Solution {
         mark,
         sheet,
         basis,
-        point: &shown.point,
-        prices: &shown.prices,
-        slack: &shown.slack,
+        point: &viewed.point,
+        prices: &viewed.prices,
+        slack: &viewed.slack,
     };
     text_of(&report, print)?;
-    Ok(Finding::Shown)
+    Ok(Finding::Views)
 }
 
 // Makes the lines of a basis, and prints them.
@@ -69,7 +69,7 @@ fn show_basis<P: Sink, R: Rates>(
     requires sheet { IsSheet sheet }
     requires no_change { sheet.lp.now.change ≡ None }
     requires rates { HasRates (R.matrix rates.old) (R.basics rates.old) sheet.lp.now basis.now }
-    ensures tells { TellsFinding (LinesFound (sheet_shown sheet.entry) basis.now
+    ensures tells { ReportsFinding (LinesFound (sheet_view sheet.entry) basis.now
         (R.waypoints rates.old) mark)
         P.written P.stopped_at P.faults P.refusals print.old print.new result }
     ensures rates { KeepsRates (R.matrix rates.new) (R.basics rates.new)
@@ -77,7 +77,7 @@ fn show_basis<P: Sink, R: Rates>(
         (R.waypoints rates.old) (R.waypoints rates.new) }
 {
     match solution_of(alloc, sheet, basis, rates) {
-        Ok(shown) => print_lines(sheet, basis, mark, &shown, print),
+        Ok(viewed) => print_lines(sheet, basis, mark, &viewed, print),
         Err(Stop::Overflow(evidence)) => overflow_at(alloc, sheet.lp, basis, rates, evidence),
         Err(Stop::NoMemory) => Err(Halt::NoMemory),
     }
@@ -93,7 +93,7 @@ fn show_setup<E: Engine, P: Sink>(
 ) -> Result<Finding, Halt>
     requires { IsReady file.now setup.old }
     ensures tells { (problem : Problem ℕ) → filed_under setup.old.name file.now ≡ Some problem →
-        TellsFinding (Shows problem setup.old mark) P.written P.stopped_at P.faults P.refusals print.old print.new
+        ReportsFinding (Shows problem setup.old mark) P.written P.stopped_at P.faults P.refusals print.old print.new
         result }
     ensures ready { IsReady file.now setup.new }
     ensures name { setup.new.name ≡ setup.old.name }

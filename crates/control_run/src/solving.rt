@@ -9,14 +9,14 @@ ghost use Rattle.basis_values.specs.Calls.{HasRates};
 ghost use Rattle.listing_definitions.specs.declared.Solver.TheVariants as solvers;
 ghost use Rattle.listing_tables.specs.declared.sheet.Sheet as sheets;
 ghost use Rattle.listing_tables.specs.Sheets.{IsSheet};
-ghost use Rattle.report_text.specs.Verdicts.{IsOutcome, verdict_shown, check_shown};
-ghost use Rattle.verb_answers.specs.Reports.{sheet_shown};
+ghost use Rattle.report_text.specs.Verdicts.{IsOutcome, verdict_view, check_view};
+ghost use Rattle.verb_answers.specs.Reports.{sheet_view};
 ghost use Rattle.run_definitions.specs.Verbs.{mark_of};
 ghost use Rattle.answer_definitions.specs.Real.{linear_programming};
 ghost use Rattle.run_machine.specs.Standing.{AreDemands};
 ghost use Rattle.run_setup.specs.Standing.{IsReady, IsSolved, IsSound};
 ghost use Rattle.run_setup.specs.Statements.{Executes};
-ghost use Rattle.run_machine.specs.Findings.{TellsFinding, IfEnded};
+ghost use Rattle.run_machine.specs.Findings.{ReportsFinding, IfEnded};
 ghost use Rattle.control_run.specs.Found.{verb_of, solver_of, limit_of, PathReaches, PathFinds, Finds};
 
 use bounded_dual::DualStop;
@@ -42,7 +42,7 @@ pub enum SolvingVerb {
 
 /// The mark of the verdict of an outcome.
 pub fn mark_of(outcome: &Outcome) -> Mark
-    ensures { (sheet : sheets.Sheet) → result ≡ mark_of (verdict_shown sheet outcome.now) }
+    ensures { (sheet : sheets.Sheet) → result ≡ mark_of (verdict_view sheet outcome.now) }
 {
     match outcome {
         Outcome::Optimal { .. } => Mark::Optimal,
@@ -61,9 +61,9 @@ fn print_verdict<P: Sink>(
     requires { IsOutcome sheet report.now.outcome }
     ensures { (s reached : answers.Basis) (limit : Option ℕ) (before after : List Basics)
         (bases : List answers.Basis) →
-        PathReaches solver (sheet_shown sheet.entry) s reached limit before after bases
-        (verdict_shown sheet.entry report.now.outcome) (check_shown report.now.refused) →
-        TellsFinding (PathFinds solver (sheet_shown sheet.entry) s reached limit before after) P.written P.stopped_at P.faults
+        PathReaches solver (sheet_view sheet.entry) s reached limit before after bases
+        (verdict_view sheet.entry report.now.outcome) (check_view report.now.refused) →
+        ReportsFinding (PathFinds solver (sheet_view sheet.entry) s reached limit before after) P.written P.stopped_at P.faults
         P.refusals print.old print.new result }
 {
     let verdict = Report::Solved {
@@ -89,7 +89,7 @@ fn follow_primal<P: Sink, R: Rates>(
     requires lawful { IsLinearProgram sheet.lp.now }
     requires no_change { sheet.lp.now.change ≡ None }
     requires rates { HasRates (R.matrix rates.old) (R.basics rates.old) sheet.lp.now basis.old }
-    ensures tells { TellsFinding (PathFinds solvers.Primal (sheet_shown sheet.entry) basis.old basis.new limit
+    ensures tells { ReportsFinding (PathFinds solvers.Primal (sheet_view sheet.entry) basis.old basis.new limit
         (R.waypoints rates.old) (R.waypoints rates.new))
         P.written P.stopped_at P.faults P.refusals print.old print.new result }
     ensures rates { HasRates (R.matrix rates.new) (R.basics rates.new)
@@ -118,7 +118,7 @@ fn follow_dual<P: Sink, R: Rates>(
     requires lawful { IsLinearProgram sheet.lp.now }
     requires no_change { sheet.lp.now.change ≡ None }
     requires rates { HasRates (R.matrix rates.old) (R.basics rates.old) sheet.lp.now basis.old }
-    ensures tells { TellsFinding (PathFinds solvers.Dual (sheet_shown sheet.entry) basis.old basis.new (Some limit)
+    ensures tells { ReportsFinding (PathFinds solvers.Dual (sheet_view sheet.entry) basis.old basis.new (Some limit)
         (R.waypoints rates.old) (R.waypoints rates.new))
         P.written P.stopped_at P.faults P.refusals print.old print.new result }
     ensures rates { HasRates (R.matrix rates.new) (R.basics rates.new)
@@ -147,7 +147,7 @@ fn follow<P: Sink, R: Rates>(
     requires lawful { IsLinearProgram sheet.lp.now }
     requires no_change { sheet.lp.now.change ≡ None }
     requires rates { HasRates (R.matrix rates.old) (R.basics rates.old) sheet.lp.now basis.old }
-    ensures tells { TellsFinding (PathFinds (solver_of verb) (sheet_shown sheet.entry) basis.old basis.new
+    ensures tells { ReportsFinding (PathFinds (solver_of verb) (sheet_view sheet.entry) basis.old basis.new
         (limit_of verb cells.now) (R.waypoints rates.old) (R.waypoints rates.new))
         P.written P.stopped_at P.faults P.refusals print.old print.new result }
     ensures rates { HasRates (R.matrix rates.new) (R.basics rates.new)
@@ -172,7 +172,7 @@ fn find<E: Engine, P: Sink>(
 ) -> Result<Finding, Halt>
     requires { IsReady file.now setup.old }
     ensures tells { (problem : Problem ℕ) → filed_under setup.old.name file.now ≡ Some problem →
-        TellsFinding (Finds verb problem cells.now setup.old setup.new) P.written P.stopped_at P.faults P.refusals print.old
+        ReportsFinding (Finds verb problem cells.now setup.old setup.new) P.written P.stopped_at P.faults P.refusals print.old
         print.new result }
     ensures ready { IsReady file.now setup.new }
     ensures solved { IfOk result

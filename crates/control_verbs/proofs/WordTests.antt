@@ -4,7 +4,7 @@ use Rattle.std.specs.Prelude.{bytes_eq, find, option_map}
 use Rattle.std.specs.Option.{option_or}
 use Rattle.card_definitions.specs.Words.{named}
 use Rattle.control_definitions.specs.Verbs.{verb_words}
-use Rattle.control_verbs.specs.Shown.{alone_words, argument_words}
+use Rattle.control_verbs.specs.Views.{alone_words, argument_words}
 
 -- what a table has for a word is what its front has, or else what the rest has
 named_cut : {X : Type 0} (n : ℕ) (lines : List (List ℕ × X)) (word : List ℕ) → named lines word ≡ option_or (named (take n lines) word) (named (drop n lines) word)

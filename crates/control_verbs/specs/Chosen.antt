@@ -10,14 +10,14 @@ use Rattle.control_verbs.specs.declared.options.SetupArgument.{SetupArgument}
 use Rattle.control_verbs.specs.declared.options.SetupArgument.TheVariants.{BoundSet, RangeSet, Direction}
 use Rattle.control_verbs.specs.declared.options.Chosen.{Chosen}
 
-abbrev pub set_shown : SetKind → List ℕ → arguments.SetupArgument
-set_shown Bound = arguments.BoundSet
-set_shown Range = arguments.RangeSet
+abbrev pub set_view : SetKind → List ℕ → arguments.SetupArgument
+set_view Bound = arguments.BoundSet
+set_view Range = arguments.RangeSet
 
-abbrev pub choice_shown : SetupArgument → arguments.SetupArgument
-choice_shown (BoundSet name) = arguments.BoundSet name
-choice_shown (RangeSet name) = arguments.RangeSet name
-choice_shown (Direction sense) = arguments.Direction sense
+abbrev pub choice_view : SetupArgument → arguments.SetupArgument
+choice_view (BoundSet name) = arguments.BoundSet name
+choice_view (RangeSet name) = arguments.RangeSet name
+choice_view (Direction sense) = arguments.Direction sense
 
 -- the choice that a list of arguments begins with: of a sense, or of a set with its name
 abbrev pub first_choice : List (List ℕ) → Option arguments.SetupArgument

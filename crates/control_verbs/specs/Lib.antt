@@ -1,3 +1,3 @@
-pub mod Shown
+pub mod Views
 pub mod Chosen
 pub mod Pieces

@@ -6,10 +6,10 @@ use Rattle.control_verbs.specs.declared.words.Arguments.{Arguments}
 use Rattle.control_verbs.specs.declared.words.Arguments.TheVariants.{Without, Malformed, With}
 
 -- the arguments that a text between parentheses stands for
-abbrev pub arguments_shown : Arguments → Parts
-arguments_shown Without = NoParts
-arguments_shown Malformed = NoForm
-arguments_shown (With text) = TheParts (split_outside is_comma text.now)
+abbrev pub arguments_view : Arguments → Parts
+arguments_view Without = NoParts
+arguments_view Malformed = NoForm
+arguments_view (With text) = TheParts (split_outside is_comma text.now)
 
 -- the arguments in a text, where there is one
 abbrev pub parts_after : Option (Bor (List ℕ)) → List (List ℕ)
@@ -27,9 +27,9 @@ two_parts (first ∷ second ∷ []) = Some (first, second)
 two_parts _ = None
 
 -- two borrowed texts
-abbrev pub pair_shown : Option (Bor (List ℕ) × Bor (List ℕ)) → Option (List ℕ × List ℕ)
-pair_shown None = None
-pair_shown (Some pair) = Some (pair.0.now, pair.1.now)
+abbrev pub pair_view : Option (Bor (List ℕ) × Bor (List ℕ)) → Option (List ℕ × List ℕ)
+pair_view None = None
+pair_view (Some pair) = Some (pair.0.now, pair.1.now)
 
 -- a text without the quote at its front, and without the one at its end
 abbrev pub after_quote : List ℕ → Option (List ℕ)

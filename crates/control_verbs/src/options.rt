@@ -5,8 +5,8 @@ ghost use Rattle.control_definitions.specs.Arguments.{set_words, sense_choice, s
 ghost use Rattle.control_definitions.specs.Arguments.{Direction as TheDirection};
 ghost use Rattle.card_definitions.specs.Words.{named};
 ghost use Rattle.control_verbs.specs.Pieces.{parts_after};
-ghost use Rattle.control_verbs.specs.Shown.{options_shown};
-ghost use Rattle.control_verbs.specs.Chosen.{set_shown, choice_shown, first_choice, after_first_word, added, all_added, nothing_chosen, chosen_options};
+ghost use Rattle.control_verbs.specs.Views.{options_view};
+ghost use Rattle.control_verbs.specs.Chosen.{set_view, choice_view, first_choice, after_first_word, added, all_added, nothing_chosen, chosen_options};
 
 use crate::given::name_in;
 use crate::parts::{quotation, split_argument};
@@ -50,7 +50,7 @@ fn sense_of(word: &[u8]) -> Option<Sense>
 
 // The kind of set of a word in quotes.
 fn set_of(word: &[u8]) -> Option<SetKind>
-    ensures { option_map set_shown result ≡ option_and_then (named set_words) (quotation word.now) }
+    ensures { option_map set_view result ≡ option_and_then (named set_words) (quotation word.now) }
 {
     match quotation(word)? {
         b"BOUND" => Some(SetKind::Bound),
@@ -61,7 +61,7 @@ fn set_of(word: &[u8]) -> Option<SetKind>
 
 // The choice that a word makes with the argument after it.
 fn set_in(word: &[u8], argument: &[u8]) -> Option<SetupArgument>
-    ensures { option_map choice_shown result ≡ set_choice word.now argument.now }
+    ensures { option_map choice_view result ≡ set_choice word.now argument.now }
 {
     match set_of(word)? {
         SetKind::Bound => Some(SetupArgument::BoundSet(name_in(argument)?)),
@@ -71,7 +71,7 @@ fn set_in(word: &[u8], argument: &[u8]) -> Option<SetupArgument>
 
 // The first choice of a text.
 fn choice_in(text: &[u8]) -> Option<SetupArgument>
-    ensures { option_map choice_shown result ≡ first_choice (split_outside is_comma text.now) }
+    ensures { option_map choice_view result ≡ first_choice (split_outside is_comma text.now) }
 {
     let (word, after) = split_argument(text);
     if let Some(sense) = sense_of(word) {
@@ -97,7 +97,7 @@ fn after_choice(text: &[u8]) -> Option<&[u8]>
 impl Chosen {
     // What is chosen with one more choice, unless that is made twice.
     fn with(self, choice: SetupArgument) -> Option<Chosen>
-        ensures { result ≡ added self (choice_shown choice) }
+        ensures { result ≡ added self (choice_view choice) }
     {
         match choice {
             SetupArgument::BoundSet(name) if self.bound.is_none() => Some(Chosen {
@@ -139,7 +139,7 @@ fn chosen_in(text: &[u8]) -> Option<Chosen>
 /// The options of SETUP that stand between parentheses.
 #[tactic(auto, using(crate::proofs::Choices::setup_is))]
 pub fn options_in(text: &[u8]) -> Option<SetupOptions>
-    ensures { option_map options_shown result ≡ setup_arguments (split_outside is_comma text.now) }
+    ensures { option_map options_view result ≡ setup_arguments (split_outside is_comma text.now) }
 {
     let chosen = chosen_in(text)?;
     Some(SetupOptions {

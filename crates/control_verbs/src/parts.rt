@@ -4,7 +4,7 @@ ghost use Rattle.std.specs.Option.{option_copied};
 ghost use Rattle.std.specs.List.{list_any};
 ghost use Rattle.control_definitions.specs.Statements.{split_outside, is_comma, is_quote};
 ghost use Rattle.control_definitions.specs.Arguments.{quotation};
-ghost use Rattle.control_verbs.specs.Pieces.{parts_after, only_part, two_parts, pair_shown, after_quote, before_quote};
+ghost use Rattle.control_verbs.specs.Pieces.{parts_after, only_part, two_parts, pair_view, after_quote, before_quote};
 
 use crate::quotes::place_outside;
 
@@ -36,7 +36,7 @@ pub fn one_argument(text: &[u8]) -> Option<&[u8]>
 
 /// The arguments of a text that has two.
 pub fn two_arguments(text: &[u8]) -> Option<(&[u8], &[u8])>
-    ensures { pair_shown result ≡ two_parts (split_outside is_comma text.now) }
+    ensures { pair_view result ≡ two_parts (split_outside is_comma text.now) }
 {
     let (first, rest) = split_argument(text);
     let second = one_argument(rest?)?;

@@ -2,8 +2,8 @@
 ghost use Rattle.std.specs.Prelude.{◌≡◌, option_map, IfSome};
 ghost use Rattle.control_definitions.specs.Statements.{With as TheParts, Without as NoParts, split_outside, is_comma};
 ghost use Rattle.control_definitions.specs.Verbs as verbs;
-ghost use Rattle.control_verbs.specs.Pieces.{arguments_shown};
-ghost use Rattle.control_verbs.specs.Shown.{shown, IsLawful, cell_shown, word_shown, plain_shown};
+ghost use Rattle.control_verbs.specs.Pieces.{arguments_view};
+ghost use Rattle.control_verbs.specs.Views.{viewed, IsLawful, cell_view, word_view, plain_view};
 
 use crate::columns::statement;
 use crate::given::{label_in, limit_in, name_in, number_in, title_in};
@@ -18,8 +18,8 @@ use name_table::Name;
 impl Plain {
     // The verb.
     fn verb(self) -> Verb<Name>
-        ensures verb { shown result ≡ plain_shown self }
-        ensures lawful { IsLawful (shown result) }
+        ensures verb { viewed result ≡ plain_view self }
+        ensures lawful { IsLawful (viewed result) }
     {
         match self {
             Plain::Initialz => Verb::Initialz,
@@ -41,8 +41,8 @@ impl Plain {
 
 // MOVE of a cell to an argument of its kind.
 fn moved(cell: Cell, argument: &[u8]) -> Option<Verb<Name>>
-    ensures verb { option_map shown result ≡ verbs.moved (cell_shown cell) argument.now }
-    ensures lawful { IfSome result (λ verb. IsLawful (shown verb)) }
+    ensures verb { option_map viewed result ≡ verbs.moved (cell_view cell) argument.now }
+    ensures lawful { IfSome result (λ verb. IsLawful (viewed verb)) }
 {
     match cell {
         Cell::OfName(cell) => Some(Verb::MoveName(cell, name_in(argument)?)),
@@ -54,9 +54,9 @@ fn moved(cell: Cell, argument: &[u8]) -> Option<Verb<Name>>
 // TITLE with the arguments between its parentheses.
 #[tactic(auto, using(crate::proofs::Forms::of_title))]
 fn title_with(text: &[u8]) -> Option<Verb<Name>>
-    ensures verb { option_map shown result ≡ verbs.verb_with verbs.TakesTitle
+    ensures verb { option_map viewed result ≡ verbs.verb_with verbs.TakesTitle
         (TheParts (split_outside is_comma text.now)) }
-    ensures lawful { IfSome result (λ verb. IsLawful (shown verb)) }
+    ensures lawful { IfSome result (λ verb. IsLawful (viewed verb)) }
 {
     Some(Verb::Title(title_in(one_argument(text)?)?))
 }
@@ -64,9 +64,9 @@ fn title_with(text: &[u8]) -> Option<Verb<Name>>
 // MOVE with the arguments between its parentheses.
 #[tactic(auto, using(crate::proofs::Forms::of_cell))]
 fn move_with(text: &[u8]) -> Option<Verb<Name>>
-    ensures verb { option_map shown result ≡ verbs.verb_with verbs.TakesCell
+    ensures verb { option_map viewed result ≡ verbs.verb_with verbs.TakesCell
         (TheParts (split_outside is_comma text.now)) }
-    ensures lawful { IfSome result (λ verb. IsLawful (shown verb)) }
+    ensures lawful { IfSome result (λ verb. IsLawful (viewed verb)) }
 {
     let (cell, argument) = two_arguments(text)?;
     moved(cell_of(cell)?, argument)
@@ -75,9 +75,9 @@ fn move_with(text: &[u8]) -> Option<Verb<Name>>
 // MVADR with the arguments between its parentheses.
 #[tactic(auto, using(crate::proofs::Forms::of_demand))]
 fn mvadr_with(text: &[u8]) -> Option<Verb<Name>>
-    ensures verb { option_map shown result ≡ verbs.verb_with verbs.TakesDemand
+    ensures verb { option_map viewed result ≡ verbs.verb_with verbs.TakesDemand
         (TheParts (split_outside is_comma text.now)) }
-    ensures lawful { IfSome result (λ verb. IsLawful (shown verb)) }
+    ensures lawful { IfSome result (λ verb. IsLawful (viewed verb)) }
 {
     let (demand, label) = two_arguments(text)?;
     let demand = demand_of(demand)?;
@@ -87,26 +87,26 @@ fn mvadr_with(text: &[u8]) -> Option<Verb<Name>>
 // GOTO with the arguments between its parentheses.
 #[tactic(auto, using(crate::proofs::Forms::of_label))]
 fn goto_with(text: &[u8]) -> Option<Verb<Name>>
-    ensures verb { option_map shown result ≡ verbs.verb_with verbs.TakesLabel
+    ensures verb { option_map viewed result ≡ verbs.verb_with verbs.TakesLabel
         (TheParts (split_outside is_comma text.now)) }
-    ensures lawful { IfSome result (λ verb. IsLawful (shown verb)) }
+    ensures lawful { IfSome result (λ verb. IsLawful (viewed verb)) }
 {
     Some(Verb::Goto(label_in(one_argument(text)?)?))
 }
 
 // SETUP with the arguments between its parentheses.
 fn setup_with(text: &[u8]) -> Option<Verb<Name>>
-    ensures verb { option_map shown result ≡ verbs.verb_with verbs.TakesOptions
+    ensures verb { option_map viewed result ≡ verbs.verb_with verbs.TakesOptions
         (TheParts (split_outside is_comma text.now)) }
-    ensures lawful { IfSome result (λ verb. IsLawful (shown verb)) }
+    ensures lawful { IfSome result (λ verb. IsLawful (viewed verb)) }
 {
     Some(Verb::Setup(options_in(text)?))
 }
 
 // SETUP without parentheses: no set, and the least objective.
 fn plain_setup() -> Verb<Name>
-    ensures verb { Some (shown result) ≡ verbs.verb_with verbs.TakesOptions NoParts }
-    ensures lawful { IsLawful (shown result) }
+    ensures verb { Some (viewed result) ≡ verbs.verb_with verbs.TakesOptions NoParts }
+    ensures lawful { IsLawful (viewed result) }
 {
     Verb::Setup(SetupOptions {
         bound: None,
@@ -117,9 +117,9 @@ fn plain_setup() -> Verb<Name>
 
 // The verb of a word with the arguments between its parentheses.
 fn verb_with(word: VerbWord, text: &[u8]) -> Option<Verb<Name>>
-    ensures verb { option_map shown result ≡ verbs.verb_with (word_shown word)
+    ensures verb { option_map viewed result ≡ verbs.verb_with (word_view word)
         (TheParts (split_outside is_comma text.now)) }
-    ensures lawful { IfSome result (λ verb. IsLawful (shown verb)) }
+    ensures lawful { IfSome result (λ verb. IsLawful (viewed verb)) }
 {
     match word {
         VerbWord::Alone(_) => None,
@@ -134,8 +134,8 @@ fn verb_with(word: VerbWord, text: &[u8]) -> Option<Verb<Name>>
 
 // The verb of a word without parentheses.
 fn verb_without(word: VerbWord) -> Option<Verb<Name>>
-    ensures verb { option_map shown result ≡ verbs.verb_with (word_shown word) NoParts }
-    ensures lawful { IfSome result (λ verb. IsLawful (shown verb)) }
+    ensures verb { option_map viewed result ≡ verbs.verb_with (word_view word) NoParts }
+    ensures lawful { IfSome result (λ verb. IsLawful (viewed verb)) }
 {
     match word {
         VerbWord::Alone(plain) => Some(plain.verb()),
@@ -151,8 +151,8 @@ fn verb_without(word: VerbWord) -> Option<Verb<Name>>
 /// The verb of a card with its arguments, where these have the table's form. PEND has none.
 #[tactic(auto, unfolding(control_definitions::specs::Verbs::verb_of), using(crate::proofs::Forms::of_no_form))]
 pub fn verb_of(card: &[u8]) -> Option<Verb<Name>>
-    ensures verb { option_map shown result ≡ verbs.verb_of card.now }
-    ensures lawful { IfSome result (λ verb. IsLawful (shown verb)) }
+    ensures verb { option_map viewed result ≡ verbs.verb_of card.now }
+    ensures lawful { IfSome result (λ verb. IsLawful (viewed verb)) }
 {
     let statement = statement(card);
     let word = verb_word_of(verb_word(statement))?;

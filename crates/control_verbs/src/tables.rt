@@ -2,7 +2,7 @@
 ghost use Rattle.std.specs.Prelude.{◌≡◌, bytes_eq, option_map};
 ghost use Rattle.card_definitions.specs.Words.{named};
 ghost use Rattle.control_definitions.specs.Verbs.{cell_words, demand_words, verb_words};
-ghost use Rattle.control_verbs.specs.Shown.{cell_shown, word_shown, alone_shown, alone_words, argument_words};
+ghost use Rattle.control_verbs.specs.Views.{cell_view, word_view, alone_view, alone_words, argument_words};
 
 use control_definitions::{Demand, NameCell, NumberCell};
 
@@ -64,7 +64,7 @@ pub fn demand_of(word: &[u8]) -> Option<Demand>
 
 /// The cell of this name.
 pub fn cell_of(word: &[u8]) -> Option<Cell>
-    ensures { option_map cell_shown result ≡ named cell_words word.now }
+    ensures { option_map cell_view result ≡ named cell_words word.now }
 {
     if is_word(word, b"XDATA") {
         Some(Cell::OfName(NameCell::Xdata))
@@ -93,7 +93,7 @@ pub fn cell_of(word: &[u8]) -> Option<Cell>
 
 // The verb of this word, where it is one that stands alone.
 fn plain_of(word: &[u8]) -> Option<Plain>
-    ensures { option_map alone_shown result ≡ named alone_words word.now }
+    ensures { option_map alone_view result ≡ named alone_words word.now }
 {
     if is_word(word, b"INITIALZ") {
         Some(Plain::Initialz)
@@ -128,7 +128,7 @@ fn plain_of(word: &[u8]) -> Option<Plain>
 
 // What the word of a verb with arguments asks for, and PEND.
 fn argument_word_of(word: &[u8]) -> Option<VerbWord>
-    ensures { option_map word_shown result ≡ named argument_words word.now }
+    ensures { option_map word_view result ≡ named argument_words word.now }
 {
     if is_word(word, b"TITLE") {
         Some(VerbWord::TakesTitle)
@@ -150,7 +150,7 @@ fn argument_word_of(word: &[u8]) -> Option<VerbWord>
 /// What the word of a verb asks for.
 #[tactic(auto, using(crate::proofs::WordTests::words_in_two_tables))]
 pub fn verb_word_of(word: &[u8]) -> Option<VerbWord>
-    ensures { option_map word_shown result ≡ named verb_words word.now }
+    ensures { option_map word_view result ≡ named verb_words word.now }
 {
     match plain_of(word) {
         Some(verb) => Some(VerbWord::Alone(verb)),

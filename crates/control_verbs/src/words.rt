@@ -3,7 +3,7 @@ ghost use Rattle.std.specs.Prelude.{◌≡◌, ◌≤◌, length};
 ghost use Rattle.std.specs.List.{list_any};
 ghost use Rattle.std.specs.Option.{option_copied};
 ghost use Rattle.control_definitions.specs.Statements.{verb_word, after_parenthesis, first_argument, arguments_of, without_close, is_open_parenthesis};
-ghost use Rattle.control_verbs.specs.Pieces.{arguments_shown};
+ghost use Rattle.control_verbs.specs.Pieces.{arguments_view};
 
 use crate::places::parenthesis_place;
 use crate::quotes::{before_outside, place_outside};
@@ -54,7 +54,7 @@ fn without_close(text: &[u8]) -> Option<&[u8]>
 
 /// The arguments of a statement.
 pub fn arguments_of(statement: &[u8]) -> Arguments<'_>
-    ensures { arguments_shown result ≡ arguments_of statement.now }
+    ensures { arguments_view result ≡ arguments_of statement.now }
 {
     if !has_parenthesis(statement) {
         return Arguments::Without;

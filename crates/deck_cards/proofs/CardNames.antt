@@ -3,12 +3,12 @@ use Rattle.std.proofs.Common.{◌≡◌, ℕ, List, sym, subst, arith}
 use Rattle.card_definitions.specs.Fields.{Fixed, Reading, reading_of}
 use Rattle.deck_definitions.proofs.CardTexts.{IsReading}
 use Rattle.deck_fields.specs.declared.texts.Fields.{Fields}
-use Rattle.deck_fields.specs.Readings.{ShowsFields, fields_shown}
-use Rattle.deck_fields.specs.WordsShown.{IsColumn}
+use Rattle.deck_fields.specs.Readings.{ShowsFields, fields_view}
+use Rattle.deck_fields.specs.WordsViewed.{IsColumn}
 
 module _ (f : Fields) (read : Reading) (shows : ShowsFields f read) where
-  pub shown_is : fields_shown f ≡ read
-  shown_is = λ i. record {
+  pub reported_is : fields_view f ≡ read
+  reported_is = λ i. record {
     kind = shows.kind i;
     name1 = shows.name1 i;
     name2 = shows.name2 i;
@@ -19,8 +19,8 @@ module _ (f : Fields) (read : Reading) (shows : ShowsFields f read) where
     value2_column = shows.value2_column i;
   }
 
-  pub is_reading : IsReading read → IsReading (fields_shown f)
-  is_reading reads = subst IsReading (sym shown_is) reads
+  pub is_reading : IsReading read → IsReading (fields_view f)
+  is_reading reads = subst IsReading (sym reported_is) reads
 
 -- those at fixed columns begin in columns of the card
 pub fixed_columns : (f : Fields) (card : List ℕ) → ShowsFields f (reading_of Fixed card) → IsColumn f.value1_column × IsColumn f.value2_column

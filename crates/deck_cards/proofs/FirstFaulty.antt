@@ -17,13 +17,13 @@ use Rattle.deck_cards.specs.Stops.{StopsAt, Stops}
 use Rattle.deck_cards.proofs.Between.{cards_up_to, cards_more, cards_split, last_is}
 
 module _ (test : List Card → List ℕ → Option DeckFaultKind) where
-  told : ℕ → Option DeckFaultKind → Option DeckFault
-  told number o = option_map (λ kind. record { card = number; kind = kind }) o
+  reported : ℕ → Option DeckFaultKind → Option DeckFault
+  reported number o = option_map (λ kind. record { card = number; kind = kind }) o
 
-  told-or : (number : ℕ) (o : Option DeckFaultKind) → option_or {T = DeckFault} (told number o) None ≡ told number o
-  unfolding told
-  told-or number None = refl
-  told-or number (Some kind) = refl
+  reported-or : (number : ℕ) (o : Option DeckFaultKind) → option_or {T = DeckFault} (reported number o) None ≡ reported number o
+  unfolding reported
+  reported-or number None = refl
+  reported-or number (Some kind) = refl
 
   -- ---- one card after others
 
@@ -34,8 +34,8 @@ module _ (test : List Card → List ℕ → Option DeckFaultKind) where
   -- another has the fault that the test finds
   pub fault_alone : (seen : List Card) (card : Card) → is_skipped card.bytes ≡ false
       → first_faulty test seen (live (card ∷ [])) ≡ option_map (λ kind. record { card = card.number; kind = kind }) (test seen card.bytes)
-  unfolding told
-  fault_alone seen card e = ap (λ b. first_faulty test seen (cond (not b) (card ∷ []) [])) e ∙ told-or card.number (test seen card.bytes)
+  unfolding reported
+  fault_alone seen card e = ap (λ b. first_faulty test seen (cond (not b) (card ∷ []) [])) e ∙ reported-or card.number (test seen card.bytes)
 
   -- ---- a deck up to a card
 

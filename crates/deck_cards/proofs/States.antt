@@ -3,7 +3,7 @@ use Rattle.std.proofs.Common.{◌≡◌, ℕ, List, [], ◌∷◌, ◌++◌, Opt
 use Rattle.card_definitions.specs.Cards.{Card}
 use Rattle.deck_definitions.specs.declared.DeckFaultKind.{DeckFaultKind}
 use Rattle.deck_cards.specs.declared.card_stop.CardStop.{CardStop}
-use Rattle.deck_cards.specs.Told.{TellsDeckFault}
+use Rattle.deck_cards.specs.Reported.{ReportsDeckFault}
 
 module _ {S : Type 0} (test : List Card → List ℕ → Option DeckFaultKind) (state_of : List Card → S) (fault_at : S → List ℕ → Option DeckFaultKind) (state_with : S → List ℕ → S)
     (same : (seen : List Card) (card : List ℕ) → test seen card ≡ fault_at (state_of seen) card)
@@ -14,8 +14,8 @@ module _ {S : Type 0} (test : List Card → List ℕ → Option DeckFaultKind) (
   pub no_fault : {T : Type 0} (result : Result T CardStop) (old : S) (seen : List Card) (card : List ℕ) → old ≡ state_of seen → OnOk result (fault_at old card ≡ None) → OnOk result (test seen card ≡ None)
   no_fault result old seen card is h = subst (λ fault. OnOk result (fault ≡ None)) (fault-same old seen card is) h
 
-  pub stop : {T : Type 0} (result : Result T CardStop) (old : S) (seen : List Card) (card : List ℕ) → old ≡ state_of seen → IfErr result (TellsDeckFault (fault_at old card)) → IfErr result (TellsDeckFault (test seen card))
-  stop result old seen card is h = subst (λ fault. IfErr result (TellsDeckFault fault)) (fault-same old seen card is) h
+  pub stop : {T : Type 0} (result : Result T CardStop) (old : S) (seen : List Card) (card : List ℕ) → old ≡ state_of seen → IfErr result (ReportsDeckFault (fault_at old card)) → IfErr result (ReportsDeckFault (test seen card))
+  stop result old seen card is h = subst (λ fault. IfErr result (ReportsDeckFault fault)) (fault-same old seen card is) h
 
   pub made : {T : Type 0} (result : Result T CardStop) (old new : S) (seen : List Card) (card : Card) → old ≡ state_of seen → OnOk result (fault_at old card.bytes ≡ None) → OnOk result (new ≡ state_with old card.bytes)
       → OnOk result (new ≡ state_of (seen ++ card ∷ []))

@@ -6,7 +6,7 @@ use Rattle.deck_definitions.specs.Conversion.{fault_by, first_faulty}
 use Rattle.deck_fields.specs.declared.stop.DeckStop.{DeckStop}
 use Rattle.deck_fields.specs.declared.stop.DeckStop.TheVariants.{Fault, NoMemory}
 
--- a fault is that of this card after others, by a test, and memory may be wanted at any time
+-- a fault is that of this card after others, by a test, and memory may run out at any time
 abbrev pub StopsAt : (List Card → List ℕ → Option DeckFaultKind) → List Card → Card → DeckStop → Type 0
 StopsAt test seen card (Fault found) = first_faulty test seen (live (card ∷ [])) ≡ Some found
 StopsAt test seen card NoMemory = Unit {0}

@@ -8,9 +8,9 @@ ghost use Rattle.deck_definitions.specs.declared.Style.TheVariants.{FreeFields};
 ghost use Rattle.deck_definitions.specs.Conversion.{gaps_fault, form_fault};
 ghost use Rattle.deck_definitions.specs.DataCards.{form_on, is_card_of, pair_if};
 ghost use Rattle.deck_definitions.proofs.CardTexts.{IsReading};
-ghost use Rattle.deck_fields.specs.Readings.{fields_shown};
-ghost use Rattle.deck_fields.specs.WordsShown.{IsColumn};
-ghost use Rattle.deck_cards.specs.Shown.{shown, pair_shown};
+ghost use Rattle.deck_fields.specs.Readings.{fields_view};
+ghost use Rattle.deck_fields.specs.WordsViewed.{IsColumn};
+ghost use Rattle.deck_cards.specs.Views.{viewed, pair_view};
 
 use crate::data_card::{DataCard, PairText};
 use crate::free_card::free_fields;
@@ -34,10 +34,10 @@ pub fn name_in(field: &[u8]) -> Name
 
 // The data card with these fields.
 fn card_with<'a>(f: Fields<'a>) -> DataCard<'a>
-    requires reading { IsReading (fields_shown f) }
+    requires reading { IsReading (fields_view f) }
     requires column1 { IsColumn f.value1_column }
     requires column2 { IsColumn f.value2_column }
-    ensures { shown result ≡ fields_shown f.entry }
+    ensures { viewed result ≡ fields_view f.entry }
 {
     DataCard {
         kind: f.kind,
@@ -53,7 +53,7 @@ fn card_with<'a>(f: Fields<'a>) -> DataCard<'a>
 
 /// Reads a data card whose fields stand at fixed columns.
 pub fn read_fixed_card<'a>(card: Card<'a>) -> Result<DataCard<'a>, DeckFaultKind>
-    ensures reading { IfOk result (λ d. shown d ≡ reading_of Fixed (card_bytes card.entry)) }
+    ensures reading { IfOk result (λ d. viewed d ≡ reading_of Fixed (card_bytes card.entry)) }
     ensures no_fault { OnOk result (gaps_fault (card_bytes card.entry) ≡ None) }
     ensures fault { IfErr result (λ kind. gaps_fault (card_bytes card.entry) ≡ Some kind) }
 {
@@ -69,7 +69,7 @@ fn read_free_card<'a>(
     section: Section,
     deletes: bool,
 ) -> Result<DataCard<'a>, DeckFaultKind>
-    ensures reading { IfOk result (λ d. shown d ≡ reading_of
+    ensures reading { IfOk result (λ d. viewed d ≡ reading_of
         (form_on FreeFields section deletes (card_bytes card.entry)) (card_bytes card.entry)) }
     ensures no_fault { OnOk result (form_fault FreeFields section deletes (card_bytes card.entry) ≡ None) }
     ensures fault { IfErr result (λ kind. form_fault FreeFields section deletes (card_bytes card.entry) ≡ Some kind) }
@@ -87,7 +87,7 @@ pub fn read_data_card<'a>(
     section: Section,
     deletes: bool,
 ) -> Result<DataCard<'a>, DeckFaultKind>
-    ensures reading { IfOk result (λ d. shown d ≡ reading_of
+    ensures reading { IfOk result (λ d. viewed d ≡ reading_of
         (form_on style section deletes (card_bytes card.entry)) (card_bytes card.entry)) }
     ensures no_fault { OnOk result (form_fault style section deletes (card_bytes card.entry) ≡ None) }
     ensures fault { IfErr result (λ kind. form_fault style section deletes (card_bytes card.entry) ≡ Some kind) }
@@ -100,18 +100,18 @@ pub fn read_data_card<'a>(
 
 /// Whether a card has the type and the name of the combination of this kind and name.
 pub fn is_card_of(kind: RowKind, name: &Name, card: &DataCard<'_>) -> bool
-    ensures { result ≡ is_card_of kind name.now (shown card.now) }
+    ensures { result ≡ is_card_of kind name.now (viewed card.now) }
 {
     is_word(combination_word(kind), card.kind) && *name == card.name1
 }
 
 // The pair in fields 3 and 4.
 pub fn first_pair<'a>(card: &DataCard<'a>) -> PairText<'a>
-    ensures { pair_shown result ≡ record {
-      row = (shown card.now).name2;
+    ensures { pair_view result ≡ record {
+      row = (viewed card.now).name2;
       value =
-          (shown card.now).value1;
-      column = (shown card.now).value1_column;
+          (viewed card.now).value1;
+      column = (viewed card.now).value1_column;
     } }
 {
     PairText {
@@ -123,8 +123,8 @@ pub fn first_pair<'a>(card: &DataCard<'a>) -> PairText<'a>
 
 // The pair in fields 3 and 4, where one of these isn't blank: a part of a combination.
 pub fn first_part<'a>(card: &DataCard<'a>) -> Option<PairText<'a>>
-    ensures { option_to_list (option_map pair_shown result) ≡ pair_if (shown card.now).name2
-        (shown card.now).value1 (shown card.now).value1_column }
+    ensures { option_to_list (option_map pair_view result) ≡ pair_if (viewed card.now).name2
+        (viewed card.now).value1 (viewed card.now).value1_column }
 {
     if is_blank(card.name2.bytes()) && is_blank(card.value1) {
         return None;
@@ -134,8 +134,8 @@ pub fn first_part<'a>(card: &DataCard<'a>) -> Option<PairText<'a>>
 
 // The pair in fields 5 and 6, where one of these isn't blank.
 pub fn second_pair<'a>(card: &DataCard<'a>) -> Option<PairText<'a>>
-    ensures { option_to_list (option_map pair_shown result) ≡ pair_if (shown card.now).name3
-        (shown card.now).value2 (shown card.now).value2_column }
+    ensures { option_to_list (option_map pair_view result) ≡ pair_if (viewed card.now).name3
+        (viewed card.now).value2 (viewed card.now).value2_column }
 {
     if is_blank(card.name3.bytes()) && is_blank(card.value2) {
         return None;

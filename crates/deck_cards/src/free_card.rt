@@ -8,7 +8,7 @@ ghost use Rattle.deck_definitions.specs.declared.Style.TheVariants.{FreeFields};
 ghost use Rattle.deck_definitions.specs.Conversion.{type_fault, is_longer, form_fault};
 ghost use Rattle.deck_definitions.specs.DataCards.{form_on};
 ghost use Rattle.deck_fields.specs.Readings.{ShowsFields};
-ghost use Rattle.deck_fields.specs.WordsShown.{IsColumn};
+ghost use Rattle.deck_fields.specs.WordsViewed.{IsColumn};
 
 use crate::field_lists::fields_on;
 use crate::words::{bound_kind, is_row_type};

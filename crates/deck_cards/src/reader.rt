@@ -7,7 +7,7 @@ ghost use Rattle.deck_definitions.specs.declared.Section.TheVariants.{Endata};
 ghost use Rattle.deck_definitions.specs.Sections.{is_section_after};
 ghost use Rattle.deck_definitions.specs.Conversion.{fault_by, first_faulty};
 ghost use Rattle.deck_definitions.proofs.Converted.{ArePrintable};
-ghost use Rattle.deck_cards.specs.Told.{TellsDeckFault};
+ghost use Rattle.deck_cards.specs.Reported.{ReportsDeckFault};
 ghost use Rattle.deck_cards.specs.Stops.{Stops, StopsAt};
 
 use crate::card_stop::CardStop;
@@ -36,7 +36,7 @@ pub trait Draft {
             is_made_of start self.old seen → OnOk result (is_made_of start self.new
             (seen ++ record { number = number; bytes = card_bytes card.entry } ∷ [])) }
         ensures stop { (start : Self) (seen : List Numbered) → is_made_of start self.old seen →
-            IfErr result (TellsDeckFault (test start seen (card_bytes card.entry))) };
+            IfErr result (ReportsDeckFault (test start seen (card_bytes card.entry))) };
 }
 
 // Reads one more card, which may be skipped.

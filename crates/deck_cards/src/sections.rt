@@ -5,7 +5,7 @@ ghost use Rattle.deck_definitions.specs.declared.Section.{Section as TheSection}
 ghost use Rattle.deck_definitions.specs.declared.Section.TheVariants.{Header, Endata};
 ghost use Rattle.deck_definitions.specs.Sections.{is_section, is_section_card, rank, section_word, section_words};
 ghost use Rattle.deck_definitions.specs.Conversion.{section_card_fault};
-ghost use Rattle.deck_cards.specs.Told.{TellsDeckFault};
+ghost use Rattle.deck_cards.specs.Reported.{ReportsDeckFault};
 
 use crate::card_stop::CardStop;
 use crate::words::{first_word, section_named};
@@ -68,7 +68,7 @@ pub fn next_section<O: SectionOrder>(
     ensures section { IfOk result (λ section. named section_words (section_word card.now) ≡
         Some section) }
     ensures no_fault { OnOk result (section_card_fault O.follows before card.now ≡ None) }
-    ensures stop { IfErr result (TellsDeckFault (section_card_fault O.follows before card.now)) }
+    ensures stop { IfErr result (ReportsDeckFault (section_card_fault O.follows before card.now)) }
 {
     let next = section_named(first_word(card));
     let Some(before) = before else {

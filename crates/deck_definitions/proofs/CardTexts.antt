@@ -82,17 +82,17 @@ record AreShort (read : Reading) : Type 0 where
   names : list_any (is_longer 8) (read.name1 ∷ read.name2 ∷ read.name3 ∷ []) ≡ false
   numbers : list_any (is_longer 12) (read.value1 ∷ read.value2 ∷ []) ≡ false
 
-untold : (b : Bool) (kind : DeckFaultKind) → (b ⟹ kind) ≡ None → b ≡ false
-untold true kind none = absurd (cc none)
-untold false kind none = refl
+unreported : (b : Bool) (kind : DeckFaultKind) → (b ⟹ kind) ≡ None → b ≡ false
+unreported true kind none = absurd (cc none)
+unreported false kind none = refl
 
 words-short : (lists : List (List ℕ)) (card : List ℕ) (read : Reading) → words_fault lists card read ≡ None → AreShort read
 words-short lists card read formed =
-    let told = passes (
+    let reported = passes (
     (is_none (fields_for lists (length (words card))) ⟹ WordCount) ∷
     (list_any (is_longer 8) (read.name1 ∷ read.name2 ∷ read.name3 ∷ []) ⟹ LongName) ∷
     (list_any (is_longer 12) (read.value1 ∷ read.value2 ∷ []) ⟹ LongNumber) ∷ []) formed in
-    record { names = untold _ LongName told.1.0; numbers = untold _ LongNumber told.1.1.0 }
+    record { names = unreported _ LongName reported.1.0; numbers = unreported _ LongNumber reported.1.1.0 }
 
 module _ (section : Section) (deletes : Bool) (card : List ℕ) where
   free-lawful : list_all is_printable card ≡ true → form_fault FreeFields section deletes card ≡ None → IsReading (reading_of (form_on FreeFields section deletes card) card)

@@ -10,7 +10,7 @@ use Rattle.card_definitions.specs.Cards.{is_blank}
 use Rattle.card_definitions.specs.Fields.{Word as Read, word_if_any, words_from, words}
 use Rattle.deck_fields.specs.declared.free_card.Word.{Word}
 use Rattle.deck_fields.specs.declared.free_card.Words.{Words}
-use Rattle.deck_fields.specs.WordsShown.{word_shown, absent, IsColumn, AreWordsBefore}
+use Rattle.deck_fields.specs.WordsViewed.{word_view, absent, IsColumn, AreWordsBefore}
 
 -- ---- parts between blanks
 
@@ -88,16 +88,16 @@ module _ (all : List Word) (count k : ℕ) (d word : Word) (seven : length all �
   kept differ true = get_or-set_other all count k word d differ
   kept differ false = refl
 
-  each-pushed : (before : List Read) → length before ≡ count → word_shown (get_or all k d) ≡ unwrap_or (slice_get before k) absent
-      → word_shown (get_or (if nat_lt count 7 then set all count word else all) k d) ≡ unwrap_or (slice_get (before ++ word_shown word ∷ []) k) absent
+  each-pushed : (before : List Read) → length before ≡ count → word_view (get_or all k d) ≡ unwrap_or (slice_get before k) absent
+      → word_view (get_or (if nat_lt count 7 then set all count word else all) k d) ≡ unwrap_or (slice_get (before ++ word_view word ∷ []) k) absent
   each-pushed before long old = by (eqb_tells k count)
     where
       by : ((nat_eq k count ≡ true) × (k ≡ count)) ⊎ ((nat_eq k count ≡ false) × (k ≢ count))
-          → word_shown (get_or (if nat_lt count 7 then set all count word else all) k d) ≡ unwrap_or (slice_get (before ++ word_shown word ∷ []) k) absent
-      by (inl same) = ap word_shown (noted (lt-ltb count 7 (omega (arith, below, same.1))) same.1)
-          ∙ ap (λ o. unwrap_or o absent) (sym (get-next before (word_shown word) k (same.1 ∙ sym long)))
-      by (inr differ) = ap word_shown (kept differ.1 (nat_lt count 7)) ∙ old
-          ∙ ap (λ o. unwrap_or o absent) (sym (get-other before (word_shown word) k (λ is. differ.1 (is ∙ long))))
+          → word_view (get_or (if nat_lt count 7 then set all count word else all) k d) ≡ unwrap_or (slice_get (before ++ word_view word ∷ []) k) absent
+      by (inl same) = ap word_view (noted (lt-ltb count 7 (omega (arith, below, same.1))) same.1)
+          ∙ ap (λ o. unwrap_or o absent) (sym (get-next before (word_view word) k (same.1 ∙ sym long)))
+      by (inr differ) = ap word_view (kept differ.1 (nat_lt count 7)) ∙ old
+          ∙ ap (λ o. unwrap_or o absent) (sym (get-other before (word_view word) k (λ is. differ.1 (is ∙ long))))
 
   columns-pushed : IsColumn word.column → (k < count → IsColumn (get_or all k d).column) → k < count + 1 → IsColumn (get_or (if nat_lt count 7 then set all count word else all) k d).column
   columns-pushed new old there = by (eqb_tells k count)
@@ -132,11 +132,11 @@ pub before-word : (found new : Words) (card rest : List ℕ) (start len : ℕ) (
     → word.column ≡ start + 1 → word.text.now ≡ take len rest → new.count ≡ found.count + 1 → new.words ≡ (if nat_lt found.count 7 then set found.words found.count word else found.words)
     → AreWordsBefore found card start → AreWordsBefore new card (start + len + 1)
 before-word found new card rest start len word is_rest is_len bound some inside column text count items front = record {
-  split = whole ∙ sym (append_assoc before (word_shown word ∷ []) later) ∙ ap (λ more. more ++ later) (sym taken);
+  split = whole ∙ sym (append_assoc before (word_view word ∷ []) later) ∙ ap (λ more. more ++ later) (sym taken);
   few = omega (arith, front.few, count);
-  counted = omega (arith, counted, count, ap length whole, length-append before (word_shown word ∷ later));
+  counted = omega (arith, counted, count, ap length whole, length-append before (word_view word ∷ later));
   seven = ap length items ∙ long (nat_lt found.count 7);
-  each = λ k d below. ap (λ all. word_shown (get_or all k d)) items
+  each = λ k d below. ap (λ all. word_view (get_or all k d)) items
       ∙ each-pushed found.words found.count k d word front.seven below before counted (front.each k d below)
       ∙ ap (λ list. unwrap_or (slice_get list k) absent) (sym taken);
   columns = λ k d below there. subst (λ (all : List Word). IsColumn (get_or all k d).column) (sym items)
@@ -149,33 +149,33 @@ before-word found new card rest start len word is_rest is_len bound some inside 
     later : List Read
     later = words_from (start + len + 1 + 1) (slice_split is_blank (drop (start + len + 1) card))
 
-    is_word : word_if_any (start + 1) (take len rest) ≡ word_shown word ∷ []
+    is_word : word_if_any (start + 1) (take len rest) ≡ word_view word ∷ []
     is_word = one-word (start + 1) (take len rest) (omega (arith, length-take len rest, bound, some))
         ∙ ap₂ (λ n (xs : List ℕ). record { column = n; text = xs } ∷ []) (sym column) (sym text)
 
-    whole : words card ≡ before ++ word_shown word ∷ later
+    whole : words card ≡ before ++ word_view word ∷ later
     whole = front.split ∙ ap (λ more. before ++ more) (next_words start card rest len is_rest is_len bound ∙ ap (λ list. list ++ later) is_word)
 
     counted : length before ≡ found.count
-    counted = omega (arith, length-take found.count (words card), ap length whole, length-append before (word_shown word ∷ later))
+    counted = omega (arith, length-take found.count (words card), ap length whole, length-append before (word_view word ∷ later))
 
-    taken : take new.count (words card) ≡ before ++ word_shown word ∷ []
+    taken : take new.count (words card) ≡ before ++ word_view word ∷ []
     taken = let n : new.count ≡ length before + 1 = omega (arith, count, counted) in
-        ap (λ m. take m (words card)) n ∙ ap (take (length before + 1)) whole ∙ take-push before (word_shown word) later
+        ap (λ m. take m (words card)) n ∙ ap (take (length before + 1)) whole ∙ take-push before (word_view word) later
 
     long : (b : Bool) → length (if b then set found.words found.count word else found.words) ≡ 7
     long true = length-set found.words found.count word ∙ front.seven
     long false = front.seven
 
 -- at first there is none
-pub before-all : (found : Words) (card : List ℕ) (w : Word) → found.count ≡ 0 → found.words ≡ w ∷ w ∷ w ∷ w ∷ w ∷ w ∷ w ∷ [] → word_shown w ≡ absent → AreWordsBefore found card 0
+pub before-all : (found : Words) (card : List ℕ) (w : Word) → found.count ≡ 0 → found.words ≡ w ∷ w ∷ w ∷ w ∷ w ∷ w ∷ w ∷ [] → word_view w ≡ absent → AreWordsBefore found card 0
 unfolding words
 before-all found card w none items blank = record {
   split = ap (λ n. take n (words card) ++ words_from 1 (slice_split is_blank card)) (sym none);
   few = omega (arith, none);
   counted = omega (arith, none);
   seven = ap length items;
-  each = λ k d below. ap (λ all. word_shown (get_or all k d)) items ∙ ap word_shown (seven-times k d below) ∙ blank ∙ ap (λ n. unwrap_or (slice_get (take n (words card)) k) absent) (sym none);
+  each = λ k d below. ap (λ all. word_view (get_or all k d)) items ∙ ap word_view (seven-times k d below) ∙ blank ∙ ap (λ n. unwrap_or (slice_get (take n (words card)) k) absent) (sym none);
   columns = λ k d below there. absurd (omega (arith, there, none));
 }
   where

@@ -21,8 +21,8 @@ abbrev pub quotient_value : Quotient → ℚ
 quotient_value q = fraction (if q.is_negative then neg_ℤ (pos q.size) else pos q.size) q.denominator
 
 -- what six borrowed fields show
-abbrev pub fields_shown : Fields → Reading
-fields_shown fields = record {
+abbrev pub fields_view : Fields → Reading
+fields_view fields = record {
   kind = fields.kind.now;
   name1 = fields.name1.now;
   name2 = fields.name2.now;

@@ -5,7 +5,7 @@ ghost use Rattle.card_definitions.specs.Cards.{is_blank};
 ghost use Rattle.card_reader.specs.Card.{card_bytes};
 ghost use Rattle.card_definitions.specs.Fields.{word_text, word_of, words, read_words, no_word};
 ghost use Rattle.deck_fields.specs.Readings.{ShowsFields};
-ghost use Rattle.deck_fields.specs.WordsShown.{word_shown, IsColumn, ShowsWords, AreWordsBefore};
+ghost use Rattle.deck_fields.specs.WordsViewed.{word_view, IsColumn, ShowsWords, AreWordsBefore};
 
 use crate::texts::Fields;
 use card_reader::Card;
@@ -105,7 +105,7 @@ fn place_of(fields: &[u8], field: u8) -> Option<usize>
 
 // A field that no word is.
 fn no_word<'a>() -> Word<'a>
-    ensures { word_shown result ≡ no_word }
+    ensures { word_view result ≡ no_word }
 {
     Word {
         column: 1,
@@ -116,7 +116,7 @@ fn no_word<'a>() -> Word<'a>
 // The word at a place, from 0; one that no field is, where the card has fewer.
 fn word_at<'a>(found: &Words<'a>, place: usize) -> Word<'a>
     requires { place < 7 }
-    ensures word { (card : List ℕ) → ShowsWords found.now card → word_shown result ≡ unwrap_or (slice_get (words card) place) no_word }
+    ensures word { (card : List ℕ) → ShowsWords found.now card → word_view result ≡ unwrap_or (slice_get (words card) place) no_word }
     ensures column { (card : List ℕ) → ShowsWords found.now card → IsColumn result.column }
 {
     if place >= found.count as usize {
@@ -128,7 +128,7 @@ fn word_at<'a>(found: &Words<'a>, place: usize) -> Word<'a>
 // The word that is a field, where the words are these fields in order.
 fn word_of<'a>(found: &Words<'a>, fields: &[u8], field: u8) -> Word<'a>
     requires { length fields.now ≤ 6 }
-    ensures word { (card : List ℕ) → ShowsWords found.now card → word_shown result ≡ word_of fields.now (words card) field }
+    ensures word { (card : List ℕ) → ShowsWords found.now card → word_view result ≡ word_of fields.now (words card) field }
     ensures column { (card : List ℕ) → ShowsWords found.now card → IsColumn result.column }
 {
     match place_of(fields, field) {

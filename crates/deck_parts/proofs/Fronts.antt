@@ -11,7 +11,7 @@ use Rattle.problem_definitions.specs.Problem.{Entry, Group, has_group, group_nam
 use Rattle.deck_definitions.specs.declared.DeckFaultKind.{DeckFaultKind}
 use Rattle.deck_definitions.specs.declared.DeckFaultKind.TheVariants.{ColumnSplit, TooManyColumns}
 use Rattle.deck_definitions.specs.Tests.{all_but_last}
-use Rattle.deck_parts.specs.Shown.{group_at, column_fault}
+use Rattle.deck_parts.specs.Views.{group_at, column_fault}
 
 none_below_zero : (m : ℕ) → nat_lt m 0 ≡ false
 none_below_zero m = grind (arith, nat_tests)

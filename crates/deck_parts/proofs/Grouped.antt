@@ -8,7 +8,7 @@ use Rattle.problem_definitions.specs.Names.{Name, same}
 use Rattle.problem_definitions.specs.Problem.{has_group}
 use Rattle.problem_definitions.specs.Groups.{items_of, in_group, in_set}
 use Rattle.problem_definitions.proofs.Names.{same_eq}
-use Rattle.deck_parts.specs.Shown.{group_at}
+use Rattle.deck_parts.specs.Views.{group_at}
 
 module _ {X : Type 0} where
   -- a name is looked up where its group is there

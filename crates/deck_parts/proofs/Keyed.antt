@@ -9,8 +9,8 @@ use Rattle.problem_definitions.specs.Problem.{Row, has_row, has_free_row, has_co
 use Rattle.problem_definitions.proofs.Names.{same_eq}
 use Rattle.deck_parts.specs.declared.on_row.OnRow.{OnRow}
 use Rattle.deck_parts.specs.declared.rows.RowBody.{RowBody}
-use Rattle.deck_parts.specs.Shown.{entry_at}
-use Rattle.deck_parts.specs.RowShown.{row_at}
+use Rattle.deck_parts.specs.Views.{entry_at}
+use Rattle.deck_parts.specs.RowViewed.{row_at}
 
 module _ {V X : Type 0} (f : Name × V → X) (name_of : X → Name) (own : (e : Name × V) → name_of (f e) ≡ e.0) where
   -- a name is looked up where something of this name is there

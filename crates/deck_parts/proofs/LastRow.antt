@@ -9,7 +9,7 @@ use Rattle.problem_definitions.specs.Problem.{has_row}
 use Rattle.problem_definitions.proofs.Names.{same_sym}
 use Rattle.deck_definitions.specs.DataCards.{is_card_of, goes_on_last}
 use Rattle.deck_parts.specs.declared.rows.RowBody.{RowBody}
-use Rattle.deck_parts.specs.RowShown.{row_at}
+use Rattle.deck_parts.specs.RowViewed.{row_at}
 
 last_at : (o : Option (Name × RowBody)) (e : Name × RowBody) (es : List (Name × RowBody)) → last_or (option_map row_at o) (map row_at (e ∷ es)) ≡ option_map row_at (slice_get (e ∷ es) (length es))
 last_at o e [] = refl

@@ -1,9 +1,9 @@
 pub mod Keyed
 mod LastRow
-mod NumbersTold
+mod NumbersReported
 pub mod Second
-mod PartsTold
-mod RowsTold
+mod PartsReported
+mod RowsReported
 pub mod Grouped
 pub mod Fronts
 mod FirstPlaces

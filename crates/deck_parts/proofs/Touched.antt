@@ -8,7 +8,7 @@ use Rattle.problem_definitions.specs.Names.{Name, same}
 use Rattle.problem_definitions.specs.Problem.{Bound}
 use Rattle.problem_definitions.proofs.Names.{same_eq}
 use Rattle.deck_definitions.specs.Tests.{is_bound_already}
-use Rattle.deck_parts.specs.Shown.{marked, Marks}
+use Rattle.deck_parts.specs.Views.{marked, Marks}
 
 -- a marked column is among the columns
 found_marked : (touches : Bool) (column name : Name) (keys : List Name) → list_any (same name) (marked touches column keys) ≡ (list_any (same name) keys || (same name column && touches || false))

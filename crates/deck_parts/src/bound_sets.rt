@@ -8,9 +8,9 @@ ghost use Rattle.problem_definitions.specs.Groups.{items_of, in_set};
 ghost use Rattle.deck_definitions.specs.DataCards.{bound_of, bound_group};
 ghost use Rattle.deck_definitions.specs.Tests.{bound_value_fault, bounds_fault};
 ghost use Rattle.deck_definitions.proofs.Steps.{with_group};
-ghost use Rattle.deck_cards.specs.Told.{TellsDeckFault};
-ghost use Rattle.deck_parts.specs.Shown.{group_at, bounds_alone, bound_end_fault, bound_rest_fault, column_number};
-ghost use Rattle.deck_cards.specs.Shown.{shown};
+ghost use Rattle.deck_cards.specs.Reported.{ReportsDeckFault};
+ghost use Rattle.deck_parts.specs.Views.{group_at, bounds_alone, bound_end_fault, bound_rest_fault, column_number};
+ghost use Rattle.deck_cards.specs.Views.{viewed};
 
 use crate::bounds::{Bounds, NamedBound};
 use crate::fault_after::fault_after;
@@ -30,8 +30,8 @@ use std::marker::Model;
 pub fn bound_value(kind: BoundKind, card: &DataCard<'_>) -> Result<Option<Decimal>, DeckFaultKind>
     ensures value { IfOk result (λ v. v ≡ (if takes_value kind then Some
         (decimal_of card.now.value1.now) else None)) }
-    ensures no_fault { OnOk result (bound_end_fault (shown card.now) kind ≡ None) }
-    ensures fault { IfErr result (λ fault. bound_end_fault (shown card.now) kind ≡ Some fault) }
+    ensures no_fault { OnOk result (bound_end_fault (viewed card.now) kind ≡ None) }
+    ensures fault { IfErr result (λ fault. bound_end_fault (viewed card.now) kind ≡ Some fault) }
 {
     let value = value_taken(kind, card)?;
     if has_second(card) {
@@ -44,8 +44,8 @@ pub fn bound_value(kind: BoundKind, card: &DataCard<'_>) -> Result<Option<Decima
 fn value_taken(kind: BoundKind, card: &DataCard<'_>) -> Result<Option<Decimal>, DeckFaultKind>
     ensures value { IfOk result (λ v. v ≡ (if takes_value kind then Some
         (decimal_of card.now.value1.now) else None)) }
-    ensures no_fault { OnOk result (bound_value_fault (shown card.now) kind ≡ None) }
-    ensures fault { IfErr result (λ fault. bound_value_fault (shown card.now) kind ≡ Some fault) }
+    ensures no_fault { OnOk result (bound_value_fault (viewed card.now) kind ≡ None) }
+    ensures fault { IfErr result (λ fault. bound_value_fault (viewed card.now) kind ≡ Some fault) }
 {
     if !has_value(kind) {
         return Ok(None);
@@ -68,10 +68,10 @@ fn take_bound(
     kind: BoundKind,
     card: &DataCard<'_>,
 ) -> Result<(), CardStop>
-    ensures no_fault { OnOk result (bound_rest_fault items.old (shown card.now) kind ≡ None) }
-    ensures step { OnOk result (items.new ≡ items.old ++ bound_of (shown card.now) kind ∷ []) }
+    ensures no_fault { OnOk result (bound_rest_fault items.old (viewed card.now) kind ≡ None) }
+    ensures step { OnOk result (items.new ≡ items.old ++ bound_of (viewed card.now) kind ∷ []) }
     ensures stop { IfErr result
-        (TellsDeckFault (bound_rest_fault items.old (shown card.now) kind)) }
+        (ReportsDeckFault (bound_rest_fault items.old (viewed card.now) kind)) }
 {
     let column = card.name2;
     match bound_value(kind, card) {
@@ -98,13 +98,13 @@ fn take_bound_into(
     card: &DataCard<'_>,
 ) -> Result<(), CardStop>
     ensures no_fault { OnOk result
-        (bound_rest_fault (items_of card.now.name1 (map group_at sets.old.entries)) (shown card.now)
+        (bound_rest_fault (items_of card.now.name1 (map group_at sets.old.entries)) (viewed card.now)
         kind ≡ None) }
     ensures step { OnOk result (map group_at sets.new.entries ≡ in_set card.now.name1
-        (λ items. items ++ bound_of (shown card.now) kind ∷ []) (map group_at sets.old.entries)) }
-    ensures stop { IfErr result (TellsDeckFault
+        (λ items. items ++ bound_of (viewed card.now) kind ∷ []) (map group_at sets.old.entries)) }
+    ensures stop { IfErr result (ReportsDeckFault
         (bound_rest_fault (items_of card.now.name1 (map group_at sets.old.entries))
-        (shown card.now) kind)) }
+        (viewed card.now) kind)) }
 {
     let items = sets.entry(card.name1)?.or_insert(Bounds::new(alloc));
     take_bound(items, place, kind, card)
@@ -141,7 +141,7 @@ impl Model for BoundSets {
     ghost use Rattle.std.specs.Prelude.{List, map};
     ghost use Rattle.problem_definitions.specs.Names.{Name as Text};
     ghost use Rattle.problem_definitions.specs.Problem.{Bound, Group};
-    ghost use Rattle.deck_parts.specs.Shown.{group_at};
+    ghost use Rattle.deck_parts.specs.Views.{group_at};
 
     ghost Value = { List (Group (Bound Text)) };
 
@@ -175,12 +175,12 @@ impl BoundSets {
         card: &DataCard<'_>,
     ) -> Result<(), CardStop>
         ensures no_fault { OnOk result (bound_rest_fault (items_of card.now.name1 self.old)
-            (shown card.now) kind ≡ None) }
+            (viewed card.now) kind ≡ None) }
         ensures step { OnOk result (self.new ≡ in_set card.now.name1
-            (λ items. items ++ bound_of (shown card.now) kind ∷ []) self.old) }
+            (λ items. items ++ bound_of (viewed card.now) kind ∷ []) self.old) }
         ensures stop { IfErr result
-            (TellsDeckFault (bound_rest_fault (items_of card.now.name1 self.old)
-            (shown card.now) kind)) }
+            (ReportsDeckFault (bound_rest_fault (items_of card.now.name1 self.old)
+            (viewed card.now) kind)) }
     {
         take_bound_into(alloc, &mut self.sets, place, kind, card)
     }
@@ -194,10 +194,10 @@ pub fn take_bound_card(
     card: &DataCard<'_>,
 ) -> Result<(), CardStop>
     ensures no_fault { OnOk result (bounds_fault (bounds_alone columns.now sets.old)
-        (shown card.now) ≡ None) }
-    ensures step { OnOk result (sets.new ≡ with_group (bound_group (shown card.now)) sets.old) }
-    ensures stop { IfErr result (TellsDeckFault (bounds_fault (bounds_alone columns.now sets.old)
-        (shown card.now))) }
+        (viewed card.now) ≡ None) }
+    ensures step { OnOk result (sets.new ≡ with_group (bound_group (viewed card.now)) sets.old) }
+    ensures stop { IfErr result (ReportsDeckFault (bounds_fault (bounds_alone columns.now sets.old)
+        (viewed card.now))) }
 {
     let Some(kind) = bound_kind(card.kind) else {
         return Err(CardStop::Refused(DeckFaultKind::BadBoundType));

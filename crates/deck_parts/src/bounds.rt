@@ -6,8 +6,8 @@ ghost use Rattle.problem_definitions.specs.Names.{same};
 ghost use Rattle.problem_definitions.specs.Numbering.{bound_by};
 ghost use Rattle.problem_definitions.specs.Kinds.{touches_upper, touches_lower};
 ghost use Rattle.deck_definitions.specs.Tests.{is_bound_already};
-ghost use Rattle.deck_cards.specs.Told.{TellsDeckFault};
-ghost use Rattle.deck_parts.specs.Shown.{marked, column_number};
+ghost use Rattle.deck_cards.specs.Reported.{ReportsDeckFault};
+ghost use Rattle.deck_parts.specs.Views.{marked, column_number};
 
 use crate::groups::Groups;
 use deck_cards::CardStop;
@@ -51,7 +51,7 @@ impl Model for Bounds {
     ghost use Rattle.problem_definitions.specs.Names.{Name as Text};
     ghost use Rattle.problem_definitions.specs.Problem.{Bound};
     ghost use Rattle.problem_definitions.specs.Kinds.{touches_upper, touches_lower};
-    ghost use Rattle.deck_parts.specs.Shown.{Marks};
+    ghost use Rattle.deck_parts.specs.Views.{Marks};
 
     ghost Value = { List (Bound Text) };
 
@@ -137,7 +137,7 @@ fn add_to(
         uppers.old.keys) }
     ensures lowers { OnOk result (lowers.new.keys ≡ marked (touches_lower bound.kind) bound.column
         lowers.old.keys) }
-    ensures stop { IfErr result (TellsDeckFault
+    ensures stop { IfErr result (ReportsDeckFault
         ((touches_upper bound.kind && list_any (same bound.column) uppers.old.keys || touches_lower
         bound.kind && list_any (same bound.column) lowers.old.keys) ⟹ DeckFaultKind.BoundTwice)) }
 {
@@ -203,7 +203,7 @@ impl Bounds {
         ensures is_new { OnOk result (is_bound_already self.old bound.column bound.kind ≡ false) }
         ensures added { OnOk result (self.new ≡ self.old ++ bound ∷ []) }
         ensures stop { IfErr result
-            (TellsDeckFault (is_bound_already self.old bound.column bound.kind ⟹
+            (ReportsDeckFault (is_bound_already self.old bound.column bound.kind ⟹
             DeckFaultKind.BoundTwice)) }
     {
         match add_to(&mut self.items, &mut self.uppers, &mut self.lowers, bound) {

@@ -3,8 +3,8 @@ ghost use Rattle.std.specs.Prelude.{◌≡◌, ◌≤◌, ◌++◌, ◌∷◌, [
 ghost use Rattle.card_definitions.specs.Words.{◌⟹◌};
 ghost use Rattle.problem_definitions.specs.Numbering.{entry_by};
 ghost use Rattle.problem_definitions.specs.Problem.{has_entry};
-ghost use Rattle.deck_cards.specs.Told.{TellsDeckFault};
-ghost use Rattle.deck_parts.specs.Shown.{entry_at, row_number};
+ghost use Rattle.deck_cards.specs.Reported.{ReportsDeckFault};
+ghost use Rattle.deck_parts.specs.Views.{entry_at, row_number};
 
 use crate::additions::add_new;
 use crate::on_row::OnRow;
@@ -28,7 +28,7 @@ impl Model for Entries {
     ghost use Rattle.std.specs.Prelude.{List, map};
     ghost use Rattle.problem_definitions.specs.Names.{Name as Text};
     ghost use Rattle.problem_definitions.specs.Problem.{Entry};
-    ghost use Rattle.deck_parts.specs.Shown.{entry_at};
+    ghost use Rattle.deck_parts.specs.Views.{entry_at};
 
     ghost Value = { List (Entry Text) };
 
@@ -66,7 +66,7 @@ impl Entries {
         ensures is_new { OnOk result (has_entry self.old row ≡ false) }
         ensures added { OnOk result (self.new ≡ self.old ++ record
             { row = row; value = number.value } ∷ []) }
-        ensures stop { IfErr result (TellsDeckFault (has_entry self.old row ⟹
+        ensures stop { IfErr result (ReportsDeckFault (has_entry self.old row ⟹
             DeckFaultKind.DuplicateEntry)) }
     {
         let is_new = add_new(&mut self.values, row, number)?;

@@ -9,9 +9,9 @@ ghost use Rattle.problem_definitions.specs.Groups.{items_of, in_set};
 ghost use Rattle.deck_definitions.specs.DataCards.{entries_of, pairs_of};
 ghost use Rattle.deck_definitions.specs.declared.Section.TheVariants.{Columns};
 ghost use Rattle.deck_definitions.specs.Tests.{pairs_fault};
-ghost use Rattle.deck_cards.specs.Told.{TellsDeckFault};
-ghost use Rattle.deck_parts.specs.Shown.{rows_alone, group_at, column_fault, row_number, column_number};
-ghost use Rattle.deck_cards.specs.Shown.{shown};
+ghost use Rattle.deck_cards.specs.Reported.{ReportsDeckFault};
+ghost use Rattle.deck_parts.specs.Views.{rows_alone, group_at, column_fault, row_number, column_number};
+ghost use Rattle.deck_cards.specs.Views.{viewed};
 
 use crate::entries::Entries;
 use crate::numbers::number_from;
@@ -54,12 +54,12 @@ fn take_into(
     requires { count ≤ 100000 }
     ensures no_fault { OnOk result
         (pairs_fault (rows_alone rows.now) section (items_of card.now.name1
-        (map group_at groups.old.entries)) count (pairs_of (shown card.now)) ≡ None) }
+        (map group_at groups.old.entries)) count (pairs_of (viewed card.now)) ≡ None) }
     ensures step { OnOk result (map group_at groups.new.entries ≡ in_set card.now.name1
-        (λ items. items ++ entries_of (shown card.now)) (map group_at groups.old.entries)) }
-    ensures stop { IfErr result (TellsDeckFault
+        (λ items. items ++ entries_of (viewed card.now)) (map group_at groups.old.entries)) }
+    ensures stop { IfErr result (ReportsDeckFault
         (pairs_fault (rows_alone rows.now) section (items_of card.now.name1
-        (map group_at groups.old.entries)) count (pairs_of (shown card.now)))) }
+        (map group_at groups.old.entries)) count (pairs_of (viewed card.now)))) }
 {
     let items = groups.entry(card.name1)?.or_insert(Entries::new(alloc));
     take_pairs(rows, section, items, count, card)
@@ -77,13 +77,13 @@ fn take_column_into(
     ensures no_fault { OnOk result
         (column_fault (map group_at columns.old.entries) card.now.name1
         (pairs_fault (rows_alone rows.now) Columns (items_of card.now.name1
-        (map group_at columns.old.entries)) count (pairs_of (shown card.now))) ≡ None) }
+        (map group_at columns.old.entries)) count (pairs_of (viewed card.now))) ≡ None) }
     ensures step { OnOk result (map group_at columns.new.entries ≡ in_set card.now.name1
-        (λ items. items ++ entries_of (shown card.now)) (map group_at columns.old.entries)) }
-    ensures stop { IfErr result (TellsDeckFault
+        (λ items. items ++ entries_of (viewed card.now)) (map group_at columns.old.entries)) }
+    ensures stop { IfErr result (ReportsDeckFault
         (column_fault (map group_at columns.old.entries) card.now.name1
         (pairs_fault (rows_alone rows.now) Columns (items_of card.now.name1
-        (map group_at columns.old.entries)) count (pairs_of (shown card.now))))) }
+        (map group_at columns.old.entries)) count (pairs_of (viewed card.now))))) }
 {
     let before = columns.len();
     let entry = columns.entry(card.name1)?;
@@ -147,7 +147,7 @@ impl Model for Groups {
     ghost use Rattle.std.specs.Prelude.{List, map};
     ghost use Rattle.problem_definitions.specs.Names.{Name as Text};
     ghost use Rattle.problem_definitions.specs.Problem.{Entry, Group};
-    ghost use Rattle.deck_parts.specs.Shown.{group_at};
+    ghost use Rattle.deck_parts.specs.Views.{group_at};
 
     ghost Value = { List (Group (Entry Text)) };
 
@@ -218,11 +218,11 @@ impl Groups {
         requires { count ≤ 100000 }
         ensures no_fault { OnOk result
             (pairs_fault (rows_alone rows.now) section (items_of card.now.name1 self.old) count
-            (pairs_of (shown card.now)) ≡ None) }
+            (pairs_of (viewed card.now)) ≡ None) }
         ensures step { OnOk result (self.new ≡ in_set card.now.name1
-            (λ items. items ++ entries_of (shown card.now)) self.old) }
-        ensures stop { IfErr result (TellsDeckFault (pairs_fault (rows_alone rows.now) section
-            (items_of card.now.name1 self.old) count (pairs_of (shown card.now)))) }
+            (λ items. items ++ entries_of (viewed card.now)) self.old) }
+        ensures stop { IfErr result (ReportsDeckFault (pairs_fault (rows_alone rows.now) section
+            (items_of card.now.name1 self.old) count (pairs_of (viewed card.now)))) }
     {
         take_into(alloc, rows, section, &mut self.groups, count, card)
     }
@@ -239,13 +239,13 @@ impl Groups {
         ensures no_fault { OnOk result
             (column_fault self.old card.now.name1
             (pairs_fault (rows_alone rows.now) Columns (items_of card.now.name1 self.old) count
-            (pairs_of (shown card.now))) ≡ None) }
+            (pairs_of (viewed card.now))) ≡ None) }
         ensures step { OnOk result (self.new ≡ in_set card.now.name1
-            (λ items. items ++ entries_of (shown card.now)) self.old) }
-        ensures stop { IfErr result (TellsDeckFault
+            (λ items. items ++ entries_of (viewed card.now)) self.old) }
+        ensures stop { IfErr result (ReportsDeckFault
             (column_fault self.old card.now.name1
             (pairs_fault (rows_alone rows.now) Columns (items_of card.now.name1 self.old) count
-            (pairs_of (shown card.now))))) }
+            (pairs_of (viewed card.now))))) }
     {
         take_column_into(alloc, rows, &mut self.groups, count, card)
     }

@@ -5,9 +5,9 @@ ghost use Rattle.card_definitions.specs.Numbers.{decimal_of};
 ghost use Rattle.card_definitions.specs.declared.NumberFault.TheVariants.{BadCharacter};
 ghost use Rattle.deck_definitions.specs.DataCards.{entry_of, entries_of, pairs_of, part_pairs_of, parts_on};
 ghost use Rattle.deck_definitions.specs.Tests.{number_fault_from, value_fault, pair_row_fault, pair_fault, pairs_fault};
-ghost use Rattle.deck_cards.specs.Told.{TellsDeckFault};
-ghost use Rattle.deck_parts.specs.Shown.{rows_alone, pair_value_fault, parts_fault};
-ghost use Rattle.deck_cards.specs.Shown.{shown, pair_shown};
+ghost use Rattle.deck_cards.specs.Reported.{ReportsDeckFault};
+ghost use Rattle.deck_parts.specs.Views.{rows_alone, pair_value_fault, parts_fault};
+ghost use Rattle.deck_cards.specs.Views.{viewed, pair_view};
 
 use crate::entries::Entries;
 use crate::fault_after::fault_after;
@@ -79,8 +79,8 @@ pub fn number_in(column: u8, field: &[u8]) -> Result<Decimal, DeckFaultKind>
 // The number of a pair, where there is room for one more, or the fault.
 fn decimal_of(section: Section, count: u32, pair: &PairText<'_>) -> Result<Decimal, DeckFaultKind>
     ensures value { IfOk result (λ v. v ≡ decimal_of pair.now.value.now) }
-    ensures no_fault { OnOk result (pair_value_fault section count (pair_shown pair.now) ≡ None) }
-    ensures fault { IfErr result (λ kind. pair_value_fault section count (pair_shown pair.now)
+    ensures no_fault { OnOk result (pair_value_fault section count (pair_view pair.now) ≡ None) }
+    ensures fault { IfErr result (λ kind. pair_value_fault section count (pair_view pair.now)
         ≡ Some kind) }
 {
     let value = number_in(pair.column, pair.value)?;
@@ -99,11 +99,11 @@ pub fn take_pair(
     pair: &PairText<'_>,
 ) -> Result<(), CardStop>
     ensures no_fault { OnOk result (pair_fault (rows_alone rows.now) section items.old count
-        (pair_shown pair.now) ≡ None) }
-    ensures step { OnOk result (items.new ≡ items.old ++ entry_of (pair_shown pair.now) ∷ []) }
+        (pair_view pair.now) ≡ None) }
+    ensures step { OnOk result (items.new ≡ items.old ++ entry_of (pair_view pair.now) ∷ []) }
     ensures stop { IfErr result
-        (TellsDeckFault (pair_fault (rows_alone rows.now) section items.old count
-        (pair_shown pair.now))) }
+        (ReportsDeckFault (pair_fault (rows_alone rows.now) section items.old count
+        (pair_view pair.now))) }
 {
     let found = row_of(rows, section, &pair.row)?;
     match decimal_of(section, count, pair) {
@@ -129,11 +129,11 @@ pub fn take_pairs(
 ) -> Result<(), CardStop>
     requires { count ≤ 100000 }
     ensures no_fault { OnOk result (pairs_fault (rows_alone rows.now) section items.old count
-        (pairs_of (shown card.now)) ≡ None) }
-    ensures step { OnOk result (items.new ≡ items.old ++ entries_of (shown card.now)) }
+        (pairs_of (viewed card.now)) ≡ None) }
+    ensures step { OnOk result (items.new ≡ items.old ++ entries_of (viewed card.now)) }
     ensures stop { IfErr result
-        (TellsDeckFault (pairs_fault (rows_alone rows.now) section items.old count
-        (pairs_of (shown card.now)))) }
+        (ReportsDeckFault (pairs_fault (rows_alone rows.now) section items.old count
+        (pairs_of (viewed card.now)))) }
 {
     take_pair(rows, section, items, count, &first_pair(card))?;
     match second_pair(card) {
@@ -145,11 +145,11 @@ pub fn take_pairs(
 // Takes a pair, where there is one, as a part of a combination of which these rows are the earlier ones.
 fn take_part(rows: &Rows, parts: &mut Entries, pair: &Option<PairText<'_>>) -> Result<(), CardStop>
     ensures no_fault { OnOk result (parts_fault rows.now parts.old
-        (option_to_list (option_map pair_shown pair.now)) ≡ None) }
+        (option_to_list (option_map pair_view pair.now)) ≡ None) }
     ensures step { OnOk result (parts.new ≡ parts.old ++ map entry_of
-        (option_to_list (option_map pair_shown pair.now))) }
-    ensures stop { IfErr result (TellsDeckFault (parts_fault rows.now parts.old
-        (option_to_list (option_map pair_shown pair.now)))) }
+        (option_to_list (option_map pair_view pair.now))) }
+    ensures stop { IfErr result (ReportsDeckFault (parts_fault rows.now parts.old
+        (option_to_list (option_map pair_view pair.now)))) }
 {
     match pair {
         Some(pair) => take_pair(rows, Section::Rows, parts, 0, pair),
@@ -160,10 +160,10 @@ fn take_part(rows: &Rows, parts: &mut Entries, pair: &Option<PairText<'_>>) -> R
 /// Takes the parts on a card of a combination, where these rows are the earlier ones.
 pub fn take_parts(rows: &Rows, parts: &mut Entries, card: &DataCard<'_>) -> Result<(), CardStop>
     ensures no_fault { OnOk result (parts_fault rows.now parts.old
-        (part_pairs_of (shown card.now)) ≡ None) }
-    ensures step { OnOk result (parts.new ≡ parts.old ++ parts_on (shown card.now)) }
-    ensures stop { IfErr result (TellsDeckFault (parts_fault rows.now parts.old
-        (part_pairs_of (shown card.now)))) }
+        (part_pairs_of (viewed card.now)) ≡ None) }
+    ensures step { OnOk result (parts.new ≡ parts.old ++ parts_on (viewed card.now)) }
+    ensures stop { IfErr result (ReportsDeckFault (parts_fault rows.now parts.old
+        (part_pairs_of (viewed card.now)))) }
 {
     match take_part(rows, parts, &first_part(card)) {
         Ok(()) => take_part(rows, parts, &second_pair(card)),

@@ -4,10 +4,10 @@ ghost use Rattle.card_definitions.specs.Words.{is_empty};
 ghost use Rattle.problem_definitions.specs.Problem.{plain_row, combination, has_row};
 ghost use Rattle.deck_definitions.specs.DataCards.{part_pairs_of, parts_on, goes_on_last, with_row};
 ghost use Rattle.deck_definitions.specs.Tests.{filled_from_3, row_fault};
-ghost use Rattle.deck_cards.specs.Told.{TellsDeckFault};
-ghost use Rattle.deck_cards.specs.Shown.{shown};
-ghost use Rattle.deck_parts.specs.RowShown.{row_at};
-ghost use Rattle.deck_parts.specs.Shown.{rows_alone, new_row_fault, begun_fault, parts_fault};
+ghost use Rattle.deck_cards.specs.Reported.{ReportsDeckFault};
+ghost use Rattle.deck_cards.specs.Views.{viewed};
+ghost use Rattle.deck_parts.specs.RowViewed.{row_at};
+ghost use Rattle.deck_parts.specs.Views.{rows_alone, new_row_fault, begun_fault, parts_fault};
 
 use crate::entries::Entries;
 use crate::pairs::take_parts;
@@ -49,10 +49,10 @@ fn name_new_row(rows: &Rows, name: &Name) -> Result<(), DeckFaultKind>
 // Takes a card that begins a plain row of this type.
 fn begin_plain(rows: &mut Rows, kind: RowKind, card: &DataCard<'_>) -> Result<(), CardStop>
     ensures no_fault { OnOk result (begun_fault rows.old card.now.name1
-        (filled_from_3 (shown card.now)) ≡ None) }
+        (filled_from_3 (viewed card.now)) ≡ None) }
     ensures step { OnOk result (rows.new ≡ rows.old ++ plain_row kind card.now.name1 ∷ []) }
-    ensures stop { IfErr result (TellsDeckFault (begun_fault rows.old card.now.name1
-        (filled_from_3 (shown card.now)))) }
+    ensures stop { IfErr result (ReportsDeckFault (begun_fault rows.old card.now.name1
+        (filled_from_3 (viewed card.now)))) }
 {
     name_new_row(rows, &card.name1)?;
     if has_more(card) {
@@ -69,11 +69,11 @@ fn begin_combination(
     card: &DataCard<'_>,
 ) -> Result<(), CardStop>
     ensures no_fault { OnOk result (begun_fault rows.old card.now.name1
-        (parts_fault rows.old [] (part_pairs_of (shown card.now))) ≡ None) }
+        (parts_fault rows.old [] (part_pairs_of (viewed card.now))) ≡ None) }
     ensures step { OnOk result (rows.new ≡ rows.old ++ combination kind card.now.name1
-        (parts_on (shown card.now)) ∷ []) }
-    ensures stop { IfErr result (TellsDeckFault (begun_fault rows.old card.now.name1
-        (parts_fault rows.old [] (part_pairs_of (shown card.now))))) }
+        (parts_on (viewed card.now)) ∷ []) }
+    ensures stop { IfErr result (ReportsDeckFault (begun_fault rows.old card.now.name1
+        (parts_fault rows.old [] (part_pairs_of (viewed card.now))))) }
 {
     name_new_row(rows, &card.name1)?;
     let mut parts = Entries::new(alloc);
@@ -83,11 +83,11 @@ fn begin_combination(
 
 // Takes a card that begins a row.
 fn begin_row(alloc: Global, rows: &mut Rows, card: &DataCard<'_>) -> Result<(), CardStop>
-    requires { goes_on_last rows.old (shown card.now) ≡ false }
-    ensures no_fault { OnOk result (row_fault (rows_alone rows.old) (shown card.now) ≡ None) }
-    ensures step { OnOk result (rows.new ≡ with_row rows.old (shown card.now)) }
+    requires { goes_on_last rows.old (viewed card.now) ≡ false }
+    ensures no_fault { OnOk result (row_fault (rows_alone rows.old) (viewed card.now) ≡ None) }
+    ensures step { OnOk result (rows.new ≡ with_row rows.old (viewed card.now)) }
     ensures stop { IfErr result
-        (TellsDeckFault (row_fault (rows_alone rows.old) (shown card.now))) }
+        (ReportsDeckFault (row_fault (rows_alone rows.old) (viewed card.now))) }
 {
     if let Some(kind) = row_kind(card.kind) {
         return begin_plain(rows, kind, card);
@@ -100,14 +100,14 @@ fn begin_row(alloc: Global, rows: &mut Rows, card: &DataCard<'_>) -> Result<(), 
 
 // Takes a card that goes on with a row of this name, which was taken out as the last and is put back with the card's parts added.
 fn put_back(rows: &mut Rows, name: Name, body: RowBody, card: &DataCard<'_>) -> Result<(), CardStop>
-    requires goes_on { goes_on_last (rows.old ++ row_at (name, body) ∷ []) (shown card.now) ≡ true }
+    requires goes_on { goes_on_last (rows.old ++ row_at (name, body) ∷ []) (viewed card.now) ≡ true }
     requires apart { has_row rows.old name ≡ false }
     ensures no_fault { OnOk result (row_fault (rows_alone (rows.old ++ row_at (name, body) ∷ []))
-        (shown card.now) ≡ None) }
+        (viewed card.now) ≡ None) }
     ensures step { OnOk result (rows.new ≡ with_row (rows.old ++ row_at (name, body) ∷ [])
-        (shown card.now)) }
-    ensures stop { IfErr result (TellsDeckFault
-        (row_fault (rows_alone (rows.old ++ row_at (name, body) ∷ [])) (shown card.now))) }
+        (viewed card.now)) }
+    ensures stop { IfErr result (ReportsDeckFault
+        (row_fault (rows_alone (rows.old ++ row_at (name, body) ∷ [])) (viewed card.now))) }
 {
     if is_blank(card.name1.bytes()) {
         return Err(CardStop::Refused(DeckFaultKind::EmptyName));
@@ -124,11 +124,11 @@ fn put_back(rows: &mut Rows, name: Name, body: RowBody, card: &DataCard<'_>) -> 
 
 // Takes a card that goes on with the last row.
 fn go_on(rows: &mut Rows, card: &DataCard<'_>) -> Result<(), CardStop>
-    requires { goes_on_last rows.old (shown card.now) ≡ true }
-    ensures no_fault { OnOk result (row_fault (rows_alone rows.old) (shown card.now) ≡ None) }
-    ensures step { OnOk result (rows.new ≡ with_row rows.old (shown card.now)) }
+    requires { goes_on_last rows.old (viewed card.now) ≡ true }
+    ensures no_fault { OnOk result (row_fault (rows_alone rows.old) (viewed card.now) ≡ None) }
+    ensures step { OnOk result (rows.new ≡ with_row rows.old (viewed card.now)) }
     ensures stop { IfErr result
-        (TellsDeckFault (row_fault (rows_alone rows.old) (shown card.now))) }
+        (ReportsDeckFault (row_fault (rows_alone rows.old) (viewed card.now))) }
 {
     let Some((name, body)) = rows.take_last() else {
         unreachable!();
@@ -138,10 +138,10 @@ fn go_on(rows: &mut Rows, card: &DataCard<'_>) -> Result<(), CardStop>
 
 /// Takes a card of ROWS, which goes on with the last row or begins one. An `Err` may leave the last row out.
 pub fn take_row_card(alloc: Global, rows: &mut Rows, card: &DataCard<'_>) -> Result<(), CardStop>
-    ensures no_fault { OnOk result (row_fault (rows_alone rows.old) (shown card.now) ≡ None) }
-    ensures step { OnOk result (rows.new ≡ with_row rows.old (shown card.now)) }
+    ensures no_fault { OnOk result (row_fault (rows_alone rows.old) (viewed card.now) ≡ None) }
+    ensures step { OnOk result (rows.new ≡ with_row rows.old (viewed card.now)) }
     ensures stop { IfErr result
-        (TellsDeckFault (row_fault (rows_alone rows.old) (shown card.now))) }
+        (ReportsDeckFault (row_fault (rows_alone rows.old) (viewed card.now))) }
 {
     if rows.goes_on(card) {
         return go_on(rows, card);

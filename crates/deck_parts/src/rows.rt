@@ -6,10 +6,10 @@ ghost use Rattle.problem_definitions.specs.Kinds.{is_free_kind};
 ghost use Rattle.problem_definitions.specs.Problem.{has_row, has_free_row, has_combination};
 ghost use Rattle.problem_definitions.specs.Numbering.{entry_by, row_by};
 ghost use Rattle.deck_definitions.specs.DataCards.{goes_on_last};
-ghost use Rattle.deck_cards.specs.Shown.{shown};
-ghost use Rattle.deck_cards.specs.Told.{TellsDeckFault};
-ghost use Rattle.deck_parts.specs.Shown.{row_number};
-ghost use Rattle.deck_parts.specs.RowShown.{row_at};
+ghost use Rattle.deck_cards.specs.Views.{viewed};
+ghost use Rattle.deck_cards.specs.Reported.{ReportsDeckFault};
+ghost use Rattle.deck_parts.specs.Views.{row_number};
+ghost use Rattle.deck_parts.specs.RowViewed.{row_at};
 
 use crate::additions::add_new;
 use crate::entries::Entries;
@@ -50,7 +50,7 @@ impl Model for Rows {
     ghost use Rattle.std.specs.Map.{keys_of};
     ghost use Rattle.problem_definitions.specs.Names.{Name as Text, same};
     ghost use Rattle.problem_definitions.specs.Problem.{Row};
-    ghost use Rattle.deck_parts.specs.RowShown.{row_at};
+    ghost use Rattle.deck_parts.specs.RowViewed.{row_at};
 
     ghost Value = { List (Row Text) };
 
@@ -103,7 +103,7 @@ impl Rows {
 
     /// Whether a card of ROWS goes on with the last row, which is then a combination of the card's type and name.
     pub fn goes_on(&self, card: &DataCard<'_>) -> bool
-        ensures { result ≡ goes_on_last self.now (shown card.now) }
+        ensures { result ≡ goes_on_last self.now (viewed card.now) }
     {
         match self.rows.last() {
             Some((name, body)) => body.parts.is_some() && is_card_of(body.kind, name, card),
@@ -134,7 +134,7 @@ impl Rows {
         ensures added { OnOk result (self.new ≡ self.old ++ record
             { kind = kind; name = name; parts = parts } ∷ []) }
         ensures stop { IfErr result
-            (TellsDeckFault (has_row self.old name ⟹ DeckFaultKind.DuplicateRow)) }
+            (ReportsDeckFault (has_row self.old name ⟹ DeckFaultKind.DuplicateRow)) }
     {
         let is_new = add_new(&mut self.rows, name, RowBody { kind, parts })?;
         if !is_new {

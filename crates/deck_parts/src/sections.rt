@@ -6,9 +6,9 @@ ghost use Rattle.problem_definitions.specs.Groups.{in_set};
 ghost use Rattle.deck_definitions.specs.DataCards.{entries_of};
 ghost use Rattle.deck_definitions.specs.Sections.{may_follow, furthest_next};
 ghost use Rattle.deck_definitions.specs.Tests.{columns_fault, set_fault};
-ghost use Rattle.deck_cards.specs.Told.{TellsDeckFault};
-ghost use Rattle.deck_parts.specs.Shown.{rows_alone, columns_alone};
-ghost use Rattle.deck_cards.specs.Shown.{shown};
+ghost use Rattle.deck_cards.specs.Reported.{ReportsDeckFault};
+ghost use Rattle.deck_parts.specs.Views.{rows_alone, columns_alone};
+ghost use Rattle.deck_cards.specs.Views.{viewed};
 
 use crate::groups::Groups;
 use crate::rows::Rows;
@@ -34,11 +34,11 @@ pub fn take_column_card(
     requires few { count ≤ 100000 }
     requires counted { count ≡ entry_count (columns_alone rows.now columns.old) }
     ensures no_fault { OnOk result (columns_fault (columns_alone rows.now columns.old)
-        (shown card.now) ≡ None) }
+        (viewed card.now) ≡ None) }
     ensures step { OnOk result (columns.new ≡ in_set card.now.name1
-        (λ items. items ++ entries_of (shown card.now)) columns.old) }
-    ensures stop { IfErr result (TellsDeckFault (columns_fault (columns_alone rows.now columns.old)
-        (shown card.now))) }
+        (λ items. items ++ entries_of (viewed card.now)) columns.old) }
+    ensures stop { IfErr result (ReportsDeckFault (columns_fault (columns_alone rows.now columns.old)
+        (viewed card.now))) }
 {
     if !is_blank(card.kind) {
         return Err(CardStop::Refused(DeckFaultKind::ExtraField));
@@ -61,11 +61,11 @@ pub fn take_set_card(
     card: &DataCard<'_>,
 ) -> Result<(), CardStop>
     ensures no_fault { OnOk result (set_fault (rows_alone rows.now) section sets.old
-        (shown card.now) ≡ None) }
+        (viewed card.now) ≡ None) }
     ensures step { OnOk result (sets.new ≡ in_set card.now.name1
-        (λ items. items ++ entries_of (shown card.now)) sets.old) }
-    ensures stop { IfErr result (TellsDeckFault (set_fault (rows_alone rows.now) section sets.old
-        (shown card.now))) }
+        (λ items. items ++ entries_of (viewed card.now)) sets.old) }
+    ensures stop { IfErr result (ReportsDeckFault (set_fault (rows_alone rows.now) section sets.old
+        (viewed card.now))) }
 {
     if !is_blank(card.kind) {
         return Err(CardStop::Refused(DeckFaultKind::ExtraField));

@@ -28,7 +28,7 @@ impl Source for SlowSource {
 }
 
 #[test]
-fn a_fault_between_short_reads_is_told(rt: HostRuntime) -> Result<(), Fail> {
+fn a_fault_between_short_reads_is_reported(rt: HostRuntime) -> Result<(), Fail> {
     let alloc = rt.alloc();
     let mut source = SlowSource {
         inner: SureSource::new(alloc, b"ROWS\nEND")?,

@@ -41,7 +41,7 @@ pub const COMBINATIONS: [DeckOfFault; 10] = [
         8,
         DeckFaultKind::EntryOnCombination,
     ),
-    // Of two faults the entry on a combination is told.
+    // Of two faults the entry on a combination is reported.
     (
         b" DL S\nCOLUMNS\n    X         S         1..2\n",
         8,

@@ -42,7 +42,7 @@ fn counts(problem: &Problem) -> (usize, usize, usize) {
     )
 }
 
-// With enough memory the whole problem, and otherwise want of memory: `scripts/try_memory.sh` has each allocation fail once.
+// With enough memory the whole problem, and otherwise running out of memory: `scripts/try_memory.sh` has each allocation fail once.
 #[test]
 fn testprob_is_converted_or_memory_is_wanted(rt: HostRuntime) -> Result<(), Fail> {
     let Some(problem) = converted(rt.alloc())? else {

@@ -12,18 +12,18 @@ fn words_of(alloc: Global, card: &[u8]) -> Result<(u8, Vec<u8>), Fail> {
         return Err(Fail::from("no card"));
     }
     let found = free_words(cards.card(1));
-    let mut told = Vec::new(alloc);
+    let mut reported = Vec::new(alloc);
     for (place, word) in found.words.iter().enumerate() {
         if place < usize::from(found.count) {
             let column = word.column;
             let before = format!(in alloc; " {column} ")?;
-            told.extend_from_slice(before.as_bytes())?;
-            told.extend_from_slice(word.text)?;
+            reported.extend_from_slice(before.as_bytes())?;
+            reported.extend_from_slice(word.text)?;
         } else if word.column != 0 || !word.text.is_empty() {
             return Err(Fail::from("a word that isn't there"));
         }
     }
-    Ok((found.count, told))
+    Ok((found.count, reported))
 }
 
 const CARDS: [(&[u8], u8, &[u8]); 10] = [
@@ -47,7 +47,7 @@ const CARDS: [(&[u8], u8, &[u8]); 10] = [
         1,
         b" 1 ABCDEFGHABCDEFGHABCDEFGHABCDEFGHABCDEFGHABCDEFGHABCDEFGHABCDEFGHABCDEFGHABCDEFGH",
     ),
-    // Of many words the first are told, and all are counted.
+    // Of many words the first are reported, and all are counted.
     (
         b" A B C D E F G H I\n",
         9,
@@ -63,9 +63,9 @@ const CARDS: [(&[u8], u8, &[u8]); 10] = [
 #[test]
 fn words_stand_between_blanks(rt: HostRuntime) -> Result<(), Fail> {
     for (card, count, wanted) in CARDS {
-        let (found, told) = words_of(rt.alloc(), card)?;
+        let (found, reported) = words_of(rt.alloc(), card)?;
         assert_eq!(rt; found, count);
-        assert_eq!(rt; told.as_slice(), wanted);
+        assert_eq!(rt; reported.as_slice(), wanted);
     }
     Ok(())
 }

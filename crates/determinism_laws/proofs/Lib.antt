@@ -1,7 +1,7 @@
 pub mod OneAnswer
 pub mod Intervals
 pub mod OneRange
-pub mod Swept
+pub mod RanThrough
 pub mod Outcomes
 pub mod Statements
 pub mod Steps

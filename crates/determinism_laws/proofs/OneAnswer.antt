@@ -8,7 +8,7 @@ use Rattle.lp_laws.proofs.Uniqueness.{one_point, one_table}
 use Rattle.simplex_definitions.specs.Path.{PathEnding, listed}
 use Rattle.simplex_laws.specs.Laws.{IsNonsingularBasis}
 use Rattle.simplex_laws.proofs.Numbered.{map_same}
-use Rattle.simplex_laws.proofs.Endless.{objective_value-same}
+use Rattle.simplex_laws.proofs.UnboundedEnds.{objective_value-same}
 use Rattle.simplex_laws.proofs.OnePath.{one_path, not_both}
 use Rattle.dual_laws.proofs.DualTurns.{not_both_prices, one_wrong}
 use Rattle.dual_laws.proofs.OneDualPath.{one_path as one_dual_path, not_both as dual_not_both}
@@ -18,7 +18,7 @@ use Rattle.question_definitions.specs.Answers.{Basis, Sheet, PathEnd, Reached, P
 use Rattle.answer_definitions.specs.Lines.{at_of, name_of, ray_lines}
 use Rattle.answer_definitions.specs.Bases.{IsInstalled}
 use Rattle.answer_definitions.specs.Verdicts.{verdict_of, check_of, IsVerdict, IsSolved, IsDualSolved}
-use Rattle.answer_definitions.specs.Sections.{solution_lines, IsShown}
+use Rattle.answer_definitions.specs.Sections.{solution_lines, IsSolutionOf}
 use Rattle.soundness_laws.proofs.OneEnd.{one_check}
 
 -- ---- paths
@@ -128,6 +128,6 @@ module _ (sheet : Sheet) (s : Basis) (t u : Tableau) (lawful : IsLinearProgram s
   lines_same : solution_lines sheet s t ≡ solution_lines sheet s u
   lines_same = ap₂ (λ rows columns. record { rows = rows; columns = columns }) rows_same columns_same
 
-pub shown_once : (sheet : Sheet) (s : Basis) (a b : SolutionLines) → IsLinearProgram sheet.lp → IsNonsingularBasis sheet.lp s → IsShown sheet s a → IsShown sheet s b → a ≡ b
-shown_once sheet s a b lawful at first second =
+pub reported_once : (sheet : Sheet) (s : Basis) (a b : SolutionLines) → IsLinearProgram sheet.lp → IsNonsingularBasis sheet.lp s → IsSolutionOf sheet s a → IsSolutionOf sheet s b → a ≡ b
+reported_once sheet s a b lawful at first second =
     first.are_lines ∙ lines_same sheet s first.tableau second.tableau lawful at first.is_tableau second.is_tableau ∙ sym second.are_lines

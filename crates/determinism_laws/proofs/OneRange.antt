@@ -16,7 +16,7 @@ use Rattle.simplex_definitions.specs.Moves.{is_fixed, on_limits, may_rise, may_f
 use Rattle.simplex_definitions.specs.Ranges.{with_lower, with_upper, with_limit, with_limit_at, with_cost, with_row, stands_at_limit, at_limits, columns_of, intermediate_rows, RangeReport, IsRangeReport}
 use Rattle.sensitivity_laws.specs.Changes.{IsRightTableau, RatesStay, worths, slopes}
 use Rattle.sensitivity_laws.specs.Laws.{IsPresent}
-use Rattle.simplex_laws.proofs.Booleans.{betters}
+use Rattle.simplex_laws.proofs.Booleans.{improves}
 use Rattle.sensitivity_laws.proofs.Tableaus.{by_tableau}
 use Rattle.sensitivity_laws.proofs.Signs.{sides_of_rate}
 use Rattle.sensitivity_laws.proofs.Rows.{rows_of, row}
@@ -92,7 +92,7 @@ module _ (p : LinearProgram) (s : Basis) (t : Tableau) (present : IsPresent p s 
   rates_now : (v : Vector) → RatesStay p s (worths p t) v zero_ℚ
   rates_now v k is =
       (sides_of_rate (worths p t k) (worths p t k) (v k) zero_ℚ (may_rise p s k) (may_fall p s k) (sym (ap (λ x. worths p t k +ℚ x) (zero-mul (v k)) ∙ add-zero (worths p t k)))).0
-      (subst (λ r. betters r (may_rise p s k) (may_fall p s k) ≡ false) (ap (λ c. for_min p.sense (with_change_row c (λ i. t.rate i k) (t.rate p.objective k))) present.no_change) (right.right k is))
+      (subst (λ r. improves r (may_rise p s k) (may_fall p s k) ≡ false) (ap (λ c. for_min p.sense (with_change_row c (λ i. t.rate i k) (t.rate p.objective k))) present.no_change) (right.right k is))
     where
       right : IsRightTableau p s t
       right = (by_tableau p s present.optimal.is_basis present.optimal.nonsingular (rows_of p s t present) t present.is_tableau).0 present.optimal

@@ -24,8 +24,8 @@ use Rattle.selection_laws.proofs.Selected.{is_chosen, selected_is_lawful}
 use Rattle.determinism_laws.specs.Laws.{IsAsked, MeetsNoEvidence, AnswersOnce, IsOverflow, IsOverflowStop, IsSameOrStop, AreSame, Continues, IsFunction}
 use Rattle.determinism_laws.proofs.Stops.{statement_evidence}
 use Rattle.determinism_laws.proofs.OneRange.{ranged_once}
-use Rattle.determinism_laws.proofs.Swept.{swept_once}
-use Rattle.determinism_laws.proofs.OneAnswer.{path_once, dual_path_once, installed_once, shown_once}
+use Rattle.determinism_laws.proofs.RanThrough.{run_through_once}
+use Rattle.determinism_laws.proofs.OneAnswer.{path_once, dual_path_once, installed_once, reported_once}
 use Rattle.determinism_laws.proofs.Steps.{Comes, two_outcomes, steps, GoesOn, same_so_far, goes_on, continues}
 
 -- two outcomes that end a run are the same
@@ -337,9 +337,9 @@ pub answers_once : AnswersOnce linear_programming
 unfolding linear_programming
 answers_once = record {
   paths = path_once_by;
-  solutions = λ mark sheet s a b asked first second. shown_once sheet s a b (lawful_of (OfSolution mark) sheet s asked) asked.is_basis first second;
+  solutions = λ mark sheet s a b asked first second. reported_once sheet s a b (lawful_of (OfSolution mark) sheet s asked) asked.is_basis first second;
   ranges = λ sheet s a b asked first second. ranged_once sheet s a b (lawful_of OfRanges sheet s asked) (no_change OfRanges sheet s asked) asked.suits first second;
-  sweeps = swept_once;
+  parametric_runs = run_through_once;
   punches = λ sheet s a b asked first second. first ∙ sym second;
   installs = λ t sheet s a b asked first second. installed_once sheet t a b first second;
 }

@@ -20,11 +20,11 @@ use Rattle.selection_definitions.specs.Selection.{selected}
 use Rattle.listing_definitions.specs.declared.Mark.{Mark}
 use Rattle.listing_definitions.specs.declared.VerbFault.{VerbFault}
 use Rattle.listing_definitions.specs.Report.{Report, Converted, Revised, Solution, Ranges}
-use Rattle.question_definitions.specs.Answers.{Basis, Changing, Sweep, Question, Answer, OfPath, OfSolution, OfRanges, OfSweep, OfPunch, OfInstall}
+use Rattle.question_definitions.specs.Answers.{Basis, Changing, ParametricRun, Question, Answer, OfPath, OfSolution, OfRanges, OfParametricRun, OfPunch, OfInstall}
 use Rattle.question_definitions.specs.Solving.{Solving}
 use Rattle.run_definitions.specs.State.{Present, present_basis, State, problem_of, choice_of}
 use Rattle.run_definitions.specs.Moves.{Outcome, Refusals, Move, Does, MayStop, or_fault}
-use Rattle.run_definitions.specs.Verbs.{or_deck_fault, or_selection_fault, files, selects, not_less, change_row, change_set, asks, if_optimal, shows_present, solves, shows, ranges, sweeps, converts, revises, sets_up, punches, punches_basis, inserts, verb_move}
+use Rattle.run_definitions.specs.Verbs.{or_deck_fault, or_selection_fault, files, selects, not_less, change_row, change_set, asks, if_optimal, shows_present, solves, shows, ranges, parametric_runs, converts, revises, sets_up, punches, punches_basis, inserts, verb_move}
 use Rattle.simplex_definitions.specs.Path.{EndsOptimal, EndsAt}
 use Rattle.simplex_laws.proofs.Ends.{optimal_end}
 use Rattle.std.proofs.lemmas.Option.{same_Some}
@@ -173,16 +173,16 @@ module _ (S : Solving) where
         unless_fault {X = Mark} card VerbFault.NotOptimal (if_optimal mark) _ (λ optimal o.
         showing_once present OfRanges Ranges one e (λ lp is. optimal_now present lp (m ∙ ap (λ x. Some x) (optimal_alone mark optimal o)) e is))))
 
-    sweeps_once : (fault : VerbFault) (change : Problem ℕ → Name → Option Changing) (moved : Option Name) →
-        ((problem : Problem ℕ) (name : Name) (changing : Changing) → change problem name ≡ Some changing → IsOfProblem changing problem) → ((sweep : Sweep) → HasOneAnswer S (OfSweep sweep)) →
-        IsOnce S (sweeps card fault change moved state)
-    sweeps_once fault change moved of_problem one =
+    parametric_runs_once : (fault : VerbFault) (change : Problem ℕ → Name → Option Changing) (moved : Option Name) →
+        ((problem : Problem ℕ) (name : Name) (changing : Changing) → change problem name ≡ Some changing → IsOfProblem changing problem) → ((parametric_run : ParametricRun) → HasOneAnswer S (OfParametricRun parametric_run)) →
+        IsOnce S (parametric_runs card fault change moved state)
+    parametric_runs_once fault change moved of_problem one =
         unless_fault card VerbFault.NoSetup state.setup _ (λ present e.
         selecting card present.problem (choice_of state.cells present.options) _ (λ lp is.
         unless_fault {X = Changing} card fault (option_and_then (change present.problem) moved) _ (λ changing c.
         unless_fault {X = ℚ} card VerbFault.NoParmax state.cells.xparmax _ (λ last l.
         unless_fault {X = ℚ} card VerbFault.ParmaxBelow (not_less state.cells.xparam last) _ (λ to t.
-        asked (OfSweep (record { changing = changing; from = state.cells.xparam; to = to; limit = steps_allowed state.cells })) present state lp _
+        asked (OfParametricRun (record { changing = changing; from = state.cells.xparam; to = to; limit = steps_allowed state.cells })) present state lp _
         (one (record { changing = changing; from = state.cells.xparam; to = to; limit = steps_allowed state.cells })) lawful knows e is
         (changes_part change of_problem present.problem moved changing c, last_no_less state.cells.xparam last to t))))))
 
@@ -204,9 +204,9 @@ module _ (S : Solving) where
     verb_once SolutionVerb card state lawful knows = shows_once card state lawful knows answers.solutions
     verb_once Ranging card state lawful knows = ranges_once card state lawful knows answers.ranges
     verb_once Paraobj card state lawful knows =
-        sweeps_once card state lawful knows VerbFault.NoChangeRow change_row state.cells.xchrow row_of_problem answers.sweeps
+        parametric_runs_once card state lawful knows VerbFault.NoChangeRow change_row state.cells.xchrow row_of_problem answers.parametric_runs
     verb_once Pararhs card state lawful knows =
-        sweeps_once card state lawful knows VerbFault.NoChangeSet change_set state.cells.xchcol set_of_problem answers.sweeps
+        parametric_runs_once card state lawful knows VerbFault.NoChangeSet change_set state.cells.xchcol set_of_problem answers.parametric_runs
     verb_once Bcdout card state lawful knows = punches_once card state
     verb_once Punch card state lawful knows = punches_basis_once card state lawful knows answers.punches
     verb_once Insert card state lawful knows = inserts_once card state lawful knows answers.installs

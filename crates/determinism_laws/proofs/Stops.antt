@@ -24,11 +24,11 @@ use Rattle.listing_definitions.specs.declared.Solver.TheVariants.{Primal as ByPr
 use Rattle.listing_definitions.specs.declared.VerbFault.{VerbFault}
 use Rattle.listing_definitions.specs.Report.{Report, Converted, Revised, Solved, Solution, Ranges}
 use Rattle.listing_definitions.specs.Ending.{Overflow, Ending, Ended, WordsRefused, ControlStop, VerbStop, SingularStop, PriceStop, DeckStop, CardStop, LimitStop, StatementLimit, OverflowStop, ReadFault, PrintFault, PunchFault, Memory}
-use Rattle.question_definitions.specs.Answers.{Basis, Changing, sweeper, Sweep, Question, Answer, OfSolution, OfRanges, PathEnd, Reached, PathLimit, PricesWrong, SweepEnd, Opening, Chained, SweepLimit, InstallEnd, Installed, DependsBy}
+use Rattle.question_definitions.specs.Answers.{Basis, Changing, parametric_solver, ParametricRun, Question, Answer, OfSolution, OfRanges, PathEnd, Reached, PathLimit, PricesWrong, ParametricRunEnd, Opening, Chained, ParametricRunLimit, InstallEnd, Installed, DependsBy}
 use Rattle.question_definitions.specs.Solving.{Solving}
 use Rattle.run_definitions.specs.State.{Present, gone_through, State, problem_of, choice_of}
 use Rattle.run_definitions.specs.Moves.{Gain, Outcome, Goes, Ends, Refusals, Move, Does, MayStop, Asks, Gives, or_fault}
-use Rattle.run_definitions.specs.Verbs.{or_deck_fault, or_selection_fault, files, selects, not_less, change_row, change_set, demanded, by_verdict, mark_of, if_optimal, after_path, after_sweep, after_install, shows_present, solves, shows, ranges, sweeps, converts, revises, sets_up, punches, punches_basis, inserts, verb_move}
+use Rattle.run_definitions.specs.Verbs.{or_deck_fault, or_selection_fault, files, selects, not_less, change_row, change_set, demanded, by_verdict, mark_of, if_optimal, after_path, after_parametric_run, after_install, shows_present, solves, shows, ranges, parametric_runs, converts, revises, sets_up, punches, punches_basis, inserts, verb_move}
 use Rattle.run_definitions.specs.Run.{counted, at_end, at_limit, IsRun, is_over, is_ended}
 use Rattle.run_definitions.specs.Answer.{IsJobRun, card_fault, control_fault, run}
 use Rattle.determinism_laws.specs.Laws.{HasEvidence}
@@ -133,11 +133,11 @@ after_install_other : (card : ℕ) (lp : LinearProgram) (s : Basis) (taken : Lis
 after_install_other card lp s taken present state Installed = tt
 after_install_other card lp s taken present state (DependsBy lines) = tt
 
-after_sweep_other : (card : ℕ) (sweep : Sweep) (present : Present) (state : State) (end : SweepEnd) → IsOther (after_sweep card sweep present state end)
-after_sweep_other card sweep present state (Opening bases verdict check) =
-    by_verdict_other (mark_of verdict) (Solved (sweeper sweep.changing) verdict check) (record state { setup = Some (gone_through bases present); mark = None })
-after_sweep_other card sweep present state (Chained bases intervals end) = tt
-after_sweep_other card sweep present state SweepLimit = tt
+after_parametric_run_other : (card : ℕ) (parametric_run : ParametricRun) (present : Present) (state : State) (end : ParametricRunEnd) → IsOther (after_parametric_run card parametric_run present state end)
+after_parametric_run_other card parametric_run present state (Opening bases verdict check) =
+    by_verdict_other (mark_of verdict) (Solved (parametric_solver parametric_run.changing) verdict check) (record state { setup = Some (gone_through bases present); mark = None })
+after_parametric_run_other card parametric_run present state (Chained bases intervals end) = tt
+after_parametric_run_other card parametric_run present state ParametricRunLimit = tt
 
 module _ (card : ℕ) (state : State) where
   solves_never : (solver : Solver) (limit : Option ℕ) → NeverStops (solves solver limit card state)
@@ -175,14 +175,14 @@ module _ (card : ℕ) (state : State) where
       unless_fault {X = Mark} card VerbFault.NotOptimal (if_optimal mark) _ (λ optimal.
       showing_never present OfRanges Ranges)))
 
-  sweeps_never : (fault : VerbFault) (change : Problem ℕ → Name → Option Changing) (moved : Option Name) → NeverStops (sweeps card fault change moved state)
-  sweeps_never fault change moved =
+  parametric_runs_never : (fault : VerbFault) (change : Problem ℕ → Name → Option Changing) (moved : Option Name) → NeverStops (parametric_runs card fault change moved state)
+  parametric_runs_never fault change moved =
       unless_fault card VerbFault.NoSetup state.setup _ (λ present.
       selecting card present.problem (choice_of state.cells present.options) _ (λ lp.
       unless_fault {X = Changing} card fault (option_and_then (change present.problem) moved) _ (λ changing.
       unless_fault {X = ℚ} card VerbFault.NoParmax state.cells.xparmax _ (λ last.
       unless_fault {X = ℚ} card VerbFault.ParmaxBelow (not_less state.cells.xparam last) _ (λ to.
-      record { other = after_sweep_other card (record { changing = changing; from = state.cells.xparam; to = to; limit = steps_allowed state.cells }) present state })))))
+      record { other = after_parametric_run_other card (record { changing = changing; from = state.cells.xparam; to = to; limit = steps_allowed state.cells }) present state })))))
 
 verb_never : (verb : Verb ℕ) (card : ℕ) (state : State) → NeverStops (verb_move verb card state)
 unfolding verb_move
@@ -200,8 +200,8 @@ verb_never Primal card state = solves_never card state ByPrimal state.cells.xite
 verb_never Dual card state = solves_never card state ByDual (Some (steps_allowed state.cells))
 verb_never SolutionVerb card state = shows_never card state
 verb_never Ranging card state = ranges_never card state
-verb_never Paraobj card state = sweeps_never card state VerbFault.NoChangeRow change_row state.cells.xchrow
-verb_never Pararhs card state = sweeps_never card state VerbFault.NoChangeSet change_set state.cells.xchcol
+verb_never Paraobj card state = parametric_runs_never card state VerbFault.NoChangeRow change_row state.cells.xchrow
+verb_never Pararhs card state = parametric_runs_never card state VerbFault.NoChangeSet change_set state.cells.xchcol
 verb_never Bcdout card state = punches_never card state
 verb_never Punch card state = punches_basis_never card state
 verb_never Insert card state = inserts_never card state

@@ -23,10 +23,10 @@ use Rattle.listing_definitions.specs.declared.Mark.{Mark}
 use Rattle.listing_definitions.specs.declared.Solver.{Solver}
 use Rattle.listing_definitions.specs.Report.{SolutionLines, RangeLines, Report}
 use Rattle.listing_definitions.specs.Ending.{Place, Overflow, Ending, OverflowStop}
-use Rattle.question_definitions.specs.Answers.{Basis, Sheet, Sweep, Question, Answer, OfPath, OfSolution, OfRanges, OfSweep, OfPunch, OfInstall, PathEnd}
+use Rattle.question_definitions.specs.Answers.{Basis, Sheet, ParametricRun, Question, Answer, OfPath, OfSolution, OfRanges, OfParametricRun, OfPunch, OfInstall, PathEnd}
 use Rattle.question_definitions.specs.Solving.{Solving, IsRight}
 use Rattle.answer_definitions.specs.Verdicts.{IsSolved, IsDualSolved}
-use Rattle.answer_definitions.specs.Sections.{IsShown, IsRanged}
+use Rattle.answer_definitions.specs.Sections.{IsSolutionOf, IsRanged}
 use Rattle.answer_definitions.specs.Real.{linear_programming}
 use Rattle.run_definitions.specs.State.{State}
 use Rattle.run_definitions.specs.Moves.{Outcome, stops, Move, Does, MayStop, Asks, Shows, Gives}
@@ -42,8 +42,8 @@ abbrev pub Suits : Question → Sheet → Basis → Type 0
 Suits (OfPath solver limit) sheet s = Unit {0}
 Suits (OfSolution mark) sheet s = Unit {0}
 Suits OfRanges sheet s = IsOptimalBasis sheet.lp s
-Suits (OfSweep sweep) sheet s =
-    IsOfProblem sweep.changing sheet.problem × (lt_ℚ sweep.to sweep.from ≡ false)
+Suits (OfParametricRun parametric_run) sheet s =
+    IsOfProblem parametric_run.changing sheet.problem × (lt_ℚ parametric_run.to parametric_run.from ≡ false)
 Suits OfPunch sheet s = Unit {0}
 Suits (OfInstall t) sheet s = IsBasis sheet.lp t
 
@@ -66,7 +66,7 @@ pub record AnswersOnce (S : Solving) : Type 0 where
   pub paths : (solver : Solver) (limit : Option ℕ) → HasOneAnswer S (OfPath solver limit)
   pub solutions : (mark : Mark) → HasOneAnswer S (OfSolution mark)
   pub ranges : HasOneAnswer S OfRanges
-  pub sweeps : (sweep : Sweep) → HasOneAnswer S (OfSweep sweep)
+  pub parametric_runs : (parametric_run : ParametricRun) → HasOneAnswer S (OfParametricRun parametric_run)
   pub punches : HasOneAnswer S OfPunch
   pub installs : (t : Basis) → HasOneAnswer S (OfInstall t)
 
@@ -157,7 +157,7 @@ pub record AnswerLaws : Type 0 where
   pub dual_path : (sheet : Sheet) (s : Basis) (limit : Option ℕ) (a b : PathEnd) → IsLinearProgram sheet.lp →
       IsNonsingularBasis sheet.lp s → IsDualSolved sheet s limit a → IsDualSolved sheet s limit b → a ≡ b
   pub solution : (sheet : Sheet) (s : Basis) (a b : SolutionLines) → IsLinearProgram sheet.lp →
-      IsNonsingularBasis sheet.lp s → IsShown sheet s a → IsShown sheet s b → a ≡ b
+      IsNonsingularBasis sheet.lp s → IsSolutionOf sheet s a → IsSolutionOf sheet s b → a ≡ b
   pub ranges : (sheet : Sheet) (s : Basis) (a b : RangeLines) → IsLinearProgram sheet.lp →
       sheet.lp.change ≡ None → IsOptimalBasis sheet.lp s →
       IsRanged sheet s a → IsRanged sheet s b → a ≡ b

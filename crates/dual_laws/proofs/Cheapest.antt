@@ -10,7 +10,7 @@ use Rattle.lp_definitions.specs.LinearProgram.{LinearProgram, size, IsVariable}
 use Rattle.lp_definitions.specs.Basis.{Tableau}
 use Rattle.lp_definitions.specs.declared.Status.{Status}
 use Rattle.lp_laws.proofs.Values.{clash}
-use Rattle.simplex_definitions.specs.DualRatio.{brings_back, ratio, is_cheapest, cheapest}
+use Rattle.simplex_definitions.specs.DualRatio.{restores_feasibility, ratio, is_cheapest, cheapest}
 use Rattle.simplex_laws.proofs.Numbered.{from_first, list_all_from}
 use Rattle.simplex_laws.proofs.Searches.{none_passes}
 
@@ -66,12 +66,12 @@ module _ (passes : ℕ → Bool) (f : ℕ → ℚ) where
       by_first true is (inl none) = inr (first, sooner is (λ i low high. rw (none i low high) refl))
       by_first true is (inr one) = by_order is one.0 one.1 (le_total (f first) (f one.0))
 
-pub cheapest_none : (p : LinearProgram) (s : List Status) (t : Tableau) (r : ℕ) (below : Bool) → cheapest p s t r below ≡ None → (k : ℕ) → IsVariable p.matrix k → brings_back p s t r below k ≡ false
-cheapest_none p s t r below none k is = by_least (least_of (brings_back p s t r below) (ratio p s t r) (size p.matrix) 1)
+pub cheapest_none : (p : LinearProgram) (s : List Status) (t : Tableau) (r : ℕ) (below : Bool) → cheapest p s t r below ≡ None → (k : ℕ) → IsVariable p.matrix k → restores_feasibility p s t r below k ≡ false
+cheapest_none p s t r below none k is = by_least (least_of (restores_feasibility p s t r below) (ratio p s t r) (size p.matrix) 1)
   where
-    by_least : ((NonePasses (brings_back p s t r below) (ratio p s t r) (size p.matrix) 1) ⊎ ((k : ℕ) × IsLeastOf (brings_back p s t r below) (ratio p s t r) (size p.matrix) 1 k)) → brings_back p s t r below k ≡ false
+    by_least : ((NonePasses (restores_feasibility p s t r below) (ratio p s t r) (size p.matrix) 1) ⊎ ((k : ℕ) × IsLeastOf (restores_feasibility p s t r below) (ratio p s t r) (size p.matrix) 1 k)) → restores_feasibility p s t r below k ≡ false
     by_least (inl all) = all k is.0 (omega (arith, is.1))
     by_least (inr one) =
-        let first : is_cheapest p s t r below one.0 ≡ true = list_all_from (λ j. not (brings_back p s t r below j) || le_ℚ (ratio p s t r one.0) (ratio p s t r j)) (size p.matrix) 1 one.1.least in
-        let fails = none_passes p (λ q. brings_back p s t r below q && is_cheapest p s t r below q) none one.0 (one.1.low, omega (arith, one.1.high)) in
+        let first : is_cheapest p s t r below one.0 ≡ true = list_all_from (λ j. not (restores_feasibility p s t r below j) || le_ℚ (ratio p s t r one.0) (ratio p s t r j)) (size p.matrix) 1 one.1.least in
+        let fails = none_passes p (λ q. restores_feasibility p s t r below q && is_cheapest p s t r below q) none one.0 (one.1.low, omega (arith, one.1.high)) in
         absurd (clash (sym (ap₂ (λ a b. a && b) one.1.own first) ∙ fails))

@@ -10,7 +10,7 @@ use Rattle.exact_values.proofs.Inverse.{div-mul_cancel, zero_or_not}
 use Rattle.exact_values.proofs.Order.{le_of_lt, le_by_one, le_by_two, lt_or_le, le_by_product}
 use Rattle.exact_values.proofs.Ring.{by_ring1, by_ring2, by_ring3, ◌⊕◌, ◌⊖◌, ◌⊗◌, ◌≐◌, number, opposite}
 use Rattle.exact_values.proofs.Tests_laws.{lt_from_test, test_from_lt}
-use Rattle.simplex_laws.proofs.Booleans.{betters_not, rises_right, falls_right}
+use Rattle.simplex_laws.proofs.Booleans.{improves_not, rises_right, falls_right}
 use Rattle.lp_definitions.specs.Basis.{is_in, basics_of, status_of, with_status, exchanged, IsBasic, IsNonbasic, AreRates, Tableau, IsTableau, objective_rate}
 use Rattle.lp_definitions.specs.LinearProgram.{LinearProgram, size, IsVariable, with_change_row, for_min}
 use Rattle.lp_definitions.specs.declared.Sense.{Sense}
@@ -21,13 +21,13 @@ use Rattle.lp_laws.proofs.Exchange.{AreRates-exchanged, was_nonbasic}
 use Rattle.lp_laws.proofs.Statuses.{basics_of-replaced, changed_own, changed_other}
 use Rattle.lp_laws.proofs.Values.{clash}
 use Rattle.lp_laws.specs.Rates.{exchanged_rate}
-use Rattle.simplex_definitions.specs.DualRatio.{brings_back, ratio}
+use Rattle.simplex_definitions.specs.DualRatio.{restores_feasibility, ratio}
 use Rattle.simplex_definitions.specs.Moves.{rises_from, falls_from, is_fixed, lowers, signed, may_rise, may_fall}
 use Rattle.simplex_definitions.specs.Path.{after, worth_rate, excess_rate}
 use Rattle.simplex_laws.specs.Laws.{IsNonsingularBasis}
 use Rattle.simplex_laws.proofs.OneTurn.{lowers_idle}
 use Rattle.simplex_laws.proofs.Steps.{signed_zero}
-use Rattle.dual_laws.proofs.Movers.{IsMover, is_mover}
+use Rattle.dual_laws.proofs.EnteringVariables.{IsEnteringVariable, is_entering_variable}
 use Rattle.dual_laws.proofs.Magnitudes.{ratio_times, magnitude_least, magnitude_above, magnitude_below, magnitude-neg}
 
 -- ---- numbers
@@ -84,7 +84,7 @@ module _ (w x ratio : ℚ) (rises falls : Bool) (whole : ratio *ℚ magnitude x 
   -- w stays right when as much of x is added to it as the least ratio says
   pub stays_right : (least : ℚ) → zero_ℚ ≤ℚ least → (((lt_ℚ x zero_ℚ && rises) || (lt_ℚ zero_ℚ x && falls)) ≡ true → least ≤ℚ ratio) →
       ((lt_ℚ (w +ℚ least *ℚ x) zero_ℚ && rises) || (lt_ℚ zero_ℚ (w +ℚ least *ℚ x) && falls)) ≡ false
-  stays_right least some at_most = betters_not (w +ℚ least *ℚ x) rises falls up down
+  stays_right least some at_most = improves_not (w +ℚ least *ℚ x) rises falls up down
     where
       up : rises ≡ true → zero_ℚ ≤ℚ w +ℚ least *ℚ x
       up may = by_sign (lt_or_le x zero_ℚ)
@@ -157,21 +157,21 @@ module _ (s : Sense) (aj aq rj rq least : ℚ) (apart : rq ≢ zero_ℚ) where
 
 module _ (p : LinearProgram) (no_change : p.change ≡ None) (s : List Status) (at : IsNonsingularBasis p s) (t : Tableau) (tab : IsTableau p s t)
     (right : (k : ℕ) → IsVariable p.matrix k → lowers p s (worth_rate p s t) k ≡ false) (r q : ℕ) (below : Bool) (leaves : IsBasic p.matrix (basics_of s) r) (q_is : IsVariable p.matrix q)
-    (brings : brings_back p s t r below q ≡ true) (least : (j : ℕ) → IsVariable p.matrix j → brings_back p s t r below j ≡ true → ratio p s t r q ≤ℚ ratio p s t r j) where
+    (brings : restores_feasibility p s t r below q ≡ true) (least : (j : ℕ) → IsVariable p.matrix j → restores_feasibility p s t r below j ≡ true → ratio p s t r q ≤ℚ ratio p s t r j) where
   abbrev pub limit_of : Status
   limit_of = if below then Ll else Ul
 
   abbrev pub next : List Status
   next = after s (record { enters = q; leaves = r; to = if below then Ll else Ul })
 
-  mover : IsMover p s (excess_rate t.rate r below) q
-  mover = is_mover p s (excess_rate t.rate r below) q at q_is brings
+  entering_variable : IsEnteringVariable p s (excess_rate t.rate r below) q
+  entering_variable = is_entering_variable p s (excess_rate t.rate r below) q at q_is brings
 
   pub enters : IsNonbasic p.matrix (basics_of s) q
-  enters = mover.nonbasic
+  enters = entering_variable.nonbasic
 
   pub pivot : t.rate r q ≢ zero_ℚ
-  pivot zero = mover.rate_apart (ap (signed (not below)) zero ∙ signed_zero (not below))
+  pivot zero = entering_variable.rate_apart (ap (signed (not below)) zero ∙ signed_zero (not below))
 
   pub rate_of : (rate : ℕ → ℕ → ℚ) (k : ℕ) → objective_rate p rate k ≡ rate p.objective k
   rate_of rate k = ap (λ c. with_change_row c (λ i. rate i k) (rate p.objective k)) no_change
@@ -240,11 +240,11 @@ module _ (p : LinearProgram) (no_change : p.change ≡ None) (s : List Status) (
           || (lt_ℚ zero_ℚ (for_min p.sense ((one_ℚ /ℚ t.rate r q) *ℚ t.rate p.objective q)) && (falls_from (if b then Ll else Ul) && not (is_fixed p r)))) ≡ false
       at_limit true own =
           let is = own_below p.sense (t.rate p.objective q) (t.rate p.objective q) (t.rate r q) (t.rate r q) (ratio p s t r q) pivot own in
-          betters_not _ (rises_from Ll && not (is_fixed p r)) (falls_from Ll && not (is_fixed p r)) (λ _. subst (λ x. zero_ℚ ≤ℚ x) (sym is) some) (λ e. no_way (not (is_fixed p r)) e)
+          improves_not _ (rises_from Ll && not (is_fixed p r)) (falls_from Ll && not (is_fixed p r)) (λ _. subst (λ x. zero_ℚ ≤ℚ x) (sym is) some) (λ e. no_way (not (is_fixed p r)) e)
       at_limit false own =
           let is = own_above p.sense (t.rate p.objective q) (t.rate p.objective q) (t.rate r q) (t.rate r q) (ratio p s t r q) pivot own in
           let down : neg_ℚ (ratio p s t r q) ≤ℚ zero_ℚ = le_by_one some (by_ring1 (ratio p s t r q) (λ m. number (pos 0) ≐ opposite m ⊕ (m ⊖ number (pos 0))) refl) in
-          betters_not _ (rises_from Ul && not (is_fixed p r)) (falls_from Ul && not (is_fixed p r)) (λ e. no_way (not (is_fixed p r)) e) (λ _. subst (λ x. x ≤ℚ zero_ℚ) (sym is) down)
+          improves_not _ (rises_from Ul && not (is_fixed p r)) (falls_from Ul && not (is_fixed p r)) (λ e. no_way (not (is_fixed p r)) e) (λ _. subst (λ x. x ≤ℚ zero_ℚ) (sym is) down)
 
   pub right_after : IsNonsingularBasis p next → (k : ℕ) → IsVariable p.matrix k → lowers p next (λ j. for_min p.sense (objective_rate p (exchanged_rate t.rate r q) j)) k ≡ false
   right_after leads k is = by_mark (is_in (basics_of next) k) refl

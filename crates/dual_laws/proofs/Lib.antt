@@ -1,5 +1,5 @@
 pub mod Magnitudes
-pub mod Movers
+pub mod EnteringVariables
 pub mod Cheapest
 pub mod DualStep
 pub mod OneRatio

@@ -6,14 +6,14 @@ use Rattle.lp_definitions.specs.LinearProgram.{LinearProgram, IsVariable, IsLine
 use Rattle.lp_definitions.specs.Basis.{status_of, IsFixed, IsRightAt, Tableau, IsTableau}
 use Rattle.lp_definitions.specs.declared.Status.{Status}
 use Rattle.simplex_definitions.specs.Moves.{lowers}
-use Rattle.simplex_definitions.specs.Path.{PathEnding, last_of, mover, worth_rate}
+use Rattle.simplex_definitions.specs.Path.{PathEnding, last_of, entering_variable, worth_rate}
 use Rattle.simplex_definitions.specs.DualPath.{dual_turn, HasRightPrices, IsWrongAt, IsDualStep, DualEndsAt, IsDualPath, DualPathEnds, DualGoesOnFor}
 use Rattle.simplex_laws.specs.Laws.{IsNonsingularBasis, HasTableau, SameEnds, RuleEndsWithin}
 use Rattle.simplex_laws.proofs.Ends.{rates_right}
 use Rattle.simplex_laws.proofs.Goes.{rule_ends_or_goes_on}
 use Rattle.simplex_laws.proofs.OnePath.{same_tableau, rule_path_leads, rule_one_step, rule_one_end, rule_step_or_end, rule_one_path, rule_not_both}
 use Rattle.simplex_laws.proofs.Searches.{least_none}
-use Rattle.simplex_laws.proofs.Booleans.{right_betters_not}
+use Rattle.simplex_laws.proofs.Booleans.{right_improves_not}
 use Rattle.dual_laws.proofs.DualTurns.{dual_turn_same, dual_leads_to, keeps_right}
 
 pub dual_leads : (p : LinearProgram) (s next : List Status) → IsNonsingularBasis p s → IsDualStep p s next → IsNonsingularBasis p next
@@ -49,16 +49,16 @@ pub ends_or_goes_on : (p : LinearProgram) (steps : ℕ) (s : List Status) → Is
 ends_or_goes_on p = rule_ends_or_goes_on dual_turn p (dual_leads_to p)
 
 pub right_or_wrong : (p : LinearProgram) (s : List Status) → HasTableau p s → HasRightPrices p s ⊎ ((j : ℕ) × IsWrongAt p s j)
-right_or_wrong p s has = by (mover p s has.tableau None) refl
+right_or_wrong p s has = by (entering_variable p s has.tableau None) refl
   where
-    by : (o : Option ℕ) → mover p s has.tableau None ≡ o → HasRightPrices p s ⊎ ((j : ℕ) × IsWrongAt p s j)
+    by : (o : Option ℕ) → entering_variable p s has.tableau None ≡ o → HasRightPrices p s ⊎ ((j : ℕ) × IsWrongAt p s j)
     by None e = inl (record { tableau = has.tableau; is_tableau = has.is_tableau; right = e })
     by (Some j) e = inr (j, record { tableau = has.tableau; is_tableau = has.is_tableau; wrong = e })
 
-pub signs : (p : LinearProgram) (s : List Status) (t : Tableau) → IsNonsingularBasis p s → IsTableau p s t → mover p s t None ≡ None →
+pub signs : (p : LinearProgram) (s : List Status) (t : Tableau) → IsNonsingularBasis p s → IsTableau p s t → entering_variable p s t None ≡ None →
     (k : ℕ) → IsVariable p.matrix k → IsFixed p k ⊎ IsRightAt (status_of s k) (worth_rate p s t k)
 signs p s t at tab right = rates_right p s t at.is_basis tab right
 
 pub from_signs : (p : LinearProgram) (s : List Status) (t : Tableau) →
-    ((k : ℕ) → IsVariable p.matrix k → IsFixed p k ⊎ IsRightAt (status_of s k) (worth_rate p s t k)) → mover p s t None ≡ None
-from_signs p s t right = least_none p (lowers p s (worth_rate p s t)) (λ k is. right_betters_not (status_of s k) (lower_of p k) (upper_of p k) (worth_rate p s t k) (right k is))
+    ((k : ℕ) → IsVariable p.matrix k → IsFixed p k ⊎ IsRightAt (status_of s k) (worth_rate p s t k)) → entering_variable p s t None ≡ None
+from_signs p s t right = least_none p (lowers p s (worth_rate p s t)) (λ k is. right_improves_not (status_of s k) (lower_of p k) (upper_of p k) (worth_rate p s t k) (right k is))

@@ -8,16 +8,16 @@ use Rattle.lp_definitions.specs.Basis.{is_in, basics_of, IsBasis, IsNonbasic, Ta
 use Rattle.lp_definitions.specs.declared.Status.{Status}
 use Rattle.simplex_definitions.specs.Moves.{signed}
 use Rattle.simplex_definitions.specs.Path.{excess_rate}
-use Rattle.simplex_definitions.specs.DualRatio.{brings_back, ratio, is_cheapest, cheapest}
+use Rattle.simplex_definitions.specs.DualRatio.{restores_feasibility, ratio, is_cheapest, cheapest}
 use Rattle.simplex_laws.proofs.Numbered.{find_same, list_all_same}
 use Rattle.simplex_laws.proofs.OneTurn.{SameTableau, lowers_idle, lowers_same}
 
 module _ (p : LinearProgram) (s : List Status) (t u : Tableau) (lawful : IsLinearProgram p) (basis : IsBasis p s) (same : SameTableau p s t u)
     (r : ℕ) (is_r : IsVariable p.matrix r) (below : Bool) where
-  pub brings_same : (q : ℕ) → IsVariable p.matrix q → brings_back p s t r below q ≡ brings_back p s u r below q
+  pub brings_same : (q : ℕ) → IsVariable p.matrix q → restores_feasibility p s t r below q ≡ restores_feasibility p s u r below q
   brings_same q is = lowers_same p s basis (excess_rate t.rate r below) (excess_rate u.rate r below) q is (λ out. ap (signed (not below)) (same.rates r q is_r out))
 
-  brings_idle : (t : Tableau) (q : ℕ) → IsVariable p.matrix q → is_in (basics_of s) q ≡ true → brings_back p s t r below q ≡ false
+  brings_idle : (t : Tableau) (q : ℕ) → IsVariable p.matrix q → is_in (basics_of s) q ≡ true → restores_feasibility p s t r below q ≡ false
   brings_idle t q is mark = lowers_idle p s basis (excess_rate t.rate r below) q is mark
 
   ratio_same : (q : ℕ) → IsNonbasic p.matrix (basics_of s) q → ratio p s t r q ≡ ratio p s u r q
@@ -25,7 +25,7 @@ module _ (p : LinearProgram) (s : List Status) (t u : Tableau) (lawful : IsLinea
       ap₂ (λ a b. magnitude (a /ℚ b)) (same.rates p.objective q (lawful.objective_row.0, omega (arith, lawful.objective_row.1)) out) (same.rates r q is_r out)
 
   abbrev no_cheaper : Tableau → ℕ → ℕ → Bool
-  no_cheaper t q j = not (brings_back p s t r below j) || le_ℚ (ratio p s t r q) (ratio p s t r j)
+  no_cheaper t q j = not (restores_feasibility p s t r below j) || le_ℚ (ratio p s t r q) (ratio p s t r j)
 
   no_cheaper_same : (q : ℕ) → IsNonbasic p.matrix (basics_of s) q → (j : ℕ) → IsVariable p.matrix j → no_cheaper t q j ≡ no_cheaper u q j
   no_cheaper_same q out j is = by_mark (is_in (basics_of s) j) refl
@@ -36,10 +36,10 @@ module _ (p : LinearProgram) (s : List Status) (t u : Tableau) (lawful : IsLinea
           ∙ sym (ap (λ b. not b || le_ℚ (ratio p s u r q) (ratio p s u r j)) (brings_idle u j is mark))
       by_mark false mark =
           ap₂ (λ b x. not b || le_ℚ (ratio p s t r q) x) (brings_same j is) (ratio_same j (is, mark))
-          ∙ ap (λ x. not (brings_back p s u r below j) || le_ℚ x (ratio p s u r j)) (ratio_same q out)
+          ∙ ap (λ x. not (restores_feasibility p s u r below j) || le_ℚ x (ratio p s u r j)) (ratio_same q out)
 
   abbrev enters : Tableau → ℕ → Bool
-  enters t q = brings_back p s t r below q && is_cheapest p s t r below q
+  enters t q = restores_feasibility p s t r below q && is_cheapest p s t r below q
 
   enters_same : (q : ℕ) → IsVariable p.matrix q → enters t q ≡ enters u q
   enters_same q is = by_mark (is_in (basics_of s) q) refl

@@ -5,7 +5,7 @@ use Rattle.exact_values.specs.Rational.{ℚ}
 use Rattle.lp_definitions.specs.LinearProgram.{LinearProgram, IsVariable, IsLinearProgram}
 use Rattle.lp_definitions.specs.Basis.{status_of, IsFixed, IsRightAt, Tableau, IsTableau}
 use Rattle.lp_definitions.specs.declared.Status.{Status}
-use Rattle.simplex_definitions.specs.Path.{PathEnding, EndsUnbounded, EndsAt, last_of, mover, worth_rate}
+use Rattle.simplex_definitions.specs.Path.{PathEnding, EndsUnbounded, EndsAt, last_of, entering_variable, worth_rate}
 use Rattle.simplex_definitions.specs.DualPath.{dual_turn, HasRightPrices, IsWrongAt, IsDualStep, DualEndsAt, IsDualPath, DualPathEnds, DualGoesOnFor}
 use Rattle.simplex_laws.specs.Laws.{IsNonsingularBasis, HasTableau, SameEnds, RuleEndsWithin}
 
@@ -19,10 +19,10 @@ pub record DualLaws : Type 0 where
   pub right_or_wrong : (p : LinearProgram) (s : List Status) → HasTableau p s → HasRightPrices p s ⊎ ((j : ℕ) × IsWrongAt p s j)
   pub not_both_prices : (p : LinearProgram) (s : List Status) (j : ℕ) → IsLinearProgram p → IsNonsingularBasis p s → HasRightPrices p s → IsWrongAt p s j → ⊥
   pub one_wrong : (p : LinearProgram) (s : List Status) (j k : ℕ) → IsLinearProgram p → IsNonsingularBasis p s → IsWrongAt p s j → IsWrongAt p s k → j ≡ k
-  pub signs : (p : LinearProgram) (s : List Status) (t : Tableau) → IsNonsingularBasis p s → IsTableau p s t → mover p s t None ≡ None →
+  pub signs : (p : LinearProgram) (s : List Status) (t : Tableau) → IsNonsingularBasis p s → IsTableau p s t → entering_variable p s t None ≡ None →
       (k : ℕ) → IsVariable p.matrix k → IsFixed p k ⊎ IsRightAt (status_of s k) (worth_rate p s t k)
   pub from_signs : (p : LinearProgram) (s : List Status) (t : Tableau) →
-      ((k : ℕ) → IsVariable p.matrix k → IsFixed p k ⊎ IsRightAt (status_of s k) (worth_rate p s t k)) → mover p s t None ≡ None
+      ((k : ℕ) → IsVariable p.matrix k → IsFixed p k ⊎ IsRightAt (status_of s k) (worth_rate p s t k)) → entering_variable p s t None ≡ None
   -- from right prices an end is one of the simplex path, and none is unbounded
   pub ends : (p : LinearProgram) (s : List Status) (ending : PathEnding) → IsLinearProgram p → IsNonsingularBasis p s → HasRightPrices p s → DualEndsAt p s ending → EndsAt p s ending
   pub never_unbounded : (p : LinearProgram) (s : List Status) (z d : List ℚ) → DualEndsAt p s (EndsUnbounded z d) → ⊥

@@ -55,7 +55,7 @@ module _ (p : LinearProgram) (s : List Status) (prices row : Vector) (below : Bo
       there = ap (λ b. cond b (Some (ratio_of prices row (suc n))) None) may ∙ ap₂ (λ a b. Some (magnitude (a /ℚ b))) (sym price_is) (sym rate_is)
 
       own : IsCandidate p s prices row below other
-      own = record { is_variable = is; is_price = price_is; is_rate = rate_is; brings_back = may }
+      own = record { is_variable = is; is_price = price_is; is_rate = rate_is; restores_feasibility = may }
 
       first : IsBest p s prices row below n None → IsBest p s prices row below (suc n) (Some other)
       first h = record {
@@ -99,13 +99,13 @@ module _ (p : LinearProgram) (s : List Status) (prices row : Vector) (below : Bo
       best_refused r present e h (of_best refused) = record {
         j = present.q;
         is_variable = h.candidate.is_variable;
-        brings_back = h.candidate.brings_back;
+        restores_feasibility = h.candidate.restores_feasibility;
         refused = subst₂ (λ (a b : ℚ). IsRefusal (ratio_formula r present.q) Div a b e) h.candidate.is_price h.candidate.is_rate refused;
       }
       best_refused r present e h (of_other refused) = record {
         j = k;
         is_variable = is;
-        brings_back = may;
+        restores_feasibility = may;
         refused = subst₂ (λ (a b : ℚ). IsRefusal (ratio_formula r k) Div a b e) price_is rate_is refused;
       }
 
@@ -129,7 +129,7 @@ module _ (p : LinearProgram) (s : List Status) (prices row : Vector) (below : Bo
   best_is_cheapest (Some c) h = sym (find_first _ (size p.matrix) 1 c.q h.nearest.low (omega (arith, h.nearest.high)) own earlier)
     where
       may : brings p s row below c.q ≡ true
-      may = h.candidate.brings_back
+      may = h.candidate.restores_feasibility
 
       all : list_all (λ j. not (brings p s row below j) || le_ℚ (ratio_of prices row c.q) (ratio_of prices row j)) (variables p.matrix) ≡ true
       all = list_all_from (λ j. not (brings p s row below j) || le_ℚ (ratio_of prices row c.q) (ratio_of prices row j)) (size p.matrix) 1

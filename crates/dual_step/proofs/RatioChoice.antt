@@ -10,7 +10,7 @@ use Rattle.lp_definitions.specs.declared.Change.{Change}
 use Rattle.lp_definitions.specs.declared.Status.{Status}
 use Rattle.lp_laws.proofs.Uniqueness.{one_table}
 use Rattle.lp_model.specs.RatesCalls.{IsRowOf}
-use Rattle.simplex_definitions.specs.DualRatio.{brings_back, ratio, cheapest}
+use Rattle.simplex_definitions.specs.DualRatio.{restores_feasibility, ratio, cheapest}
 use Rattle.simplex_definitions.specs.Moves.{lowers, signed}
 use Rattle.simplex_laws.proofs.Numbered.{find_same, list_all_same}
 use Rattle.simplex_laws.proofs.OneTurn.{lowers_idle}
@@ -34,13 +34,13 @@ module _ (p : LinearProgram) (s : List Status) (lawful : IsLinearProgram p) (no_
   idle_own : (k : ℕ) → IsVariable p.matrix k → is_in (basics_of s) k ≡ true → brings p s row below k ≡ false
   idle_own k is mark = lowers_idle p s at.is_basis (λ j. signed (not below) (row j)) k is mark
 
-  idle_there : (k : ℕ) → IsVariable p.matrix k → is_in (basics_of s) k ≡ true → brings_back p s tableau r below k ≡ false
+  idle_there : (k : ℕ) → IsVariable p.matrix k → is_in (basics_of s) k ≡ true → restores_feasibility p s tableau r below k ≡ false
   idle_there k is mark = lowers_idle p s at.is_basis (λ j. signed (not below) (rowed.rate r j)) k is mark
 
-  pub brings_is : (k : ℕ) → IsVariable p.matrix k → brings p s row below k ≡ brings_back p s tableau r below k
+  pub brings_is : (k : ℕ) → IsVariable p.matrix k → brings p s row below k ≡ restores_feasibility p s tableau r below k
   brings_is k is = by_mark (is_in (basics_of s) k) refl
     where
-      by_mark : (m : Bool) → is_in (basics_of s) k ≡ m → brings p s row below k ≡ brings_back p s tableau r below k
+      by_mark : (m : Bool) → is_in (basics_of s) k ≡ m → brings p s row below k ≡ restores_feasibility p s tableau r below k
       by_mark true mark = idle_own k is mark ∙ sym (idle_there k is mark)
       by_mark false mark = ap (λ (x : ℚ). lowers p s (λ _. signed (not below) x) k) (row_at k (is, mark))
 
@@ -51,7 +51,7 @@ module _ (p : LinearProgram) (s : List Status) (lawful : IsLinearProgram p) (no_
   no_dearer q j = not (brings p s row below j) || le_ℚ (ratio_of prices row q) (ratio_of prices row j)
 
   abbrev no_cheaper : ℕ → ℕ → Bool
-  no_cheaper q j = not (brings_back p s tableau r below j) || le_ℚ (ratio p s tableau r q) (ratio p s tableau r j)
+  no_cheaper q j = not (restores_feasibility p s tableau r below j) || le_ℚ (ratio p s tableau r q) (ratio p s tableau r j)
 
   -- the ratio of q against that of each other that may bring r back
   against : (q : ℕ) → IsNonbasic p.matrix (basics_of s) q → (j : ℕ) → IsVariable p.matrix j → no_dearer q j ≡ no_cheaper q j
@@ -63,13 +63,13 @@ module _ (p : LinearProgram) (s : List Status) (lawful : IsLinearProgram p) (no_
           ∙ sym (ap (λ b. not b || le_ℚ (ratio p s tableau r q) (ratio p s tableau r j)) (idle_there j is mark))
       by_mark false mark =
           ap₂ (λ b x. not b || le_ℚ (ratio_of prices row q) x) (brings_is j is) (ratio_is j (is, mark))
-          ∙ ap (λ x. not (brings_back p s tableau r below j) || le_ℚ x (ratio p s tableau r j)) (ratio_is q out)
+          ∙ ap (λ x. not (restores_feasibility p s tableau r below j) || le_ℚ x (ratio p s tableau r j)) (ratio_is q out)
 
   abbrev chosen_by : ℕ → Bool
   chosen_by q = brings p s row below q && list_all (no_dearer q) (variables p.matrix)
 
   abbrev chosen : ℕ → Bool
-  chosen q = brings_back p s tableau r below q && list_all (no_cheaper q) (variables p.matrix)
+  chosen q = restores_feasibility p s tableau r below q && list_all (no_cheaper q) (variables p.matrix)
 
   same_choice : (q : ℕ) → IsVariable p.matrix q → chosen_by q ≡ chosen q
   same_choice q is = by_mark (is_in (basics_of s) q) refl

@@ -31,7 +31,7 @@ use Rattle.bounded_primal.specs.Steps.{ReturnRefused, of_distance, of_quotient}
 use Rattle.bounded_primal.specs.declared.moves.Stopper.{Stopper}
 use Rattle.bounded_primal.proofs.StatementEvidence.{evidence_here, evidence_ahead, evidence_own, step_number, step_moves}
 use Rattle.bounded_primal.proofs.TurnEvidence.{step_brings_not}
-use Rattle.dual_laws.proofs.Movers.{is_mover}
+use Rattle.dual_laws.proofs.EnteringVariables.{is_entering_variable}
 use Rattle.dual_step.specs.Cheapest.{brings, SomeRatioRefused}
 use Rattle.dual_step.proofs.BestRatio.{brings_apart}
 use Rattle.dual_step.proofs.RatioChoice.{row_at, price_at}
@@ -56,16 +56,16 @@ step_own : (n term : ℕ) → (is_between 1 12 n && (not (nat_eq n 6) || not (na
 step_own n term h = grind arith
 
 -- what is asked of a statement: its program at 0 is p, it may stop by the formulas up to 14, and a step of it moves what it says
-pub record IsOwn (p : LinearProgram) (statement : SolvingStatement) (break : Option ℚ) (s : List Status) : Type 0 where
+pub record IsOwn (p : LinearProgram) (statement : SolvingStatement) (breakpoint : Option ℚ) (s : List Status) : Type 0 where
   pub no_change : p.change ≡ None
   pub at_zero : (theta : ℚ) → theta ≡ zero_ℚ → p ≡ program_at statement theta
   pub is_theta : (theta : ℚ) (ends : List ℚ) → theta ≡ zero_ℚ → Contains (thetas_of statement ends) theta
   pub belongs_to : (e : Evidence) → (is_between 1 14 e.formula && (not (nat_eq e.formula 6) || not (nat_eq e.term 3))) ≡ true → IsTrue (belongs statement e)
-  pub enters : (m : Move) → MovesAt statement break s m → EntersAt statement break s m.enters
-  pub steps : (m : Move) → MovesAt statement break s m → TakesStep statement break s
-  pub goes_to : (e : Evidence) (to : Status) → IsLeaver statement break s e to → GoesTo statement break s e to
+  pub enters : (m : Move) → MovesAt statement breakpoint s m → EntersAt statement breakpoint s m.enters
+  pub steps : (m : Move) → MovesAt statement breakpoint s m → TakesStep statement breakpoint s
+  pub goes_to : (e : Evidence) (to : Status) → IsLeaver statement breakpoint s e to → GoesTo statement breakpoint s e to
 
-module _ (p : LinearProgram) (statement : SolvingStatement) (break : Option ℚ) (s : List Status) (own : IsOwn p statement break s) (left : ℕ) (before now : List Basics) (e : Evidence) where
+module _ (p : LinearProgram) (statement : SolvingStatement) (breakpoint : Option ℚ) (s : List Status) (own : IsOwn p statement breakpoint s) (left : ℕ) (before now : List Basics) (e : Evidence) where
   is_at_zero : e.theta ≡ zero_ℚ → record p { change = None } ≡ program_at statement e.theta
   is_at_zero none = ap (λ (o : Option Change). record p { change = o }) (sym own.no_change) ∙ own.at_zero e.theta none
 
@@ -79,14 +79,14 @@ module _ (p : LinearProgram) (statement : SolvingStatement) (break : Option ℚ)
   no_theta : (Goes : Status → Type 0) (around : List Basics) → StopsAt Goes p around s now e → e.theta ≡ zero_ℚ
   no_theta Goes around stops = only_zero (subst (λ (o : Option Change). Contains (thetas_of (job_of p o) []) e.theta) own.no_change stops.is_theta)
 
-  of_stops : is_between 1 12 e.formula ≡ true → IsOfMove statement break s e → IsTrue (belongs statement e) → StopsAt (λ to. ⊥) p (basics_of s ∷ before) s now e → EvidenceHere statement p.matrix break left s before now e
+  of_stops : is_between 1 12 e.formula ≡ true → IsOfMove statement breakpoint s e → IsTrue (belongs statement e) → StopsAt (λ to. ⊥) p (basics_of s ∷ before) s now e → EvidenceHere statement p.matrix breakpoint left s before now e
   of_stops number of_move of_statement stops =
       let none = no_theta (λ to. ⊥) (basics_of s ∷ before) stops in
-      evidence_here p None statement s e (is_at_zero none) number own.no_change break left before now
+      evidence_here p None statement s e (is_at_zero none) number own.no_change breakpoint left before now
       (λ ends. own.is_theta e.theta ends none) of_move of_statement (λ to. ⊥) (λ to goes is. absurd goes) stops
 
   -- a point, prices, and the rates of a row or a column
-  pub of_point : PointRefused p before s now e → EvidenceHere statement p.matrix break left s before now e
+  pub of_point : PointRefused p before s now e → EvidenceHere statement p.matrix breakpoint left s before now e
   of_point r =
       let number : (is_between 1 5 e.formula || is_between 10 12 e.formula) ≡ true = subst (λ (o : Option Change). IsTrue (is_of_point o e.formula)) own.no_change r.of_call in
       let quiet = point_quiet e.formula number in
@@ -101,12 +101,12 @@ module _ (p : LinearProgram) (statement : SolvingStatement) (break : Option ℚ)
   module _ (lawful : IsLinearProgram p) (at : IsNonsingularBasis p s) (z : Vector) (point : IsPointOf p s z) where
     -- a ratio of the basic r
     pub of_ratio : (r : ℕ) (below : Bool) → IsBasic p.matrix (basics_of s) r → (prices row : Vector) → ArePricesOf p s prices → IsRowOf p.matrix (basics_of s) r row →
-        (h : SomeRatioRefused p s prices row r below e) → BringsAt statement break s r h.j → EvidenceHere statement p.matrix break left s before now e
+        (h : SomeRatioRefused p s prices row r below e) → BringsAt statement breakpoint s r h.j → EvidenceHere statement p.matrix breakpoint left s before now e
     of_ratio r below basic prices row priced rowed h may =
-        evidence_own statement p.matrix s e break left before now (λ ends. own.is_theta e.theta ends h.refused.is_theta)
+        evidence_own statement p.matrix s e breakpoint left before now (λ ends. own.is_theta e.theta ends h.refused.is_theta)
         (record {
           enters = λ is. absurd (clash (sym is ∙ ap (is_between 7 9) h.refused.names.is_formula));
-          brings = λ is. subst₂ (λ i j. BringsAt statement break s i j) (sym h.refused.names.is_i) (sym h.refused.names.is_j) may;
+          brings = λ is. subst₂ (λ i j. BringsAt statement breakpoint s i j) (sym h.refused.names.is_i) (sym h.refused.names.is_j) may;
           steps = λ is. absurd (clash (sym is ∙ ap (λ n. nat_eq n 6) h.refused.names.is_formula));
         })
         (own.belongs_to e (rw h.refused.names.is_formula refl)) h.refused.no_way
@@ -125,7 +125,7 @@ module _ (p : LinearProgram) (statement : SolvingStatement) (break : Option ℚ)
         there = own.at_zero e.theta h.refused.is_theta
 
         out : IsNonbasic p.matrix (basics_of s) h.j
-        out = (is_mover p s (λ k. signed (not below) (row k)) h.j at h.is_variable h.brings_back).nonbasic
+        out = (is_entering_variable p s (λ k. signed (not below) (row k)) h.j at h.is_variable h.restores_feasibility).nonbasic
 
         at_row : row h.j ≡ rowed.rate r h.j
         at_row = row_at p s lawful own.no_change at prices row priced r basic.0 rowed below z h.j out
@@ -134,11 +134,11 @@ module _ (p : LinearProgram) (statement : SolvingStatement) (break : Option ℚ)
         at_price = price_at p s lawful own.no_change at prices row priced r basic.0 rowed below z h.j out
 
         ratio : RatioFormula p s (record { point = z; rate = rowed.rate }) e
-        ratio = f14 r h.j h.refused.names basic out (λ zero. brings_apart p s prices row below h.j h.brings_back (at_row ∙ zero)) (subst₂ (λ (a b : ℚ). Refuses e Div a b) at_price at_row h.refused.refuses)
+        ratio = f14 r h.j h.refused.names basic out (λ zero. brings_apart p s prices row below h.j h.restores_feasibility (at_row ∙ zero)) (subst₂ (λ (a b : ℚ). Refuses e Div a b) at_price at_row h.refused.refuses)
 
     -- the way back of a basic
-    pub of_return : (q r : ℕ) (to : Status) → IsBasic p.matrix (basics_of s) r → IsNonbasic p.matrix (basics_of s) q → MovesAt statement break s (record { enters = q; leaves = r; to = to }) →
-        (d : Vector) → IsDirectionOf p.matrix (basics_of s) q d → d r ≢ zero_ℚ → ReturnRefused p z d q r to e → EvidenceHere statement p.matrix break left s before now e
+    pub of_return : (q r : ℕ) (to : Status) → IsBasic p.matrix (basics_of s) r → IsNonbasic p.matrix (basics_of s) q → MovesAt statement breakpoint s (record { enters = q; leaves = r; to = to }) →
+        (d : Vector) → IsDirectionOf p.matrix (basics_of s) q d → d r ≢ zero_ℚ → ReturnRefused p z d q r to e → EvidenceHere statement p.matrix breakpoint left s before now e
     of_return q r to basic out moves d direction pivot h = by_kind h
       where
         rates : (rate : ℕ → ℕ → ℚ) × AreRates p.matrix (basics_of s) rate
@@ -152,7 +152,7 @@ module _ (p : LinearProgram) (statement : SolvingStatement) (break : Option ℚ)
             stops_at_basis p s (record { point = z; rate = (rates_exist p.matrix (basics_of s) at.nonsingular).0 }) (record { is_point = point; are_rates = (rates_exist p.matrix (basics_of s) at.nonsingular).1 }) at.nonsingular
             (λ to. ⊥) before now e no_way none formula
 
-        by_kind : ReturnRefused p z d q r to e → EvidenceHere statement p.matrix break left s before now e
+        by_kind : ReturnRefused p z d q r to e → EvidenceHere statement p.matrix breakpoint left s before now e
         by_kind (of_distance l limit f) =
             of_stops (rw f.names.is_formula refl)
             (record {
@@ -165,7 +165,7 @@ module _ (p : LinearProgram) (statement : SolvingStatement) (break : Option ℚ)
         by_kind (of_quotient l limit other f) =
             of_stops (rw f.names.is_formula refl)
             (record {
-              enters = λ is. subst (EntersAt statement break s) (sym f.names.is_q) (own.enters (record { enters = q; leaves = r; to = to }) moves);
+              enters = λ is. subst (EntersAt statement breakpoint s) (sym f.names.is_q) (own.enters (record { enters = q; leaves = r; to = to }) moves);
               brings = λ is. absurd (clash (sym is ∙ ap (λ n. nat_eq n 14) f.names.is_formula));
               steps = λ is. absurd (clash (sym is ∙ ap (λ n. nat_eq n 6) f.names.is_formula));
             })
@@ -173,13 +173,13 @@ module _ (p : LinearProgram) (statement : SolvingStatement) (break : Option ℚ)
             (stops f.no_way f.is_theta (f7 q r (number_of_limit to) l f.names basic out limit (λ vanishes. pivot (sym at_q ∙ vanishes)) (subst (λ (x : ℚ). Refuses e Div (l -ℚ z r) x) (sym at_q) f.refuses)))
 
   -- the step of q, with the basis that it leads to ahead
-  pub of_step : (q : ℕ) (by : Stopper) → MovesAt statement break s (move_by q by) → by.to ≢ Bs → 1 ≤ left → StepRefused p before s q by now e → EvidenceHere statement p.matrix break left s before now e
+  pub of_step : (q : ℕ) (by : Stopper) → MovesAt statement breakpoint s (move_by q by) → by.to ≢ Bs → 1 ≤ left → StepRefused p before s q by now e → EvidenceHere statement p.matrix breakpoint left s before now e
   of_step q by moves apart one_left h =
       let none = no_theta (λ to. to ≡ by.to) (basics_of s ∷ exchanged (basics_of s) by.p q ∷ before) h.stops in
-      evidence_ahead p None statement s e (is_at_zero none) (step_number e.formula e.term h.of_call) own.no_change break left before now
+      evidence_ahead p None statement s e (is_at_zero none) (step_number e.formula e.term h.of_call) own.no_change breakpoint left before now
       (λ ends. own.is_theta e.theta ends none)
       (record {
-        enters = λ is. subst (EntersAt statement break s) (sym (h.enters is)) (own.enters (move_by q by) moves);
+        enters = λ is. subst (EntersAt statement breakpoint s) (sym (h.enters is)) (own.enters (move_by q by) moves);
         brings = λ is. absurd (clash (sym is ∙ step_brings_not e.formula e.term h.of_call));
         steps = λ is. own.steps (move_by q by) moves;
       })

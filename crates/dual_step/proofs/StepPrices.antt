@@ -10,7 +10,7 @@ use Rattle.lp_definitions.specs.LinearProgram.{LinearProgram, Vector, size, IsVa
 use Rattle.lp_definitions.specs.declared.Change.{Change}
 use Rattle.lp_definitions.specs.declared.Status.{Status}
 use Rattle.lp_definitions.specs.declared.Status.TheVariants.{Bs}
-use Rattle.lp_laws.proofs.Exchange.{leaver_out, enterer_in, others_stay, AreRates-exchanged}
+use Rattle.lp_laws.proofs.Exchange.{leaver_out, entering_in, others_stay, AreRates-exchanged}
 use Rattle.lp_laws.proofs.Idle.{right_nothing, right_difference}
 use Rattle.lp_laws.proofs.Statuses.{basics_of-replaced}
 use Rattle.lp_laws.specs.Rates.{exchanged_rate}
@@ -91,7 +91,7 @@ module _ (p : LinearProgram) (s : List Status) (lawful : IsLinearProgram p) (no_
             ap v same.1 ∙ leaver_is ∙ sym (at_nonbasic r (leaver_out p.matrix (basics_of s) at.nonsingular.counted r q leaves enters))
             ∙ ap (price_of p (basics_of next) (exchanged_rate rowed.rate r q)) (sym same.1)
         by (inr other) (inl same) m mark =
-            ap v same.1 ∙ over.enterer ∙ sym (at_basic q (enterer_in p.matrix (basics_of s) at.nonsingular.counted r q leaves enters))
+            ap v same.1 ∙ over.entering_variable ∙ sym (at_basic q (entering_in p.matrix (basics_of s) at.nonsingular.counted r q leaves enters))
             ∙ ap (price_of p (basics_of next) (exchanged_rate rowed.rate r q)) (sym same.1)
         by (inr other_r) (inr other_q) true mark =
             still_basic k is mark other_r.1 other_q.1 ∙ sym (at_basic k (others_stay p.matrix (basics_of s) at.nonsingular.counted r q leaves enters k is other_r.1 other_q.1 ∙ mark))

@@ -47,7 +47,7 @@ pub record IsCandidate (p : LinearProgram) (s : List Status) (prices row : Vecto
   pub is_variable : IsVariable p.matrix c.q
   pub is_price : c.price ≡ prices c.q
   pub is_rate : c.rate ≡ row c.q
-  pub brings_back : brings p s row below c.q ≡ true
+  pub restores_feasibility : brings p s row below c.q ≡ true
 
 pub record IsBest (p : LinearProgram) (s : List Status) (prices row : Vector) (below : Bool) (n : ℕ) (best : Option Candidate) : Type 0 where
   pub candidate : IfSome best (IsCandidate p s prices row below)
@@ -63,5 +63,5 @@ pub data KeptRefused (r : ℕ) (best other : Candidate) (e : Evidence) : Type 0 
 pub record SomeRatioRefused (p : LinearProgram) (s : List Status) (prices row : Vector) (r : ℕ) (below : Bool) (e : Evidence) : Type 0 where
   pub j : ℕ
   pub is_variable : IsVariable p.matrix j
-  pub brings_back : brings p s row below j ≡ true
+  pub restores_feasibility : brings p s row below j ≡ true
   pub refused : IsRefusal (ratio_formula r j) Div (prices j) (row j) e

@@ -15,7 +15,7 @@ IsTaken t x w n v = (k : ℕ) → 1 ≤ k → k ≤ n → v k ≡ w k -ℚ t *�
 -- r has what q had, over the rate of r at q; q, which is basic then, has none; each other loses as much as r moves with it
 pub record ArePricesOver (w x : Vector) (r q n : ℕ) (v : Vector) : Type 0 where
   pub leaver : v r ≡ w q /ℚ x q
-  pub enterer : v q ≡ zero_ℚ
+  pub entering_variable : v q ≡ zero_ℚ
   pub others : (k : ℕ) → 1 ≤ k → k ≤ n → k ≢ r → k ≢ q → v k ≡ w k -ℚ (w q /ℚ x q) *ℚ x k
 
 -- the product of t with some rate is refused, or the difference of that from the price there

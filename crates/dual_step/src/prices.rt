@@ -36,8 +36,8 @@ pub fn prices_over(prices: &mut [Frac], row: &[Frac], r: u32, q: u32) -> bool
     requires places { length prices.old ≡ length row.now }
     requires leaver_low { 1 ≤ r }
     requires leaver_high { r ≤ length row.now }
-    requires enterer_low { 1 ≤ q }
-    requires enterer_high { q ≤ length row.now }
+    requires entering_low { 1 ≤ q }
+    requires entering_high { q ≤ length row.now }
     requires apart { r ≢ q }
     requires pivot { value_at row.now q ≢ zero_ℚ }
     ensures prices { IsTrue result → ArePricesOver (value_at prices.old) (value_at row.now) r q

@@ -78,8 +78,8 @@ fn keeps(best: &Candidate, other: &Candidate, r: u32) -> Result<bool, Evidence>
     ensures keeps { IfOk result (λ keeps. keeps ≡ le_ℚ (ratio_at best.now) (ratio_at other.now)) }
     ensures refused { IfErr result (KeptRefused r best.now other.now) }
 {
-    if let Some(told) = by_products(best, other) {
-        return Ok(told);
+    if let Some(reported) = by_products(best, other) {
+        return Ok(reported);
     }
     match formula(r, best.q).quotient(best.price, best.rate) {
         Err(evidence) => Err(evidence),

@@ -70,9 +70,9 @@ module _ (S : Solving) (job : Job) (failures : Failures) (PrintGains PunchGains 
 
   -- WHAT STANDS AFTER EACH STATUS. A job of the words, of its cards or of its control program that is
   -- refused, and one of which a read fails, leaves the line of this stop alone. A job that ends by
-  -- itself leaves its whole listing and all its cards. A fault of the punch, or want of memory, breaks
+  -- itself leaves its whole listing and all its cards. A fault of the punch, or running out of memory, breaks
   -- it off: the reports so far and the stop's line stand, and a prefix of the cards. Where the print
-  -- fails, or wants memory itself, it has stopped in a report or in the lines of an end: all that comes
+  -- fails, or runs out of memory itself, it has stopped in a report or in the lines of an end: all that comes
   -- before stands, with a prefix of this text, and the cards that are punched by then.
   pub data StandsAfter (status : ℕ) : Type 0 where
     ended : status ≤ 2 → StandsWhole (Ended status) → StandsAfter status

@@ -23,13 +23,13 @@ use Rattle.eta_file.specs.Prefixes.{IsEta}
 use Rattle.eta_file.proofs.RateEntries.{sum_rate_entries}
 
 module _ (a : Matrix) (w : Basics) (one : IsNonsingular a w) (e : StoredEta) (is : IsEta a w e) where
-  pub leaver_is_not_enterer : e.p ≢ e.q
-  leaver_is_not_enterer same = clash (sym is.leaves.1 ∙ ap (is_in w) same ∙ is.enters.1)
+  pub leaver_is_not_entering : e.p ≢ e.q
+  leaver_is_not_entering same = clash (sym is.leaves.1 ∙ ap (is_in w) same ∙ is.enters.1)
 
   own_rate : is.rate e.q e.q ≡ one_ℚ
   own_rate = (is.are_rates e.q is.enters).own
 
-  -- what the entries have at a variable, is its rate at the enterer
+  -- what the entries have at a variable, is its rate at the entering variable
   pub entry_rate : (i : ℕ) → IsVariable a i → i ≢ e.q → sum_rate e.entries.items i ≡ is.rate i e.q
   entry_rate i var other = ap (λ es. sum_rate es i) is.are_entries ∙ sum_rate_entries a w (λ k. is.rate k e.q) i var ∙ at (is_in w i) refl
     where
@@ -44,8 +44,8 @@ module _ (a : Matrix) (w : Basics) (one : IsNonsingular a w) (e : StoredEta) (is
     made_at_leaver : made e.p ≡ zero_ℚ
     made_at_leaver = ap (λ x. is.rate e.p j -ℚ x) (div-mul_cancel (is.rate e.p j) (is.rate e.p e.q) is.apart) ∙ sub-self (is.rate e.p j)
 
-    made_at_enterer : made e.q ≡ neg_ℚ (is.rate e.p j /ℚ is.rate e.p e.q)
-    made_at_enterer =
+    made_at_entering : made e.q ≡ neg_ℚ (is.rate e.p j /ℚ is.rate e.p e.q)
+    made_at_entering =
         ap (λ x. x -ℚ (is.rate e.p j /ℚ is.rate e.p e.q) *ℚ is.rate e.q e.q) ((is.are_rates j before).others e.q is.enters (λ same. apart_q (sym same)))
         ∙ ap (λ x. zero_ℚ -ℚ (is.rate e.p j /ℚ is.rate e.p e.q) *ℚ x) own_rate
         ∙ ap (λ x. zero_ℚ -ℚ x) (mul-one (is.rate e.p j /ℚ is.rate e.p e.q))
@@ -72,9 +72,9 @@ module _ (a : Matrix) (w : Basics) (one : IsNonsingular a w) (e : StoredEta) (is
             where
               split : (((eqb i e.p ≡ true) × (i ≡ e.p)) ⊎ ((eqb i e.p ≡ false) × (i ≢ e.p))) → (((eqb i e.q ≡ true) × (i ≡ e.q)) ⊎ ((eqb i e.q ≡ false) × (i ≢ e.q))) → value_at new i ≡ made i
               split (inl here) others =
-                  let differ : nat_eq e.p e.q ≡ false = grind (arith, leaver_is_not_enterer) in
+                  let differ : nat_eq e.p e.q ≡ false = grind (arith, leaver_is_not_entering) in
                   ap (value_at new) here.1 ∙ at_p ∙ ap (λ t. cond t (neg_ℚ (value_at old e.p /ℚ e.pivot)) zero_ℚ) differ ∙ sym (ap made here.1 ∙ made_at_leaver)
-              split (inr other) (inl here) = ap (value_at new) here.1 ∙ at_q ∙ ap neg_ℚ ratio_is ∙ sym (ap made here.1 ∙ made_at_enterer)
+              split (inr other) (inl here) = ap (value_at new) here.1 ∙ at_q ∙ ap neg_ℚ ratio_is ∙ sym (ap made here.1 ∙ made_at_entering)
               split (inr other) (inr also) =
                   elsewhere i var.0 (omega (arith, var.1, counted)) other.1 also.1
                   ∙ ap₂ (λ x u. x -ℚ u *ℚ sum_rate e.entries.items i) (old_is i var) ratio_is
@@ -90,9 +90,9 @@ module _ (a : Matrix) (w : Basics) (one : IsNonsingular a w) (e : StoredEta) (is
 
       same : (i : ℕ) → IsVariable a i → (((eqb i e.p ≡ true) × (i ≡ e.p)) ⊎ ((eqb i e.p ≡ false) × (i ≢ e.p))) → (((eqb i e.q ≡ true) × (i ≡ e.q)) ⊎ ((eqb i e.q ≡ false) × (i ≢ e.q))) → value_at new i ≡ made i
       same i var (inl here) others =
-          ap (value_at new) here.1 ∙ leaving.leaver leaver_is_not_enterer ∙ sym (ap made here.1 ∙ div-mul_cancel one_ℚ (is.rate e.p e.q) is.apart)
+          ap (value_at new) here.1 ∙ leaving.leaver leaver_is_not_entering ∙ sym (ap made here.1 ∙ div-mul_cancel one_ℚ (is.rate e.p e.q) is.apart)
       same i var (inr other) (inl here) =
-          ap (value_at new) here.1 ∙ leaving.enterer ∙ ap (λ v. one_ℚ /ℚ v) is.is_pivot
+          ap (value_at new) here.1 ∙ leaving.entering_variable ∙ ap (λ v. one_ℚ /ℚ v) is.is_pivot
           ∙ sym (ap made here.1 ∙ ap (λ x. (one_ℚ /ℚ is.rate e.p e.q) *ℚ x) own_rate ∙ mul-one (one_ℚ /ℚ is.rate e.p e.q))
       same i var (inr other) (inr also) =
           leaving.each i var.0 (omega (arith, var.1, counted)) other.1 also.1

@@ -11,14 +11,14 @@ use Rattle.lp_definitions.specs.RatesEvidence.{ExchangeRefused}
 use Rattle.lp_definitions.specs.declared.Entry.{Entry}
 use Rattle.lp_definitions.specs.declared.Evidence.{Evidence}
 use Rattle.lp_laws.proofs.Values.{clash}
-use Rattle.lp_laws.proofs.Exchange.{enterer_in}
+use Rattle.lp_laws.proofs.Exchange.{entering_in}
 use Rattle.lp_laws.proofs.Opening.{IsNonsingular-row_basics, is_in-row_basics, length-row_basics, AreRates-opening}
 use Rattle.lp_laws.proofs.WaypointLaws.{Covers-itself, Covers-insert, ExchangeRefused-covered}
 use Rattle.lp_laws.specs.Rates.{opening_rate}
 use Rattle.eta_file.specs.declared.eta.StoredEta.{StoredEta}
 use Rattle.eta_file.specs.declared.eta.WholeEta.{WholeEta}
 use Rattle.lp_laws.proofs.Alike.{direction_same}
-use Rattle.whole_vectors.specs.Quotients.{quotients, AreQuotients, StandFor}
+use Rattle.whole_vectors.specs.Quotients.{quotients, AreQuotients, Represent}
 use Rattle.whole_vectors.proofs.Over.{made_values}
 use Rattle.eta_file.specs.Entries.{scaled, IsWholeOf, others, IsEntryWithin, AreApart, IsRowWithin, AreDistinctRows}
 use Rattle.eta_file.specs.Crossings.{IsWithinPlaces, IsCrossed, IsLeaving, IsColumnFilled, NoneLater}
@@ -34,7 +34,7 @@ use Rattle.eta_file.specs.Inverse.{IsAppended}
 use Rattle.lp_definitions.specs.Waypoints.{waypoint}
 use Rattle.eta_file.proofs.RateEntries.{rate_entry, rate_entries_apart, others_less, length-rate_entries}
 use Rattle.eta_file.proofs.PrefixLaws.{after-take_next, eta_at, Passed-take, nonsingular_after, out_from, entry_count-take, length-prefixes, prefixes-at, rates_after, after-append, Passed-append}
-use Rattle.eta_file.proofs.Directions.{leaver_is_not_enterer, entry_rate, crossed_direction, leaving_direction, column_direction}
+use Rattle.eta_file.proofs.Directions.{leaver_is_not_entering, entry_rate, crossed_direction, leaving_direction, column_direction}
 use Rattle.eta_file.proofs.RefusedLaws.{cross_refused, leave_refused}
 
 -- what a refusal shows, in other words
@@ -114,7 +114,7 @@ module _ (a : Matrix) (etas : List StoredEta) (marks : Basics) (file : IsFileOf 
     pub fewer : others eta.p eta.entries.items + 1 ≤ length eta.entries.items
     fewer =
         others_less eta.p eta.entries.items
-        (λ none. is.apart (sym (entry_rate a (set_at k) (one_at k) eta is eta.p is.leaves.0 (leaver_is_not_enterer a (set_at k) (one_at k) eta is)) ∙ none))
+        (λ none. is.apart (sym (entry_rate a (set_at k) (one_at k) eta is eta.p is.leaves.0 (leaver_is_not_entering a (set_at k) (one_at k) eta is)) ∙ none))
 
     pub count_next : entry_count (take (k + 1) etas) ≡ entry_count (take k etas) + length eta.entries.items
     count_next =
@@ -130,7 +130,7 @@ module _ (a : Matrix) (etas : List StoredEta) (marks : Basics) (file : IsFileOf 
 
       apart_q : j ≢ eta.q
       apart_q same =
-          clash (sym (enterer_in a (set_at k) (one_at k).counted eta.p eta.q is.leaves is.enters) ∙ ap (is_in (exchanged (set_at k) eta.p eta.q)) (sym same) ∙ then.1)
+          clash (sym (entering_in a (set_at k) (one_at k).counted eta.p eta.q is.leaves is.enters) ∙ ap (is_in (exchanged (set_at k) eta.p eta.q)) (sym same) ∙ then.1)
 
       pub crossed : (new : List ℚ) → IsCrossed eta old new → IsDirectionOf a (set_at (k + 1)) j (value_at new)
       crossed new h =
@@ -196,7 +196,7 @@ module _ (a : Matrix) (etas : List StoredEta) (marks : Basics) (file : IsFileOf 
 
   -- ---- a direction that was carried in numbers over one denominator
 
-  pub divided : (j n : ℕ) (d : ℚ) (old new : List ℚ) → n ≡ length etas → IsNonbasic a marks j → StandFor (λ xs. IsDirectionOf a (set_at n) j (value_at xs)) d old → AreQuotients d old new
+  pub divided : (j n : ℕ) (d : ℚ) (old new : List ℚ) → n ≡ length etas → IsNonbasic a marks j → Represent (λ xs. IsDirectionOf a (set_at n) j (value_at xs)) d old → AreQuotients d old new
       → IsDirectionOf a marks j (value_at new)
   divided j n d old new all out h quotients_are =
       direction_same a marks j (value_at (quotients d old)) (value_at new) out.0 (λ i var. sym (made_values d old new quotients_are i))
@@ -291,7 +291,7 @@ pub column_to_exchange : (a : Matrix) (b : Basics) (ways : List Basics) (p q : �
 column_to_exchange a b ways p q e h =
     ExchangeRefused-covered a (b ∷ ways) (b ∷ exchanged b p q ∷ ways) b ways e (Covers-insert a (b ∷ ways) b (exchanged b p q) ways (Covers-itself a (b ∷ ways))) h
 
--- a direction of the enterer is not 0 at the leaver
+-- a direction of the entering variable is not 0 at the leaver
 pub pivot_apart : (a : Matrix) (b : Basics) → IsNonsingular a b → (p q : ℕ) → IsBasic a b p → (d : List ℚ) → IsDirectionOf a b q (value_at d) → HasPivot a b p q → value_at d p ≢ zero_ℚ
 pivot_apart a b one p q leaves d direction pivot none = pivot.2 (one_direction a b q pivot.0 (value_at d) one pivot.1 direction p leaves.0 ∙ none)
 

@@ -155,8 +155,8 @@ mark_next w n = let same : n + 1 - 1 ≡ n = omega arith in ap (λ k. get_or w k
 
 -- the test for 0
 pub zero_test : (b : Bool) (x : ℚ) → (b ≡ true → x ≡ zero_ℚ) → (x ≡ zero_ℚ → b ≡ true) → b ≡ eq_ℚ x zero_ℚ
-zero_test true x tells told = sym (test_from_same x zero_ℚ (tells refl))
-zero_test false x tells told = sym (eq_fails_from_apart x zero_ℚ (λ none. clash (sym (told none))))
+zero_test true x tells reported = sym (test_from_same x zero_ℚ (tells refl))
+zero_test false x tells reported = sym (eq_fails_from_apart x zero_ℚ (λ none. clash (sym (reported none))))
 
 -- ---- over a list of the basics
 

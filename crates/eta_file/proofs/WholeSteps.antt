@@ -8,7 +8,7 @@ use Rattle.exact_values.proofs.Ring_laws.{zero-mul, one-mul, mul-one, add-mul}
 use Rattle.exact_values.proofs.Inverse.{one_apart, div_is, div-mul_cancel, apart-mul, mul-inverse}
 use Rattle.lp_definitions.specs.LinearProgram.{value_at}
 use Rattle.lp_definitions.specs.declared.Entry.{Entry}
-use Rattle.whole_vectors.specs.Quotients.{quotients, AreProducts, IsSameOver, StandFor}
+use Rattle.whole_vectors.specs.Quotients.{quotients, AreProducts, IsSameOver, Represent}
 use Rattle.whole_vectors.proofs.Over.{value_at-quotients, length-quotients, same_factor, made_over}
 use Rattle.eta_file.specs.declared.eta.EtaEntry.{EtaEntry}
 use Rattle.eta_file.specs.declared.eta.StoredEta.{StoredEta}
@@ -104,8 +104,8 @@ module _ (eta : StoredEta) (w : WholeEta) (h : IsWholeOf eta.pivot eta.entries.i
           ap (λ y. y -ℚ u *ℚ last *ℚ r) (by_ring3 x e by (λ x e b. x ⊗ e ⊗ b ≐ x ⊗ (e ⊗ b)) refl)
           ∙ by_ring4 x u last r (λ x u l r. x ⊗ l ⊖ u ⊗ l ⊗ r ≐ (x ⊖ u ⊗ r) ⊗ l) refl
 
-  pub crossed_whole : (final : ℚ) → final ≡ e *ℚ by → StandFor (IsCrossed eta (quotients d old)) final new
-  crossed_whole final is_final = subst (λ x. StandFor (IsCrossed eta (quotients d old)) x new) (sym is_final) (record {
+  pub crossed_whole : (final : ℚ) → final ≡ e *ℚ by → Represent (IsCrossed eta (quotients d old)) final new
+  crossed_whole final is_final = subst (λ x. Represent (IsCrossed eta (quotients d old)) x new) (sym is_final) (record {
     apart = last_apart;
     holds = changed
         (value_at-quotients last new eta.p ∙ ap (λ x. x /ℚ last) exchanged.at_p ∙ at_leaver (nat_eq eta.p eta.q))
@@ -115,7 +115,7 @@ module _ (eta : StoredEta) (w : WholeEta) (h : IsWholeOf eta.pivot eta.entries.i
 
 -- ---- where it begins
 
-pub begun : (c : List Entry) (j : ℕ) (d : ℚ) (filled new : List ℚ) → d ≢ zero_ℚ → IsColumnFilled c j filled → AreProducts d filled new → StandFor (IsColumnFilled c j) d new
+pub begun : (c : List Entry) (j : ℕ) (d : ℚ) (filled new : List ℚ) → d ≢ zero_ℚ → IsColumnFilled c j filled → AreProducts d filled new → Represent (IsColumnFilled c j) d new
 begun c j d filled new apart h products = record {
   apart = apart;
   holds = record {
@@ -134,7 +134,7 @@ module _ (eta : StoredEta) (w : WholeEta) (h : IsWholeOf eta.pivot eta.entries.i
       ∙ by_ring2 x (inverse_ℚ eta.pivot) (λ x i. x ⊗ i ≐ i ⊗ x) refl ∙ ap (λ i. i *ℚ x) (sym (one-mul (inverse_ℚ eta.pivot)))
 
   pub left_whole : (placed : List ℚ) → 1 ≤ eta.p → eta.p ≤ length placed → 1 ≤ eta.q → eta.q ≤ length placed → (low : List ℚ) → low ≡ set placed (eta.p - 1) w.pivot
-      → (new : List ℚ) → new ≡ set low (eta.q - 1) w.scale → length low ≡ length placed → length new ≡ length placed → IsScaled eta.p one_ℚ w.entries.items placed → StandFor (IsLeaving eta) w.pivot new
+      → (new : List ℚ) → new ≡ set low (eta.q - 1) w.scale → length low ≡ length placed → length new ≡ length placed → IsScaled eta.p one_ℚ w.entries.items placed → Represent (IsLeaving eta) w.pivot new
   left_whole placed p_low p_high q_low q_high low is_low new is_new low_counted counted scaled_by = record {
     apart = pivot_apart;
     holds = record {
@@ -144,7 +144,7 @@ module _ (eta : StoredEta) (w : WholeEta) (h : IsWholeOf eta.pivot eta.entries.i
           (ap (λ xs. value_at xs eta.p) is_new ∙ written_other low eta.q eta.p w.scale q_low p_low (λ e. differ (sym e))
           ∙ ap (λ xs. value_at xs eta.p) is_low ∙ written_same placed eta.p eta.p w.pivot p_low p_high refl)
           ∙ mul-inverse w.pivot pivot_apart;
-      enterer =
+      entering_variable =
           value_at-quotients w.pivot new eta.q
           ∙ ap (λ x. x /ℚ w.pivot) (ap (λ xs. value_at xs eta.q) is_new ∙ written_same low eta.q eta.q w.scale q_low (omega (arith, q_high, low_counted)) refl ∙ sym (one-mul w.scale))
           ∙ over_pivot one_ℚ ∙ mul-one (one_ℚ /ℚ eta.pivot);
@@ -183,7 +183,7 @@ exchanged_by p q c w old mid u v p_low p_high q_low q_high counted h is_u is_v =
         written_other low q p v q_low p_low differ ∙ written_same mid p p u p_low (omega (arith, p_high, counted)) refl ∙ is_u
 
 -- nothing is taken where the leaver's number is 0
-pub untouched_whole : (eta : StoredEta) (d : ℚ) (xs : List ℚ) → d ≢ zero_ℚ → value_at xs eta.p ≡ zero_ℚ → StandFor (IsCrossed eta (quotients d xs)) d xs
+pub untouched_whole : (eta : StoredEta) (d : ℚ) (xs : List ℚ) → d ≢ zero_ℚ → value_at xs eta.p ≡ zero_ℚ → Represent (IsCrossed eta (quotients d xs)) d xs
 untouched_whole eta d xs apart none = record { apart = apart; holds = untouched (value_at-quotients d xs eta.p ∙ ap (λ x. x /ℚ d) none ∙ zero-mul (inverse_ℚ d)) refl }
 
 pub minus_one_apart : whole (negsuc 0) ≢ zero_ℚ

@@ -7,5 +7,5 @@ use Rattle.eta_file.specs.declared.by_columns.ByColumns.TheInside.{Inside}
 abbrev pub file_of : Inside → Inverse
 file_of a = a.file
 
-abbrev pub HasRoom : Inside → Type 0
-HasRoom a = length a.room.items ≡ size a.file.matrix
+abbrev pub HasWorkspace : Inside → Type 0
+HasWorkspace a = length a.workspace.items ≡ size a.file.matrix

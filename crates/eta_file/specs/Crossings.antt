@@ -46,7 +46,7 @@ pub record IsScaled (p : ℕ) (u : ℚ) (es : List EtaEntry) (new : List ℚ) : 
 
 pub record IsLeaving (eta : StoredEta) (new : List ℚ) : Type 0 where
   pub leaver : eta.p ≢ eta.q → value_at new eta.p ≡ one_ℚ
-  pub enterer : value_at new eta.q ≡ one_ℚ /ℚ eta.pivot
+  pub entering_variable : value_at new eta.q ≡ one_ℚ /ℚ eta.pivot
   pub each : (k : ℕ) → 1 ≤ k → k ≤ length new → k ≢ eta.p → k ≢ eta.q → value_at new k ≡ (one_ℚ /ℚ eta.pivot) *ℚ sum_rate eta.entries.items k
 
 pub record IsColumnFilled (c : List Entry) (j : ℕ) (new : List ℚ) : Type 0 where

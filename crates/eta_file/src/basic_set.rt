@@ -55,7 +55,7 @@ pub fn place_of(listed: &[u32], k: u32) -> usize
 fn take_out(listed: &mut Vec<u32>, k: u32)
     requires { place_in listed.old.items k < length listed.old.items }
     ensures items { listed.new.items ≡ remove listed.old.items (place_in listed.old.items k) }
-    ensures room { vec_len listed.new < vec_capacity listed.new }
+    ensures workspace { vec_len listed.new < vec_capacity listed.new }
 {
     let place = place_of(listed, k);
     listed.remove(place);

@@ -1,4 +1,4 @@
-//! Rates that are had by carrying columns through an eta file.
+//! Rates that are computed by carrying columns through an eta file.
 
 ghost use Rattle.std.specs.Prelude.{◌≡◌, ◌≢◌, ◌≤◌, length, All, IfOk, IfErr, OnOk, OnErr};
 ghost use Rattle.lp_definitions.specs.LinearProgram.{IsVariable, size, value_at};
@@ -17,7 +17,7 @@ use std::marker::Model;
 #[derive(Drop)]
 pub struct ByColumns {
     file: EtaFile,
-    room: Vec<Frac>,
+    workspace: Vec<Frac>,
 }
 
 impl Model for ByColumns {
@@ -25,11 +25,11 @@ impl Model for ByColumns {
 
     ghost Value = { Inverse };
 
-    ghost use Rattle.eta_file.specs.Columns.{file_of, HasRoom};
+    ghost use Rattle.eta_file.specs.Columns.{file_of, HasWorkspace};
 
     ghost view = { file_of };
 
-    ghost invariant = { HasRoom };
+    ghost invariant = { HasWorkspace };
 }
 
 impl ByColumns {
@@ -43,7 +43,7 @@ impl ByColumns {
         let size = lp.number_of_variables();
         Ok(ByColumns {
             file: EtaFile::new(alloc, lp)?,
-            room: vec![in alloc; Frac::whole(0); size as usize]?,
+            workspace: vec![in alloc; Frac::whole(0); size as usize]?,
         })
     }
 
@@ -56,10 +56,10 @@ impl ByColumns {
 }
 
 /// The rate of `i` at `k`, and 0 where `k` is basic, by the direction of `k`, with room for it. It takes no memory.
-pub fn rate_by_column(file: &EtaFile, i: u32, k: u32, room: &mut [Frac]) -> Result<Frac, Stop>
+pub fn rate_by_column(file: &EtaFile, i: u32, k: u32, workspace: &mut [Frac]) -> Result<Frac, Stop>
     requires low { IsVariable file.now.matrix i }
     requires high { IsVariable file.now.matrix k }
-    requires places { length room.old ≡ size file.now.matrix }
+    requires places { length workspace.old ≡ size file.now.matrix }
     ensures value { IfOk result (IsRateAt file.now i k) }
     ensures overflow { IfErr result (IsColumnStop file.now) }
     ensures never { IfErr result (λ stop. stop ≢ Stop.NoMemory) }
@@ -68,22 +68,22 @@ pub fn rate_by_column(file: &EtaFile, i: u32, k: u32, room: &mut [Frac]) -> Resu
     if file.is_basic(k) {
         return Ok(Frac::whole(0));
     }
-    file.column(k, room)?;
-    Ok(room[i as usize - 1])
+    file.column(k, workspace)?;
+    Ok(workspace[i as usize - 1])
 }
 
 /// Fills `out` with the rates of the basic `i`, by the column of each nonbasic, with room for it. It takes no memory.
-fn row_by_columns(file: &EtaFile, i: u32, out: &mut [Frac], room: &mut [Frac]) -> Result<(), Stop>
+fn row_by_columns(file: &EtaFile, i: u32, out: &mut [Frac], workspace: &mut [Frac]) -> Result<(), Stop>
     requires basic { IsBasic file.now.matrix file.now.basics i }
     requires places { length out.old ≡ size file.now.matrix }
-    requires room { length room.old ≡ size file.now.matrix }
+    requires workspace { length workspace.old ≡ size file.now.matrix }
     ensures rates { OnOk result (IsRowOf file.now.matrix file.now.basics i (value_at out.new)) }
     ensures overflow { RowOverflow result file.now.matrix file.now.basics (ways_of file.now)
         (ways_of file.now) }
     ensures never { IfErr result (λ stop. stop ≢ Stop.NoMemory) }
 {
     for k in 0..file.size() {
-        out[k as usize] = rate_by_column(file, i, k + 1, room)?;
+        out[k as usize] = rate_by_column(file, i, k + 1, workspace)?;
     }
     Ok(())
 }
@@ -122,7 +122,7 @@ impl Rates for ByColumns {
         ensures waypoints { KeepsWaypoints self.old.matrix self.old.basics (ways_of self.old)
             self.new.basics (ways_of self.new) }
     {
-        row_by_columns(&self.file, i, out, &mut self.room)
+        row_by_columns(&self.file, i, out, &mut self.workspace)
     }
 
     /// After a Stop the file is as before.
@@ -140,7 +140,7 @@ impl Rates for ByColumns {
             (ways_of self.old) (ways_of self.new) }
     {
         let _size = self.file.size();
-        self.file.append_in(p, q, &mut self.room)
+        self.file.append_in(p, q, &mut self.workspace)
     }
 
     fn way_basics(&self, way: u32, out: &mut [bool])

@@ -74,7 +74,7 @@ impl Crossing {
             .map_err(|refused| self.evidence(4, 0, 0, refused))
     }
 
-    /// The reciprocal times the rate of `i` at the enterer.
+    /// The reciprocal times the rate of `i` at the entering variable.
     fn multiple<L: Ledger>(
         self,
         i: u32,
@@ -93,7 +93,7 @@ impl Crossing {
             .map_err(|refused| self.evidence(5, i, 0, refused))
     }
 
-    /// The quotient times the rate of `i` at the enterer.
+    /// The quotient times the rate of `i` at the entering variable.
     fn product(self, i: u32, j: u32, quotient: Frac, factor: Frac) -> Result<Frac, Evidence>
         ensures value { IfOk result (λ product. product ≡ quotient *ℚ factor) }
         ensures refused { IfErr result (IsRefusal self.way 2 self.p self.q i j Op.Mul
@@ -114,7 +114,7 @@ impl Crossing {
             .map_err(|refused| self.evidence(3, i, j, refused))
     }
 
-    /// The rate of `i` at `j` without its part along the enterer's direction. Where the product or the difference doesn't fit, it is
+    /// The rate of `i` at `j` without its part along the entering variable's direction. Where the product or the difference doesn't fit, it is
     /// had from the product's parts. Either way this counts as two operations.
     fn rest<L: Ledger>(
         self,
@@ -158,7 +158,7 @@ impl Crossing {
         self.difference(i, j, rate, product)
     }
 
-    /// Takes from each entry of the column but the leaver's its part along the enterer's direction.
+    /// Takes from each entry of the column but the leaver's its part along the entering variable's direction.
     fn subtract<L: Ledger>(
         self,
         entries: &[EtaEntry],
@@ -183,7 +183,7 @@ impl Crossing {
         Ok(())
     }
 
-    /// Makes each entry but the leaver's the multiple of the enterer's rate.
+    /// Makes each entry but the leaver's the multiple of the entering variable's rate.
     fn scale<L: Ledger>(
         self,
         entries: &[EtaEntry],

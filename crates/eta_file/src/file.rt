@@ -12,7 +12,7 @@ ghost use Rattle.eta_file.specs.Crossings.{AreZero, NoneLater, LeftAt};
 ghost use Rattle.eta_file.specs.Prefixes.{Passed, entry_of, entries_to, IsLent, IsLentScaled, IsExchangeOf, basic_columns, after, entry_count};
 ghost use Rattle.eta_file.specs.declared.eta.StoredEta.{StoredEta};
 ghost use Rattle.eta_file.specs.Inverse.{ways_of, IsAppended, IsNextEta, IsDirectionAfter};
-ghost use Rattle.whole_vectors.specs.Quotients.{StandFor};
+ghost use Rattle.whole_vectors.specs.Quotients.{Represent};
 
 use crate::basic_set::{BasicSet, place_of};
 use crate::carry::{clear, cross, fill_column, last_left, leave};
@@ -325,7 +325,7 @@ impl EtaFile {
         requires none_later { NoneLater self.now.etas j first }
         requires left { LeftAt self.now.etas j first }
         requires zero { AreZero out.old }
-        ensures { IfSome result (λ d. StandFor (IsDirectionAfter self.now first j) d out.new) }
+        ensures { IfSome result (λ d. Represent (IsDirectionAfter self.now first j) d out.new) }
     {
         if first == 0 {
             begin_whole(self.numbers(j - self.rows), j, out)
@@ -349,8 +349,8 @@ impl EtaFile {
         requires then { IsNonbasic self.now.matrix (after (row_basics self.now.matrix)
             (take (place + 1) self.now.etas)) j }
         requires places { length out.old ≡ size self.now.matrix }
-        requires direction { StandFor (IsDirectionAfter self.now place j) denominator out.old }
-        ensures { IfSome result (λ d. StandFor (IsDirectionAfter self.now (place + 1) j)
+        requires direction { Represent (IsDirectionAfter self.now place j) denominator out.old }
+        ensures { IfSome result (λ d. Represent (IsDirectionAfter self.now (place + 1) j)
             d out.new) }
     {
         let eta = &self.etas[place];
@@ -517,26 +517,26 @@ impl EtaFile {
             (ways_of self.old) (ways_of self.old) }
     {
         let size = self.size();
-        let mut room = vec![in self.alloc; Frac::whole(0); size as usize].map_err(
+        let mut workspace = vec![in self.alloc; Frac::whole(0); size as usize].map_err(
             |_| Stop::NoMemory,
         )?;
-        self.append_in(p, q, &mut room)
+        self.append_in(p, q, &mut workspace)
     }
 
     /// The same, with room for the direction of `q`.
-    pub fn append_in(&mut self, p: u32, q: u32, room: &mut [Frac]) -> Result<(), Stop>
+    pub fn append_in(&mut self, p: u32, q: u32, workspace: &mut [Frac]) -> Result<(), Stop>
         requires leaves { IsBasic self.old.matrix self.old.basics p }
         requires enters { IsNonbasic self.old.matrix self.old.basics q }
         requires pivot { HasPivot self.old.matrix self.old.basics p q }
-        requires places { length room.old ≡ size self.old.matrix }
+        requires places { length workspace.old ≡ size self.old.matrix }
         ensures ok { OnOk result (IsAppended self.old p q self.new) }
         ensures err { OnErr result (self.new ≡ self.old) }
         ensures overflow { ExchangeOverflow result self.old.matrix self.old.basics p q
             (ways_of self.old) (ways_of self.old) }
     {
         let _size = self.size();
-        self.column(q, room)?;
-        self.append_carried(p, q, room)?;
+        self.column(q, workspace)?;
+        self.append_carried(p, q, workspace)?;
         Ok(())
     }
 

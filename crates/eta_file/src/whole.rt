@@ -3,7 +3,7 @@
 
 ghost use Rattle.std.specs.Prelude.{◌≡◌, ◌≢◌, ◌≤◌, length, map, All, IfOk, IfSome};
 ghost use Rattle.exact_values.specs.Rational.{zero_ℚ, one_ℚ};
-ghost use Rattle.whole_vectors.specs.Quotients.{quotients, StandFor};
+ghost use Rattle.whole_vectors.specs.Quotients.{quotients, Represent};
 ghost use Rattle.eta_file.specs.Entries.{IsEntryWithin, AreApart, IsRowWithin, AreDistinctRows, scaled, IsWholeOf};
 ghost use Rattle.eta_file.specs.Crossings.{IsWithinPlaces, IsSubtracted, IsCrossed, IsScaled, IsLeaving, IsColumnFilled, IsExchanged, AreZero};
 
@@ -101,7 +101,7 @@ pub fn begin_whole(column: &[Entry], j: u32, out: &mut [Frac]) -> Option<Frac>
     requires high { j ≤ length out.old }
     requires distinct { AreDistinctRows column.now }
     requires zero { AreZero out.old }
-    ensures { IfSome result (λ d. StandFor (IsColumnFilled column.now j) d out.new) }
+    ensures { IfSome result (λ d. Represent (IsColumnFilled column.now j) d out.new) }
 {
     let scale = column_scale(column)?;
     place_column(column, j, out);
@@ -109,7 +109,7 @@ pub fn begin_whole(column: &[Entry], j: u32, out: &mut [Frac]) -> Option<Frac>
     Some(scale)
 }
 
-/// Takes from each entry but the leaver's its part along the enterer's direction.
+/// Takes from each entry but the leaver's its part along the entering variable's direction.
 fn subtract_whole(entries: &[EtaEntry], p: u32, multiple: Frac, out: &mut [Frac]) -> Option<()>
     requires { All (IsEntryWithin (length out.old)) entries.now }
     ensures { IfSome result (λ _. IsSubtracted p multiple entries.now out.old out.new) }
@@ -144,7 +144,7 @@ pub fn cross_whole(eta: &StoredEta, denominator: Frac, out: &mut [Frac]) -> Opti
     requires places { IsWithinPlaces (length out.old) eta.now }
     requires whole { IfSome eta.now.whole (IsWholeOf eta.now.pivot eta.now.entries.items) }
     requires apart { denominator ≢ zero_ℚ }
-    ensures { IfSome result (λ d. StandFor (IsCrossed eta.now (quotients denominator out.old))
+    ensures { IfSome result (λ d. Represent (IsCrossed eta.now (quotients denominator out.old))
         d out.new) }
 {
     if out[eta.p as usize - 1].is_zero() {
@@ -181,7 +181,7 @@ pub fn leave_whole(eta: &StoredEta, out: &mut [Frac]) -> Option<Frac>
     requires apart { AreApart eta.now.entries.items }
     requires whole { IfSome eta.now.whole (IsWholeOf eta.now.pivot eta.now.entries.items) }
     requires zero { AreZero out.old }
-    ensures { IfSome result (λ d. StandFor (IsLeaving eta.now) d out.new) }
+    ensures { IfSome result (λ d. Represent (IsLeaving eta.now) d out.new) }
 {
     let Some(whole) = &eta.whole else {
         return None;

@@ -7,7 +7,7 @@ use Rattle.exact_values.specs.Sums.{sum_to, sum_up_to}
 use Rattle.exact_values.proofs.Ring.{by_ring2, by_ring4, by_ring5, ◌⊕◌, ◌⊖◌, ◌⊗◌, ◌≐◌}
 use Rattle.exact_values.proofs.Sums.{sum_to-same, sum_to-add, sum_to-mul_left}
 use Rattle.lp_definitions.specs.LinearProgram.{Matrix, LinearProgram, Vector, IsVariable, IsColumn, IsLinearProgram, KeepsEquations, entry, cost, lower_of, upper_of, for_min}
-use Rattle.lp_definitions.specs.Solutions.{IsFeasible, AreProvingPrices}
+use Rattle.lp_definitions.specs.Solutions.{IsFeasible, IsDualCertificate}
 use Rattle.lp_definitions.specs.declared.Change.{Change}
 use Rattle.lp_laws.specs.Vectors.{along}
 use Rattle.lp_laws.proofs.Duality.{best_by_prices}
@@ -92,7 +92,7 @@ module _ (p : LinearProgram) (lows highs : ℚ → List (Option ℚ)) (change : 
       reduced j is =
           same_between from x to after before (q (p.rows + j)) (w (p.rows + j))
           (base j -ℚ sum_up_to p.rows (λ i. entry p.matrix i j *ℚ q i)) (growth j -ℚ sum_up_to p.rows (λ i. entry p.matrix i j *ℚ w i))
-          (first.proving.reduced j is ∙ reduced_at j from) (last.proving.reduced j is ∙ reduced_at j to)
+          (first.certificate.reduced j is ∙ reduced_at j from) (last.certificate.reduced j is ∙ reduced_at j to)
           ∙ sym (reduced_at j x)
 
       at_lower : (k : ℕ) → IsVariable p.matrix k → zero_ℚ <ℚ for_min p.sense (along q x w k) → lower_of (family x) k ≡ Some (along v x r k)
@@ -113,8 +113,8 @@ module _ (p : LinearProgram) (lows highs : ℚ → List (Option ℚ)) (change : 
           linear.high x k is
           ∙ stands_between from x to after before (v k) (r k) (slope k) (upper_of p k) (sym (linear.high from k is) ∙ stood.0) (sym (linear.high to k is) ∙ stood.1)
 
-      proving : AreProvingPrices (family x) (along v x r) (along q x w)
-      proving = record { reduced = reduced; at_lower = at_lower; at_upper = at_upper }
+      certificate : IsDualCertificate (family x) (along v x r) (along q x w)
+      certificate = record { reduced = reduced; at_lower = at_lower; at_upper = at_upper }
 
       pub solved_between : IsLinearProgram (family x) → IsSolvedBy (family x) (along v x r) (along q x w)
-      solved_between lawful = record { best = best_by_prices (family x) lawful (along v x r) (along q x w) feasible proving; proving = proving }
+      solved_between lawful = record { best = best_by_prices (family x) lawful (along v x r) (along q x w) feasible certificate; certificate = certificate }

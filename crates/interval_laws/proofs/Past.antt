@@ -15,7 +15,7 @@ use Rattle.simplex_definitions.specs.ObjectiveRun.{objective_family}
 use Rattle.simplex_definitions.specs.RhsRun.{shift_of, rhs_family}
 use Rattle.sensitivity_laws.proofs.MovedLimits.{moved, lower_is, upper_is}
 use Rattle.sensitivity_laws.proofs.Signs.{for_min-add}
-use Rattle.parametric_laws.specs.Truth.{IsEndlessBy, IsRefutedBy}
+use Rattle.parametric_laws.specs.Truth.{IsUnboundedBy, IsRefutedBy}
 use Rattle.interval_laws.specs.Laws.{ClosesUnbounded, ClosesInfeasible, PastLaws}
 
 -- what isn't positive at t and falls is negative past t
@@ -23,8 +23,8 @@ negative_past : (a b t theta : ℚ) → t <ℚ theta → a +ℚ t *ℚ b ≤ℚ 
 negative_past a b t theta past at_t falls =
     lt_of_lt_of_le (lt_by_product past falls (by_ring4 a b t theta (λ a b t x. a ⊕ t ⊗ b ≐ a ⊕ x ⊗ b ⊕ (x ⊖ t) ⊗ (number (pos 0) ⊖ b)) refl)) at_t
 
-endless_past : (p : LinearProgram) (h : ℕ) (t theta : ℚ) (z d : Vector) → ClosesUnbounded p h t z d → t <ℚ theta → IsEndlessBy (objective_family p h theta) z d
-endless_past p h t theta z d closes past = record { proof = proof; unbounded = unbounded_by_direction (objective_family p h theta) z d proof }
+unbounded_past : (p : LinearProgram) (h : ℕ) (t theta : ℚ) (z d : Vector) → ClosesUnbounded p h t z d → t <ℚ theta → IsUnboundedBy (objective_family p h theta) z d
+unbounded_past p h t theta z d closes past = record { proof = proof; unbounded = unbounded_by_direction (objective_family p h theta) z d proof }
   where
     proof : ProvesUnbounded (objective_family p h theta) z d
     proof = record {
@@ -32,9 +32,9 @@ endless_past p h t theta z d closes past = record { proof = proof; unbounded = u
       keeps = closes.keeps;
       falls = closes.falls;
       rises = closes.rises;
-      betters = subst (λ x. x <ℚ zero_ℚ) (sym (for_min-add p.sense (d p.objective) theta (d h)))
+      improves = subst (λ x. x <ℚ zero_ℚ) (sym (for_min-add p.sense (d p.objective) theta (d h)))
           (negative_past (for_min p.sense (d p.objective)) (for_min p.sense (d h)) t theta past
-          (subst (λ x. x ≤ℚ zero_ℚ) (for_min-add p.sense (d p.objective) t (d h)) closes.not_worse) closes.betters);
+          (subst (λ x. x ≤ℚ zero_ℚ) (for_min-add p.sense (d p.objective) t (d h)) closes.not_worse) closes.improves);
     }
 
 -- ---- limits that are met
@@ -129,4 +129,4 @@ refuted_past p shift t theta w closes past = record { ray = ray; infeasible = in
     }
 
 pub past_laws : PastLaws
-past_laws = record { unbounded = endless_past; infeasible = refuted_past }
+past_laws = record { unbounded = unbounded_past; infeasible = refuted_past }

@@ -13,7 +13,7 @@ use Rattle.lp_definitions.specs.Solutions.{IsFeasible, limit_against}
 use Rattle.simplex_definitions.specs.Chain.{Part, along}
 use Rattle.simplex_definitions.specs.ObjectiveRun.{objective_family}
 use Rattle.simplex_definitions.specs.RhsRun.{rhs_family}
-use Rattle.parametric_laws.specs.Truth.{IsSolvedBy, IsTruePart, IsEndlessBy, IsRefutedBy}
+use Rattle.parametric_laws.specs.Truth.{IsSolvedBy, IsTruePart, IsUnboundedBy, IsRefutedBy}
 
 -- ---- between the ends of an interval
 
@@ -58,7 +58,7 @@ pub record ClosesUnbounded (p : LinearProgram) (h : ℕ) (t : ℚ) (z d : Vector
   pub falls : (k : ℕ) → IsVariable p.matrix k → d k <ℚ zero_ℚ → lower_of p k ≡ None
   pub rises : (k : ℕ) → IsVariable p.matrix k → zero_ℚ <ℚ d k → upper_of p k ≡ None
   pub not_worse : for_min p.sense (d p.objective +ℚ t *ℚ d h) ≤ℚ zero_ℚ
-  pub betters : for_min p.sense (d h) <ℚ zero_ℚ
+  pub improves : for_min p.sense (d h) <ℚ zero_ℚ
 
 -- Multipliers that vanish on each column and meet a limit wherever they aren't 0, by what the linear program is at t. Times these limits
 -- they add up to no more than 0, and times the shifts of the rows to less than 0.
@@ -71,6 +71,6 @@ pub record ClosesInfeasible (p : LinearProgram) (shift : List ℚ) (t : ℚ) (w 
 
 pub record PastLaws : Type 0 where
   -- theta times row h is added to the objective
-  pub unbounded : (p : LinearProgram) (h : ℕ) (t theta : ℚ) (z d : Vector) → ClosesUnbounded p h t z d → t <ℚ theta → IsEndlessBy (objective_family p h theta) z d
+  pub unbounded : (p : LinearProgram) (h : ℕ) (t theta : ℚ) (z d : Vector) → ClosesUnbounded p h t z d → t <ℚ theta → IsUnboundedBy (objective_family p h theta) z d
   -- theta times its shift is added to the limits of each row
   pub infeasible : (p : LinearProgram) (shift : List ℚ) (t theta : ℚ) (w : Vector) → ClosesInfeasible p shift t w → t <ℚ theta → IsRefutedBy (rhs_family p shift theta) w

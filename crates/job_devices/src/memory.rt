@@ -40,7 +40,7 @@ pub struct MemorySink {
     ghost written: { ForSome stopped (λ count. count ≤ length bytes.items) },
 }
 
-/// Keeps what is written, and fails only for want of memory.
+/// Keeps what is written, and fails only because memory runs out.
 #[derive(Drop)]
 pub struct SureSink {
     bytes: Vec<u8>,

@@ -1,6 +1,6 @@
 -- Why the program of a job isn't run.
---     stop_shown stop              the end of the listing
---     TellsEarlyStop known stop    what a stop says of a job
+--     stop_view stop              the end of the listing
+--     ReportsEarlyStop known stop    what a stop says of a job
 --     ArePrepared known prepared   the cards and the program are those of a job
 --     HasStopCause .. stop         why a job that is read is stopped
 use Rattle.std.specs.Prelude.{◌≡◌, ℕ, List, Option, None, Some, Err, IfSome}
@@ -21,12 +21,12 @@ use Rattle.job_program.specs.declared.stop.EarlyStop.{EarlyStop}
 use Rattle.job_program.specs.declared.stop.EarlyStop.TheVariants.{Words, ReadFault, Card, Control, Memory}
 
 -- the end of the run in the words of the listing
-abbrev pub stop_shown : EarlyStop → Ending
-stop_shown Words = endings.WordsRefused
-stop_shown ReadFault = endings.ReadFault
-stop_shown (Card fault) = endings.CardStop fault
-stop_shown (Control fault) = endings.ControlStop fault
-stop_shown Memory = endings.Memory
+abbrev pub stop_view : EarlyStop → Ending
+stop_view Words = endings.WordsRefused
+stop_view ReadFault = endings.ReadFault
+stop_view (Card fault) = endings.CardStop fault
+stop_view (Control fault) = endings.ControlStop fault
+stop_view Memory = endings.Memory
 
 -- where the words ask for nothing
 abbrev pub stop_of_words : WordsStop → EarlyStop
@@ -48,12 +48,12 @@ stop_of_compiling compiling.NoMemory = Memory
 
 -- Where the job is known, the stop tells the fault of its cards, or else the fault of its program. A fault of the source or want of
 -- memory may come in its place. The words have nothing to do with the job.
-abbrev pub TellsEarlyStop : Option (List ℕ) → EarlyStop → Type 0
-TellsEarlyStop known Words = ⊥
-TellsEarlyStop known ReadFault = Unit {0}
-TellsEarlyStop known (Card fault) = IfSome known (λ job. job_fault job ≡ Some fault)
-TellsEarlyStop known (Control fault) = IfSome known (λ job. (job_fault job ≡ None) × (compiled (cards_of job) ≡ Err fault))
-TellsEarlyStop known Memory = Unit {0}
+abbrev pub ReportsEarlyStop : Option (List ℕ) → EarlyStop → Type 0
+ReportsEarlyStop known Words = ⊥
+ReportsEarlyStop known ReadFault = Unit {0}
+ReportsEarlyStop known (Card fault) = IfSome known (λ job. job_fault job ≡ Some fault)
+ReportsEarlyStop known (Control fault) = IfSome known (λ job. (job_fault job ≡ None) × (compiled (cards_of job) ≡ Err fault))
+ReportsEarlyStop known Memory = Unit {0}
 
 -- where the job is known, these are its cards and its program
 abbrev pub ArePrepared : Option (List ℕ) → Prepared → Type 0

@@ -2,7 +2,7 @@
 ghost use Rattle.std.specs.Prelude.{◌≡◌, IfOk, IfErr, IsErrOf, OnOk};
 ghost use Rattle.card_reader.specs.Reading.{ReadsJob, ReadsPrefix};
 ghost use Rattle.job_devices.specs.Causes.{Rose};
-ghost use Rattle.job_program.specs.Stops.{TellsEarlyStop, ArePrepared, HasStopCause};
+ghost use Rattle.job_program.specs.Stops.{ReportsEarlyStop, ArePrepared, HasStopCause};
 
 use crate::stop::EarlyStop;
 use card_reader::{Cards, read_job};
@@ -21,7 +21,7 @@ pub struct Prepared {
 pub fn prepare<S: Source>(alloc: Global, job: &mut S) -> Result<Prepared, EarlyStop>
     ensures prepared { IfOk result (ArePrepared (S.left job.old)) }
     ensures read { OnOk result (ReadsJob (S.left job.old) (S.left job.new)) }
-    ensures stop { IfErr result (TellsEarlyStop (S.left job.old)) }
+    ensures stop { IfErr result (ReportsEarlyStop (S.left job.old)) }
     ensures cause { IfErr result (HasStopCause (Rose (S.faults job.old) (S.faults job.new))
         (ReadsJob (S.left job.old) (S.left job.new))) }
     ensures quiet { (IsErrOf result EarlyStop.ReadFault → ⊥) → S.faults job.new ≡ S.faults job.old }

@@ -1,6 +1,6 @@
 // Why the program of a job isn't run.
 ghost use Rattle.std.specs.Prelude.{◌≡◌};
-ghost use Rattle.report_text.specs.Shown.{IsEnding, ending_shown};
+ghost use Rattle.report_text.specs.Views.{IsEnding, ending_view};
 
 use card_definitions::CardFault;
 use card_reader::ReadStop;
@@ -66,11 +66,11 @@ impl From<CompileStop> for EarlyStop {
 }
 
 impl EarlyStop {
-    ghost use Rattle.job_program.specs.Stops.{stop_shown};
+    ghost use Rattle.job_program.specs.Stops.{stop_view};
 
     /// What is printed of it.
     pub fn ending(self) -> Ending<'static>
-        ensures shown { ending_shown result ≡ stop_shown self }
+        ensures viewed { ending_view result ≡ stop_view self }
         ensures lawful { IsEnding result }
     {
         match self {

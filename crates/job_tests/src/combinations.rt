@@ -1,6 +1,6 @@
 // Combination rows: decks and revisions that state them, plans over them, and the sums that are refused.
 use crate::rows::{DeckRow, Row};
-use crate::runs::{first_unpunched, first_untold, is_begun};
+use crate::runs::{first_unpunched, first_unreported, is_begun};
 use std::test::Fail;
 
 // Plans over combinations.
@@ -225,8 +225,8 @@ const OVERFLOWS: [Row; 2] = [
 #[test]
 fn combinations_are_the_sums_of_their_parts(rt: HostRuntime) -> Result<(), Fail> {
     let alloc = rt.alloc();
-    assert_eq!(rt; first_untold(alloc, &PLANS)?, None);
-    assert_eq!(rt; first_untold(alloc, &FAULTS)?, None);
+    assert_eq!(rt; first_unreported(alloc, &PLANS)?, None);
+    assert_eq!(rt; first_unreported(alloc, &FAULTS)?, None);
     assert_eq!(rt; first_unpunched(alloc, &REVISIONS)?, None);
     for row in &OVERFLOWS {
         assert!(rt; is_begun(alloc, row)?, "{}", row.name);

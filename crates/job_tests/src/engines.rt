@@ -1,7 +1,7 @@
 // The machine over more than one engine: the listing and the status of a job do not depend on what keeps the rates.
 use crate::no_memory::Starved;
 use crate::rows::{PLANS, RANGES, Row};
-use crate::sweeps::PARAMETRIC;
+use crate::parametric_runs::PARAMETRIC;
 use card_reader::read_job;
 use control_compiler::compile;
 use control_run::{RunEngine, Status, run_on};
@@ -32,7 +32,7 @@ fn run_of<E: Engine>(alloc: Global, job: &[u8]) -> Result<Run, Fail> {
 }
 
 // The name of the first of these jobs that has another status or listing over this engine.
-fn first_untold<E: Engine>(alloc: Global, rows: &[Row]) -> Result<Option<&'static str>, Fail> {
+fn first_unreported<E: Engine>(alloc: Global, rows: &[Row]) -> Result<Option<&'static str>, Fail> {
     for row in rows {
         let run = run_of::<E>(alloc, row.job)?;
         if run.status.code() != row.status || run.print.bytes() != row.listing {
@@ -44,21 +44,21 @@ fn first_untold<E: Engine>(alloc: Global, rows: &[Row]) -> Result<Option<&'stati
 
 #[test]
 fn the_table_of_rates_runs_jobs(rt: HostRuntime) -> Result<(), Fail> {
-    assert_eq!(rt; first_untold::<Dense>(rt.alloc(), &PLANS)?, None);
-    assert_eq!(rt; first_untold::<Dense>(rt.alloc(), &RANGES)?, None);
-    assert_eq!(rt; first_untold::<Dense>(rt.alloc(), &PARAMETRIC)?, None);
+    assert_eq!(rt; first_unreported::<Dense>(rt.alloc(), &PLANS)?, None);
+    assert_eq!(rt; first_unreported::<Dense>(rt.alloc(), &RANGES)?, None);
+    assert_eq!(rt; first_unreported::<Dense>(rt.alloc(), &PARAMETRIC)?, None);
     Ok(())
 }
 
 #[test]
 fn the_engine_of_runs_runs_jobs(rt: HostRuntime) -> Result<(), Fail> {
-    assert_eq!(rt; first_untold::<RunEngine>(rt.alloc(), &PLANS)?, None);
-    assert_eq!(rt; first_untold::<RunEngine>(rt.alloc(), &RANGES)?, None);
-    assert_eq!(rt; first_untold::<RunEngine>(rt.alloc(), &PARAMETRIC)?, None);
+    assert_eq!(rt; first_unreported::<RunEngine>(rt.alloc(), &PLANS)?, None);
+    assert_eq!(rt; first_unreported::<RunEngine>(rt.alloc(), &RANGES)?, None);
+    assert_eq!(rt; first_unreported::<RunEngine>(rt.alloc(), &PARAMETRIC)?, None);
     Ok(())
 }
 
-// An engine whose calls all want memory ends the run where the path asks for the first of them, with all printed that came before.
+// An engine whose calls all run out of memory ends the run where the path asks for the first of them, with all printed that came before.
 #[test]
 fn an_engine_without_memory_ends_the_run(rt: HostRuntime) -> Result<(), Fail> {
     let run = run_of::<Starved>(

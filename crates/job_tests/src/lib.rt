@@ -20,6 +20,6 @@ mod rows;
 #[cfg(test)]
 mod runs;
 #[cfg(test)]
-mod sweeps;
+mod parametric_runs;
 #[cfg(test)]
 mod words;

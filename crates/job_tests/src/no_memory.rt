@@ -1,4 +1,4 @@
-// An engine that wants memory whenever it is asked for something.
+// An engine that runs out of memory whenever it is asked for something.
 ghost use Rattle.std.specs.Prelude.{[]};
 
 use frac128::Frac;
@@ -6,7 +6,7 @@ use lp_model::{Engine, Lp, NoMemory, Rates, Stop};
 use rates_dense::Dense;
 use std::alloc::Global;
 
-/// The dense table, whose calls all want memory once it is there.
+/// The dense table, whose calls all run out of memory once it is there.
 #[derive(Drop)]
 pub struct Starved {
     table: Dense,

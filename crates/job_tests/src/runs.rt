@@ -5,12 +5,12 @@ use crate::rows::{
     CONTROL_FAULTS, DECK_FAULTS, DECKS, DeckRow, OVERFLOWS, PLANS, RANGES, REVISIONS, Row,
     VERB_FAULTS, VERDICTS,
 };
-use crate::sweeps::PARAMETRIC;
+use crate::parametric_runs::PARAMETRIC;
 use std::alloc::Global;
 use std::test::Fail;
 
 // Whether the job has this status and this listing.
-fn is_told(alloc: Global, row: &Row) -> Result<bool, Fail> {
+fn is_reported(alloc: Global, row: &Row) -> Result<bool, Fail> {
     Ok(answer_of(alloc, row.job)?.is(row.status, row.listing))
 }
 
@@ -21,9 +21,9 @@ pub fn is_begun(alloc: Global, row: &Row) -> Result<bool, Fail> {
 }
 
 /// The name of the first of these jobs that has another status or listing.
-pub fn first_untold(alloc: Global, rows: &[Row]) -> Result<Option<&'static str>, Fail> {
+pub fn first_unreported(alloc: Global, rows: &[Row]) -> Result<Option<&'static str>, Fail> {
     for row in rows {
-        if !is_told(alloc, row)? {
+        if !is_reported(alloc, row)? {
             return Ok(Some(row.name));
         }
     }
@@ -42,39 +42,39 @@ pub fn first_unpunched(alloc: Global, rows: &[DeckRow]) -> Result<Option<&'stati
 
 #[test]
 fn plans_are_solved(rt: HostRuntime) -> Result<(), Fail> {
-    assert_eq!(rt; first_untold(rt.alloc(), &PLANS)?, None);
+    assert_eq!(rt; first_unreported(rt.alloc(), &PLANS)?, None);
     Ok(())
 }
 
 #[test]
 fn intervals_are_exact(rt: HostRuntime) -> Result<(), Fail> {
-    assert_eq!(rt; first_untold(rt.alloc(), &RANGES)?, None);
+    assert_eq!(rt; first_unreported(rt.alloc(), &RANGES)?, None);
     Ok(())
 }
 
 #[test]
 fn parametric_runs_are_exact(rt: HostRuntime) -> Result<(), Fail> {
-    assert_eq!(rt; first_untold(rt.alloc(), &PARAMETRIC)?, None);
+    assert_eq!(rt; first_unreported(rt.alloc(), &PARAMETRIC)?, None);
     Ok(())
 }
 
 #[test]
 fn verdicts_and_limits_end_a_run(rt: HostRuntime) -> Result<(), Fail> {
-    assert_eq!(rt; first_untold(rt.alloc(), &VERDICTS)?, None);
+    assert_eq!(rt; first_unreported(rt.alloc(), &VERDICTS)?, None);
     Ok(())
 }
 
 #[test]
-fn faults_are_told_with_their_cards(rt: HostRuntime) -> Result<(), Fail> {
-    assert_eq!(rt; first_untold(rt.alloc(), &CONTROL_FAULTS)?, None);
-    assert_eq!(rt; first_untold(rt.alloc(), &VERB_FAULTS)?, None);
-    assert_eq!(rt; first_untold(rt.alloc(), &DECK_FAULTS)?, None);
+fn faults_are_reported_with_their_cards(rt: HostRuntime) -> Result<(), Fail> {
+    assert_eq!(rt; first_unreported(rt.alloc(), &CONTROL_FAULTS)?, None);
+    assert_eq!(rt; first_unreported(rt.alloc(), &VERB_FAULTS)?, None);
+    assert_eq!(rt; first_unreported(rt.alloc(), &DECK_FAULTS)?, None);
     Ok(())
 }
 
 #[test]
 fn problems_are_revised(rt: HostRuntime) -> Result<(), Fail> {
-    assert_eq!(rt; first_untold(rt.alloc(), &REVISIONS)?, None);
+    assert_eq!(rt; first_unreported(rt.alloc(), &REVISIONS)?, None);
     Ok(())
 }
 

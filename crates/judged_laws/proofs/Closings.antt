@@ -12,16 +12,16 @@ use Rattle.certificate_check.proofs.Meaning.{keeps_if_checked, feasible_if_check
 use Rattle.certificate_check.proofs.Products.{sum_of-all}
 use Rattle.simplex_definitions.specs.ObjectiveRun.{objective_family}
 use Rattle.simplex_definitions.specs.RhsRun.{rhs_family}
-use Rattle.parametric_laws.specs.Truth.{IsEndlessBy, IsRefutedBy, IsProvedPast, IsTrueEnd}
+use Rattle.parametric_laws.specs.Truth.{IsUnboundedBy, IsRefutedBy, IsProvedPast, IsTrueEnd}
 use Rattle.parametric_laws.proofs.OneRhs.{lawful_rhs}
 use Rattle.interval_laws.specs.Laws.{ClosesUnbounded, ClosesInfeasible, PastLaws}
 use Rattle.problem_definitions.specs.Names.{Name}
 use Rattle.listing_definitions.specs.Report.{Line, ChainEnd, EndsAt, UnboundedPast, InfeasiblePast}
 use Rattle.question_definitions.specs.Answers.{Sheet, Changing, Row, Set}
-use Rattle.answer_definitions.specs.Sweeps.{row_of, shifts_of, family_of}
+use Rattle.answer_definitions.specs.ParametricRuns.{row_of, shifts_of, family_of}
 use Rattle.walk_definitions.specs.Tables.{column_of, multipliers}
 use Rattle.walk_definitions.specs.Tests.{asked, making_steps, unbounded_past, shift_products, infeasible_past, past_test, close_test}
-use Rattle.judged_laws.specs.Shown.{past_of}
+use Rattle.judged_laws.specs.Views.{past_of}
 use Rattle.judged_laws.proofs.Judging.{asked_holds, each_checked}
 
 -- the last end is before the last value, and the proof is checked
@@ -59,7 +59,7 @@ module _ (sheet : Sheet) where
         falls = free.falls;
         rises = free.rises;
         not_worse = le_from_test _ _ (asked_holds _ each.1.1.1.1.0);
-        betters = lt_from_test _ _ (asked_holds _ each.1.1.1.1.1.0);
+        improves = lt_from_test _ _ (asked_holds _ each.1.1.1.1.1.0);
       }
 
   closes_infeasible : (name : Name) (t : ℚ) (w : Vector) → IsLinearProgram sheet.lp → infeasible_past sheet (Set name) (shifts_of sheet.problem name) t w ≡ Checked
@@ -81,7 +81,7 @@ module _ (sheet : Sheet) where
 
   unbounded_end : PastLaws → (name : Name) (max last t : ℚ) (lines : List Line)
       → past_test max last t (unbounded_past sheet (Row name) (row_of sheet.problem name) t (value_at (column_of 0 lines)) (value_at (column_of 1 lines))) ≡ Checked
-      → IsProvedPast max last t (λ theta. IsEndlessBy (objective_family sheet.lp (row_of sheet.problem name) theta) (value_at (column_of 0 lines)) (value_at (column_of 1 lines)))
+      → IsProvedPast max last t (λ theta. IsUnboundedBy (objective_family sheet.lp (row_of sheet.problem name) theta) (value_at (column_of 0 lines)) (value_at (column_of 1 lines)))
   unbounded_end laws name max last t lines e =
       let h : ℕ = row_of sheet.problem name in
       let z : Vector = value_at (column_of 0 lines) in

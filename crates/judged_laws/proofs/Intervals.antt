@@ -19,10 +19,10 @@ use Rattle.simplex_definitions.specs.Chain.{Part, along}
 use Rattle.parametric_laws.specs.Truth.{IsSolvedBy, IsTruePart}
 use Rattle.interval_laws.specs.Laws.{StandAtBoth, IsProvedAtEnds, HoldsBetween, BetweenLaws, point_at, prices_at}
 use Rattle.question_definitions.specs.Answers.{Sheet, Changing, Row, Set}
-use Rattle.answer_definitions.specs.Sweeps.{row_of, shifts_of, family_of}
+use Rattle.answer_definitions.specs.ParametricRuns.{row_of, shifts_of, family_of}
 use Rattle.listing_definitions.specs.Report.{Interval}
 use Rattle.walk_definitions.specs.Tests.{asked, making_steps, along_steps, end_test, keeps_limit, keeping_steps, part_test, interval_test}
-use Rattle.judged_laws.specs.Shown.{part_of, MayChange}
+use Rattle.judged_laws.specs.Views.{part_of, MayChange}
 use Rattle.judged_laws.proofs.Judging.{asked_holds, each_checked}
 use Rattle.judged_laws.proofs.Solution.{solved_if_checked}
 use Rattle.judged_laws.proofs.Openings.{lawful_family}

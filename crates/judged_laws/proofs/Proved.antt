@@ -11,6 +11,6 @@ judged_is_true between past = record {
   solution = solution_is_true;
   verdict = verdict_is_true;
   dual = dual_is_not_unbounded;
-  opening = λ sweep sheet rest after bases verdict check lawful may e. opening_is_true sheet sweep rest after bases verdict check lawful may e;
-  chain = λ sweep sheet rest after bases intervals end lawful may e. chain_is_true between past sheet sweep lawful may rest after bases intervals end e;
+  opening = λ parametric_run sheet rest after bases verdict check lawful may e. opening_is_true sheet parametric_run rest after bases verdict check lawful may e;
+  chain = λ parametric_run sheet rest after bases intervals end lawful may e. chain_is_true between past sheet parametric_run lawful may rest after bases intervals end e;
 }

@@ -19,7 +19,7 @@ use Rattle.judged_laws.proofs.Judging.{each_checked, right_is_passed}
 pub solved_if_checked : (p : LinearProgram) → IsLinearProgram p → (z y : Vector) → optimal_check p z y ≡ Checked → IsSolvedBy p z y
 solved_if_checked p lawful z y e =
     let found = optimal_if_checked p lawful.is_matrix z y e in
-    record { best = best_by_prices p lawful z y found.0 found.1; proving = found.1 }
+    record { best = best_by_prices p lawful z y found.0 found.1; certificate = found.1 }
 
 pub solution_is_true : (sheet : Sheet) (rest after : List ℕ) (lines : SolutionLines) → IsLinearProgram sheet.lp →
     judged (OfSolution Optimal) sheet rest ≡ Right lines after → IsSolvedBy sheet.lp (point_of sheet lines) (prices_of sheet lines)

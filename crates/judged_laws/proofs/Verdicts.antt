@@ -19,7 +19,7 @@ use Rattle.soundness_laws.specs.Truth.{AreLinesOfRay, AreLinesOfDirection, IsNot
 use Rattle.walk_definitions.specs.Tables.{multipliers, column_of}
 use Rattle.walk_definitions.specs.Tests.{asked, says_checked, claim_test, verdict_test}
 use Rattle.walk_definitions.specs.Reading.{Claim, Right, judged, tested, verdict_in}
-use Rattle.judged_laws.specs.Shown.{AreLinesOfGrowth, IsTrueAtFirst}
+use Rattle.judged_laws.specs.Views.{AreLinesOfGrowth, IsTrueAtFirst}
 use Rattle.judged_laws.specs.Laws.{IsTrueUnlessOptimal}
 use Rattle.judged_laws.proofs.Judging.{asked_holds, each_checked, right_is_passed, right_is_made}
 use Rattle.judged_laws.proofs.Claims.{MayBeOptimal, IsFormed, verdict_formed}

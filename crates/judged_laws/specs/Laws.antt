@@ -8,12 +8,12 @@ use Rattle.listing_definitions.specs.declared.Mark.TheVariants.{Optimal}
 use Rattle.listing_definitions.specs.declared.Solver.{Solver}
 use Rattle.listing_definitions.specs.declared.Solver.TheVariants.{Dual}
 use Rattle.listing_definitions.specs.Report.{PathVerdict, OptimalAt, Check, SolutionLines, Interval, ChainEnd}
-use Rattle.question_definitions.specs.Answers.{Basis, Sheet, Sweep, OfPath, OfSolution, OfSweep, Reached, Opening, Chained}
-use Rattle.answer_definitions.specs.Sweeps.{family_of, sheet_at}
+use Rattle.question_definitions.specs.Answers.{Basis, Sheet, ParametricRun, OfPath, OfSolution, OfParametricRun, Reached, Opening, Chained}
+use Rattle.answer_definitions.specs.ParametricRuns.{family_of, sheet_at}
 use Rattle.soundness_laws.specs.Truth.{IsTrueOf, IsNotUnbounded}
 use Rattle.walk_definitions.specs.Tests.{point_of, prices_of}
 use Rattle.walk_definitions.specs.Reading.{Right, judged}
-use Rattle.judged_laws.specs.Shown.{part_of, past_of, MayChange, IsTrueAtFirst}
+use Rattle.judged_laws.specs.Views.{part_of, past_of, MayChange, IsTrueAtFirst}
 
 abbrev pub IsTrueUnlessOptimal : Sheet → PathVerdict → Type 0
 IsTrueUnlessOptimal sheet (OptimalAt steps objective) = Unit {0}
@@ -31,10 +31,10 @@ pub record JudgedLaws : Type 0 where
   pub dual : (limit : Option ℕ) (sheet : Sheet) (rest after : List ℕ) (bases : List Basis) (verdict : PathVerdict) (check : Check) →
       judged (OfPath Dual limit) sheet rest ≡ Right (Reached bases verdict check) after → IsNotUnbounded verdict
   -- the verdict of an opening is true at the first value, where its objective is the activity of the objective row
-  pub opening : (sweep : Sweep) (sheet : Sheet) (rest after : List ℕ) (bases : List Basis) (verdict : PathVerdict) (check : Check) → IsLinearProgram sheet.lp →
-      MayChange sheet sweep.changing → judged (OfSweep sweep) sheet rest ≡ Right (Opening bases verdict check) after →
-      IsTrueAtFirst (sheet_at sheet sweep.changing sweep.from) verdict
+  pub opening : (parametric_run : ParametricRun) (sheet : Sheet) (rest after : List ℕ) (bases : List Basis) (verdict : PathVerdict) (check : Check) → IsLinearProgram sheet.lp →
+      MayChange sheet parametric_run.changing → judged (OfParametricRun parametric_run) sheet rest ≡ Right (Opening bases verdict check) after →
+      IsTrueAtFirst (sheet_at sheet parametric_run.changing parametric_run.from) verdict
   -- a parametric run is true at every value of the parameter between its first and its last end, and past that by how it closes
-  pub chain : (sweep : Sweep) (sheet : Sheet) (rest after : List ℕ) (bases : List Basis) (intervals : List Interval) (end : ChainEnd) → IsLinearProgram sheet.lp →
-      MayChange sheet sweep.changing → judged (OfSweep sweep) sheet rest ≡ Right (Chained bases intervals end) after →
-      IsTrueRun (family_of sheet sweep.changing) sweep.from sweep.to (map part_of intervals) (past_of sheet end)
+  pub chain : (parametric_run : ParametricRun) (sheet : Sheet) (rest after : List ℕ) (bases : List Basis) (intervals : List Interval) (end : ChainEnd) → IsLinearProgram sheet.lp →
+      MayChange sheet parametric_run.changing → judged (OfParametricRun parametric_run) sheet rest ≡ Right (Chained bases intervals end) after →
+      IsTrueRun (family_of sheet parametric_run.changing) parametric_run.from parametric_run.to (map part_of intervals) (past_of sheet end)

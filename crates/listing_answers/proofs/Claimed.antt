@@ -11,7 +11,7 @@ use Rattle.exact_values.specs.Tests.{eq_ℚ}
 use Rattle.lp_definitions.specs.LinearProgram.{LinearProgram, Matrix, IsVariable, size, value_at, variables}
 use Rattle.listing_definitions.specs.Report.{PathVerdict, OptimalAt, CrossedAt, InfeasibleBy, UnboundedBy, Check}
 use Rattle.question_definitions.specs.Answers.{Sheet, Changing, Row, Set}
-use Rattle.answer_definitions.specs.Sweeps.{family_of}
+use Rattle.answer_definitions.specs.ParametricRuns.{family_of}
 use Rattle.run_definitions.specs.Verbs.{mark_of}
 use Rattle.walk_definitions.specs.Words.{Parsed}
 use Rattle.walk_definitions.specs.Tables.{numbered, multipliers, column_of}

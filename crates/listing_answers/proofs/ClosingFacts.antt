@@ -9,8 +9,8 @@ use Rattle.check_definitions.specs.Steps.{in_turn}
 use Rattle.listing_definitions.specs.Report.{ChainEnd, EndsAt, UnboundedPast, InfeasiblePast}
 use Rattle.listing_definitions.specs.Text.{solver_text}
 use Rattle.lp_model.specs.declared.NoMemory.{NoMemory}
-use Rattle.question_definitions.specs.Answers.{Sheet, Changing, Row, Set, sweeper}
-use Rattle.answer_definitions.specs.Sweeps.{row_of, shifts_of}
+use Rattle.question_definitions.specs.Answers.{Sheet, Changing, Row, Set, parametric_solver}
+use Rattle.answer_definitions.specs.ParametricRuns.{row_of, shifts_of}
 use Rattle.run_definitions.specs.Verbs.{last_value}
 use Rattle.walk_definitions.specs.Words.{Parsed, left_after}
 use Rattle.walk_definitions.specs.Tests.{asked, past_test, unbounded_past, infeasible_past, close_test}
@@ -36,7 +36,7 @@ module _ (sheet : Sheet) (second : List ℕ → Parsed ChainEnd) (old new : List
     end_then (Ok found) h = end_second found h
     end_then (Err none) h = h
 
-pub close_taken : (sheet : Sheet) (changing : Changing) (old left : List ℕ) → left_after (solver_text (sweeper changing)) old ≡ Some left → close_in sheet (sweeper changing) old ≡ close_after_in sheet changing left
+pub close_taken : (sheet : Sheet) (changing : Changing) (old left : List ℕ) → left_after (solver_text (parametric_solver changing)) old ≡ Some left → close_in sheet (parametric_solver changing) old ≡ close_after_in sheet changing left
 close_taken sheet (Row name) old left e = ap (option_and_then (row_close_in sheet)) e
 close_taken sheet (Set name) old left e = ap (option_and_then (set_close_in sheet)) e
 

@@ -14,7 +14,7 @@ use Rattle.check_definitions.specs.Checks.{optimal_check}
 use Rattle.simplex_definitions.specs.Chain.{along}
 use Rattle.listing_definitions.specs.Report.{Interval}
 use Rattle.question_definitions.specs.Answers.{Sheet, Changing}
-use Rattle.answer_definitions.specs.Sweeps.{family_of}
+use Rattle.answer_definitions.specs.ParametricRuns.{family_of}
 use Rattle.walk_definitions.specs.Tests.{along_steps, keeps_limit, keeping_steps, part_test, interval_test}
 use Rattle.listing_answers.specs.declared.intervals.Columns.{Columns}
 use Rattle.listing_answers.specs.declared.intervals.End.{End}

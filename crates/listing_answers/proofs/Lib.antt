@@ -8,5 +8,5 @@ mod Ends
 mod Runs
 mod ClosingFacts
 mod ClosingSums
-mod SweepFacts
+mod ParametricRunFacts
 mod PastFacts

@@ -7,7 +7,7 @@ use Rattle.check_definitions.specs.declared.Verdict.{Verdict}
 use Rattle.check_definitions.specs.Steps.{verdict_of, in_turn, sum_steps, sum_of}
 use Rattle.check_definitions.specs.Checks.{ray_columns, multiplied, limit_product, ray_limits}
 use Rattle.question_definitions.specs.Answers.{Sheet, Changing}
-use Rattle.answer_definitions.specs.Sweeps.{family_of}
+use Rattle.answer_definitions.specs.ParametricRuns.{family_of}
 use Rattle.walk_definitions.specs.Tests.{asked, making_steps, shift_products, infeasible_past}
 use Rattle.listing_answers.specs.declared.answer.Stop.{Stop}
 use Rattle.listing_answers.specs.Passing.{Judges}

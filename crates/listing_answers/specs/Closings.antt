@@ -2,7 +2,7 @@
 --     IsValueRead, IsEndRead       a value after a text was read; the run ends at a value, or the cursor stays where it is
 --     row_close_in, set_close_in   how runs of the objective and of the right-hand side close
 --     Closes                       what closes the run says what the report says
---     closing_test, bettering_test the test of it, and a part of it
+--     closing_test, improving_test the test of it, and a part of it
 use Rattle.std.specs.Prelude.{◌≡◌, ℕ, List, [], ◌∷◌, Option, Some, None, length, codes, option_map}
 use Rattle.std.specs.Option.{option_or}
 use Rattle.exact_values.specs.Rational.{ℚ, zero_ℚ, ◌+ℚ◌, ◌*ℚ◌}
@@ -13,7 +13,7 @@ use Rattle.check_definitions.specs.declared.Verdict.TheVariants.{Failed}
 use Rattle.check_definitions.specs.Steps.{verdict_of, in_turn, sum_steps}
 use Rattle.listing_definitions.specs.Report.{ChainEnd, EndsAt, UnboundedPast, InfeasiblePast}
 use Rattle.question_definitions.specs.Answers.{Sheet, Changing, Row, Set}
-use Rattle.answer_definitions.specs.Sweeps.{row_of, shifts_of}
+use Rattle.answer_definitions.specs.ParametricRuns.{row_of, shifts_of}
 use Rattle.walk_definitions.specs.Words.{Parsed, with_text, with_word, fraction_in}
 use Rattle.walk_definitions.specs.Tables.{pair_slots, table_in, ray_in, multipliers}
 use Rattle.walk_definitions.specs.Tests.{asked, past_test, unbounded_past, infeasible_past}
@@ -88,8 +88,8 @@ closing_test sheet changing max last (closings.At t) = in_turn (asked (eq_ℚ t 
 closing_test sheet changing max last (closings.Unbounded t pair) = unbounded_test sheet changing max last t pair.point.items pair.direction.items
 closing_test sheet changing max last (closings.Infeasible t ray) = infeasible_test sheet changing max last t ray.items
 
--- the objective of a direction doesn't get worse at t, and its change row betters
-abbrev pub bettering_test : LinearProgram → ℕ → ℚ → Vector → Verdict
-bettering_test p h t d = in_turn (
+-- the objective of a direction doesn't get worse at t, and its change row improves
+abbrev pub improving_test : LinearProgram → ℕ → ℚ → Vector → Verdict
+improving_test p h t d = in_turn (
     verdict_of (sum_steps (d p.objective) (record { left = t; right = d h } ∷ [])) ∷
     asked (le_ℚ (for_min p.sense (d p.objective +ℚ t *ℚ d h)) zero_ℚ) ∷ asked (lt_ℚ (for_min p.sense (d h)) zero_ℚ) ∷ [])

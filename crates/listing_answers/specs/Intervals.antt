@@ -15,7 +15,7 @@ use Rattle.simplex_definitions.specs.Chain.{along}
 use Rattle.listing_definitions.specs.Numbers.{digits, rational_text}
 use Rattle.listing_definitions.specs.Report.{Line, Interval}
 use Rattle.question_definitions.specs.Answers.{Sheet, Changing}
-use Rattle.answer_definitions.specs.Sweeps.{family_of}
+use Rattle.answer_definitions.specs.ParametricRuns.{family_of}
 use Rattle.walk_definitions.specs.Words.{Parsed, with_text, with_word, fraction_in}
 use Rattle.walk_definitions.specs.Tables.{table_in, part_slots, column_of}
 use Rattle.walk_definitions.specs.Tests.{end_test, part_test, keeps_limit}

@@ -1,19 +1,19 @@
 -- What a reader of answers comes to.
---     IsConclusion, IsSweepAnswer  what is handed on of the answer to a path and to a parametric run
+--     IsConclusion, IsParametricRunAnswer  what is handed on of the answer to a path and to a parametric run
 --     IsOpened                     the mark of an opening
 --     Taken Shows judged new result    an answer was taken, of which so much is shown; or it isn't of its form or fails a test; or an
 --                                  operation of a test is refused; or there is no memory
 use Rattle.std.specs.Prelude.{◌≡◌, ℕ, List, Result, Ok, Err}
 use Rattle.listing_definitions.specs.declared.Mark.{Mark}
 use Rattle.listing_definitions.specs.Report.{PathVerdict, OptimalAt, CrossedAt, InfeasibleBy, UnboundedBy, Check}
-use Rattle.question_definitions.specs.Answers.{PathEnd, Reached, SweepEnd, Opening, Chained}
+use Rattle.question_definitions.specs.Answers.{PathEnd, Reached, ParametricRunEnd, Opening, Chained}
 use Rattle.run_definitions.specs.Verbs.{mark_of, last_value}
 use Rattle.walk_definitions.specs.Tests.{says_checked}
 use Rattle.walk_definitions.specs.Reading.{Judged, Right, Fails, Refuses}
 use Rattle.listing_answers.specs.declared.answer.Conclusion.{Conclusion}
 use Rattle.listing_answers.specs.declared.answer.Conclusion.TheVariants.{Optimal, Infeasible, Unbounded}
-use Rattle.listing_answers.specs.declared.answer.SweepAnswer.{SweepAnswer}
-use Rattle.listing_answers.specs.declared.answer.SweepAnswer.TheVariants.{Opened, Swept}
+use Rattle.listing_answers.specs.declared.answer.ParametricRunAnswer.{ParametricRunAnswer}
+use Rattle.listing_answers.specs.declared.answer.ParametricRunAnswer.TheVariants.{Opened, RanThrough}
 use Rattle.listing_answers.specs.declared.answer.Stop.{Stop}
 use Rattle.listing_answers.specs.declared.answer.Stop.TheVariants.{Wrong, Unchecked, NoMemory}
 
@@ -29,14 +29,14 @@ IsConclusion conclusion (Reached bases verdict check) = conclusion ≡ conclusio
 IsConclusion conclusion end = ⊥
 
 -- the mark of an opening that isn't optimal, or the value at which the last interval ends
-abbrev pub IsSweepAnswer : SweepAnswer → SweepEnd → Type 0
-IsSweepAnswer (Opened mark) (Opening bases verdict check) = mark ≡ mark_of verdict
-IsSweepAnswer (Swept last) (Chained bases intervals end) = last ≡ last_value end
-IsSweepAnswer answer end = ⊥
+abbrev pub IsParametricRunAnswer : ParametricRunAnswer → ParametricRunEnd → Type 0
+IsParametricRunAnswer (Opened mark) (Opening bases verdict check) = mark ≡ mark_of verdict
+IsParametricRunAnswer (RanThrough last) (Chained bases intervals end) = last ≡ last_value end
+IsParametricRunAnswer answer end = ⊥
 
 -- of an opening
-abbrev pub IsOpened : Mark → SweepEnd → Type 0
-IsOpened mark end = IsSweepAnswer (Opened mark) end
+abbrev pub IsOpened : Mark → ParametricRunEnd → Type 0
+IsOpened mark end = IsParametricRunAnswer (Opened mark) end
 
 pub record IsRight {X A : Type 0} (Shows : X → A → Type 0) (judged : Judged A) (new : List ℕ) (x : X) : Type 0 where
   pub answer : A

@@ -2,21 +2,21 @@
 ghost use Rattle.std.specs.Prelude.{◌≡◌, ℕ, Option, None};
 ghost use Rattle.lp_definitions.specs.LinearProgram.{IsLinearProgram};
 ghost use Rattle.listing_tables.specs.Sheets.{IsSheet};
-ghost use Rattle.question_definitions.specs.Answers.{OfPath, OfSolution, OfSweep};
-ghost use Rattle.parametric_request.specs.Asking.{Serves, sweep_of};
+ghost use Rattle.question_definitions.specs.Answers.{OfPath, OfSolution, OfParametricRun};
+ghost use Rattle.parametric_request.specs.Asking.{Serves, parametric_run_of};
 ghost use Rattle.walk_definitions.specs.Tests.{point_of};
 ghost use Rattle.walk_definitions.specs.Reading.{judged};
-ghost use Rattle.listing_readers.specs.Read.{sheet_shown};
+ghost use Rattle.listing_readers.specs.Read.{sheet_view};
 ghost use Rattle.listing_answers.specs.Claims.{conclusion_by};
-ghost use Rattle.listing_answers.specs.Taken.{Taken, IsConclusion, IsSweepAnswer};
+ghost use Rattle.listing_answers.specs.Taken.{Taken, IsConclusion, IsParametricRunAnswer};
 
 use crate::claim_tests::test;
 use crate::claims::{Claim, Stated, read_verdict};
 use crate::judging::judge;
-use crate::openings::{read_opening, take_sweep_head};
+use crate::openings::{read_opening, take_parametric_run_head};
 use crate::solution::{printed_of, read_lines};
 use crate::solution_tests::check_printed;
-use crate::sweeping::read_run;
+use crate::parametric_runs::read_run;
 use frac128::{Frac, Refused};
 use listing_definitions::{Mark, Solver};
 use listing_readers::Cursor;
@@ -71,11 +71,11 @@ pub enum Conclusion {
 
 /// What a parametric run comes to.
 #[derive(Clone, Copy, Debug)]
-pub enum SweepAnswer {
+pub enum ParametricRunAnswer {
     /// Its opening isn't optimal, and the verdict leaves this mark.
     Opened(Mark),
     /// Its last interval ends at this value.
-    Swept(Frac),
+    RanThrough(Frac),
 }
 
 // What a claim comes to.
@@ -102,7 +102,7 @@ pub fn answer_to_path(
     requires sheet { IsSheet sheet }
     requires lawful { IsLinearProgram sheet.lp.now }
     requires no_change { sheet.lp.now.change ≡ None }
-    ensures { (limit : Option ℕ) → Taken IsConclusion (judged (OfPath solver limit) (sheet_shown sheet.entry) cursor.old)
+    ensures { (limit : Option ℕ) → Taken IsConclusion (judged (OfPath solver limit) (sheet_view sheet.entry) cursor.old)
         cursor.new result }
 {
     let Some(stated) = read_verdict(alloc, cursor, sheet, solver)? else {
@@ -122,8 +122,8 @@ pub fn answer_to_solution(
     requires sheet { IsSheet sheet }
     requires lawful { IsLinearProgram sheet.lp.now }
     requires no_change { sheet.lp.now.change ≡ None }
-    ensures { Taken (λ objective lines. objective ≡ point_of (sheet_shown sheet.entry) lines sheet.entry.lp.now.objective)
-        (judged (OfSolution mark) (sheet_shown sheet.entry) cursor.old) cursor.new result }
+    ensures { Taken (λ objective lines. objective ≡ point_of (sheet_view sheet.entry) lines sheet.entry.lp.now.objective)
+        (judged (OfSolution mark) (sheet_view sheet.entry) cursor.old) cursor.new result }
 {
     let Some(lines) = read_lines(alloc, cursor, sheet, mark)? else {
         return Err(Stop::Wrong);
@@ -134,25 +134,25 @@ pub fn answer_to_solution(
 }
 
 /// Reads what PARAOBJ or PARARHS prints of the parametric run that is asked for, interval by interval, and tests it.
-pub fn answer_to_sweep(
+pub fn answer_to_parametric_run(
     alloc: Global,
     cursor: &mut Cursor<'_>,
     sheet: Sheet<'_>,
     request: &ParametricRequest,
-) -> Result<SweepAnswer, Stop>
+) -> Result<ParametricRunAnswer, Stop>
     requires sheet { IsSheet sheet }
     requires lawful { IsLinearProgram sheet.lp.now }
     requires no_change { sheet.lp.now.change ≡ None }
     requires serves { Serves sheet.problem.now sheet.lp.now request.now }
-    ensures { (limit : ℕ) → Taken IsSweepAnswer (judged (OfSweep (sweep_of limit request.now)) (sheet_shown sheet.entry) cursor.old)
+    ensures { (limit : ℕ) → Taken IsParametricRunAnswer (judged (OfParametricRun (parametric_run_of limit request.now)) (sheet_view sheet.entry) cursor.old)
         cursor.new result }
 {
     let mut ahead = Cursor::new(cursor.left());
-    if !take_sweep_head(&mut ahead, request) {
+    if !take_parametric_run_head(&mut ahead, request) {
         let mark = read_opening(alloc, cursor, sheet, request)?;
-        return Ok(SweepAnswer::Opened(mark));
+        return Ok(ParametricRunAnswer::Opened(mark));
     }
     *cursor = ahead;
     let last = read_run(alloc, cursor, sheet, request)?;
-    Ok(SweepAnswer::Swept(last))
+    Ok(ParametricRunAnswer::RanThrough(last))
 }

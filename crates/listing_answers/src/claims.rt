@@ -4,7 +4,7 @@ ghost use Rattle.listing_definitions.specs.Text.{solver_text};
 ghost use Rattle.listing_tables.specs.Sheets.{IsSheet};
 ghost use Rattle.walk_definitions.specs.Words.{left_after};
 ghost use Rattle.walk_definitions.specs.Reading.{optimal_in, crossed_in, infeasible_in, unbounded_in, claim_in, verdict_in};
-ghost use Rattle.listing_readers.specs.Read.{taken, sheet_shown};
+ghost use Rattle.listing_readers.specs.Read.{taken, sheet_view};
 ghost use Rattle.listing_answers.specs.Words.{Found, IsRayHeadRead};
 ghost use Rattle.listing_answers.specs.Claims.{IsPairRead, IsStated, Tried, infeasible_or_unbounded_in, not_optimal_in, no_point_in};
 
@@ -52,7 +52,7 @@ pub fn read_pair(
     sheet: Sheet<'_>,
 ) -> Result<Option<Pair>, NoMemory>
     requires { IsSheet sheet }
-    ensures { IfOk result (IsPairRead (sheet_shown sheet.entry) cursor.old cursor.new) }
+    ensures { IfOk result (IsPairRead (sheet_view sheet.entry) cursor.old cursor.new) }
 {
     let count = sheet.lp.number_of_variables();
     let Some(numbers) = table(alloc, cursor, sheet, Shape::Pair, 0, count)? else {
@@ -65,7 +65,7 @@ pub fn read_pair(
 
 // That there is a best point.
 fn optimal(cursor: &mut Cursor<'_>, sheet: Sheet<'_>) -> Option<Stated>
-    ensures { Found (IsStated (sheet_shown sheet.entry)) (optimal_in (sheet_shown sheet.entry) cursor.old) cursor.new result }
+    ensures { Found (IsStated (sheet_view sheet.entry)) (optimal_in (sheet_view sheet.entry) cursor.old) cursor.new result }
 {
     let head = read_head(cursor, b"OPTIMAL STEPS ")?;
     Some(Stated {
@@ -76,7 +76,7 @@ fn optimal(cursor: &mut Cursor<'_>, sheet: Sheet<'_>) -> Option<Stated>
 
 // That limits are crossed.
 fn crossed(cursor: &mut Cursor<'_>, sheet: Sheet<'_>) -> Option<Stated>
-    ensures { Found (IsStated (sheet_shown sheet.entry)) (crossed_in (sheet_shown sheet.entry) cursor.old) cursor.new result }
+    ensures { Found (IsStated (sheet_view sheet.entry)) (crossed_in (sheet_view sheet.entry) cursor.old) cursor.new result }
 {
     let size = sheet.lp.number_of_variables();
     let k = count_after(cursor, b"INFEASIBLE STEPS 0 CROSSED ", size)?;
@@ -105,7 +105,7 @@ fn infeasible(
     sheet: Sheet<'_>,
 ) -> Result<Option<Stated>, NoMemory>
     requires { IsSheet sheet }
-    ensures { IfOk result (Found (IsStated (sheet_shown sheet.entry)) (infeasible_in (sheet_shown sheet.entry) cursor.old) cursor.new) }
+    ensures { IfOk result (Found (IsStated (sheet_view sheet.entry)) (infeasible_in (sheet_view sheet.entry) cursor.old) cursor.new) }
 {
     let Some(is_checked) = ray_head(cursor) else {
         return Ok(None);
@@ -126,7 +126,7 @@ fn unbounded(
     sheet: Sheet<'_>,
 ) -> Result<Option<Stated>, NoMemory>
     requires { IsSheet sheet }
-    ensures { IfOk result (Found (IsStated (sheet_shown sheet.entry)) (unbounded_in (sheet_shown sheet.entry) cursor.old) cursor.new) }
+    ensures { IfOk result (Found (IsStated (sheet_view sheet.entry)) (unbounded_in (sheet_view sheet.entry) cursor.old) cursor.new) }
 {
     let Some(head) = read_head(cursor, b"UNBOUNDED STEPS ") else {
         return Ok(None);
@@ -144,7 +144,7 @@ fn unbounded(
 
 // That there is a best point, if it stands here.
 fn try_optimal(cursor: &mut Cursor<'_>, sheet: Sheet<'_>) -> Option<Stated>
-    ensures { Tried (sheet_shown sheet.entry) optimal_in cursor.old cursor.new result }
+    ensures { Tried (sheet_view sheet.entry) optimal_in cursor.old cursor.new result }
 {
     let mut ahead = Cursor::new(cursor.left());
     let stated = optimal(&mut ahead, sheet)?;
@@ -154,7 +154,7 @@ fn try_optimal(cursor: &mut Cursor<'_>, sheet: Sheet<'_>) -> Option<Stated>
 
 // That limits are crossed, if it stands here.
 fn try_crossed(cursor: &mut Cursor<'_>, sheet: Sheet<'_>) -> Option<Stated>
-    ensures { Tried (sheet_shown sheet.entry) crossed_in cursor.old cursor.new result }
+    ensures { Tried (sheet_view sheet.entry) crossed_in cursor.old cursor.new result }
 {
     let mut ahead = Cursor::new(cursor.left());
     let stated = crossed(&mut ahead, sheet)?;
@@ -169,7 +169,7 @@ fn try_infeasible(
     sheet: Sheet<'_>,
 ) -> Result<Option<Stated>, NoMemory>
     requires { IsSheet sheet }
-    ensures { IfOk result (Tried (sheet_shown sheet.entry) infeasible_in cursor.old cursor.new) }
+    ensures { IfOk result (Tried (sheet_view sheet.entry) infeasible_in cursor.old cursor.new) }
 {
     let mut ahead = Cursor::new(cursor.left());
     let Some(stated) = infeasible(alloc, &mut ahead, sheet)? else {
@@ -186,8 +186,8 @@ fn infeasible_or_unbounded(
     sheet: Sheet<'_>,
 ) -> Result<Option<Stated>, NoMemory>
     requires { IsSheet sheet }
-    ensures { IfOk result (Found (IsStated (sheet_shown sheet.entry)) (infeasible_or_unbounded_in
-        (sheet_shown sheet.entry) cursor.old) cursor.new) }
+    ensures { IfOk result (Found (IsStated (sheet_view sheet.entry)) (infeasible_or_unbounded_in
+        (sheet_view sheet.entry) cursor.old) cursor.new) }
 {
     if let Some(stated) = try_infeasible(alloc, cursor, sheet)? {
         return Ok(Some(stated));
@@ -202,7 +202,7 @@ fn not_optimal(
     sheet: Sheet<'_>,
 ) -> Result<Option<Stated>, NoMemory>
     requires { IsSheet sheet }
-    ensures { IfOk result (Found (IsStated (sheet_shown sheet.entry)) (not_optimal_in (sheet_shown sheet.entry) cursor.old) cursor.new) }
+    ensures { IfOk result (Found (IsStated (sheet_view sheet.entry)) (not_optimal_in (sheet_view sheet.entry) cursor.old) cursor.new) }
 {
     if let Some(stated) = try_crossed(cursor, sheet) {
         return Ok(Some(stated));
@@ -217,7 +217,7 @@ fn no_point(
     sheet: Sheet<'_>,
 ) -> Result<Option<Stated>, NoMemory>
     requires { IsSheet sheet }
-    ensures { IfOk result (Found (IsStated (sheet_shown sheet.entry)) (no_point_in (sheet_shown sheet.entry) cursor.old) cursor.new) }
+    ensures { IfOk result (Found (IsStated (sheet_view sheet.entry)) (no_point_in (sheet_view sheet.entry) cursor.old) cursor.new) }
 {
     if let Some(stated) = try_crossed(cursor, sheet) {
         return Ok(Some(stated));
@@ -232,8 +232,8 @@ fn primal_claim(
     sheet: Sheet<'_>,
 ) -> Result<Option<Stated>, NoMemory>
     requires { IsSheet sheet }
-    ensures { IfOk result (Found (IsStated (sheet_shown sheet.entry)) (claim_in
-        (sheet_shown sheet.entry) Solver.Primal cursor.old) cursor.new) }
+    ensures { IfOk result (Found (IsStated (sheet_view sheet.entry)) (claim_in
+        (sheet_view sheet.entry) Solver.Primal cursor.old) cursor.new) }
 {
     if let Some(stated) = try_optimal(cursor, sheet) {
         return Ok(Some(stated));
@@ -248,8 +248,8 @@ fn dual_claim(
     sheet: Sheet<'_>,
 ) -> Result<Option<Stated>, NoMemory>
     requires { IsSheet sheet }
-    ensures { IfOk result (Found (IsStated (sheet_shown sheet.entry)) (claim_in
-        (sheet_shown sheet.entry) Solver.Dual cursor.old) cursor.new) }
+    ensures { IfOk result (Found (IsStated (sheet_view sheet.entry)) (claim_in
+        (sheet_view sheet.entry) Solver.Dual cursor.old) cursor.new) }
 {
     if let Some(stated) = try_optimal(cursor, sheet) {
         return Ok(Some(stated));
@@ -265,7 +265,7 @@ fn read_claim(
     solver: Solver,
 ) -> Result<Option<Stated>, NoMemory>
     requires { IsSheet sheet }
-    ensures { IfOk result (Found (IsStated (sheet_shown sheet.entry)) (claim_in (sheet_shown sheet.entry) solver cursor.old) cursor.new) }
+    ensures { IfOk result (Found (IsStated (sheet_view sheet.entry)) (claim_in (sheet_view sheet.entry) solver cursor.old) cursor.new) }
 {
     match solver {
         Solver::Primal => primal_claim(alloc, cursor, sheet),
@@ -290,7 +290,7 @@ pub fn read_verdict(
     solver: Solver,
 ) -> Result<Option<Stated>, NoMemory>
     requires { IsSheet sheet }
-    ensures { IfOk result (Found (IsStated (sheet_shown sheet.entry)) (verdict_in (sheet_shown sheet.entry) solver cursor.old) cursor.new) }
+    ensures { IfOk result (Found (IsStated (sheet_view sheet.entry)) (verdict_in (sheet_view sheet.entry) solver cursor.old) cursor.new) }
 {
     if !take_solver(cursor, solver) {
         return Ok(None);

@@ -2,12 +2,12 @@
 ghost use Rattle.std.specs.Prelude.{◌≡◌, None, IfOk};
 ghost use Rattle.lp_definitions.specs.LinearProgram.{IsLinearProgram};
 ghost use Rattle.listing_tables.specs.Sheets.{IsSheet};
-ghost use Rattle.question_definitions.specs.Answers.{sweeper};
+ghost use Rattle.question_definitions.specs.Answers.{parametric_solver};
 ghost use Rattle.parametric_request.specs.Asking.{Serves, changing_of};
 ghost use Rattle.run_definitions.specs.Verbs.{last_value};
 ghost use Rattle.walk_definitions.specs.Tests.{close_test};
 ghost use Rattle.walk_definitions.specs.Reading.{close_in, tested};
-ghost use Rattle.listing_readers.specs.Read.{sheet_shown};
+ghost use Rattle.listing_readers.specs.Read.{sheet_view};
 ghost use Rattle.listing_answers.specs.Words.{Found};
 ghost use Rattle.listing_answers.specs.Closings.{IsValueRead, IsEndRead, Closes, unbounded_in, infeasible_in, row_close_in, set_close_in, close_after_in, value_of};
 ghost use Rattle.listing_answers.specs.Taken.{Taken};
@@ -63,7 +63,7 @@ fn unbounded_past(
     sheet: Sheet<'_>,
 ) -> Result<Option<Closing>, NoMemory>
     requires { IsSheet sheet }
-    ensures { IfOk result (Found (Closes (sheet_shown sheet.entry)) (unbounded_in (sheet_shown sheet.entry) cursor.old) cursor.new) }
+    ensures { IfOk result (Found (Closes (sheet_view sheet.entry)) (unbounded_in (sheet_view sheet.entry) cursor.old) cursor.new) }
 {
     let Some(value) = value_line(cursor, b" UNBOUNDED PAST ") else {
         return Ok(None);
@@ -81,7 +81,7 @@ fn infeasible_past(
     sheet: Sheet<'_>,
 ) -> Result<Option<Closing>, NoMemory>
     requires { IsSheet sheet }
-    ensures { IfOk result (Found (Closes (sheet_shown sheet.entry)) (infeasible_in (sheet_shown sheet.entry) cursor.old) cursor.new) }
+    ensures { IfOk result (Found (Closes (sheet_view sheet.entry)) (infeasible_in (sheet_view sheet.entry) cursor.old) cursor.new) }
 {
     let Some(value) = value_line(cursor, b" INFEASIBLE PAST ") else {
         return Ok(None);
@@ -99,7 +99,7 @@ fn row_close(
     sheet: Sheet<'_>,
 ) -> Result<Option<Closing>, NoMemory>
     requires { IsSheet sheet }
-    ensures { IfOk result (Found (Closes (sheet_shown sheet.entry)) (row_close_in (sheet_shown sheet.entry) cursor.old) cursor.new) }
+    ensures { IfOk result (Found (Closes (sheet_view sheet.entry)) (row_close_in (sheet_view sheet.entry) cursor.old) cursor.new) }
 {
     if let Some(value) = try_end(cursor) {
         return Ok(Some(Closing::At(value)));
@@ -114,7 +114,7 @@ fn set_close(
     sheet: Sheet<'_>,
 ) -> Result<Option<Closing>, NoMemory>
     requires { IsSheet sheet }
-    ensures { IfOk result (Found (Closes (sheet_shown sheet.entry)) (set_close_in (sheet_shown sheet.entry) cursor.old) cursor.new) }
+    ensures { IfOk result (Found (Closes (sheet_view sheet.entry)) (set_close_in (sheet_view sheet.entry) cursor.old) cursor.new) }
 {
     if let Some(value) = try_end(cursor) {
         return Ok(Some(Closing::At(value)));
@@ -130,7 +130,7 @@ fn close_after(
     request: &ParametricRequest,
 ) -> Result<Option<Closing>, NoMemory>
     requires { IsSheet sheet }
-    ensures { IfOk result (Found (Closes (sheet_shown sheet.entry)) (close_after_in (sheet_shown sheet.entry)
+    ensures { IfOk result (Found (Closes (sheet_view sheet.entry)) (close_after_in (sheet_view sheet.entry)
         (changing_of request.now.name request.now.change) cursor.old) cursor.new) }
 {
     match &request.change {
@@ -147,7 +147,7 @@ fn read_closing(
     request: &ParametricRequest,
 ) -> Result<Option<Closing>, NoMemory>
     requires { IsSheet sheet }
-    ensures { IfOk result (Found (Closes (sheet_shown sheet.entry)) (close_in (sheet_shown sheet.entry) (sweeper
+    ensures { IfOk result (Found (Closes (sheet_view sheet.entry)) (close_in (sheet_view sheet.entry) (parametric_solver
         (changing_of request.now.name request.now.change)) cursor.old) cursor.new) }
 {
     if !cursor.take(solver_word(solver_of(request))) {
@@ -169,8 +169,8 @@ pub fn read_close(
     requires no_change { sheet.lp.now.change ≡ None }
     requires serves { Serves sheet.problem.now sheet.lp.now request.now }
     ensures { let changing = changing_of request.now.name request.now.change in
-        Taken (λ end close. end ≡ last_value close) (tested (close_test (sheet_shown sheet.entry) changing request.now.to last) (close_in
-        (sheet_shown sheet.entry) (sweeper changing) cursor.old)) cursor.new result }
+        Taken (λ end close. end ≡ last_value close) (tested (close_test (sheet_view sheet.entry) changing request.now.to last) (close_in
+        (sheet_view sheet.entry) (parametric_solver changing) cursor.old)) cursor.new result }
 {
     let Some(closing) = read_closing(alloc, cursor, sheet, request)? else {
         return Err(Stop::Wrong);

@@ -8,11 +8,11 @@ ghost use Rattle.check_definitions.specs.Checks.{limit_product, ray_limits, mult
 ghost use Rattle.question_definitions.specs.Answers.{Changing};
 ghost use Rattle.parametric_request.specs.Asking.{Serves, changing_of};
 ghost use Rattle.walk_definitions.specs.Tests.{asked, past_test, unbounded_past, infeasible_past, shift_products};
-ghost use Rattle.listing_readers.specs.Read.{sheet_shown};
+ghost use Rattle.listing_readers.specs.Read.{sheet_view};
 ghost use Rattle.listing_answers.specs.Passing.{Judges};
 ghost use Rattle.listing_answers.specs.Making.{Makes};
 ghost use Rattle.listing_answers.specs.Claims.{IsPairOf};
-ghost use Rattle.listing_answers.specs.Closings.{ClosingFits, unbounded_test, infeasible_test, closing_test, bettering_test};
+ghost use Rattle.listing_answers.specs.Closings.{ClosingFits, unbounded_test, infeasible_test, closing_test, improving_test};
 
 use crate::answer::Stop;
 use crate::claims::Pair;
@@ -28,19 +28,19 @@ use std::alloc::Global;
 
 // ---- past a value there is no best point
 
-// The objective of a direction doesn't get worse at a value, and its change row betters.
-fn check_bettering(lp: &Lp, row: u32, value: Frac, direction: &[Frac]) -> Result<(), Stop>
+// The objective of a direction doesn't get worse at a value, and its change row improves.
+fn check_improving(lp: &Lp, row: u32, value: Frac, direction: &[Frac]) -> Result<(), Stop>
     requires row { IsRow lp.now.matrix row }
     requires places { length direction.now ≡ size lp.now.matrix }
-    ensures { Judges (bettering_test lp.now row value (value_at direction.now)) result }
+    ensures { Judges (improving_test lp.now row value (value_at direction.now)) result }
 {
-    let better = direction[row as usize - 1];
-    let slope = plus_product(objective_of(lp, direction), value, better)?;
+    let improve = direction[row as usize - 1];
+    let slope = plus_product(objective_of(lp, direction), value, improve)?;
     ask(is_at_most(counted_for(lp.sense, slope), Frac::whole(0)))?;
-    ask(counted_for(lp.sense, better).is_less(Frac::whole(0)))
+    ask(counted_for(lp.sense, improve).is_less(Frac::whole(0)))
 }
 
-// A feasible point, and a direction that keeps all limits and betters past a value.
+// A feasible point, and a direction that keeps all limits and improves past a value.
 fn check_unbounded_past(
     sheet: Sheet<'_>,
     row: u32,
@@ -51,13 +51,13 @@ fn check_unbounded_past(
     requires row { IsRow sheet.lp.now.matrix row }
     requires point_places { length point.now ≡ size sheet.lp.now.matrix }
     requires direction_places { length direction.now ≡ size sheet.lp.now.matrix }
-    ensures { (changing : Changing) → Judges (unbounded_past (sheet_shown sheet.entry) changing row value (value_at point.now)
+    ensures { (changing : Changing) → Judges (unbounded_past (sheet_view sheet.entry) changing row value (value_at point.now)
         (value_at direction.now)) result }
 {
     judge(check_point(sheet.lp, point))?;
     judge(check_direction(sheet.lp, direction))?;
     judge(check_direction_limits(sheet.lp, direction))?;
-    check_bettering(sheet.lp, row, value, direction)
+    check_improving(sheet.lp, row, value, direction)
 }
 
 // ---- past a value no point is feasible
@@ -118,7 +118,7 @@ fn limit_sum(lp: &Lp, ray: &[Frac]) -> Result<Frac, Stop>
 fn shift_sum(sheet: Sheet<'_>, shift: &[Frac], ray: &[Frac]) -> Result<Frac, Stop>
     requires shifts { length shift.now ≡ sheet.lp.now.matrix.rows }
     requires places { length ray.now ≡ size sheet.lp.now.matrix }
-    ensures { (changing : Changing) → let products = shift_products (sheet_shown sheet.entry) changing shift.now (value_at ray.now) in
+    ensures { (changing : Changing) → let products = shift_products (sheet_view sheet.entry) changing shift.now (value_at ray.now) in
         Makes (λ sum. sum ≡ sum_of zero_ℚ products) (verdict_of (sum_steps zero_ℚ products)) result }
 {
     let mut sum = Frac::whole(0);
@@ -142,7 +142,7 @@ fn check_infeasible_past(
     requires serves { Serves sheet.problem.now sheet.lp.now request.now }
     requires shifts { length shift.now ≡ sheet.lp.now.matrix.rows }
     requires places { length ray.now ≡ size sheet.lp.now.matrix }
-    ensures { Judges (infeasible_past (sheet_shown sheet.entry) (changing_of request.now.name request.now.change) shift.now value
+    ensures { Judges (infeasible_past (sheet_view sheet.entry) (changing_of request.now.name request.now.change) shift.now value
         (value_at ray.now)) result }
 {
     let program = program_at(alloc, sheet, request, value)?;
@@ -174,7 +174,7 @@ fn check_past_unbounded(
 ) -> Result<(), Stop>
     requires row { IsRow sheet.lp.now.matrix row }
     requires pair { IsPairOf sheet.lp.now pair.now }
-    ensures { (changing : Changing) → Judges (past_test max last value (unbounded_past (sheet_shown sheet.entry) changing row value
+    ensures { (changing : Changing) → Judges (past_test max last value (unbounded_past (sheet_view sheet.entry) changing row value
         (value_at pair.now.point.items) (value_at pair.now.direction.items))) result }
 {
     ask(is_equal(value, last))?;
@@ -192,7 +192,7 @@ fn check_unbounded(
 ) -> Result<(), Stop>
     requires serves { Serves sheet.problem.now sheet.lp.now request.now }
     requires pair { IsPairOf sheet.lp.now pair.now }
-    ensures { Judges (unbounded_test (sheet_shown sheet.entry)
+    ensures { Judges (unbounded_test (sheet_view sheet.entry)
         (changing_of request.now.name request.now.change) request.now.to last value pair.now.point.items pair.now.direction.items) result }
 {
     match &request.change {
@@ -216,7 +216,7 @@ fn check_past_infeasible(
     requires serves { Serves sheet.problem.now sheet.lp.now request.now }
     requires shifts { length shift.now ≡ sheet.lp.now.matrix.rows }
     requires places { length ray.now ≡ size sheet.lp.now.matrix }
-    ensures { Judges (past_test request.now.to last value (infeasible_past (sheet_shown sheet.entry)
+    ensures { Judges (past_test request.now.to last value (infeasible_past (sheet_view sheet.entry)
         (changing_of request.now.name request.now.change) shift.now value (value_at ray.now))) result }
 {
     ask(is_equal(value, last))?;
@@ -237,7 +237,7 @@ fn check_infeasible(
     requires no_change { sheet.lp.now.change ≡ None }
     requires serves { Serves sheet.problem.now sheet.lp.now request.now }
     requires places { length ray.now ≡ size sheet.lp.now.matrix }
-    ensures { Judges (infeasible_test (sheet_shown sheet.entry)
+    ensures { Judges (infeasible_test (sheet_view sheet.entry)
         (changing_of request.now.name request.now.change) request.now.to last value ray.now) result }
 {
     match &request.change {
@@ -258,7 +258,7 @@ pub fn check_closing(
     requires no_change { sheet.lp.now.change ≡ None }
     requires serves { Serves sheet.problem.now sheet.lp.now request.now }
     requires fits { ClosingFits sheet.lp.now closing.now }
-    ensures { Judges (closing_test (sheet_shown sheet.entry) (changing_of request.now.name request.now.change) request.now.to last
+    ensures { Judges (closing_test (sheet_view sheet.entry) (changing_of request.now.name request.now.change) request.now.to last
         closing.now) result }
 {
     match closing {

@@ -6,12 +6,12 @@ ghost use Rattle.check_definitions.specs.declared.Verdict.TheVariants.{Checked};
 ghost use Rattle.check_definitions.specs.Steps.{sum_steps, verdict_of};
 ghost use Rattle.simplex_definitions.specs.ObjectiveRun.{objective_family};
 ghost use Rattle.simplex_definitions.specs.RhsRun.{rhs_family};
-ghost use Rattle.question_definitions.specs.Answers.{Sheet as Shown};
+ghost use Rattle.question_definitions.specs.Answers.{Sheet as Views};
 ghost use Rattle.answer_definitions.specs.Lines.{row_numbers};
-ghost use Rattle.answer_definitions.specs.Sweeps.{family_of};
+ghost use Rattle.answer_definitions.specs.ParametricRuns.{family_of};
 ghost use Rattle.parametric_request.specs.Asking.{ServesChange, changing_of};
 ghost use Rattle.walk_definitions.specs.Tests.{moving_steps, making_steps, along_steps};
-ghost use Rattle.listing_readers.specs.Read.{sheet_shown};
+ghost use Rattle.listing_readers.specs.Read.{sheet_view};
 ghost use Rattle.listing_answers.specs.Making.{Makes, moved, row_steps, shift_steps, AreLimits, IsAlong};
 
 use crate::answer::Stop;
@@ -39,7 +39,7 @@ pub fn plus_product(sum: Frac, x: Frac, y: Frac) -> Result<Frac, Stop>
 
 // A limit with theta times its shift, if it is there.
 fn moved(limit: Option<Frac>, theta: Frac, by: Frac) -> Result<Option<Frac>, Stop>
-    ensures { (sheet : Shown) → Makes (λ made. made ≡ moved theta by limit) (verdict_of (moving_steps sheet theta by limit)) result }
+    ensures { (sheet : Views) → Makes (λ made. made ≡ moved theta by limit) (verdict_of (moving_steps sheet theta by limit)) result }
 {
     match limit {
         Some(limit) => {
@@ -61,7 +61,7 @@ fn limits_of_row(
     requires shifts { length shift.now ≡ sheet.lp.now.matrix.rows }
     ensures { let by = value_at shift.now i in Makes (λ made. (made.0 ≡ moved theta by (lower_of sheet.entry.lp.now i)) ×
         (made.1 ≡ moved theta by (upper_of sheet.entry.lp.now i)))
-        (verdict_of (row_steps (sheet_shown sheet.entry) shift.now theta i)) result }
+        (verdict_of (row_steps (sheet_view sheet.entry) shift.now theta i)) result }
 {
     let by = shift[i as usize - 1];
     let lower = moved(sheet.lp.lower_limit(i), theta, by)?;
@@ -78,7 +78,7 @@ fn limits_of_rows(
 ) -> Result<Limits, Stop>
     requires { length shift.now ≡ sheet.lp.now.matrix.rows }
     ensures { Makes (AreLimits sheet.entry.lp.now shift.now theta (row_numbers sheet.entry.lp.now))
-        (verdict_of (shift_steps (sheet_shown sheet.entry) shift.now theta)) result }
+        (verdict_of (shift_steps (sheet_view sheet.entry) shift.now theta)) result }
 {
     let lp = sheet.lp;
     let mut lower = Vec::new(alloc);
@@ -114,7 +114,7 @@ fn shifted(alloc: Global, sheet: Sheet<'_>, shift: &[Frac], theta: Frac) -> Resu
     requires no_change { sheet.lp.now.change ≡ None }
     requires shifts { length shift.now ≡ sheet.lp.now.matrix.rows }
     ensures { Makes (λ p. p ≡ rhs_family sheet.entry.lp.now shift.now theta) (verdict_of (shift_steps
-        (sheet_shown sheet.entry) shift.now theta)) result }
+        (sheet_view sheet.entry) shift.now theta)) result }
 {
     let rows = limits_of_rows(alloc, sheet, shift, theta)?;
     let limits = with_columns(sheet.lp, rows)?;
@@ -141,8 +141,8 @@ pub fn program_at(
     requires no_change { sheet.lp.now.change ≡ None }
     requires serves { ServesChange sheet.problem.now sheet.lp.now request.now.name request.now.change }
     ensures { let changing = changing_of request.now.name request.now.change in
-        Makes (λ p. p ≡ family_of (sheet_shown sheet.entry) changing theta) (verdict_of (making_steps
-        (sheet_shown sheet.entry) changing theta)) result }
+        Makes (λ p. p ≡ family_of (sheet_view sheet.entry) changing theta) (verdict_of (making_steps
+        (sheet_view sheet.entry) changing theta)) result }
 {
     match &request.change {
         Change::Row(row) => with_row(alloc, sheet.lp, *row, theta),
@@ -161,7 +161,7 @@ pub fn along(
     requires value_places { length value.now ≡ size sheet.lp.now.matrix }
     requires rate_places { length rate.now ≡ size sheet.lp.now.matrix }
     ensures { Makes (λ made. IsAlong sheet.entry.lp.now theta value.now rate.now made.items) (verdict_of (along_steps
-        (sheet_shown sheet.entry) theta value.now rate.now)) result }
+        (sheet_view sheet.entry) theta value.now rate.now)) result }
 {
     let mut made = Vec::new(alloc);
     for i in 0..sheet.lp.number_of_variables() {

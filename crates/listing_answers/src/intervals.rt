@@ -12,7 +12,7 @@ ghost use Rattle.parametric_request.specs.Asking.{Serves, changing_of};
 ghost use Rattle.walk_definitions.specs.Words.{left_after};
 ghost use Rattle.walk_definitions.specs.Tests.{keeps_limit, interval_test};
 ghost use Rattle.walk_definitions.specs.Reading.{interval_in, tested};
-ghost use Rattle.listing_readers.specs.Read.{taken, sheet_shown};
+ghost use Rattle.listing_readers.specs.Read.{taken, sheet_view};
 ghost use Rattle.listing_answers.specs.Words.{Found};
 ghost use Rattle.listing_answers.specs.Making.{Makes};
 ghost use Rattle.listing_answers.specs.Intervals.{part_head, IsPartEnd, AreColumnsRead, Counted, IsPart, IsEnd, AreEnds, kept_steps, end_verdict, part_verdict};
@@ -148,7 +148,7 @@ fn read_columns(
     sheet: Sheet<'_>,
 ) -> Result<Option<Columns>, NoMemory>
     requires { IsSheet sheet }
-    ensures { IfOk result (AreColumnsRead (sheet_shown sheet.entry) cursor.old cursor.new) }
+    ensures { IfOk result (AreColumnsRead (sheet_view sheet.entry) cursor.old cursor.new) }
 {
     let count = sheet.lp.number_of_variables();
     let Some(numbers) = table(alloc, cursor, sheet, Shape::Part, 0, count)? else {
@@ -171,8 +171,8 @@ fn read_interval(
     from: Frac,
 ) -> Result<Option<Part>, NoMemory>
     requires { IsSheet sheet }
-    ensures { IfOk result (Found (IsPart (sheet_shown sheet.entry) from) (interval_in
-        (sheet_shown sheet.entry) number from cursor.old) cursor.new) }
+    ensures { IfOk result (Found (IsPart (sheet_view sheet.entry) from) (interval_in
+        (sheet_view sheet.entry) number from cursor.old) cursor.new) }
 {
     let Some(to) = part_end(cursor, number, from) else {
         return Ok(None);
@@ -198,8 +198,8 @@ fn check_end(
     requires serves { Serves sheet.problem.now sheet.lp.now request.now }
     requires counted { Counted sheet.lp.now columns.now }
     ensures { let changing = changing_of request.now.name request.now.change in
-        Makes (IsEnd (sheet_shown sheet.entry) changing theta columns.now) (end_verdict
-        (sheet_shown sheet.entry) changing theta columns.now) result }
+        Makes (IsEnd (sheet_view sheet.entry) changing theta columns.now) (end_verdict
+        (sheet_view sheet.entry) changing theta columns.now) result }
 {
     let program = program_at(alloc, sheet, request, theta)?;
     let point = along(alloc, sheet, theta, &columns.value, &columns.value_rate)?;
@@ -313,7 +313,7 @@ fn check_part(
     requires no_change { sheet.lp.now.change ≡ None }
     requires serves { Serves sheet.problem.now sheet.lp.now request.now }
     requires counted { Counted sheet.lp.now part.now.columns }
-    ensures { Judges (part_verdict (sheet_shown sheet.entry) (changing_of request.now.name request.now.change) from part.now.to
+    ensures { Judges (part_verdict (sheet_view sheet.entry) (changing_of request.now.name request.now.change) from part.now.to
         part.now.columns is_first request.now.to) result }
 {
     ask(goes_on(from, part.to, is_first))?;
@@ -337,8 +337,8 @@ pub fn read_part(
     requires no_change { sheet.lp.now.change ≡ None }
     requires serves { Serves sheet.problem.now sheet.lp.now request.now }
     ensures { let changing = changing_of request.now.name request.now.change in
-        Taken (λ to interval. to ≡ interval.to) (tested (interval_test (sheet_shown sheet.entry) changing
-        (nat_eq number 1) request.now.to) (interval_in (sheet_shown sheet.entry) number last cursor.old)) cursor.new result }
+        Taken (λ to interval. to ≡ interval.to) (tested (interval_test (sheet_view sheet.entry) changing
+        (nat_eq number 1) request.now.to) (interval_in (sheet_view sheet.entry) number last cursor.old)) cursor.new result }
 {
     let Some(part) = read_interval(alloc, cursor, sheet, number, last)? else {
         return Err(Stop::Wrong);

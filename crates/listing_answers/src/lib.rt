@@ -13,9 +13,9 @@ mod judging;
 mod openings;
 mod solution;
 mod solution_tests;
-mod sweeping;
+mod parametric_runs;
 mod words;
 
 pub use answer::{
-    Conclusion, Stop, SweepAnswer, answer_to_path, answer_to_solution, answer_to_sweep,
+    Conclusion, Stop, ParametricRunAnswer, answer_to_path, answer_to_solution, answer_to_parametric_run,
 };

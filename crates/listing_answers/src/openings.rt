@@ -2,11 +2,11 @@
 ghost use Rattle.std.specs.Prelude.{◌≡◌, ◌++◌, ℕ, None, codes};
 ghost use Rattle.lp_definitions.specs.LinearProgram.{IsLinearProgram};
 ghost use Rattle.listing_tables.specs.Sheets.{IsSheet};
-ghost use Rattle.question_definitions.specs.Answers.{sweeper};
-ghost use Rattle.parametric_request.specs.Asking.{Serves, changing_of, sweep_of};
+ghost use Rattle.question_definitions.specs.Answers.{parametric_solver};
+ghost use Rattle.parametric_request.specs.Asking.{Serves, changing_of, parametric_run_of};
 ghost use Rattle.walk_definitions.specs.Words.{left_after};
-ghost use Rattle.walk_definitions.specs.Reading.{sweep_head, opening_in};
-ghost use Rattle.listing_readers.specs.Read.{taken, sheet_shown};
+ghost use Rattle.walk_definitions.specs.Reading.{parametric_run_head, opening_in};
+ghost use Rattle.listing_readers.specs.Read.{taken, sheet_view};
 ghost use Rattle.listing_answers.specs.Claims.{mark_by};
 ghost use Rattle.listing_answers.specs.Taken.{Taken, IsOpened};
 
@@ -23,7 +23,7 @@ use std::alloc::Global;
 
 /// The verb that makes the run.
 pub fn solver_of(request: &ParametricRequest) -> Solver
-    ensures { result ≡ sweeper (changing_of request.now.name request.now.change) }
+    ensures { result ≡ parametric_solver (changing_of request.now.name request.now.change) }
 {
     match &request.change {
         Change::Row(_) => Solver::Paraobj,
@@ -80,8 +80,8 @@ fn take_head(
 }
 
 /// Takes what stands before the first interval.
-pub fn take_sweep_head(cursor: &mut Cursor<'_>, request: &ParametricRequest) -> bool
-    ensures { (limit : ℕ) → left_after (sweep_head (sweep_of limit request.now)) cursor.old ≡ taken result cursor.new }
+pub fn take_parametric_run_head(cursor: &mut Cursor<'_>, request: &ParametricRequest) -> bool
+    ensures { (limit : ℕ) → left_after (parametric_run_head (parametric_run_of limit request.now)) cursor.old ≡ taken result cursor.new }
 {
     let value = fraction(request.from);
     take_head(
@@ -117,8 +117,8 @@ pub fn read_opening(
     requires lawful { IsLinearProgram sheet.lp.now }
     requires no_change { sheet.lp.now.change ≡ None }
     requires serves { Serves sheet.problem.now sheet.lp.now request.now }
-    ensures { (limit : ℕ) → Taken IsOpened (opening_in (sheet_shown sheet.entry)
-        (sweep_of limit request.now) cursor.old) cursor.new result }
+    ensures { (limit : ℕ) → Taken IsOpened (opening_in (sheet_view sheet.entry)
+        (parametric_run_of limit request.now) cursor.old) cursor.new result }
 {
     let Some(stated) = read_verdict(alloc, cursor, sheet, solver_of(request))? else {
         return Err(Stop::Wrong);

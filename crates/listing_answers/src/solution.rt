@@ -6,7 +6,7 @@ ghost use Rattle.listing_tables.specs.Sheets.{IsSheet};
 ghost use Rattle.answer_definitions.specs.Lines.{row_numbers, column_numbers};
 ghost use Rattle.walk_definitions.specs.Words.{left_after};
 ghost use Rattle.walk_definitions.specs.Reading.{solution_in};
-ghost use Rattle.listing_readers.specs.Read.{taken, sheet_shown};
+ghost use Rattle.listing_readers.specs.Read.{taken, sheet_view};
 ghost use Rattle.listing_readers.specs.Tables.{IsTableRead};
 ghost use Rattle.listing_answers.specs.Words.{Found};
 ghost use Rattle.listing_answers.specs.Solutions.{rows_head, columns_head, AreLines, IsPrinted};
@@ -83,7 +83,7 @@ fn rows(
 ) -> Result<Option<Vec<Numbers>>, NoMemory>
     requires sheet { IsSheet sheet }
     requires lawful { IsLinearProgram sheet.lp.now }
-    ensures { IfOk result (λ found. IsTableRead (sheet_shown sheet.entry) Shape.Row (row_numbers sheet.entry.lp.now)
+    ensures { IfOk result (λ found. IsTableRead (sheet_view sheet.entry) Shape.Row (row_numbers sheet.entry.lp.now)
         cursor.old cursor.new (option_map (λ table. table.items) found)) }
 {
     let lp = sheet.lp;
@@ -99,7 +99,7 @@ fn columns(
     requires sheet { IsSheet sheet }
     requires lawful { IsLinearProgram sheet.lp.now }
     requires no_change { sheet.lp.now.change ≡ None }
-    ensures { IfOk result (λ found. IsTableRead (sheet_shown sheet.entry) Shape.Column (column_numbers sheet.entry.lp.now)
+    ensures { IfOk result (λ found. IsTableRead (sheet_view sheet.entry) Shape.Column (column_numbers sheet.entry.lp.now)
         cursor.old cursor.new (option_map (λ table. table.items) found)) }
 {
     let lp = sheet.lp;
@@ -116,7 +116,7 @@ pub fn read_lines(
     requires sheet { IsSheet sheet }
     requires lawful { IsLinearProgram sheet.lp.now }
     requires no_change { sheet.lp.now.change ≡ None }
-    ensures { IfOk result (Found (AreLines (sheet_shown sheet.entry)) (solution_in (sheet_shown sheet.entry) mark cursor.old) cursor.new) }
+    ensures { IfOk result (Found (AreLines (sheet_view sheet.entry)) (solution_in (sheet_view sheet.entry) mark cursor.old) cursor.new) }
 {
     if !take_rows_head(cursor, mark) {
         return Ok(None);

@@ -5,7 +5,7 @@ ghost use Rattle.lp_definitions.specs.LinearProgram.{IsLinearProgram, IsRow, siz
 ghost use Rattle.check_definitions.specs.Steps.{verdict_of};
 ghost use Rattle.answer_definitions.specs.Lines.{row_numbers};
 ghost use Rattle.walk_definitions.specs.Tests.{slack_steps, best_test};
-ghost use Rattle.listing_readers.specs.Read.{sheet_shown};
+ghost use Rattle.listing_readers.specs.Read.{sheet_view};
 ghost use Rattle.listing_answers.specs.Passing.{Judges};
 ghost use Rattle.listing_answers.specs.Solutions.{Counted, printed_test};
 
@@ -23,7 +23,7 @@ fn check_slack(sheet: Sheet<'_>, point: &[Frac], slacks: &[Frac], i: u32) -> Res
     requires row { IsRow sheet.lp.now.matrix i }
     requires point_places { length point.now ≡ size sheet.lp.now.matrix }
     requires slack_places { length slacks.now ≡ sheet.lp.now.matrix.rows }
-    ensures { Judges (verdict_of (slack_steps (sheet_shown sheet.entry) (value_at point.now) (value_at slacks.now) i)) result }
+    ensures { Judges (verdict_of (slack_steps (sheet_view sheet.entry) (value_at point.now) (value_at slacks.now) i)) result }
 {
     let lp = sheet.lp;
     let place = i as usize - 1;
@@ -36,7 +36,7 @@ fn check_slacks(sheet: Sheet<'_>, point: &[Frac], slacks: &[Frac]) -> Result<(),
     requires lawful { IsLinearProgram sheet.lp.now }
     requires point_places { length point.now ≡ size sheet.lp.now.matrix }
     requires slack_places { length slacks.now ≡ sheet.lp.now.matrix.rows }
-    ensures { Judges (verdict_of (flat_map (slack_steps (sheet_shown sheet.entry) (value_at point.now) (value_at slacks.now))
+    ensures { Judges (verdict_of (flat_map (slack_steps (sheet_view sheet.entry) (value_at point.now) (value_at slacks.now))
         (row_numbers sheet.entry.lp.now))) result }
 {
     let lp = sheet.lp;
@@ -50,7 +50,7 @@ fn check_slacks(sheet: Sheet<'_>, point: &[Frac], slacks: &[Frac]) -> Result<(),
 fn check_best(sheet: Sheet<'_>, mark: Mark, point: &[Frac], prices: &[Frac]) -> Verdict
     requires point_places { length point.now ≡ size sheet.lp.now.matrix }
     requires price_places { length prices.now ≡ size sheet.lp.now.matrix }
-    ensures { result ≡ best_test (sheet_shown sheet.entry) mark (value_at point.now) (value_at prices.now) }
+    ensures { result ≡ best_test (sheet_view sheet.entry) mark (value_at point.now) (value_at prices.now) }
 {
     match mark {
         Mark::Optimal => check_optimal(sheet.lp, point, prices),
@@ -70,7 +70,7 @@ fn check_values(
     requires point_places { length point.now ≡ size sheet.lp.now.matrix }
     requires price_places { length prices.now ≡ size sheet.lp.now.matrix }
     requires slack_places { length slacks.now ≡ sheet.lp.now.matrix.rows }
-    ensures { Judges (printed_test (sheet_shown sheet.entry) mark (value_at point.now) (value_at prices.now) (value_at slacks.now)) result }
+    ensures { Judges (printed_test (sheet_view sheet.entry) mark (value_at point.now) (value_at prices.now) (value_at slacks.now)) result }
 {
     judge(check_equations(sheet.lp, point))?;
     judge(check_prices(sheet.lp, prices))?;
@@ -82,7 +82,7 @@ fn check_values(
 pub fn check_printed(sheet: Sheet<'_>, mark: Mark, printed: &Printed) -> Result<(), Stop>
     requires lawful { IsLinearProgram sheet.lp.now }
     requires counted { Counted sheet.lp.now printed.now }
-    ensures { Judges (printed_test (sheet_shown sheet.entry) mark (value_at printed.now.point.items) (value_at printed.now.prices.items)
+    ensures { Judges (printed_test (sheet_view sheet.entry) mark (value_at printed.now.point.items) (value_at printed.now.prices.items)
         (value_at printed.now.slacks.items)) result }
 {
     check_values(

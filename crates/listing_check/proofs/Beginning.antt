@@ -11,14 +11,14 @@ use Rattle.job_program.specs.declared.stop.EarlyStop.{EarlyStop}
 use Rattle.job_program.specs.declared.stop.EarlyStop.TheVariants as stops
 use Rattle.job_program.specs.Stops.{HasStopCause}
 use Rattle.listing_walk.specs.declared.found.Found.{Found}
-use Rattle.listing_walk.specs.Ended.{found_shown, decks_after, IsFoundBy}
+use Rattle.listing_walk.specs.Ended.{found_view, decks_after, IsFoundBy}
 use Rattle.listing_check.specs.declared.start.Start.{Start}
 use Rattle.listing_check.specs.declared.start.Start.TheVariants.{Program, Card, Control}
 use Rattle.listing_check.specs.Starting.{IsStartOf, IsWhole}
 
 module _ (listing : List ℕ) (start : Start) where
   abbrev pub Finds : Result Found NoMemory → Type 0
-  Finds result = IfOk result (λ found. (bytes : List ℕ) → IsStartOf bytes start → Comes bytes listing (found_shown found))
+  Finds result = IfOk result (λ found. (bytes : List ℕ) → IsStartOf bytes start → Comes bytes listing (found_view found))
 
   pub by_walk : (prepared : Prepared) → start ≡ Program prepared → (result : Result Found NoMemory) → IfOk result (IsFoundBy prepared.program prepared.cards listing) → Finds result
   by_walk prepared e (Ok found) f = λ bytes is.
@@ -26,11 +26,11 @@ module _ (listing : List ℕ) (start : Start) where
       of_walk prepared.program f.walker are.1 (subst (λ (cards : List (List ℕ)). Reaches prepared.program (decks_after prepared.program cards) listing f.walker) are.0 f.reaches) f.finds
   by_walk prepared e (Err none) f = tt
 
-  pub by_card : (fault : CardFault) → start ≡ Card fault → (result : Result Found NoMemory) → IfOk result (λ found. walks.closes (first_walker [] listing) (CardStop fault) ≡ walks.Finds (found_shown found)) → Finds result
+  pub by_card : (fault : CardFault) → start ≡ Card fault → (result : Result Found NoMemory) → IfOk result (λ found. walks.closes (first_walker [] listing) (CardStop fault) ≡ walks.Finds (found_view found)) → Finds result
   by_card fault e (Ok found) f = λ bytes is. of_cards fault (subst (IsStartOf bytes) e is) f
   by_card fault e (Err none) f = tt
 
-  pub by_control : (fault : ControlFault) → start ≡ Control fault → (result : Result Found NoMemory) → IfOk result (λ found. walks.closes (first_walker [] listing) (ControlStop fault) ≡ walks.Finds (found_shown found)) → Finds result
+  pub by_control : (fault : ControlFault) → start ≡ Control fault → (result : Result Found NoMemory) → IfOk result (λ found. walks.closes (first_walker [] listing) (ControlStop fault) ≡ walks.Finds (found_view found)) → Finds result
   by_control fault e (Ok found) f = λ bytes is. let are = subst (IsStartOf bytes) e is in of_control fault are.0 are.1 f
   by_control fault e (Err none) f = tt
 

@@ -17,7 +17,7 @@ read_fault_text = codes "STOP 24 READ FAULT\n"
 abbrev pub listing_fault_text : List ℕ
 listing_fault_text = codes "STOP 27 LISTING FAULT\n"
 
--- what has failed in a call: a read of the job, one of the listing, a write to the print; or the print has wanted memory
+-- what has failed in a call: a read of the job, one of the listing, a write to the print; or the print has ran out of memory
 pub record CheckFailures : Type 1 where
   pub job : Type 0
   pub listing : Type 0

@@ -16,7 +16,7 @@ pub record Circumstances : Type 1 where
 
 module _ (c : Circumstances) where
   -- Words are refused before anything is read. Without words the job is read, and a read may fail; then the listing is, and a read may
-  -- fail; and what else is told comes when both are read whole.
+  -- fail; and what else is reported comes when both are read whole.
   abbrev pub IsWhy : CheckStatus → Type 0
   IsWhy Words = 0 < c.words
   IsWhy ReadFault = (c.words ≡ 0) × c.job_fails
@@ -25,7 +25,7 @@ module _ (c : Circumstances) where
   IsWhy Memory = ⊥
   IsWhy own = (c.words ≡ 0) × c.job_read × c.listing_read
 
-  -- a write to the print may fail in each line that may be due, and memory may be wanted at any time
+  -- a write to the print may fail in each line that may be due, and memory may run out at any time
   abbrev pub HasCheckCause : CheckStatus → Type 0
   HasCheckCause PrintFault = c.print_fails × (own : CheckStatus) × IsWhy own
   HasCheckCause Memory = Unit {0}

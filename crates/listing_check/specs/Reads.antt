@@ -12,7 +12,7 @@ use Rattle.listing_check.specs.Devices.{EndsWith}
 use Rattle.listing_check.specs.Answer.{read_fault_text, listing_fault_text}
 
 -- Whether a read of the job has failed, its count of faults is as before, and it is read whole; and so of the listing, of which also
--- whether it wasn't touched. And which bytes are those of the job, and which those of the listing, so far as they are told.
+-- whether it wasn't touched. And which bytes are those of the job, and which those of the listing, so far as they are reported.
 pub record Reads : Type 1 where
   pub job_fails : Type 0
   pub job_quiet : Type 0

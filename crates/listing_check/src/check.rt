@@ -4,7 +4,7 @@ ghost use Rattle.std.specs.Io.KnownBytes.{Appends};
 ghost use Rattle.job_devices.specs.Causes.{Rose};
 ghost use Rattle.job_devices.specs.Reading.{ReadsUpTo, ReadsWhole};
 ghost use Rattle.card_reader.specs.Reading.{ReadsJob, ReadsPrefix};
-ghost use Rattle.job_program.specs.Stops.{TellsEarlyStop};
+ghost use Rattle.job_program.specs.Stops.{ReportsEarlyStop};
 ghost use Rattle.walk_laws.specs.Proved.{IsTrueListing};
 ghost use Rattle.listing_check.specs.Statuses.{code_of};
 ghost use Rattle.listing_check.specs.Devices.{IsReported, IsStill, EndsWith};
@@ -94,7 +94,7 @@ fn check_stopped<L: Source, P: Sink>(
       listing_quiet = L.faults listing.new ≡ L.faults listing.old;
       listing_read = ReadsWhole 64000001 (L.left listing.old) (L.left listing.new);
       listing_same = listing.new ≡ listing.old;
-      is_job = λ bytes. TellsEarlyStop (Some bytes) stop;
+      is_job = λ bytes. ReportsEarlyStop (Some bytes) stop;
       is_listing = λ lines. L.left listing.old ≡ Some lines;
     }) P.written P.stopped_at P.faults P.refusals print.old print.new result }
     ensures no_further { ReadsUpTo 64000001 (L.left listing.old) (L.left listing.new) }
@@ -138,8 +138,8 @@ fn check_job<S: Source, L: Source, P: Sink>(
 ///
 /// The words are those after the program's name, and there may be none: nothing is read then. Else the job is read to its end, or as far
 /// as byte 16,400,001, and then the listing, as far as byte 64,000,001. One line is printed, which tells what the listing is found to be
-/// where the walk along the job's program ends; and the status tells it too. After a fault of the print, or where the print wants memory,
-/// nothing more is printed. Want of memory may end a check at any time.
+/// where the walk along the job's program ends; and the status tells it too. After a fault of the print, or where the print runs out of memory,
+/// nothing more is printed. Running out of memory may end a check at any time.
 pub fn check_listing<S: Source, L: Source, P: Sink>(
     alloc: Global,
     words: &[String],
@@ -149,7 +149,7 @@ pub fn check_listing<S: Source, L: Source, P: Sink>(
 ) -> CheckStatus
     // The theorem. An attested listing is that of a run of the job's program in which the answers of linear programming are those that
     // passed their tests, and each report says the truth of the state in which it was made: a SOLUTION OPTIMAL is a feasible point
-    // that no feasible point betters, with prices that prove it; a verdict holds; and what is printed of a parametric run is right at
+    // that no feasible point improves, with prices that prove it; a verdict holds; and what is printed of a parametric run is right at
     // every value of the parameter.
     ensures truth { result ≡ CheckStatus.Attested → (bytes lines : List ℕ) → S.left job.old ≡ Some bytes →
         L.left listing.old ≡ Some lines → IsTrueListing bytes lines }
@@ -185,7 +185,7 @@ pub fn check_listing<S: Source, L: Source, P: Sink>(
         })
         result }
 
-    // What the status reports: a fault of the print by 25, and want of memory there by 28; a fault of a read of the job by 24 and one of
+    // What the status reports: a fault of the print by 25, and running out of memory there by 28; a fault of a read of the job by 24 and one of
     // the listing by 27, unless the print stops as well and the status is that of its stop.
     ensures reported { IsReported
         (record {
@@ -202,7 +202,7 @@ pub fn check_listing<S: Source, L: Source, P: Sink>(
         })
         (code_of result) }
 
-    // After a fault of the print, or where it wants memory, nothing more is written to it.
+    // After a fault of the print, or where it runs out of memory, nothing more is written to it.
     ensures still { IsStill P.written P.stopped_at P.faults P.refusals print.old print.new }
 
     // How far the job and the listing are read, and what stays the same.

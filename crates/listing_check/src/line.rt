@@ -4,7 +4,7 @@ ghost use Rattle.std.specs.List.{concat};
 ghost use Rattle.listing_definitions.specs.Numbers.{digits};
 ghost use Rattle.job_devices.specs.Text.{Writes};
 ghost use Rattle.walk_definitions.specs.Found.{line_feeds, line_of, line_text, answer_text};
-ghost use Rattle.listing_walk.specs.Ended.{found_shown};
+ghost use Rattle.listing_walk.specs.Ended.{found_view};
 ghost use Rattle.listing_check.specs.Statuses.{cut_status, status_of};
 ghost use Rattle.listing_check.specs.Devices.{EndsWith};
 
@@ -77,7 +77,7 @@ fn put_attested<P: Sink>(print: &mut P, reports: u32) -> Result<(), WriteStop>
 // What a listing is found to be.
 fn put_found<P: Sink>(print: &mut P, listing: &[u8], found: &Found<'_>) -> Result<(), WriteStop>
     ensures { Writes P.written P.stopped_at P.faults P.refusals print.old print.new result
-        (answer_text listing.now (Some (found_shown found.now))) }
+        (answer_text listing.now (Some (found_view found.now))) }
 {
     match found {
         Found::Attested(reports) => put_attested(print, *reports),
@@ -89,7 +89,7 @@ fn put_found<P: Sink>(print: &mut P, listing: &[u8], found: &Found<'_>) -> Resul
 
 // The status of what a listing is found to be.
 fn found_status(found: &Found<'_>) -> CheckStatus
-    ensures { result ≡ status_of (Some (found_shown found.now)) }
+    ensures { result ≡ status_of (Some (found_view found.now)) }
 {
     match found {
         Found::Attested(_) => CheckStatus::Attested,
@@ -122,7 +122,7 @@ pub fn end_with<P: Sink>(print: &mut P, line: &'static [u8], own: CheckStatus) -
 /// Prints what a listing is found to be, and answers the status of that. A stop of the print comes before it.
 pub fn end_found<P: Sink>(print: &mut P, listing: &[u8], found: &Found<'_>) -> CheckStatus
     ensures { EndsWith P.written P.stopped_at P.faults P.refusals print.old print.new
-        (answer_text listing.now (Some (found_shown found.now))) (status_of (Some (found_shown found.now))) result }
+        (answer_text listing.now (Some (found_view found.now))) (status_of (Some (found_view found.now))) result }
 {
     match put_found(print, listing, found) {
         Ok(()) => found_status(found),

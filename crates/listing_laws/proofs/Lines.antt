@@ -13,7 +13,7 @@ use Rattle.problem_definitions.proofs.NamePlaces.{name_in_places}
 use Rattle.listing_definitions.specs.Numbers.{digits}
 use Rattle.listing_definitions.specs.Report.{Line}
 use Rattle.listing_definitions.specs.Text.{name8, values_text, line_text, table_text}
-use Rattle.listing_laws.specs.Told.{begins_line}
+use Rattle.listing_laws.specs.Reported.{begins_line}
 use Rattle.listing_laws.proofs.Cutting.{weaker, heads, cut, same_front}
 use Rattle.listing_laws.proofs.Digits.{digits_are, digit_there, digits_tell}
 use Rattle.listing_laws.proofs.Values.{values_tell}

@@ -11,7 +11,7 @@ use Rattle.listing_definitions.specs.declared.Solver.TheVariants.{Primal, Dual, 
 use Rattle.listing_definitions.specs.Numbers.{digits, rational_text}
 use Rattle.listing_definitions.specs.Report.{Line, Filed, PathVerdict, OptimalAt, CrossedAt, InfeasibleBy, UnboundedBy, Check, SolutionLines, RangeLines, Interval, ChainEnd, EndsAt, UnboundedPast, InfeasiblePast, Chain, Report, Titled, Converted, Revised, SetUp, BcdOut, BasisOut, Inserted, Solved, Solution, Ranges, Parametric}
 use Rattle.listing_definitions.specs.Text.{name8, table_text, check_text, solver_text, verdict_head, verdict_lines, interval_text, chain_end_text, solution_text, ranges_text, report_text}
-use Rattle.listing_laws.specs.Told.{begins_line, AreNamed, IsEndNamed, IsNamed}
+use Rattle.listing_laws.specs.Reported.{begins_line, AreNamed, IsEndNamed, IsNamed}
 use Rattle.listing_laws.proofs.Cutting.{differ}
 use Rattle.listing_laws.proofs.Lines.{name_tells, table_tells}
 use Rattle.listing_laws.proofs.Words.{number_then, rational_then, name_then, solver_then, mark_then, sense_then, check_then, begin_otherwise}
@@ -19,8 +19,8 @@ use Rattle.listing_laws.proofs.Words.{number_then, rational_then, name_then, sol
 -- ---- verdicts
 
 -- a verdict's first line and what stands after it: the check, and the table
-abbrev pub shown : PathVerdict → Check → List ℕ
-shown verdict check = verdict_head verdict ++ (codes " " ++ (check_text check ++ (codes "\n" ++ (table_text (verdict_lines verdict) ++ []))))
+abbrev pub viewed : PathVerdict → Check → List ℕ
+viewed verdict check = verdict_head verdict ++ (codes " " ++ (check_text check ++ (codes "\n" ++ (table_text (verdict_lines verdict) ++ []))))
 
 optimal_parts : (steps : ℕ) (objective : ℚ) (rest : List ℕ) → verdict_head (OptimalAt steps objective) ++ rest ≡ codes "OPTIMAL STEPS " ++ (digits steps ++ (codes " OBJECTIVE " ++ (rational_text objective ++ rest)))
 optimal_parts steps objective rest = simp (append_assoc, append-nil)
@@ -46,13 +46,13 @@ last_table : (xs ys : List Line) → AreNamed xs → AreNamed ys → table_text 
 last_table xs ys x_named y_named e = (table_tells xs ys [] [] x_named y_named refl refl e).0
 
 -- no crossed variable where a ray is
-no_crossing : (number steps : ℕ) (lines : List Line) (c d : Check) → shown (CrossedAt number) c ≡ shown (InfeasibleBy steps lines) d → ⊥
+no_crossing : (number steps : ℕ) (lines : List Line) (c d : Check) → viewed (CrossedAt number) c ≡ viewed (InfeasibleBy steps lines) d → ⊥
 no_crossing number steps lines c d e =
     let whole = sym (crossed_parts number _) ∙ e ∙ infeasible_parts steps lines _ in
     let numbers = number_then (codes " ") 0 steps (codes "CROSSED " ++ _) (codes "RAY" ++ _) refl (append_cancel_left (codes "INFEASIBLE STEPS ") _ _ whole) in
     begin_otherwise 1 _ _ refl numbers.1
 
-pub verdict_tells : (v w : PathVerdict) (c d : Check) → AreNamed (verdict_lines v) → AreNamed (verdict_lines w) → shown v c ≡ shown w d → (v ≡ w) × (c ≡ d)
+pub verdict_tells : (v w : PathVerdict) (c d : Check) → AreNamed (verdict_lines v) → AreNamed (verdict_lines w) → viewed v c ≡ viewed w d → (v ≡ w) × (c ≡ d)
 verdict_tells (OptimalAt m x) (OptimalAt n y) c d v_named w_named e =
     let whole = sym (optimal_parts m x _) ∙ e ∙ optimal_parts n y _ in
     let parts = objective_then m n x y _ _ (append_cancel_left (codes "OPTIMAL STEPS ") _ _ whole) in
@@ -255,7 +255,7 @@ chain_tells solver x y x_named y_named e =
 -- ---- reports
 
 -- a verdict is no parametric run
-no_run : (verdict : PathVerdict) (check : Check) (solver : Solver) (chain : Chain) → shown verdict check ≡ chain_rest solver chain → ⊥
+no_run : (verdict : PathVerdict) (check : Check) (solver : Solver) (chain : Chain) → viewed verdict check ≡ chain_rest solver chain → ⊥
 no_run (OptimalAt m x) check solver chain e = begin_otherwise 1 _ _ refl e
 no_run (CrossedAt m) check solver chain e = begin_otherwise 1 _ _ refl e
 no_run (InfeasibleBy m xs) check solver chain e = begin_otherwise 1 _ _ refl e
@@ -282,7 +282,7 @@ report_tells (Inserted a m) (Inserted b n) x_named y_named e =
     let basic = number_then (codes "\n") m n [] [] refl (append_cancel_left (codes " BASIC ") _ _ name.1) in
     ap₂ Inserted name.0 basic.0
 report_tells (Solved s v c) (Solved t w d) x_named y_named e =
-    let solver = solver_then s t (shown v c) (shown w d) e in
+    let solver = solver_then s t (viewed v c) (viewed w d) e in
     let verdict = verdict_tells v w c d x_named y_named solver.1 in
     λ i. Solved (solver.0 i) (verdict.0 i) (verdict.1 i)
 report_tells (Solution m x) (Solution n y) x_named y_named e =
@@ -293,8 +293,8 @@ report_tells (Parametric s x) (Parametric t y) x_named y_named e =
     let solver = solver_then s t (chain_rest s x) (chain_rest t y) e in
     let same : chain_rest s x ≡ chain_rest s y = solver.1 ∙ ap (λ by. chain_rest by y) (sym solver.0) in
     ap₂ Parametric solver.0 (chain_tells s x y x_named y_named same)
-report_tells (Solved s v c) (Parametric t y) x_named y_named e = absurd (no_run v c t y (solver_then s t (shown v c) (chain_rest t y) e).1)
-report_tells (Parametric s x) (Solved t w d) x_named y_named e = absurd (no_run w d s x (sym (solver_then s t (chain_rest s x) (shown w d) e).1))
+report_tells (Solved s v c) (Parametric t y) x_named y_named e = absurd (no_run v c t y (solver_then s t (viewed v c) (chain_rest t y) e).1)
+report_tells (Parametric s x) (Solved t w d) x_named y_named e = absurd (no_run w d s x (sym (solver_then s t (chain_rest s x) (viewed w d) e).1))
 report_tells (Titled a) (Converted b) x_named y_named e = absurd (begin_otherwise 2 _ _ refl e)
 report_tells (Titled a) (Revised b) x_named y_named e = absurd (begin_otherwise 2 _ _ refl e)
 report_tells (Titled a) (SetUp b t) x_named y_named e = absurd (begin_otherwise 2 _ _ refl e)

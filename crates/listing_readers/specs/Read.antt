@@ -1,6 +1,6 @@
 -- What a reader answers, and what is left after it.
 --     taken ok rest           so much is left, where a text was taken
---     sheet_shown sheet       the problem and the linear program
+--     sheet_view sheet       the problem and the linear program
 use Rattle.std.specs.Prelude.{ℕ, Bool, List, Option, Some, None, if◌then◌else◌}
 use Rattle.listing_tables.specs.declared.sheet.Sheet.{Sheet}
 use Rattle.question_definitions.specs.Answers as questions
@@ -8,5 +8,5 @@ use Rattle.question_definitions.specs.Answers as questions
 abbrev pub taken : Bool → List ℕ → Option (List ℕ)
 taken ok rest = if ok then Some rest else None
 
-abbrev pub sheet_shown : Sheet → questions.Sheet
-sheet_shown sheet = record { problem = sheet.problem.now; lp = sheet.lp.now }
+abbrev pub sheet_view : Sheet → questions.Sheet
+sheet_view sheet = record { problem = sheet.problem.now; lp = sheet.lp.now }

@@ -8,7 +8,7 @@ ghost use Rattle.listing_tables.specs.Sheets.{IsSheet};
 ghost use Rattle.walk_definitions.specs.Words.{left_after};
 ghost use Rattle.walk_definitions.specs.Forms.{all_operations};
 ghost use Rattle.walk_definitions.specs.Tables.{all_codes, AnyCode, AnyNumber, Known, slot_in, line_head};
-ghost use Rattle.listing_readers.specs.Read.{taken, sheet_shown};
+ghost use Rattle.listing_readers.specs.Read.{taken, sheet_view};
 
 use crate::cursor::Cursor;
 use crate::numbers::fraction_in;
@@ -56,7 +56,7 @@ fn take_name_after_blank(cursor: &mut Cursor<'_>, name: Name) -> bool
 pub fn take_head(cursor: &mut Cursor<'_>, sheet: Sheet<'_>, k: u32) -> bool
     requires sheet { IsSheet sheet }
     requires variable { IsVariable sheet.lp.now.matrix k }
-    ensures { left_after (line_head (sheet_shown sheet.entry) k) cursor.old ≡ taken result cursor.new }
+    ensures { left_after (line_head (sheet_view sheet.entry) k) cursor.old ≡ taken result cursor.new }
 {
     take_number(cursor, k) && take_name_after_blank(cursor, name_of(sheet, k))
 }

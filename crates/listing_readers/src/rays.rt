@@ -10,7 +10,7 @@ ghost use Rattle.card_definitions.specs.Words.{without_leading};
 ghost use Rattle.listing_tables.specs.Sheets.{IsSheet};
 ghost use Rattle.walk_definitions.specs.Words.{left_after};
 ghost use Rattle.walk_definitions.specs.Tables.{begins, begins_table_line, line_head};
-ghost use Rattle.listing_readers.specs.Read.{taken, sheet_shown};
+ghost use Rattle.listing_readers.specs.Read.{taken, sheet_view};
 ghost use Rattle.listing_readers.specs.Tables.{IsMultiplierRead, IsRayRead};
 
 use crate::cursor::Cursor;
@@ -93,7 +93,7 @@ fn is_zero(value: Frac) -> bool
 fn begins_line(cursor: &Cursor<'_>, sheet: Sheet<'_>, k: u32) -> bool
     requires sheet { IsSheet sheet }
     requires variable { IsVariable sheet.lp.now.matrix k }
-    ensures { (left : List ℕ) × (left_after (line_head (sheet_shown sheet.entry) k) cursor.now ≡ taken result left) }
+    ensures { (left : List ℕ) × (left_after (line_head (sheet_view sheet.entry) k) cursor.now ≡ taken result left) }
 {
     let mut ahead = Cursor::new(cursor.rest());
     take_head(&mut ahead, sheet, k)
@@ -103,7 +103,7 @@ fn begins_line(cursor: &Cursor<'_>, sheet: Sheet<'_>, k: u32) -> bool
 fn multiplier(cursor: &mut Cursor<'_>, sheet: Sheet<'_>, k: u32) -> Option<Frac>
     requires sheet { IsSheet sheet }
     requires variable { IsVariable sheet.lp.now.matrix k }
-    ensures { IsMultiplierRead (sheet_shown sheet.entry) k cursor.old cursor.new result }
+    ensures { IsMultiplierRead (sheet_view sheet.entry) k cursor.old cursor.new result }
 {
     if !begins_line(cursor, sheet, k) {
         return Some(Frac::whole(0));
@@ -122,7 +122,7 @@ pub fn ray(
     sheet: Sheet<'_>,
 ) -> Result<Option<Vec<Frac>>, NoMemory>
     requires { IsSheet sheet }
-    ensures { IfOk result (λ found. IsRayRead (sheet_shown sheet.entry) cursor.old cursor.new
+    ensures { IfOk result (λ found. IsRayRead (sheet_view sheet.entry) cursor.old cursor.new
         (option_map (λ ray. ray.items) found)) }
 {
     let count = sheet.lp.number_of_variables();

@@ -177,7 +177,7 @@ fn is_line(bytes: &[u8], line: &[u8]) -> bool
     cursor.take(line)
 }
 
-// A fault of a device, or want of memory.
+// A fault of a device, or running out of memory.
 fn is_fault(bytes: &[u8]) -> bool
     ensures { result ≡ (has_form read_fault bytes.now || (has_form punch_fault bytes.now || has_form memory_stop bytes.now)) }
 {

@@ -6,7 +6,7 @@ ghost use Rattle.listing_definitions.specs.Report.{limit_value, Code, Number};
 ghost use Rattle.listing_tables.specs.Sheets.{IsSheet};
 ghost use Rattle.walk_definitions.specs.Tables.{AnyCode, AnyNumber, Known, pair_slots, part_slots, values_in};
 ghost use Rattle.walk_definitions.specs.Reading.{row_slots, column_slots};
-ghost use Rattle.listing_readers.specs.Read.{sheet_shown};
+ghost use Rattle.listing_readers.specs.Read.{sheet_view};
 ghost use Rattle.listing_readers.specs.Tables.{slots_of, MayRead, AreRead, IsLineRead, IsTableRead};
 
 use crate::cursor::Cursor;
@@ -300,7 +300,7 @@ fn column_values(cursor: &mut Cursor<'_>, lp: &Lp, k: u32) -> Option<Numbers>
 // The values of the line of variable `k`.
 fn values(cursor: &mut Cursor<'_>, sheet: Sheet<'_>, shape: Shape, k: u32) -> Option<Numbers>
     requires { MayRead sheet shape k }
-    ensures { AreRead shape (slots_of shape (sheet_shown sheet.entry) k) cursor.old cursor.new result }
+    ensures { AreRead shape (slots_of shape (sheet_view sheet.entry) k) cursor.old cursor.new result }
 {
     match shape {
         Shape::Multiplier => multiplier_values(cursor),
@@ -314,7 +314,7 @@ fn values(cursor: &mut Cursor<'_>, sheet: Sheet<'_>, shape: Shape, k: u32) -> Op
 /// The line of variable `k`.
 pub fn line(cursor: &mut Cursor<'_>, sheet: Sheet<'_>, shape: Shape, k: u32) -> Option<Numbers>
     requires { MayRead sheet shape k }
-    ensures { IsLineRead (sheet_shown sheet.entry) shape k cursor.old cursor.new result }
+    ensures { IsLineRead (sheet_view sheet.entry) shape k cursor.old cursor.new result }
 {
     if !take_head(cursor, sheet, k) {
         return None;
@@ -337,7 +337,7 @@ pub fn table(
 ) -> Result<Option<Vec<Numbers>>, NoMemory>
     requires lines { (k : ℕ) → before < k → k ≤ before + count → MayRead sheet shape k }
     requires fits { before + count < 2 ^ 32 }
-    ensures { IfOk result (λ found. IsTableRead (sheet_shown sheet.entry) shape (numbers_from (before + 1) count)
+    ensures { IfOk result (λ found. IsTableRead (sheet_view sheet.entry) shape (numbers_from (before + 1) count)
         cursor.old cursor.new (option_map (λ table. table.items) found)) }
 {
     let mut table = Vec::new(alloc);

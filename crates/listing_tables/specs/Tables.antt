@@ -1,6 +1,6 @@
 -- The lines of tables, one by one.
 --     HasLine sheet table k        all that stands in the line of variable k is there
---     line_shown sheet table k     the text of the line of variable k
+--     line_view sheet table k     the text of the line of variable k
 use Rattle.std.specs.Prelude.{◌≡◌, ◌<◌, ◌≤◌, ℕ, Bool, List, [], None, length, if◌then◌else◌}
 use Rattle.exact_values.specs.Rational.{zero_ℚ}
 use Rattle.exact_values.specs.Tests.{eq_ℚ}
@@ -71,13 +71,13 @@ abbrev pub ranged_line : Sheet → Bool → (ℕ → List Value) → ℕ → Lis
 ranged_line sheet has_line values k = if has_line then line_text (line_of sheet.problem.now values k) else []
 
 -- a multiplier that is 0 has no line, and an interval has one where the variable stands as the table says
-abbrev pub line_shown : Sheet → Table → ℕ → List ℕ
-line_shown sheet (Multipliers ray) k = if eq_ℚ (value_at ray.now k) zero_ℚ then [] else line_text (line_of sheet.problem.now (multiplier_values ray.now) k)
-line_shown sheet (Pairs first second) k = line_text (line_of sheet.problem.now (pair_values first.now second.now) k)
-line_shown sheet (Rows standing) k = line_text (line_of sheet.problem.now (row_values sheet.lp.now standing.basis.now standing.point.now standing.slack.now standing.prices.now) k)
-line_shown sheet (Columns standing) k = line_text (line_of sheet.problem.now (column_values sheet.lp.now standing.basis.now standing.point.now standing.prices.now) k)
-line_shown sheet (LimitRows ranging) k = ranged_line sheet (stands_at_limit ranging.basis.now k) (limit_row_values sheet.lp.now ranging.basis.now ranging.point.now ranging.report.now) k
-line_shown sheet (LimitColumns ranging) k = ranged_line sheet (stands_at_limit ranging.basis.now k) (limit_column_values sheet.lp.now ranging.basis.now ranging.point.now ranging.report.now) k
-line_shown sheet (BetweenRows ranging) k = ranged_line sheet (stands_between sheet.lp.now ranging.basis.now k) (between_row_values sheet.lp.now ranging.basis.now ranging.point.now ranging.report.now) k
-line_shown sheet (BetweenColumns ranging) k = ranged_line sheet (stands_between sheet.lp.now ranging.basis.now k) (between_column_values sheet.lp.now ranging.basis.now ranging.point.now ranging.report.now) k
-line_shown sheet (Parts part) k = line_text (line_of sheet.problem.now (part_values sheet.lp.now part.now) k)
+abbrev pub line_view : Sheet → Table → ℕ → List ℕ
+line_view sheet (Multipliers ray) k = if eq_ℚ (value_at ray.now k) zero_ℚ then [] else line_text (line_of sheet.problem.now (multiplier_values ray.now) k)
+line_view sheet (Pairs first second) k = line_text (line_of sheet.problem.now (pair_values first.now second.now) k)
+line_view sheet (Rows standing) k = line_text (line_of sheet.problem.now (row_values sheet.lp.now standing.basis.now standing.point.now standing.slack.now standing.prices.now) k)
+line_view sheet (Columns standing) k = line_text (line_of sheet.problem.now (column_values sheet.lp.now standing.basis.now standing.point.now standing.prices.now) k)
+line_view sheet (LimitRows ranging) k = ranged_line sheet (stands_at_limit ranging.basis.now k) (limit_row_values sheet.lp.now ranging.basis.now ranging.point.now ranging.report.now) k
+line_view sheet (LimitColumns ranging) k = ranged_line sheet (stands_at_limit ranging.basis.now k) (limit_column_values sheet.lp.now ranging.basis.now ranging.point.now ranging.report.now) k
+line_view sheet (BetweenRows ranging) k = ranged_line sheet (stands_between sheet.lp.now ranging.basis.now k) (between_row_values sheet.lp.now ranging.basis.now ranging.point.now ranging.report.now) k
+line_view sheet (BetweenColumns ranging) k = ranged_line sheet (stands_between sheet.lp.now ranging.basis.now k) (between_column_values sheet.lp.now ranging.basis.now ranging.point.now ranging.report.now) k
+line_view sheet (Parts part) k = line_text (line_of sheet.problem.now (part_values sheet.lp.now part.now) k)

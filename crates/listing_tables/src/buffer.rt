@@ -19,7 +19,7 @@ impl TextBuffer {
     ghost use Rattle.listing_tables.specs.Buffers.{buffer_text};
 
     /// The bytes that a buffer has room for.
-    pub const ROOM: usize = 1024;
+    pub const CAPACITY: usize = 1024;
 
     /// A buffer that holds nothing yet.
     pub fn new() -> TextBuffer

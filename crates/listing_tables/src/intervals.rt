@@ -1,6 +1,6 @@
 // The intervals of a report of ranges, as values of table lines.
 ghost use Rattle.std.specs.Prelude.{◌≡◌};
-ghost use Rattle.listing_tables.specs.Values.{value_shown};
+ghost use Rattle.listing_tables.specs.Values.{value_view};
 ghost use Rattle.listing_tables.specs.Intervals.{interval_at, low_value, high_value};
 
 use crate::line::Value;
@@ -20,7 +20,7 @@ pub fn interval_of(intervals: &Intervals, k: u32) -> Option<Interval>
 
 /// The low end of an interval, or a dash where there is none.
 pub fn low_end(interval: &Option<Interval>) -> Value
-    ensures { value_shown result ≡ low_value interval.now }
+    ensures { value_view result ≡ low_value interval.now }
 {
     match interval {
         Some(interval) => Value::limit(interval.low),
@@ -30,7 +30,7 @@ pub fn low_end(interval: &Option<Interval>) -> Value
 
 /// The high end of an interval, or a dash where there is none.
 pub fn high_end(interval: &Option<Interval>) -> Value
-    ensures { value_shown result ≡ high_value interval.now }
+    ensures { value_view result ≡ high_value interval.now }
 {
     match interval {
         Some(interval) => Value::limit(interval.high),

@@ -4,7 +4,7 @@ ghost use Rattle.std.specs.List.{concat, flat_map};
 ghost use Rattle.job_devices.specs.Text.{Writes};
 ghost use Rattle.listing_definitions.specs.Report.{limit_value};
 ghost use Rattle.listing_definitions.specs.Text.{at_text, number5, name8, value_text, line_text};
-ghost use Rattle.listing_tables.specs.Values.{value_shown, value_after_blank};
+ghost use Rattle.listing_tables.specs.Values.{value_view, value_after_blank};
 
 use crate::buffer::TextBuffer;
 use crate::pieces::{NAME_PLACES, NUMBER_PLACES, blanks, decimal, fraction};
@@ -29,7 +29,7 @@ pub enum Value {
 impl Value {
     /// A limit, which may be absent.
     pub fn limit(limit: Option<Frac>) -> Value
-        ensures { value_shown result ≡ limit_value limit }
+        ensures { value_view result ≡ limit_value limit }
     {
         match limit {
             Some(number) => Value::Number(number),
@@ -107,7 +107,7 @@ fn put_line_parts<P: Sink>(
     values: &[Value],
 ) -> Result<(), WriteStop>
     ensures { Writes P.written P.stopped_at P.faults P.refusals print.old print.new result
-        (line_text (record { number = number; name = name; values = map value_shown values.now })) }
+        (line_text (record { number = number; name = name; values = map value_view values.now })) }
 {
     put_line_head(print, number, name)?;
     put_values(print, values)?;
@@ -122,7 +122,7 @@ pub fn put_line<P: Sink>(
     values: &[Value],
 ) -> Result<(), WriteStop>
     ensures { Writes P.written P.stopped_at P.faults P.refusals print.old print.new result
-        (line_text (record { number = number; name = name; values = map value_shown values.now })) }
+        (line_text (record { number = number; name = name; values = map value_view values.now })) }
 {
     let mut line = TextBuffer::new();
     match put_line_parts(&mut line, number, name, values) {

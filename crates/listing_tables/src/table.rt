@@ -3,7 +3,7 @@ ghost use Rattle.std.specs.Prelude.{◌≡◌, ◌<◌, ◌≤◌, ◌+◌, ◌-
 ghost use Rattle.std.specs.List.{flat_map};
 ghost use Rattle.job_devices.specs.Text.{Writes};
 ghost use Rattle.lp_definitions.specs.LinearProgram.{numbers_from};
-ghost use Rattle.listing_tables.specs.Tables.{HasLine, line_shown};
+ghost use Rattle.listing_tables.specs.Tables.{HasLine, line_view};
 
 use crate::intervals::{high_end, interval_of, low_end};
 use crate::line::{Value, put_line};
@@ -60,7 +60,7 @@ fn put_multiplier<P: Sink>(
 ) -> Result<(), WriteStop>
     requires { HasLine sheet (Table.Multipliers ray) k }
     ensures { Writes P.written P.stopped_at P.faults P.refusals print.old print.new result
-        (line_shown sheet.entry (Table.Multipliers ray.entry) k) }
+        (line_view sheet.entry (Table.Multipliers ray.entry) k) }
 {
     let multiplier = ray[k as usize - 1];
     if multiplier.compare(Frac::whole(0)).is_eq() {
@@ -78,7 +78,7 @@ fn put_pair<P: Sink>(
 ) -> Result<(), WriteStop>
     requires { HasLine sheet (Table.Pairs first second) k }
     ensures { Writes P.written P.stopped_at P.faults P.refusals print.old print.new result
-        (line_shown sheet.entry (Table.Pairs first.entry second.entry) k) }
+        (line_view sheet.entry (Table.Pairs first.entry second.entry) k) }
 {
     let place = k as usize - 1;
     let values = [Value::Number(first[place]), Value::Number(second[place])];
@@ -93,7 +93,7 @@ fn put_row<P: Sink>(
 ) -> Result<(), WriteStop>
     requires { HasLine sheet (Table.Rows standing) k }
     ensures { Writes P.written P.stopped_at P.faults P.refusals print.old print.new result
-        (line_shown sheet.entry (Table.Rows standing.entry) k) }
+        (line_view sheet.entry (Table.Rows standing.entry) k) }
 {
     let place = k as usize - 1;
     let point = standing.point.values();
@@ -119,7 +119,7 @@ fn put_column<P: Sink>(
 ) -> Result<(), WriteStop>
     requires { HasLine sheet (Table.Columns standing) k }
     ensures { Writes P.written P.stopped_at P.faults P.refusals print.old print.new result
-        (line_shown sheet.entry (Table.Columns standing.entry) k) }
+        (line_view sheet.entry (Table.Columns standing.entry) k) }
 {
     let place = k as usize - 1;
     let lp = sheet.lp;
@@ -144,7 +144,7 @@ fn put_limit_row<P: Sink>(
     k: u32,
 ) -> Result<(), WriteStop>
     requires { HasLine sheet (Table.LimitRows ranging) k }
-    ensures { Writes P.written P.stopped_at P.faults P.refusals print.old print.new result (line_shown
+    ensures { Writes P.written P.stopped_at P.faults P.refusals print.old print.new result (line_view
         sheet.entry (Table.LimitRows ranging.entry) k) }
 {
     if !is_at_limit(ranging.basis, k) {
@@ -171,7 +171,7 @@ fn put_limit_column<P: Sink>(
     k: u32,
 ) -> Result<(), WriteStop>
     requires { HasLine sheet (Table.LimitColumns ranging) k }
-    ensures { Writes P.written P.stopped_at P.faults P.refusals print.old print.new result (line_shown
+    ensures { Writes P.written P.stopped_at P.faults P.refusals print.old print.new result (line_view
         sheet.entry (Table.LimitColumns ranging.entry) k) }
 {
     if !is_at_limit(ranging.basis, k) {
@@ -202,7 +202,7 @@ fn put_between_row<P: Sink>(
     k: u32,
 ) -> Result<(), WriteStop>
     requires { HasLine sheet (Table.BetweenRows ranging) k }
-    ensures { Writes P.written P.stopped_at P.faults P.refusals print.old print.new result (line_shown
+    ensures { Writes P.written P.stopped_at P.faults P.refusals print.old print.new result (line_view
         sheet.entry (Table.BetweenRows ranging.entry) k) }
 {
     if !is_between(sheet.lp, ranging.basis, k) {
@@ -229,7 +229,7 @@ fn put_between_column<P: Sink>(
     k: u32,
 ) -> Result<(), WriteStop>
     requires { HasLine sheet (Table.BetweenColumns ranging) k }
-    ensures { Writes P.written P.stopped_at P.faults P.refusals print.old print.new result (line_shown
+    ensures { Writes P.written P.stopped_at P.faults P.refusals print.old print.new result (line_view
         sheet.entry (Table.BetweenColumns ranging.entry) k) }
 {
     if !is_between(sheet.lp, ranging.basis, k) {
@@ -257,7 +257,7 @@ fn put_part<P: Sink>(
     k: u32,
 ) -> Result<(), WriteStop>
     requires { HasLine sheet (Table.Parts part) k }
-    ensures { Writes P.written P.stopped_at P.faults P.refusals print.old print.new result (line_shown
+    ensures { Writes P.written P.stopped_at P.faults P.refusals print.old print.new result (line_view
         sheet.entry (Table.Parts part.entry) k) }
 {
     let place = k as usize - 1;
@@ -284,7 +284,7 @@ fn put_table_line<P: Sink>(
 ) -> Result<(), WriteStop>
     requires { HasLine sheet table k }
     ensures { Writes P.written P.stopped_at P.faults P.refusals print.old print.new result
-        (line_shown sheet.entry table.entry k) }
+        (line_view sheet.entry table.entry k) }
 {
     match table {
         Table::Multipliers(ray) => put_multiplier(print, sheet, ray, k),
@@ -310,7 +310,7 @@ pub fn put_table<P: Sink>(
     requires ordered { first ≤ last }
     requires lines { (k : ℕ) → first < k → k ≤ last → HasLine sheet table k }
     ensures { Writes P.written P.stopped_at P.faults P.refusals print.old print.new result
-        (flat_map (line_shown sheet.entry table.entry) (numbers_from (first + 1) (last - first))) }
+        (flat_map (line_view sheet.entry table.entry) (numbers_from (first + 1) (last - first))) }
 {
     for k in first..last {
         put_table_line(print, sheet, table, k + 1)?;

@@ -10,7 +10,7 @@ use Rattle.listing_definitions.specs.declared.Mark.{Mark}
 use Rattle.listing_definitions.specs.declared.Mark.TheVariants as marks
 use Rattle.listing_definitions.specs.declared.Solver.{Solver}
 use Rattle.listing_definitions.specs.Report.{PathVerdict, OptimalAt, CrossedAt, InfeasibleBy, UnboundedBy, Check, SolutionLines}
-use Rattle.question_definitions.specs.Answers.{Sheet, Question, OfPath, OfSolution, OfSweep, Sweep, Answer, PathEnd, Reached, PathLimit, PricesWrong}
+use Rattle.question_definitions.specs.Answers.{Sheet, Question, OfPath, OfSolution, OfParametricRun, ParametricRun, Answer, PathEnd, Reached, PathLimit, PricesWrong}
 use Rattle.run_definitions.specs.Moves.{Outcome}
 use Rattle.run_definitions.specs.Verbs.{mark_of}
 use Rattle.walk_definitions.specs.Tests.{says_checked, point_of}
@@ -18,16 +18,16 @@ use Rattle.walk_definitions.specs.Reading.{Judged, Right, Fails, Refuses, judged
 use Rattle.walk_definitions.specs.Walker as walks
 use Rattle.listing_answers.specs.declared.answer.Conclusion.{Conclusion}
 use Rattle.listing_answers.specs.declared.answer.Conclusion.TheVariants as conclusions
-use Rattle.listing_answers.specs.declared.answer.SweepAnswer.{SweepAnswer}
+use Rattle.listing_answers.specs.declared.answer.ParametricRunAnswer.{ParametricRunAnswer}
 use Rattle.listing_answers.specs.declared.answer.Stop.{Stop}
 use Rattle.listing_answers.specs.declared.answer.Stop.TheVariants as stops
-use Rattle.listing_answers.specs.Taken.{conclusion_of, IsConclusion, IsSweepAnswer, Taken}
+use Rattle.listing_answers.specs.Taken.{conclusion_of, IsConclusion, IsParametricRunAnswer, Taken}
 use Rattle.listing_walk.specs.declared.answering.Stopped.TheVariants.{Finds}
 use Rattle.listing_walk.specs.declared.found.Found.{Found}
 use Rattle.listing_walk.specs.declared.found.Found.TheVariants.{Wrong}
 use Rattle.listing_walk.specs.declared.place.Pending.{Pending}
 use Rattle.listing_walk.specs.declared.place.Place.{Place}
-use Rattle.listing_walk.specs.Ended.{found_shown}
+use Rattle.listing_walk.specs.Ended.{found_view}
 use Rattle.listing_walk.specs.Standing.{ShowsPending, Faces}
 use Rattle.listing_walk.specs.Walking.{open_by}
 use Rattle.listing_walk.specs.Asking.{stopped_by, is_optimal, settled_by, IsSettling, asked_turn, IsTaken, Answered, IsMarked, IsAny}
@@ -76,8 +76,8 @@ pends_none rest (UnboundedBy steps value lines) check conclusion e other = refl
 module _ (question : Question) (sheet : Sheet) (old : Place) (open_there : walks.Walker → Option walks.Found)
     (opens : (w : walks.Walker) (go : Answer question → Outcome) → walks.open_question w question sheet go ≡ open_there w) where
   -- what is open comes first
-  pub found_open : (found : Found) → ((w : walks.Walker) → Faces old w → option_map found_shown (Some found) ≡ open_there w) → (w : walks.Walker) (go : Answer question → Outcome) → Faces old w →
-      asked_turn w question sheet go ≡ walks.Finds (found_shown found)
+  pub found_open : (found : Found) → ((w : walks.Walker) → Faces old w → option_map found_view (Some found) ≡ open_there w) → (w : walks.Walker) (go : Answer question → Outcome) → Faces old w →
+      asked_turn w question sheet go ≡ walks.Finds (found_view found)
   found_open found there_is w go f =
       ap (λ (x : Option walks.Found). walks.unless_found x (walks.answered w question sheet go (judged question sheet w.rest))) (opens w go ∙ sym (there_is w f))
 
@@ -139,42 +139,42 @@ settles_by pending objective check same = ap (λ (b : Bool). if eq_ℚ pending.o
 abbrev turn_settled : walks.Turn → Pending → Bool → walks.Turn
 turn_settled turn pending b = if b then turn else walks.Finds (walks.Wrong pending.rest.now)
 
-is_settled : (w : walks.Walker) (pending : Pending) (shown : Option walks.Pending) (objective : ℚ) (turn : walks.Turn) → ShowsPending (Some pending) shown → walks.settled w shown objective turn ≡ turn_settled turn pending (settled_by pending objective)
-is_settled w pending shown objective turn shows =
+is_settled : (w : walks.Walker) (pending : Pending) (viewed : Option walks.Pending) (objective : ℚ) (turn : walks.Turn) → ShowsPending (Some pending) viewed → walks.settled w viewed objective turn ≡ turn_settled turn pending (settled_by pending objective)
+is_settled w pending viewed objective turn shows =
     ap (λ (p : Option walks.Pending). walks.settled w p objective turn) shows.1 ∙ ap (turn_settled turn pending) (settles_by pending objective shows.0 shows.2)
 
 by_none : (turn : walks.Turn) (pending : Pending) (b : Bool) → None ≡ (if b then None else Some (Wrong pending.rest)) → turn_settled turn pending b ≡ turn
 by_none turn pending true h = refl
 by_none turn pending false h = absurd (cc h)
 
-by_some : (turn : walks.Turn) (pending : Pending) (found : Found) (b : Bool) → Some found ≡ (if b then None else Some (Wrong pending.rest)) → turn_settled turn pending b ≡ walks.Finds (found_shown found)
+by_some : (turn : walks.Turn) (pending : Pending) (found : Found) (b : Bool) → Some found ≡ (if b then None else Some (Wrong pending.rest)) → turn_settled turn pending b ≡ walks.Finds (found_view found)
 by_some turn pending found true h = absurd (cc h)
-by_some turn pending found false h = ap (λ (x : Found). walks.Finds (found_shown x)) (sym (same_Some found (Wrong pending.rest) h))
+by_some turn pending found false h = ap (λ (x : Found). walks.Finds (found_view x)) (sym (same_Some found (Wrong pending.rest) h))
 
-settled_none : (w : walks.Walker) (pending : Option Pending) (shown : Option walks.Pending) (objective : ℚ) (turn : walks.Turn) → ShowsPending pending shown → IsSettling pending objective None → walks.settled w shown objective turn ≡ turn
-settled_none w None shown objective turn shows is = ap (λ (p : Option walks.Pending). walks.settled w p objective turn) shows
-settled_none w (Some pending) shown objective turn shows is = is_settled w pending shown objective turn shows ∙ by_none turn pending (settled_by pending objective) is
+settled_none : (w : walks.Walker) (pending : Option Pending) (viewed : Option walks.Pending) (objective : ℚ) (turn : walks.Turn) → ShowsPending pending viewed → IsSettling pending objective None → walks.settled w viewed objective turn ≡ turn
+settled_none w None viewed objective turn shows is = ap (λ (p : Option walks.Pending). walks.settled w p objective turn) shows
+settled_none w (Some pending) viewed objective turn shows is = is_settled w pending viewed objective turn shows ∙ by_none turn pending (settled_by pending objective) is
 
-settled_some : (w : walks.Walker) (pending : Option Pending) (shown : Option walks.Pending) (objective : ℚ) (turn : walks.Turn) (found : Found) → ShowsPending pending shown → IsSettling pending objective (Some found) →
-    walks.settled w shown objective turn ≡ walks.Finds (found_shown found)
-settled_some w None shown objective turn found shows is = absurd (cc is)
-settled_some w (Some pending) shown objective turn found shows is = is_settled w pending shown objective turn shows ∙ by_some turn pending found (settled_by pending objective) is
+settled_some : (w : walks.Walker) (pending : Option Pending) (viewed : Option walks.Pending) (objective : ℚ) (turn : walks.Turn) (found : Found) → ShowsPending pending viewed → IsSettling pending objective (Some found) →
+    walks.settled w viewed objective turn ≡ walks.Finds (found_view found)
+settled_some w None viewed objective turn found shows is = absurd (cc is)
+settled_some w (Some pending) viewed objective turn found shows is = is_settled w pending viewed objective turn shows ∙ by_some turn pending found (settled_by pending objective) is
 
 -- a stop alone is open at SOLUTION
-pub opens_shown : (sheet : Sheet) (mark : Mark) (w : walks.Walker) (go : SolutionLines → Outcome) → walks.open_question w (OfSolution mark) sheet go ≡ open_by true false w
-opens_shown sheet mark w go = by (walks.open_stop w)
+pub opens_view : (sheet : Sheet) (mark : Mark) (w : walks.Walker) (go : SolutionLines → Outcome) → walks.open_question w (OfSolution mark) sheet go ≡ open_by true false w
+opens_view sheet mark w go = by (walks.open_stop w)
   where
     by : (x : Option walks.Found) → x ≡ option_or x None
     by None = refl
     by (Some found) = refl
 
 -- the objective is that of the point which SOLUTION shows
-abbrev pub IsShownObjective : Sheet → ℚ → SolutionLines → Type 0
-IsShownObjective sheet objective lines = objective ≡ point_of sheet lines sheet.lp.objective
+abbrev pub IsReportedObjective : Sheet → ℚ → SolutionLines → Type 0
+IsReportedObjective sheet objective lines = objective ≡ point_of sheet lines sheet.lp.objective
 
 module _ (sheet : Sheet) (old : Place) (none : (w : walks.Walker) → Faces old w → None ≡ open_by true false w) (cursor : List ℕ) (objective : ℚ) where
   module _ (settling : IsSettling old.pending objective None) (new : Place) (is_cursor : new.cursor ≡ cursor) (is_none : new.pending ≡ None) (counted : new.reports ≡ old.reports + 1) where
-    pub optimal_answered : Taken (IsShownObjective sheet) (judged (OfSolution marks.Optimal) sheet old.cursor) cursor (Ok objective) →
+    pub optimal_answered : Taken (IsReportedObjective sheet) (judged (OfSolution marks.Optimal) sheet old.cursor) cursor (Ok objective) →
         Answered (OfSolution marks.Optimal) sheet old new (IsAny (OfSolution marks.Optimal)) (Ok tt)
     optimal_answered taken = λ w go f.
         let lines : SolutionLines = taken.answer in
@@ -182,35 +182,35 @@ module _ (sheet : Sheet) (old : Place) (none : (w : walks.Walker) → Faces old 
         record {
           answer = lines;
           walker = v;
-          is_turn = turn_answered (OfSolution marks.Optimal) sheet old (open_by true false) (opens_shown sheet marks.Optimal) none w go f (Right lines cursor) taken.is_right ∙
+          is_turn = turn_answered (OfSolution marks.Optimal) sheet old (open_by true false) (opens_view sheet marks.Optimal) none w go f (Right lines cursor) taken.is_right ∙
               ap (λ (x : ℚ). walks.settled w w.pending x (walks.follows v (go lines))) (sym taken.shows) ∙
               settled_none w old.pending w.pending objective (walks.follows v (go lines)) f.pending settling;
           faces = record { rest = sym is_cursor; pending = subst (λ (p : Option Pending). ShowsPending p None) (sym is_none) refl; reports = ap (λ n. n + 1) f.reports ∙ sym counted };
           holds = tt;
         }
 
-  pub unsettled : (found : Found) (new : Place) → IsSettling old.pending objective (Some found) → Taken (IsShownObjective sheet) (judged (OfSolution marks.Optimal) sheet old.cursor) cursor (Ok objective) →
+  pub unsettled : (found : Found) (new : Place) → IsSettling old.pending objective (Some found) → Taken (IsReportedObjective sheet) (judged (OfSolution marks.Optimal) sheet old.cursor) cursor (Ok objective) →
       Answered {X = Unit {0}} (OfSolution marks.Optimal) sheet old new (IsAny (OfSolution marks.Optimal)) (Err (Finds found))
   unsettled found new settling taken = λ w go f.
       let lines : SolutionLines = taken.answer in
       let v : walks.Walker = record (walks.passed cursor 1 w) { pending = None } in
-      turn_answered (OfSolution marks.Optimal) sheet old (open_by true false) (opens_shown sheet marks.Optimal) none w go f (Right lines cursor) taken.is_right ∙
+      turn_answered (OfSolution marks.Optimal) sheet old (open_by true false) (opens_view sheet marks.Optimal) none w go f (Right lines cursor) taken.is_right ∙
       ap (λ (x : ℚ). walks.settled w w.pending x (walks.follows v (go lines))) (sym taken.shows) ∙
       settled_some w old.pending w.pending objective (walks.follows v (go lines)) found f.pending settling
 
   module _ (new : Place) (is_cursor : new.cursor ≡ cursor) (kept : new.pending ≡ old.pending) (counted : new.reports ≡ old.reports + 1) where
-    shown_by : (mark : Mark) → is_optimal mark ≡ false → (w : walks.Walker) (go : SolutionLines → Outcome) (lines : SolutionLines) → Faces old w →
+    reported_by : (mark : Mark) → is_optimal mark ≡ false → (w : walks.Walker) (go : SolutionLines → Outcome) (lines : SolutionLines) → Faces old w →
         walks.answered w (OfSolution mark) sheet go (Right lines cursor) ≡ walks.follows (record (walks.passed cursor 1 w) { pending = w.pending }) (go lines)
-    shown_by marks.Optimal other w go lines f = absurd (cc other)
-    shown_by marks.Infeasible other w go lines f = refl
-    shown_by marks.Unbounded other w go lines f = refl
+    reported_by marks.Optimal other w go lines f = absurd (cc other)
+    reported_by marks.Infeasible other w go lines f = refl
+    reported_by marks.Unbounded other w go lines f = refl
 
-    pub other_answered : (mark : Mark) → is_optimal mark ≡ false → Taken (IsShownObjective sheet) (judged (OfSolution mark) sheet old.cursor) cursor (Ok objective) →
+    pub other_answered : (mark : Mark) → is_optimal mark ≡ false → Taken (IsReportedObjective sheet) (judged (OfSolution mark) sheet old.cursor) cursor (Ok objective) →
         Answered (OfSolution mark) sheet old new (IsAny (OfSolution mark)) (Ok tt)
     other_answered mark other taken = λ w go f. record {
       answer = taken.answer;
       walker = record (walks.passed cursor 1 w) { pending = w.pending };
-      is_turn = turn_answered (OfSolution mark) sheet old (open_by true false) (opens_shown sheet mark) none w go f (Right taken.answer cursor) taken.is_right ∙ shown_by mark other w go taken.answer f;
+      is_turn = turn_answered (OfSolution mark) sheet old (open_by true false) (opens_view sheet mark) none w go f (Right taken.answer cursor) taken.is_right ∙ reported_by mark other w go taken.answer f;
       faces = record { rest = sym is_cursor; pending = subst (λ (p : Option Pending). ShowsPending p w.pending) (sym kept) f.pending; reports = ap (λ n. n + 1) f.reports ∙ sym counted };
       holds = tt;
     }
@@ -218,25 +218,25 @@ module _ (sheet : Sheet) (old : Place) (none : (w : walks.Walker) → Faces old 
 -- under OPTIMAL
 module _ (sheet : Sheet) (old : Place) (none : (w : walks.Walker) → Faces old w → None ≡ open_by true false w) (cursor : List ℕ) (objective : ℚ) where
   pub optimal_by : (mark : Mark) → is_optimal mark ≡ true → IsSettling old.pending objective None → (new : Place) → new.cursor ≡ cursor → new.pending ≡ None → new.reports ≡ old.reports + 1 →
-      Taken (IsShownObjective sheet) (judged (OfSolution mark) sheet old.cursor) cursor (Ok objective) → Answered (OfSolution mark) sheet old new (IsAny (OfSolution mark)) (Ok tt)
+      Taken (IsReportedObjective sheet) (judged (OfSolution mark) sheet old.cursor) cursor (Ok objective) → Answered (OfSolution mark) sheet old new (IsAny (OfSolution mark)) (Ok tt)
   optimal_by marks.Optimal is settling new is_cursor is_none counted taken = optimal_answered sheet old none cursor objective settling new is_cursor is_none counted taken
   optimal_by marks.Infeasible is settling new is_cursor is_none counted taken = absurd (cc is)
   optimal_by marks.Unbounded is settling new is_cursor is_none counted taken = absurd (cc is)
 
   pub unsettled_by : (mark : Mark) → is_optimal mark ≡ true → (found : Found) (new : Place) → IsSettling old.pending objective (Some found) →
-      Taken (IsShownObjective sheet) (judged (OfSolution mark) sheet old.cursor) cursor (Ok objective) → Answered {X = Unit {0}} (OfSolution mark) sheet old new (IsAny (OfSolution mark)) (Err (Finds found))
+      Taken (IsReportedObjective sheet) (judged (OfSolution mark) sheet old.cursor) cursor (Ok objective) → Answered {X = Unit {0}} (OfSolution mark) sheet old new (IsAny (OfSolution mark)) (Err (Finds found))
   unsettled_by marks.Optimal is found new settling taken = unsettled sheet old none cursor objective found new settling taken
   unsettled_by marks.Infeasible is found new settling taken = absurd (cc is)
   unsettled_by marks.Unbounded is found new settling taken = absurd (cc is)
 
 -- ---- PARAOBJ and PARARHS
 
-pub sweep_answered : (sweep : Sweep) (sheet : Sheet) (old new : Place) → ((w : walks.Walker) → Faces old w → None ≡ open_by true true w) → new.reports ≡ old.reports + 1 → new.pending ≡ None → (x : SweepAnswer) →
-    Taken IsSweepAnswer (judged (OfSweep sweep) sheet old.cursor) new.cursor (Ok x) → Answered (OfSweep sweep) sheet old new IsSweepAnswer (Ok x)
-sweep_answered sweep sheet old new none counted is_none x taken = λ w go f. record {
+pub parametric_run_answered : (parametric_run : ParametricRun) (sheet : Sheet) (old new : Place) → ((w : walks.Walker) → Faces old w → None ≡ open_by true true w) → new.reports ≡ old.reports + 1 → new.pending ≡ None → (x : ParametricRunAnswer) →
+    Taken IsParametricRunAnswer (judged (OfParametricRun parametric_run) sheet old.cursor) new.cursor (Ok x) → Answered (OfParametricRun parametric_run) sheet old new IsParametricRunAnswer (Ok x)
+parametric_run_answered parametric_run sheet old new none counted is_none x taken = λ w go f. record {
   answer = taken.answer;
-  walker = walker_after (OfSweep sweep) sheet old new w f counted None;
-  is_turn = turn_answered (OfSweep sweep) sheet old (open_by true true) (λ v other. refl) none w go f (Right taken.answer new.cursor) taken.is_right;
-  faces = faces_after (OfSweep sweep) sheet old new w f counted None (subst (λ (p : Option Pending). ShowsPending p None) (sym is_none) refl);
+  walker = walker_after (OfParametricRun parametric_run) sheet old new w f counted None;
+  is_turn = turn_answered (OfParametricRun parametric_run) sheet old (open_by true true) (λ v other. refl) none w go f (Right taken.answer new.cursor) taken.is_right;
+  faces = faces_after (OfParametricRun parametric_run) sheet old new w f counted None (subst (λ (p : Option Pending). ShowsPending p None) (sym is_none) refl);
   holds = taken.shows;
 }

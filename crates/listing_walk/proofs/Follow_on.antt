@@ -12,7 +12,7 @@ use Rattle.run_machine.specs.declared.act.Act.{Act}
 use Rattle.run_machine.specs.declared.act.Act.TheVariants as acts
 use Rattle.run_machine.specs.declared.end.End.{End}
 use Rattle.run_machine.specs.declared.machine.Machine.{Machine}
-use Rattle.run_machine.specs.Ends.{end_shown}
+use Rattle.run_machine.specs.Ends.{end_view}
 use Rattle.run_machine.specs.Standing as machines
 use Rattle.run_machine.specs.Statements.{Follows}
 use Rattle.walk_definitions.specs.Words.{left_after}
@@ -24,16 +24,16 @@ use Rattle.listing_walk.specs.declared.found.Found.{Found}
 use Rattle.listing_walk.specs.declared.found.Found.TheVariants as founds
 use Rattle.listing_walk.specs.declared.went.Went.{Went}
 use Rattle.listing_walk.specs.declared.went.Went.TheVariants as went
-use Rattle.listing_walk.specs.Ended.{found_shown}
-use Rattle.listing_walk.specs.Standing.{IsShown, ShowsPending, Faces}
+use Rattle.listing_walk.specs.Ended.{found_view}
+use Rattle.listing_walk.specs.Standing.{IsView, ShowsPending, Faces}
 use Rattle.listing_walk.specs.Walking.{open_by, is_loud, one_if, ends_run, Comes, IsOutcome, Finishes, Passes}
 use Rattle.listing_walk.proofs.Settled.{settled, open_goes, one_report}
 
 -- ---- once the report is passed
 
 -- the state at another position
-pub placed : {cards : List (List ℕ)} {machine : Machine Chosen} {position executed : ℕ} {state : State} (to by : ℕ) → machines.Stands IsShown cards machine position executed state → by ≡ to →
-    machines.Stands IsShown cards machine to executed (record state { position = by })
+pub placed : {cards : List (List ℕ)} {machine : Machine Chosen} {position executed : ℕ} {state : State} (to by : ℕ) → machines.Represents IsView cards machine position executed state → by ≡ to →
+    machines.Represents IsView cards machine to executed (record state { position = by })
 placed to by s e = record {
   is_position = e;
   is_executed = s.is_executed;
@@ -63,7 +63,7 @@ finished_jump place to = λ v outcome cards machine position executed gain f is.
   is.3,
 )
 
-pub finished_ends : (old new : Place) (end : End) (ending : Ending) (found : Found) → ending ≡ end_shown end → ((w : walks.Walker) → Faces old w → walks.closes w ending ≡ walks.Finds (found_shown found)) →
+pub finished_ends : (old new : Place) (end : End) (ending : Ending) (found : Found) → ending ≡ end_view end → ((w : walks.Walker) → Faces old w → walks.closes w ending ≡ walks.Finds (found_view found)) →
     Finishes old new (acts.Ends end) (went.Finds found)
 finished_ends old new end ending found same closes = λ v outcome cards machine position executed gain f is.
     ap (walks.follows v) (sym is) ∙ ap (walks.closes v) (sym same) ∙ closes v f
@@ -90,7 +90,7 @@ opens_jump machine text w gain to after same mark =
     open_goes w gain (record after { position = to }) ∙ ap (λ (t : List ℕ). open_by (is_loud t) (is_none after.mark) w) same ∙ ap (λ (m : Option Mark). open_by (is_loud text) (is_none m) w) mark
 
 outcome_of : (machine : Machine Chosen) (act : Act) (text : List ℕ) (w : walks.Walker) (card : ℕ) (move : Move) (cards : List (List ℕ)) (position executed : ℕ) (gain : Gain) →
-    Follows IsShown Settles card move cards machine position executed gain act → gain_text gain ≡ text → IsOf machine act text w card move cards position executed gain
+    Follows IsView Settles card move cards machine position executed gain act → gain_text gain ≡ text → IsOf machine act text w card move cards position executed gain
 outcome_of machine acts.Next text w card move cards position executed gain f same = record {
   outcome = next gain f.0;
   settles = f.1;
@@ -106,7 +106,7 @@ outcome_of machine (acts.Jump to) text w card move cards position executed gain 
   opens = opens_jump machine text w gain to f.0 same f.2.mark;
 }
 outcome_of machine (acts.Ends end) text w card move cards position executed gain f same = record {
-  outcome = Ends gain (end_shown end);
+  outcome = Ends gain (end_view end);
   settles = f;
   is_outcome = refl;
   is_gain = refl;
@@ -115,7 +115,7 @@ outcome_of machine (acts.Ends end) text w card move cards position executed gain
 
 module _ (machine : Machine Chosen) (old new : Place) (act : Act) (text : List ℕ) where
   -- what is open is found
-  pub passes_open : (found : Found) → ((w : walks.Walker) → Faces old w → option_map found_shown (Some found) ≡ open_by (ends_run act || is_loud text) (ends_run act || is_none machine.mark) w) →
+  pub passes_open : (found : Found) → ((w : walks.Walker) → Faces old w → option_map found_view (Some found) ≡ open_by (ends_run act || is_loud text) (ends_run act || is_none machine.mark) w) →
       Passes machine old new act text (went.Finds found)
   passes_open found there_is = λ w card move cards position executed gain f plain follows same.
       let o = outcome_of machine act text w card move cards position executed gain follows same in
@@ -134,7 +134,7 @@ module _ (machine : Machine Chosen) (old new : Place) (act : Act) (text : List �
         ap (λ (rest : List ℕ). walks.taken w o.outcome (left_after text rest)) f.rest
 
     -- the text doesn't stand here
-    pub passes_wrong : (found : Found) → left_after text old.cursor ≡ None → found_shown found ≡ walks.Wrong old.cursor → Passes machine old new act text (went.Finds found)
+    pub passes_wrong : (found : Found) → left_after text old.cursor ≡ None → found_view found ≡ walks.Wrong old.cursor → Passes machine old new act text (went.Finds found)
     passes_wrong found gone wrong = λ w card move cards position executed gain f plain follows same.
         let o = outcome_of machine act text w card move cards position executed gain follows same in
         turn_taken w card move cards position executed gain f plain o same ∙ ap (walks.taken w o.outcome) gone ∙
@@ -165,8 +165,8 @@ module _ (machine : Machine Chosen) (old : Place) (act : Act) (text : List ℕ) 
   open_so : (x : Option walks.Found) → ((w : walks.Walker) → Faces old w → x ≡ open_by looks clears w) → (w : walks.Walker) → Faces old w → x ≡ open_by (ends_run act || is_loud text) (ends_run act || is_none machine.mark) w
   open_so x there_is w f = there_is w f ∙ (λ i. open_by (is_looks i) (is_clears i) w)
 
-  pub passes_open_by : (new : Place) (found : Found) → ((w : walks.Walker) → Faces old w → option_map found_shown (Some found) ≡ open_by looks clears w) → Passes machine old new act text (went.Finds found)
-  passes_open_by new found there_is = passes_open machine old new act text found (open_so (Some (found_shown found)) there_is)
+  pub passes_open_by : (new : Place) (found : Found) → ((w : walks.Walker) → Faces old w → option_map found_view (Some found) ≡ open_by looks clears w) → Passes machine old new act text (went.Finds found)
+  passes_open_by new found there_is = passes_open machine old new act text found (open_so (Some (found_view found)) there_is)
 
   module _ (none : (w : walks.Walker) → Faces old w → None ≡ open_by looks clears w) where
     pub passes_wrong_by : (mid : Place) (rest : Bor (List ℕ)) → rest.now ≡ old.cursor → (passes : Bool) → passes ≡ false → left_after text old.cursor ≡ taken passes mid.cursor → (new : Place) →

@@ -32,7 +32,7 @@ use Rattle.listing_walk.specs.declared.selecting.Unselected.TheVariants as unsel
 use Rattle.listing_walk.specs.declared.went.Went.{Went}
 use Rattle.listing_walk.specs.declared.went.Went.TheVariants as went
 use Rattle.listing_walk.specs.Choosing.{IsMade, IsRefused, IsNotMade}
-use Rattle.listing_walk.specs.Standing.{IsShown, Faces}
+use Rattle.listing_walk.specs.Standing.{IsView, Faces}
 use Rattle.listing_walk.specs.Walking.{open_by, Comes, Passes, IsUnchecked, Walks}
 use Rattle.listing_walk.specs.Inserting.{taken_of, is_line_of, open_install, IsInstallDue, RefusesInstall}
 use Rattle.listing_walk.proofs.Setting_up.{faulted}
@@ -88,7 +88,7 @@ module _ (card : ℕ) (cards : List (List ℕ)) (machine : Machine Chosen) (old 
   module _ (chosen : Chosen) (is_setup : machine.setup ≡ Some chosen) (problem : Problem ℕ) (on_file : filed_under chosen.name machine.file ≡ Some problem) (deck : Option Deck)
       (is_taken : deck_taken machine.cells.xdata (decks_of (drop (machine.decks_from - 1) (numbered_cards cards))) ≡ taken_of cards deck) where
     -- the state has the decks that are left
-    deck_at : {position executed : ℕ} {state : State} → machines.Stands IsShown cards machine position executed state → deck_taken state.cells.xdata state.decks ≡ taken_of cards deck
+    deck_at : {position executed : ℕ} {state : State} → machines.Represents IsView cards machine position executed state → deck_taken state.cells.xdata state.decks ≡ taken_of cards deck
     deck_at {state = state} s = ap (λ (c : Cells). deck_taken c.xdata state.decks) s.cells ∙ ap (deck_taken machine.cells.xdata) s.decks ∙ is_taken
 
     -- ---- a selection is refused
@@ -117,7 +117,7 @@ module _ (card : ℕ) (cards : List (List ℕ)) (machine : Machine Chosen) (old 
     module _ (lp : LinearProgram) (made : IsMade problem (choice_of machine.cells chosen.options) lp) where
       pub insert_no_deck : deck ≡ None → (result : Result Went NoMemory) → IfOk result (Passes machine old new (acts.Ends (ends.Verb DeckNotFound card)) []) → IfOk result (Walks Insert card cards machine machine old new)
       insert_no_deck none (Ok w') passes =
-          made_walks Insert card (insert_move card) (inserting_move card) cards machine old new chosen is_setup problem on_file lp made machine w' (λ position executed state w opening steps s f is_shown.
+          made_walks Insert card (insert_move card) (inserting_move card) cards machine old new chosen is_setup problem on_file lp made machine w' (λ position executed state w opening steps s f is_viewed.
           let present = present_with problem chosen.options opening steps in
           faulted cards machine old new DeckNotFound card w' passes w (insert_move card state present lp) position executed f
           (ap (insert_by card state present lp) (deck_at s ∙ ap (taken_of cards) none)))
@@ -131,7 +131,7 @@ module _ (card : ℕ) (cards : List (List ℕ)) (machine : Machine Chosen) (old 
         taken = (deck_cards, decks_of (drop one.last (numbered_cards cards)))
 
         -- what the deck gives decides the move
-        read_move : (read : Result Basis DeckFault) → basis_reading problem lp deck_cards ≡ read → {position executed : ℕ} {state : State} → machines.Stands IsShown cards machine position executed state → (opening : Basis) (steps : List Basis) →
+        read_move : (read : Result Basis DeckFault) → basis_reading problem lp deck_cards ≡ read → {position executed : ℕ} {state : State} → machines.Represents IsView cards machine position executed state → (opening : Basis) (steps : List Basis) →
             insert_move card state (present_with problem chosen.options opening steps) lp ≡ or_deck_fault read (asks_install card state (present_with problem chosen.options opening steps) lp taken)
         read_move read is {state = state} s opening steps =
             let present = present_with problem chosen.options opening steps in
@@ -140,14 +140,14 @@ module _ (card : ℕ) (cards : List (List ℕ)) (machine : Machine Chosen) (old 
         pub insert_bad_deck : (fault : DeckFault) → basis_reading problem lp deck_cards ≡ Err fault → (result : Result Went NoMemory) → IfOk result (Passes machine old new (acts.Ends (ends.Deck fault)) []) →
             IfOk result (Walks Insert card cards machine machine old new)
         insert_bad_deck fault is (Ok w') passes =
-            made_walks Insert card (insert_move card) (inserting_move card) cards machine old new chosen is_setup problem on_file lp made machine w' (λ position executed state w opening steps s f is_shown.
+            made_walks Insert card (insert_move card) (inserting_move card) cards machine old new chosen is_setup problem on_file lp made machine w' (λ position executed state w opening steps s f is_viewed.
             deck_faulted cards machine old new fault card w' passes w (insert_move card state (present_with problem chosen.options opening steps) lp) position executed f (read_move (Err fault) is s opening steps))
         insert_bad_deck fault is (Err stop) passes = tt
 
         pub insert_due : (stands : Bool) → stands ≡ is_line_of cards deck old.cursor → (basis : Basis) → basis_reading problem lp deck_cards ≡ Ok basis → (found : Found) → IsInstallDue old stands found →
             Walks Insert card cards machine machine old new (went.Finds found)
         insert_due stands stands_is basis is found due =
-            made_walks Insert card (insert_move card) (inserting_move card) cards machine old new chosen is_setup problem on_file lp made machine (went.Finds found) (λ position executed state w opening steps s f is_shown.
+            made_walks Insert card (insert_move card) (inserting_move card) cards machine old new chosen is_setup problem on_file lp made machine (went.Finds found) (λ position executed state w opening steps s f is_viewed.
             ap (walks.walk_move w) (read_move (Ok basis) is s opening steps) ∙
             ap (λ (b : Bool). walks.unless_found (open_install b w) (walks.Finds (walks.Wrong w.rest))) (ap (is_inserted (deck_name (live deck_cards))) f.rest ∙ ap (λ (o : Option Deck). is_line_of cards o old.cursor) (sym is_one) ∙ sym stands_is) ∙
             due w f)

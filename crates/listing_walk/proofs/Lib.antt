@@ -9,7 +9,7 @@ mod Stepping
 mod Asked
 mod Solving_walks
 mod Verdict_walks
-mod Shown_walks
-mod Sweep_walks
+mod Views_walks
+mod Parametric_walks
 mod Reported_walks
 mod Insert_walks

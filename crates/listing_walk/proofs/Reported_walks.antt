@@ -29,18 +29,18 @@ use Rattle.listing_walk.specs.declared.selecting.Unselected.{Unselected}
 use Rattle.listing_walk.specs.declared.selecting.Unselected.TheVariants as unselected
 use Rattle.listing_walk.specs.declared.went.Went.{Went}
 use Rattle.listing_walk.specs.declared.went.Went.TheVariants as went
-use Rattle.listing_walk.specs.Ended.{found_shown}
+use Rattle.listing_walk.specs.Ended.{found_view}
 use Rattle.listing_walk.specs.Choosing.{IsMade, IsRefused, IsNotMade}
 use Rattle.listing_walk.specs.Standing.{IsReady, IsSolved, Faces}
 use Rattle.listing_walk.specs.Walking.{Passes, IsReported, RefusesReport, Walks}
 use Rattle.listing_walk.specs.Asking.{is_optimal}
 use Rattle.listing_walk.proofs.Selected.{fault_move, found_move, selected_move}
 use Rattle.listing_walk.proofs.Solving_walks.{present_with, present_at, ready_of, selecting, no_setup_walks, unselected_walks, made_walks, unmade_here}
-use Rattle.listing_walk.proofs.Shown_walks.{fault_walks, some_at, showing, showing_none, showing_unsolved, showing_mark, selected_now}
+use Rattle.listing_walk.proofs.Views_walks.{fault_walks, some_at, showing, showing_none, showing_unsolved, showing_mark, selected_now}
 
 -- the line stands where the walker is
 at_line : (place : Place) (stands made : Bool) (found : Found) → IsReported place stands made found → (tests : List ℕ → Bool) → stands ≡ tests place.cursor → (w : walks.Walker) → Faces place w →
-    walks.unless_found (option_or (walks.open_stop w) (walks.open_if (tests w.rest) w)) (walks.Finds (if made then walks.Wrong w.rest else walks.Unchecked w.rest)) ≡ walks.Finds (found_shown found)
+    walks.unless_found (option_or (walks.open_stop w) (walks.open_if (tests w.rest) w)) (walks.Finds (if made then walks.Wrong w.rest else walks.Unchecked w.rest)) ≡ walks.Finds (found_view found)
 at_line place stands made found h tests is w f =
     ap (λ (b : Bool). walks.unless_found (option_or (walks.open_stop w) (walks.open_if b w)) (walks.Finds (if made then walks.Wrong w.rest else walks.Unchecked w.rest))) (ap tests f.rest ∙ sym is) ∙ h w f
 
@@ -89,7 +89,7 @@ module _ (card : ℕ) (cards : List (List ℕ)) (machine : Machine Chosen) (old 
           let ok : selected r.problem (choice_of state.cells chosen.options) ≡ Ok chosen.lp =
           ap (λ (c : Cells). selected r.problem (choice_of c chosen.options)) s.cells ∙ selected_now machine chosen is_setup mark is_mark r.problem r.on_file solved in
           ap (walks.walk_move w)
-          (ranging_move card state ∙ showing_mark card cards machine s (range_move card state) present p.is_shown mark is_mark ∙
+          (ranging_move card state ∙ showing_mark card cards machine s (range_move card state) present p.is_viewed mark is_mark ∙
           found_move card NotOptimal (if_optimal mark) (λ (optimal : Mark). shows_present card state present OfRanges Ranges) marks.Optimal (optimal_so mark is) ∙
           selected_move card (selected r.problem (choice_of state.cells chosen.options))
           (λ (lp : LinearProgram). asks OfRanges (record { problem = r.problem; lp = lp }) present (λ (lines : RangeLines). next (Prints (Ranges lines)) state)) chosen.lp ok) ∙
@@ -113,7 +113,7 @@ module _ (card : ℕ) (cards : List (List ℕ)) (machine : Machine Chosen) (old 
     pub punch_found : (lp : LinearProgram) → IsMade problem (choice_of machine.cells chosen.options) lp → (found : Found) → IsReported old stands true found → Walks Punch card cards machine machine old new (went.Finds found)
     punch_found lp made found h =
         made_walks Punch card (punch_move card) (punching_move card) cards machine old new chosen is_setup problem on_file lp made machine (went.Finds found)
-        (λ position executed state w opening steps s f is_shown. at_line old stands true found h (is_punched problem.name) stands_is w f)
+        (λ position executed state w opening steps s f is_viewed. at_line old stands true found h (is_punched problem.name) stands_is w f)
 
     unmade_walks : IsRefused problem (choice_of machine.cells chosen.options) → (found : Found) → IsReported old stands false found → Walks Punch card cards machine machine old new (went.Finds found)
     unmade_walks refused found h = λ position executed state w s f.

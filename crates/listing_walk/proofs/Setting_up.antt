@@ -22,7 +22,7 @@ use Rattle.run_machine.specs.declared.machine.Machine.{Machine}
 use Rattle.run_machine.specs.Choosing.{HasSelectionFault}
 use Rattle.run_machine.specs.Standing.{named, filed}
 use Rattle.run_machine.specs.Standing as machines
-use Rattle.run_machine.proofs.Giving.{problem_shown}
+use Rattle.run_machine.proofs.Giving.{problem_view}
 use Rattle.walk_definitions.specs.Walker as walks
 use Rattle.listing_walk.specs.declared.chosen.Chosen.{Chosen}
 use Rattle.listing_walk.specs.declared.chosen.Named.{Named}
@@ -33,9 +33,9 @@ use Rattle.listing_walk.specs.declared.selecting.Unselected.TheVariants.{Fault, 
 use Rattle.job_devices.specs.declared.device.NoMemory.{NoMemory}
 use Rattle.listing_walk.specs.declared.went.Went.{Went}
 use Rattle.listing_walk.specs.declared.went.Went.TheVariants as went
-use Rattle.listing_walk.specs.Ended.{found_shown}
+use Rattle.listing_walk.specs.Ended.{found_view}
 use Rattle.listing_walk.specs.Choosing.{IsMade, IsRefused, IsNotMade, IsOpened, IsNotOpened, no_problem, not_selected}
-use Rattle.listing_walk.specs.Standing.{IsShown, Faces}
+use Rattle.listing_walk.specs.Standing.{IsView, Faces}
 use Rattle.listing_walk.specs.Walking.{Comes, Passes, Walks, IsUnchecked}
 use Rattle.listing_walk.proofs.Selected.{fault_move, found_move, unselected_move, selected_move, made_turn, refused_turn}
 
@@ -93,13 +93,13 @@ module _ (card : ℕ) (options : SetupOptions) (state : State) where
       selected_move card (selected problem (choice_of state.cells options)) (go_selected problem) lp ok
 
 module _ (card : ℕ) (cards : List (List ℕ)) (machine : Machine Chosen) (options : SetupOptions) where
-  fault_by : (fault : VerbFault) (refusal : Unselected) → refusal ≡ Fault fault → IsNotOpened machine.cells machine.file options refusal → {position executed : ℕ} {state : State} → machines.Stands IsShown cards machine position executed state →
+  fault_by : (fault : VerbFault) (refusal : Unselected) → refusal ≡ Fault fault → IsNotOpened machine.cells machine.file options refusal → {position executed : ℕ} {state : State} → machines.Represents IsView cards machine position executed state →
       verb_move (SetupVerb options) card state ≡ Does (stops (VerbStop (record { fault = fault; card = card })))
   fault_by fault (Fault other) is (no_problem none) {state = state} s =
       let same : NoProblem ≡ fault = cc in
-      no_problem_move card options state (problem_shown s (λ (c : Cells). c.xpbname) None none) ∙ ap (λ (f : VerbFault). Does (stops (VerbStop (record { fault = f; card = card })))) same
+      no_problem_move card options state (problem_view s (λ (c : Cells). c.xpbname) None none) ∙ ap (λ (f : VerbFault). Does (stops (VerbStop (record { fault = f; card = card })))) same
   fault_by fault refusal is (not_selected problem some h) {state = state} s =
-      refused_move card options state problem fault (problem_shown s (λ (c : Cells). c.xpbname) (Some problem) some)
+      refused_move card options state problem fault (problem_view s (λ (c : Cells). c.xpbname) (Some problem) some)
       (subst (λ (c : Cells). HasSelectionFault problem (choice_of c options) fault) (sym s.cells) (subst (IsNotMade problem (choice_of machine.cells options)) is h))
 
   pub setup_faulted : (old new : Place) (fault : VerbFault) (went : Went) → IsNotOpened machine.cells machine.file options (Fault fault) → Passes machine old new (acts.Ends (ends.Verb fault card)) [] went →
@@ -108,12 +108,12 @@ module _ (card : ℕ) (cards : List (List ℕ)) (machine : Machine Chosen) (opti
       faulted cards machine old new fault card went passes w (verb_move (SetupVerb options) card state) position executed f (fault_by fault (Fault fault) refl h s)
 
   unchecked_by : (refusal : Unselected) → refusal ≡ Unchecked → IsNotOpened machine.cells machine.file options refusal → (found : Found) (place : Place) → IsUnchecked place found →
-      {position executed : ℕ} (state : State) (w : walks.Walker) → machines.Stands IsShown cards machine position executed state → Faces place w →
-      walks.walk_move w (verb_move (SetupVerb options) card state) ≡ walks.Finds (found_shown found)
+      {position executed : ℕ} (state : State) (w : walks.Walker) → machines.Represents IsView cards machine position executed state → Faces place w →
+      walks.walk_move w (verb_move (SetupVerb options) card state) ≡ walks.Finds (found_view found)
   unchecked_by (Fault other) is (no_problem none) found place u state w s f = absurd (cc is)
   unchecked_by refusal is (not_selected problem some h) found place u state w s f =
       let r : IsRefused problem (choice_of state.cells options) = subst (λ (c : Cells). IsRefused problem (choice_of c options)) (sym s.cells) (subst (IsNotMade problem (choice_of machine.cells options)) is h) in
-      ap (walks.walk_move w) (set_up_move card options state problem r.lp (problem_shown s (λ (c : Cells). c.xpbname) (Some problem) some) r.is_selected) ∙
+      ap (walks.walk_move w) (set_up_move card options state problem r.lp (problem_view s (λ (c : Cells). c.xpbname) (Some problem) some) r.is_selected) ∙
       refused_turn w problem (choice_of state.cells options) (Does (outcome_of problem options r.lp state)) r.is_refused ∙ u w f
 
   pub setup_unchecked : IsNotOpened machine.cells machine.file options Unchecked → (found : Found) (old new : Place) → IsUnchecked old found →
@@ -124,8 +124,8 @@ module _ (card : ℕ) (cards : List (List ℕ)) (machine : Machine Chosen) (opti
     abbrev pub machine_after : Machine Chosen
     machine_after = record machine { setup = Some opened.chosen; mark = None }
 
-    stands_set_up : {position executed : ℕ} {state : State} → machines.Stands IsShown cards machine position executed state →
-        machines.Stands IsShown cards machine_after position executed (after_setup o.problem options opened.chosen.lp state)
+    stands_set_up : {position executed : ℕ} {state : State} → machines.Represents IsView cards machine position executed state →
+        machines.Represents IsView cards machine_after position executed (after_setup o.problem options opened.chosen.lp state)
     stands_set_up s = record {
       is_position = s.is_position;
       is_executed = s.is_executed;
@@ -141,7 +141,7 @@ module _ (card : ℕ) (cards : List (List ℕ)) (machine : Machine Chosen) (opti
     setup_done old new text went is passes = λ position executed state w s f.
         let made : IsMade o.problem (choice_of state.cells options) opened.chosen.lp = subst (λ (c : Cells). IsMade o.problem (choice_of c options) opened.chosen.lp) (sym s.cells) o.made in
         let is_problem : problem_of state.cells.xpbname state.file ≡ Some o.problem =
-        problem_shown s (λ (c : Cells). c.xpbname) (Some o.problem) (filed_by machine.cells.xpbname machine.file opened.chosen.name (Some o.problem) o.is_named o.is_filed) in
+        problem_view s (λ (c : Cells). c.xpbname) (Some o.problem) (filed_by machine.cells.xpbname machine.file opened.chosen.name (Some o.problem) o.is_named o.is_filed) in
         let outcome : Outcome = outcome_of o.problem options opened.chosen.lp state in
         subst (λ (t : walks.Turn). Comes t cards machine_after position executed new went)
         (sym (ap (walks.walk_move w) (set_up_move card options state o.problem opened.chosen.lp is_problem made.is_selected) ∙ made_turn w o.problem (choice_of state.cells options) (Does outcome) made.is_made))

@@ -25,7 +25,7 @@ use Rattle.run_machine.specs.declared.end.End.TheVariants as ends
 use Rattle.run_machine.specs.declared.finding.Finding.TheVariants.{Ended}
 use Rattle.run_machine.specs.declared.machine.Machine.{Machine}
 use Rattle.run_machine.specs.Choosing.{HasSelectionFault}
-use Rattle.run_machine.specs.Ends.{end_shown}
+use Rattle.run_machine.specs.Ends.{end_view}
 use Rattle.run_machine.specs.Findings.{demanded_act, act_of}
 use Rattle.run_machine.specs.Standing.{AreDemands}
 use Rattle.run_machine.specs.Standing as machines
@@ -37,9 +37,9 @@ use Rattle.listing_walk.specs.declared.selecting.Unselected.{Unselected}
 use Rattle.listing_walk.specs.declared.selecting.Unselected.TheVariants as unselected
 use Rattle.listing_walk.specs.declared.went.Went.{Went}
 use Rattle.listing_walk.specs.declared.went.Went.TheVariants as went
-use Rattle.listing_walk.specs.Ended.{found_shown}
+use Rattle.listing_walk.specs.Ended.{found_view}
 use Rattle.listing_walk.specs.Choosing.{IsMade, IsRefused, IsNotMade}
-use Rattle.listing_walk.specs.Standing.{IsShown, IsReady, Faces}
+use Rattle.listing_walk.specs.Standing.{IsView, IsReady, Faces}
 use Rattle.listing_walk.specs.Walking.{open_by, Comes, IsOutcome, Passes, Walks, IsUnchecked, Refuses}
 use Rattle.listing_walk.proofs.Selected.{fault_move, found_move, unselected_move, selected_move, made_turn, refused_turn}
 use Rattle.listing_walk.proofs.Setting_up.{faulted}
@@ -49,26 +49,26 @@ use Rattle.listing_walk.proofs.Setting_up.{faulted}
 abbrev pub present_with : Problem ℕ → SetupOptions → Basis → List Basis → Present
 present_with problem options opening steps = record { problem = problem; options = options; opening = opening; steps = steps }
 
-pub record IsPresentOf (problem : Problem ℕ) (options : SetupOptions) (shown : Option Present) : Type 0 where
+pub record IsPresentOf (problem : Problem ℕ) (options : SetupOptions) (viewed : Option Present) : Type 0 where
   pub opening : Basis
   pub steps : List Basis
-  pub is_shown : shown ≡ Some (present_with problem options opening steps)
+  pub is_viewed : viewed ≡ Some (present_with problem options opening steps)
 
-pub present_at : {cards : List (List ℕ)} {machine : Machine Chosen} {position executed : ℕ} {state : State} → machines.Stands IsShown cards machine position executed state → (chosen : Chosen) → machine.setup ≡ Some chosen →
+pub present_at : {cards : List (List ℕ)} {machine : Machine Chosen} {position executed : ℕ} {state : State} → machines.Represents IsView cards machine position executed state → (chosen : Chosen) → machine.setup ≡ Some chosen →
     (problem : Problem ℕ) → filed_under chosen.name machine.file ≡ Some problem → IsPresentOf problem chosen.options state.setup
 present_at {machine = machine} {state = state} s chosen is problem on_file =
-    let there = subst (λ (kept : Option Chosen). machines.ShowsSetup IsShown machine.file kept state.setup) is s.setup in
+    let there = subst (λ (kept : Option Chosen). machines.ShowsSetup IsView machine.file kept state.setup) is s.setup in
     let present = there.0 in
     let same : present.problem ≡ problem = same_Some present.problem problem (sym there.2.on_file ∙ on_file) in
     record {
       opening = present.opening;
       steps = present.steps;
-      is_shown = there.1 ∙ ap (λ (q : Problem ℕ). Some (present_with q present.options present.opening present.steps)) same
+      is_viewed = there.1 ∙ ap (λ (q : Problem ℕ). Some (present_with q present.options present.opening present.steps)) same
           ∙ ap (λ (o : SetupOptions). Some (present_with problem o present.opening present.steps)) there.2.has_options;
     }
 
-pub none_at : {cards : List (List ℕ)} {machine : Machine Chosen} {position executed : ℕ} {state : State} → machines.Stands IsShown cards machine position executed state → machine.setup ≡ None → state.setup ≡ None
-none_at {machine = machine} {state = state} s none = subst (λ (kept : Option Chosen). machines.ShowsSetup IsShown machine.file kept state.setup) none s.setup
+pub none_at : {cards : List (List ℕ)} {machine : Machine Chosen} {position executed : ℕ} {state : State} → machines.Represents IsView cards machine position executed state → machine.setup ≡ None → state.setup ≡ None
+none_at {machine = machine} {state = state} s none = subst (λ (kept : Option Chosen). machines.ShowsSetup IsView machine.file kept state.setup) none s.setup
 
 -- what is kept of a machine is ready, and its problem is on file
 pub ready_of : (file : Filed) (kept : Option Chosen) (chosen : Chosen) → kept ≡ Some chosen → IfSome kept (IsReady file) → IsReady file chosen
@@ -85,7 +85,7 @@ selecting card state go = or_fault card NoSetup state.setup (λ present. selects
 abbrev pub fault_stop : VerbFault → ℕ → Move
 fault_stop fault card = Does (stops (endings.VerbStop (record { fault = fault; card = card })))
 
-module _ (card : ℕ) (cards : List (List ℕ)) (machine : Machine Chosen) {position executed : ℕ} {state : State} (s : machines.Stands IsShown cards machine position executed state) (go : Present → LinearProgram → Move) where
+module _ (card : ℕ) (cards : List (List ℕ)) (machine : Machine Chosen) {position executed : ℕ} {state : State} (s : machines.Represents IsView cards machine position executed state) (go : Present → LinearProgram → Move) where
   pub no_setup_move : machine.setup ≡ None → selecting card state go ≡ fault_stop NoSetup card
   no_setup_move none = fault_move card NoSetup state.setup (λ (present : Present). selects_present card state present (go present)) (none_at s none)
 
@@ -97,7 +97,7 @@ module _ (card : ℕ) (cards : List (List ℕ)) (machine : Machine Chosen) {posi
     choice cells = choice_of cells chosen.options
 
     setup_move : selecting card state go ≡ selects_present card state present (go present)
-    setup_move = found_move card NoSetup state.setup (λ (q : Present). selects_present card state q (go q)) present p.is_shown
+    setup_move = found_move card NoSetup state.setup (λ (q : Present). selects_present card state q (go q)) present p.is_viewed
 
     pub fault_here : (fault : VerbFault) → HasSelectionFault problem (choice machine.cells) fault → selecting card state go ≡ fault_stop fault card
     fault_here fault h =
@@ -120,7 +120,7 @@ module _ (card : ℕ) (cards : List (List ℕ)) (machine : Machine Chosen) {posi
 
     -- an operation of the selection is refused
     pub refused_here : (opens : (w : walks.Walker) (lp : LinearProgram) → walks.opened w (go present lp) ≡ open_by true true w) → IsRefused problem (choice machine.cells) → (found : Found) (place : Place) → IsUnchecked place found →
-        (w : walks.Walker) → Faces place w → walks.walk_move w (selecting card state go) ≡ walks.Finds (found_shown found)
+        (w : walks.Walker) → Faces place w → walks.walk_move w (selecting card state go) ≡ walks.Finds (found_view found)
     refused_here opens refused found place u w f =
         let k : IsRefused problem (choice state.cells) = subst (λ (c : Cells). IsRefused problem (choice c)) (sym s.cells) refused in
         ap (walks.walk_move w) (selected_here k.lp k.is_selected) ∙ refused_turn w problem (choice state.cells) (go present k.lp) k.is_refused ∙
@@ -128,8 +128,8 @@ module _ (card : ℕ) (cards : List (List ℕ)) (machine : Machine Chosen) {posi
 
 -- ---- by the verdict
 
-module _ (card : ℕ) (cards : List (List ℕ)) (machine : Machine Chosen) (position executed : ℕ) (report : Report) (then : State) (t : machines.Stands IsShown cards machine position executed then) where
-  demanded_comes : (set : Option ℕ) → IfSome set (λ to. 1 ≤ to) → (end : End) (code : ℕ) → endings.Ended code ≡ end_shown end → IsOutcome (demanded set code report then) cards machine position executed (Prints report) (demanded_act set end)
+module _ (card : ℕ) (cards : List (List ℕ)) (machine : Machine Chosen) (position executed : ℕ) (report : Report) (then : State) (t : machines.Represents IsView cards machine position executed then) where
+  demanded_comes : (set : Option ℕ) → IfSome set (λ to. 1 ≤ to) → (end : End) (code : ℕ) → endings.Ended code ≡ end_view end → IsOutcome (demanded set code report then) cards machine position executed (Prints report) (demanded_act set end)
   demanded_comes (Some to) first end code same = (then, refl, t, first)
   demanded_comes None first end code same = ap (λ (ending : endings.Ending). Ends (Prints report) ending) (sym same)
 
@@ -143,7 +143,7 @@ module _ (card : ℕ) (cards : List (List ℕ)) (machine : Machine Chosen) (posi
 -- ---- a verb that selects again, in the walk
 
 module _ (verb : Verb ℕ) (card : ℕ) (go : State → Present → LinearProgram → Move) (is_move : (state : State) → verb_move verb card state ≡ selecting card state (go state)) (cards : List (List ℕ)) (machine : Machine Chosen) (old new : Place) where
-  fault_walks : (fault : VerbFault) → ((position executed : ℕ) (state : State) → machines.Stands IsShown cards machine position executed state → verb_move verb card state ≡ fault_stop fault card) → (result : Result Went NoMemory) →
+  fault_walks : (fault : VerbFault) → ((position executed : ℕ) (state : State) → machines.Represents IsView cards machine position executed state → verb_move verb card state ≡ fault_stop fault card) → (result : Result Went NoMemory) →
       IfOk result (Passes machine old new (acts.Ends (ends.Verb fault card)) []) → IfOk result (Walks verb card cards machine machine old new)
   fault_walks fault is (Ok w') passes = λ position executed state w s f. faulted cards machine old new fault card w' passes w (verb_move verb card state) position executed f (is position executed state s)
   fault_walks fault is (Err stop) passes = tt
@@ -176,9 +176,9 @@ module _ (verb : Verb ℕ) (card : ℕ) (go : State → Present → LinearProgra
 
     -- with a linear program
     pub made_walks : (lp : LinearProgram) → IsMade problem (choice_of machine.cells chosen.options) lp → (after : Machine Chosen) (w' : Went) →
-        ((position executed : ℕ) (state : State) (w : walks.Walker) (opening : Basis) (steps : List Basis) → machines.Stands IsShown cards machine position executed state → Faces old w → state.setup ≡ Some (present_with problem chosen.options opening steps) →
+        ((position executed : ℕ) (state : State) (w : walks.Walker) (opening : Basis) (steps : List Basis) → machines.Represents IsView cards machine position executed state → Faces old w → state.setup ≡ Some (present_with problem chosen.options opening steps) →
         Comes (walks.walk_move w (go state (present_with problem chosen.options opening steps) lp)) cards after position executed new w') → Walks verb card cards machine after old new w'
     made_walks lp made after w' comes = λ position executed state w s f.
         let p = present_at s chosen is_setup problem on_file in
         subst (λ (t : walks.Turn). Comes t cards after position executed new w') (sym (ap (walks.walk_move w) (is_move state) ∙ made_here card cards machine s (go state) chosen problem p w lp made))
-        (comes position executed state w p.opening p.steps s f p.is_shown)
+        (comes position executed state w p.opening p.steps s f p.is_viewed)

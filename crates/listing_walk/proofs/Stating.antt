@@ -26,7 +26,7 @@ use Rattle.walk_definitions.specs.Walker.{refuses_selection}
 use Rattle.listing_walk.specs.declared.chosen.Chosen.{Chosen}
 use Rattle.listing_walk.specs.declared.place.Place.{Place}
 use Rattle.listing_walk.specs.declared.went.Went.{Went}
-use Rattle.listing_walk.specs.Standing.{IsShown}
+use Rattle.listing_walk.specs.Standing.{IsView}
 use Rattle.listing_walk.specs.Walking.{Passes, Walks}
 use Rattle.listing_walk.proofs.Settled.{plain_fault, plain_deck}
 
@@ -93,10 +93,10 @@ module _ (verb : Verb ℕ) (card : ℕ) (cards : List (List ℕ)) (old new : Mac
   -- with some gain that has this text, the statement comes to this act
   record Gains (position executed : ℕ) (state : State) : Type 0 where
     gain : Gain
-    comes : statements.Comes IsShown Settles verb card cards position executed state new gain act
+    comes : statements.Comes IsView Settles verb card cards position executed state new gain act
     is_text : gain_text gain ≡ text
 
-  walks_by : ((position executed : ℕ) (state : State) → machines.Stands IsShown cards old position executed state → Gains position executed state) → (result : Result Went NoMemory) →
+  walks_by : ((position executed : ℕ) (state : State) → machines.Represents IsView cards old position executed state → Gains position executed state) → (result : Result Went NoMemory) →
       IfOk result (Passes new place_old place_new act text) → IfOk result (Walks verb card cards old new place_old place_new)
   walks_by gains (Ok went) passes = λ position executed state w s f.
       let g = gains position executed state s in
@@ -104,21 +104,21 @@ module _ (verb : Verb ℕ) (card : ℕ) (cards : List (List ℕ)) (old new : Mac
   walks_by gains (Err stop) passes = tt
 
   module _ {P : Type 0} (written stopped_at : P → Option (List ℕ)) (faults refusals : P → ℕ) (print_old print_new : P) (none : written print_old ≡ Some []) (all : written print_new ≡ Some text) where
-    pub walks_printed : Executes IsShown Settles verb card written stopped_at faults refusals print_old print_new cards old new (Ok act) → (result : Result Went NoMemory) →
+    pub walks_printed : Executes IsView Settles verb card written stopped_at faults refusals print_old print_new cards old new (Ok act) → (result : Result Went NoMemory) →
         IfOk result (Passes new place_old place_new act text) → IfOk result (Walks verb card cards old new place_old place_new)
     walks_printed executes = walks_by (λ position executed state s.
         let a = executes position executed state s in
         record { gain = a.gain; comes = a.comes; is_text = appended (written print_old) (written print_new) (gain_text a.gain) text a.writes.bytes none all })
 
     pub walks_punched : {U : Type 0} (punch_written punch_stopped_at : U → Option (List ℕ)) (punch_faults punch_refusals : U → ℕ) (punch_old punch_new : U) →
-        Performs IsShown Settles verb card written stopped_at faults refusals print_old print_new punch_written punch_stopped_at punch_faults punch_refusals punch_old punch_new cards old new (Ok act) → (result : Result Went NoMemory) →
+        Performs IsView Settles verb card written stopped_at faults refusals print_old print_new punch_written punch_stopped_at punch_faults punch_refusals punch_old punch_new cards old new (Ok act) → (result : Result Went NoMemory) →
         IfOk result (Passes new place_old place_new act text) → IfOk result (Walks verb card cards old new place_old place_new)
     walks_punched punch_written punch_stopped_at punch_faults punch_refusals punch_old punch_new performs = walks_by (λ position executed state s.
         let a = performs position executed state s in
         record { gain = a.gain; comes = a.comes; is_text = appended (written print_old) (written print_new) (gain_text a.gain) text a.prints.bytes none all })
 
 -- a statement that prints nothing
-pub walks_quietly : (verb : Verb ℕ) (card : ℕ) (cards : List (List ℕ)) (old new : Machine Chosen) (place_old place_new : Place) (act : Act) → IsPlain verb card → Decides IsShown Settles verb card old new act →
+pub walks_quietly : (verb : Verb ℕ) (card : ℕ) (cards : List (List ℕ)) (old new : Machine Chosen) (place_old place_new : Place) (act : Act) → IsPlain verb card → Decides IsView Settles verb card old new act →
     (result : Result Went NoMemory) → IfOk result (Passes new place_old place_new act []) → IfOk result (Walks verb card cards old new place_old place_new)
 walks_quietly verb card cards old new place_old place_new act plain decides =
     walks_by verb card cards old new place_old place_new act [] plain (λ position executed state s. record { gain = Nothing; comes = decides cards position executed state s; is_text = refl })
@@ -127,14 +127,14 @@ walks_quietly verb card cards old new place_old place_new act plain decides =
 
 module _ (verb : Verb ℕ) (card : ℕ) (cards : List (List ℕ)) (old new : Machine Chosen) (place_old place_new : Place) (act : Act) (text : List ℕ) (plain : IsPlain verb card) (from to : SureSink) (none : sure_bytes from ≡ []) (all : text ≡ sure_bytes to)
     (result : Result Went NoMemory) (passes : IfOk result (Passes new place_old place_new act text)) where
-  pub walks_loudly : Executes IsShown Settles verb card (λ (s : SureSink). Some (sure_bytes s)) (λ (s : SureSink). sure_stopped s) (λ (s : SureSink). 0) (λ (s : SureSink). s.refusals) from to cards old new (Ok act) →
+  pub walks_loudly : Executes IsView Settles verb card (λ (s : SureSink). Some (sure_bytes s)) (λ (s : SureSink). sure_stopped s) (λ (s : SureSink). 0) (λ (s : SureSink). s.refusals) from to cards old new (Ok act) →
       IfOk result (Walks verb card cards old new place_old place_new)
   walks_loudly executes =
       walks_printed verb card cards old new place_old place_new act text plain (λ (s : SureSink). Some (sure_bytes s)) (λ (s : SureSink). sure_stopped s) (λ (s : SureSink). 0) (λ (s : SureSink). s.refusals) from to
       (ap Some none) (ap Some (sym all)) executes result passes
 
   pub walks_punching : {U : Type 0} (punch_written punch_stopped_at : U → Option (List ℕ)) (punch_faults punch_refusals : U → ℕ) (punch_old punch_new : U) →
-      Performs IsShown Settles verb card (λ (s : SureSink). Some (sure_bytes s)) (λ (s : SureSink). sure_stopped s) (λ (s : SureSink). 0) (λ (s : SureSink). s.refusals) from to
+      Performs IsView Settles verb card (λ (s : SureSink). Some (sure_bytes s)) (λ (s : SureSink). sure_stopped s) (λ (s : SureSink). 0) (λ (s : SureSink). s.refusals) from to
       punch_written punch_stopped_at punch_faults punch_refusals punch_old punch_new cards old new (Ok act) → IfOk result (Walks verb card cards old new place_old place_new)
   walks_punching punch_written punch_stopped_at punch_faults punch_refusals punch_old punch_new performs =
       walks_punched verb card cards old new place_old place_new act text plain (λ (s : SureSink). Some (sure_bytes s)) (λ (s : SureSink). sure_stopped s) (λ (s : SureSink). 0) (λ (s : SureSink). s.refusals) from to

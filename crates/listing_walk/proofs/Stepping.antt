@@ -17,13 +17,13 @@ use Rattle.listing_walk.specs.declared.found.Found.{Found}
 use Rattle.listing_walk.specs.declared.place.Place.{Place}
 use Rattle.listing_walk.specs.declared.went.Went.TheVariants as went
 use Rattle.listing_walk.specs.declared.went.Onward.TheVariants as onward
-use Rattle.listing_walk.specs.Ended.{found_shown, decks_after, IsFoundBy}
-use Rattle.listing_walk.specs.Standing.{IsShown, IsSound, Faces, Stands}
+use Rattle.listing_walk.specs.Ended.{found_view, decks_after, IsFoundBy}
+use Rattle.listing_walk.specs.Standing.{IsView, IsSound, Faces, Represents}
 use Rattle.listing_walk.specs.Walking.{Walks, Steps}
 
 -- the state with one more statement counted
-counted_stands : {cards : List (List ℕ)} {machine : Machine Chosen} {position executed : ℕ} {state : State} → machines.Stands IsShown cards machine position executed state →
-    machines.Stands IsShown cards machine position (executed + 1) (counted state)
+counted_stands : {cards : List (List ℕ)} {machine : Machine Chosen} {position executed : ℕ} {state : State} → machines.Represents IsView cards machine position executed state →
+    machines.Represents IsView cards machine position (executed + 1) (counted state)
 counted_stands s = record {
   is_position = s.is_position;
   is_executed = ap (λ n. n + 1) s.is_executed;
@@ -70,7 +70,7 @@ turn_at program w statement within more there =
 
 module _ (program : Program) (cards : List (List ℕ)) (position : ℕ) (statement : Statement ℕ) (there : slice_get program.statements (position - 1) ≡ Some statement) (within : position ≤ length program.statements)
     (old new : Machine Chosen) (place_old place_new : Place) where
-  turn_here : (executed : ℕ) (w : walks.Walker) → executed < 100000 → Stands cards old position executed place_old w → walks.turn program w ≡ walks.walk_statement w (Some statement)
+  turn_here : (executed : ℕ) (w : walks.Walker) → executed < 100000 → Represents cards old position executed place_old w → walks.turn program w ≡ walks.walk_statement w (Some statement)
   turn_here executed w more s =
       turn_at program w statement (rw s.state.is_position within) (rw s.state.is_executed more) (rw s.state.is_position there)
 
@@ -99,10 +99,10 @@ module _ (program : Program) (cards : List (List ℕ)) (listing : List ℕ) wher
     pub few : place.reports ≤ executed
     pub walker : walks.Walker
     pub reaches : Reaches program (decks_after program cards) listing walker
-    pub stands : Stands cards machine position executed place walker
+    pub stands : Represents cards machine position executed place walker
 
   pub underway_first : (machine : Machine Chosen) (place : Place) (decks_from : ℕ) → drop (decks_from - 1) (numbered_cards cards) ≡ drop (program.decks_from - 1) (numbered_cards cards) →
-      IsSound cards machine → machines.Stands IsShown cards machine 1 0 (start (decks_of (drop (decks_from - 1) (numbered_cards cards)))) →
+      IsSound cards machine → machines.Represents IsView cards machine 1 0 (start (decks_of (drop (decks_from - 1) (numbered_cards cards)))) →
       place.cursor ≡ listing → place.pending ≡ None → place.reports ≡ 0 → IsUnderway machine place 1 0
   underway_first machine place decks_from same sound stands rest none no_reports = record {
     sound = sound;
@@ -112,7 +112,7 @@ module _ (program : Program) (cards : List (List ℕ)) (listing : List ℕ) wher
     walker = first_walker (decks_after program cards) listing;
     reaches = begun;
     stands = record {
-      state = subst (λ d. machines.Stands IsShown cards machine 1 0 (start (decks_of d))) same stands;
+      state = subst (λ d. machines.Represents IsView cards machine 1 0 (start (decks_of d))) same stands;
       faces = record { rest = sym rest; pending = rw none refl; reports = sym no_reports };
     };
   }
@@ -136,14 +136,14 @@ module _ (program : Program) (cards : List (List ℕ)) (listing : List ℕ) wher
     pub underway_found : (new : Machine Chosen) (later : Place) (found : Found) → executed < 100000 → Steps program cards position machine new place later (onward.Finds found) → IsFoundBy program cards listing found
     underway_found new later found more steps = record { walker = u.walker; reaches = u.reaches; finds = steps executed u.walker more u.stands }
 
-    pub underway_over : (found : Found) → length program.statements < position → ((w : walks.Walker) → Faces place w → walks.closes w (Ended 0) ≡ walks.Finds (found_shown found)) → IsFoundBy program cards listing found
+    pub underway_over : (found : Found) → length program.statements < position → ((w : walks.Walker) → Faces place w → walks.closes w (Ended 0) ≡ walks.Finds (found_view found)) → IsFoundBy program cards listing found
     underway_over found over closes = record {
       walker = u.walker;
       reaches = u.reaches;
       finds = turn_over program u.walker (rw u.stands.state.is_position over) ∙ closes u.walker u.stands.faces;
     }
 
-    pub underway_at_limit : (found : Found) → position ≤ length program.statements → 100000 ≤ executed → ((w : walks.Walker) → Faces place w → walks.closes w StatementLimit ≡ walks.Finds (found_shown found)) →
+    pub underway_at_limit : (found : Found) → position ≤ length program.statements → 100000 ≤ executed → ((w : walks.Walker) → Faces place w → walks.closes w StatementLimit ≡ walks.Finds (found_view found)) →
         IsFoundBy program cards listing found
     underway_at_limit found within most closes = record {
       walker = u.walker;
@@ -154,23 +154,23 @@ module _ (program : Program) (cards : List (List ℕ)) (listing : List ℕ) wher
   -- ---- by the result of a comparison with an end
 
   module _ {machine : Machine Chosen} {place : Place} {position executed : ℕ} (u : IsUnderway machine place position executed) (result : Result Found NoMemory) where
-    pub over_by : length program.statements < position → IfOk result (λ found. (w : walks.Walker) → Faces place w → walks.closes w (Ended 0) ≡ walks.Finds (found_shown found)) → IfOk result (IsFoundBy program cards listing)
+    pub over_by : length program.statements < position → IfOk result (λ found. (w : walks.Walker) → Faces place w → walks.closes w (Ended 0) ≡ walks.Finds (found_view found)) → IfOk result (IsFoundBy program cards listing)
     over_by over closes = by result closes
       where
-        by : (r : Result Found NoMemory) → IfOk r (λ found. (w : walks.Walker) → Faces place w → walks.closes w (Ended 0) ≡ walks.Finds (found_shown found)) → IfOk r (IsFoundBy program cards listing)
+        by : (r : Result Found NoMemory) → IfOk r (λ found. (w : walks.Walker) → Faces place w → walks.closes w (Ended 0) ≡ walks.Finds (found_view found)) → IfOk r (IsFoundBy program cards listing)
         by (Ok found) h = underway_over u found over h
         by (Err stop) h = tt
 
-    pub at_limit_by : position ≤ length program.statements → 100000 ≤ executed → IfOk result (λ found. (w : walks.Walker) → Faces place w → walks.closes w StatementLimit ≡ walks.Finds (found_shown found)) →
+    pub at_limit_by : position ≤ length program.statements → 100000 ≤ executed → IfOk result (λ found. (w : walks.Walker) → Faces place w → walks.closes w StatementLimit ≡ walks.Finds (found_view found)) →
         IfOk result (IsFoundBy program cards listing)
     at_limit_by within most closes = by result closes
       where
-        by : (r : Result Found NoMemory) → IfOk r (λ found. (w : walks.Walker) → Faces place w → walks.closes w StatementLimit ≡ walks.Finds (found_shown found)) → IfOk r (IsFoundBy program cards listing)
+        by : (r : Result Found NoMemory) → IfOk r (λ found. (w : walks.Walker) → Faces place w → walks.closes w StatementLimit ≡ walks.Finds (found_view found)) → IfOk r (IsFoundBy program cards listing)
         by (Ok found) h = underway_at_limit u found within most h
         by (Err stop) h = tt
 
 -- an end before any report
 pub closes_first : (listing : List ℕ) (place : Place) → place.cursor ≡ listing → place.pending ≡ None → place.reports ≡ 0 → (ending : Ending) (result : Result Found NoMemory) →
-    IfOk result (λ found. (w : walks.Walker) → Faces place w → walks.closes w ending ≡ walks.Finds (found_shown found)) → IfOk result (λ found. walks.closes (first_walker [] listing) ending ≡ walks.Finds (found_shown found))
+    IfOk result (λ found. (w : walks.Walker) → Faces place w → walks.closes w ending ≡ walks.Finds (found_view found)) → IfOk result (λ found. walks.closes (first_walker [] listing) ending ≡ walks.Finds (found_view found))
 closes_first listing place rest none no_reports ending (Ok found) closes = closes (first_walker [] listing) (record { rest = sym rest; pending = rw none refl; reports = sym no_reports })
 closes_first listing place rest none no_reports ending (Err stop) closes = tt

@@ -36,7 +36,7 @@ use Rattle.listing_walk.specs.declared.solving.SolvingVerb.TheVariants.{Primal, 
 use Rattle.listing_walk.specs.declared.went.Went.{Went}
 use Rattle.listing_walk.specs.declared.went.Went.TheVariants as went
 use Rattle.listing_walk.specs.Choosing.{IsMade, IsNotMade}
-use Rattle.listing_walk.specs.Standing.{IsShown, IsSound, Faces}
+use Rattle.listing_walk.specs.Standing.{IsView, IsSound, Faces}
 use Rattle.listing_walk.specs.Walking.{Comes, IsOutcome, Finishes, Passes, Walks, Refuses}
 use Rattle.listing_walk.specs.Asking.{Answered, IsMarked, WentBy}
 use Rattle.listing_walk.specs.Solving_verbs.{verb_of, solver_of}
@@ -72,7 +72,7 @@ module _ (verb : SolvingVerb) (card : ℕ) (cards : List (List ℕ)) (machine : 
           Walks (verb_of verb) card cards machine after old new (went.Finds found)
       found_walks after found answered =
           made_walks (verb_of verb) card (path_move verb card) (solving_move verb card) cards machine old new chosen is_setup problem on_file lp made after (went.Finds found)
-          (λ position executed state w opening steps s f is_shown. answered (limit_of verb state.cells) w (after_path (solver_of verb) card (present_with problem chosen.options opening steps) state) f)
+          (λ position executed state w opening steps s f is_viewed. answered (limit_of verb state.cells) w (after_path (solver_of verb) card (present_with problem chosen.options opening steps) state) f)
 
       -- the walk ends
       pub solving_stopped : (after : Machine Chosen) (stopped : Stopped) → ((limit : Option ℕ) → Answered {X = Mark} (OfPath (solver_of verb) limit) (record { problem = problem; lp = lp }) old new IsMarked (Err stopped)) →
@@ -97,8 +97,8 @@ module _ (verb : SolvingVerb) (card : ℕ) (cards : List (List ℕ)) (machine : 
         after_state present state m bases = record state { setup = Some (gone_through bases present); mark = Some m }
 
         -- the machine shows the state after the verdict
-        stands_after : {position executed : ℕ} {state : State} → machines.Stands IsShown cards machine position executed state → (present : Present) → present.problem ≡ problem → present.options ≡ chosen.options →
-            (bases : List Basis) (m : Mark) → mark ≡ m → machines.Stands IsShown cards (machine_with mark) position executed (record state { setup = Some (gone_through bases present); mark = Some m })
+        stands_after : {position executed : ℕ} {state : State} → machines.Represents IsView cards machine position executed state → (present : Present) → present.problem ≡ problem → present.options ≡ chosen.options →
+            (bases : List Basis) (m : Mark) → mark ≡ m → machines.Represents IsView cards (machine_with mark) position executed (record state { setup = Some (gone_through bases present); mark = Some m })
         stands_after s present same options bases m e = record {
           is_position = s.is_position;
           is_executed = s.is_executed;
@@ -109,11 +109,11 @@ module _ (verb : SolvingVerb) (card : ℕ) (cards : List (List ℕ)) (machine : 
           mark = ap Some (sym e);
         }
 
-        ends_by : (w' : Went) → Finishes mid new act w' → (position executed : ℕ) (state : State) (present : Present) → present.problem ≡ problem → present.options ≡ chosen.options → machines.Stands IsShown cards machine position executed state →
+        ends_by : (w' : Went) → Finishes mid new act w' → (position executed : ℕ) (state : State) (present : Present) → present.problem ≡ problem → present.options ≡ chosen.options → machines.Represents IsView cards machine position executed state →
             (turn : walks.Turn) (v : walks.Walker) (answer : PathEnd) → turn ≡ walks.follows v (after_path (solver_of verb) card present state answer) → Faces mid v → IsMarked mark answer → Comes turn cards (machine_with mark) position executed new w'
         ends_by w' finishes position executed state present same options s turn v (Reached bases verdict check) is faces e =
             let then : State = record state { setup = Some (gone_through bases present); mark = Some (mark_of verdict) } in
-            let t : machines.Stands IsShown cards (machine_with mark) position executed then = stands_after s present same options bases (mark_of verdict) e in
+            let t : machines.Represents IsView cards (machine_with mark) position executed then = stands_after s present same options bases (mark_of verdict) e in
             let comes = verdict_comes card cards (machine_with mark) position executed (Solved (solver_of verb) verdict check) then t machine.cells demands s.cells (mark_of verdict) in
             subst (λ (x : walks.Turn). Comes x cards (machine_with mark) position executed new w') (sym is)
             (finishes v (after_path (solver_of verb) card present state (Reached bases verdict check)) cards (machine_with mark) position executed (Prints (Solved (solver_of verb) verdict check)) faces
@@ -125,7 +125,7 @@ module _ (verb : SolvingVerb) (card : ℕ) (cards : List (List ℕ)) (machine : 
         ended_walks : (w' : Went) → Finishes mid new act w' → Walks (verb_of verb) card cards machine (machine_with mark) old new w'
         ended_walks w' finishes =
             made_walks (verb_of verb) card (path_move verb card) (solving_move verb card) cards machine old new chosen is_setup problem on_file lp made (machine_with mark) w'
-            (λ position executed state w opening steps s f is_shown.
+            (λ position executed state w opening steps s f is_viewed.
             let present = present_with problem chosen.options opening steps in
             let a = answered (limit_of verb state.cells) w (after_path (solver_of verb) card present state) f in
             ends_by w' finishes position executed state present refl refl s (walks.walk_move w (path_move verb card state present lp)) a.walker a.answer a.is_turn a.faces a.holds)

@@ -23,7 +23,7 @@ use Rattle.listing_walk.specs.declared.place.Pending.{Pending}
 use Rattle.listing_walk.specs.declared.place.Place.{Place}
 use Rattle.listing_walk.specs.declared.went.Went.{Went}
 use Rattle.listing_walk.specs.declared.went.Went.TheVariants as went
-use Rattle.listing_walk.specs.Ended.{found_shown}
+use Rattle.listing_walk.specs.Ended.{found_view}
 use Rattle.listing_walk.specs.Standing.{Faces}
 
 -- what stops an answer, where so much is left
@@ -64,7 +64,7 @@ pub record IsTaken (question : Question) (Holds : Answer question → Type 0) (n
 
 abbrev pub Answered : {X : Type 0} → (question : Question) → Sheet → Place → Place → (X → Answer question → Type 0) → Result X Stopped → Type 0
 Answered question sheet old new Holds (Ok x) = (w : walks.Walker) (go : Answer question → Outcome) → Faces old w → IsTaken question (Holds x) new (asked_turn w question sheet go) go
-Answered question sheet old new Holds (Err (Finds found)) = (w : walks.Walker) (go : Answer question → Outcome) → Faces old w → asked_turn w question sheet go ≡ walks.Finds (found_shown found)
+Answered question sheet old new Holds (Err (Finds found)) = (w : walks.Walker) (go : Answer question → Outcome) → Faces old w → asked_turn w question sheet go ≡ walks.Finds (found_view found)
 Answered question sheet old new Holds (Err NoMemory) = Unit {0}
 
 -- the mark is that of the verdict

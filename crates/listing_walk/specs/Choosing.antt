@@ -41,7 +41,7 @@ pub record IsRefused (problem : Problem ℕ) (choice : Choice) : Type 0 where
   pub is_selected : selected problem choice ≡ Ok lp
   pub is_refused : is_made problem choice ≡ false
 
--- want of memory may come at any time
+-- memory may run out at any time
 abbrev pub IsNotMade : Problem ℕ → Choice → Unselected → Type 0
 IsNotMade problem choice (Fault fault) = HasSelectionFault problem choice fault
 IsNotMade problem choice Unchecked = IsRefused problem choice

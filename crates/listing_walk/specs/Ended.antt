@@ -1,5 +1,5 @@
 -- How the walk along a listing ends.
---     found_shown found            what is found, in the words of the walk
+--     found_view found            what is found, in the words of the walk
 --     IsFoundBy program cards listing found    the walk comes to this
 use Rattle.std.specs.Prelude.{◌≡◌, ℕ, ◌-◌, List, drop}
 use Rattle.card_definitions.specs.Cards.{Card, numbered_cards}
@@ -10,11 +10,11 @@ use Rattle.walk_definitions.specs.Found.{Reaches}
 use Rattle.listing_walk.specs.declared.found.Found.{Found}
 use Rattle.listing_walk.specs.declared.found.Found.TheVariants.{Attested, Wrong, Open, Unchecked}
 
-abbrev pub found_shown : Found → walks.Found
-found_shown (Attested reports) = walks.Attested reports
-found_shown (Wrong rest) = walks.Wrong rest.now
-found_shown (Open rest) = walks.Open rest.now
-found_shown (Unchecked rest) = walks.Unchecked rest.now
+abbrev pub found_view : Found → walks.Found
+found_view (Attested reports) = walks.Attested reports
+found_view (Wrong rest) = walks.Wrong rest.now
+found_view (Open rest) = walks.Open rest.now
+found_view (Unchecked rest) = walks.Unchecked rest.now
 
 -- the decks of the cards after a program
 abbrev pub decks_after : Program → List (List ℕ) → List (List Card)
@@ -23,4 +23,4 @@ decks_after program cards = decks_of (drop (program.decks_from - 1) (numbered_ca
 pub record IsFoundBy (program : Program) (cards : List (List ℕ)) (listing : List ℕ) (found : Found) : Type 0 where
   pub walker : walks.Walker
   pub reaches : Reaches program (decks_after program cards) listing walker
-  pub finds : walks.turn program walker ≡ walks.Finds (found_shown found)
+  pub finds : walks.turn program walker ≡ walks.Finds (found_view found)

@@ -20,7 +20,7 @@ use Rattle.listing_walk.specs.declared.place.Place.{Place}
 use Rattle.listing_walk.specs.declared.selecting.Unselected.{Unselected}
 use Rattle.listing_walk.specs.declared.selecting.Unselected.TheVariants.{Fault, Unchecked, NoMemory}
 use Rattle.listing_walk.specs.declared.went.Went.{Went}
-use Rattle.listing_walk.specs.Ended.{found_shown}
+use Rattle.listing_walk.specs.Ended.{found_view}
 use Rattle.listing_walk.specs.Standing.{Faces}
 use Rattle.listing_walk.specs.Walking.{Passes, FindsUnchecked}
 
@@ -40,7 +40,7 @@ abbrev pub open_install : Bool → walks.Walker → Option walks.Found
 open_install stands w = option_or (walks.open_stop w) (option_or (walks.open_if stands w) (walks.open_pending w))
 
 abbrev pub IsInstallDue : Place → Bool → Found → Type 0
-IsInstallDue place stands found = (w : walks.Walker) → Faces place w → walks.unless_found (open_install stands w) (walks.Finds (walks.Wrong w.rest)) ≡ walks.Finds (found_shown found)
+IsInstallDue place stands found = (w : walks.Walker) → Faces place w → walks.unless_found (open_install stands w) (walks.Finds (walks.Wrong w.rest)) ≡ walks.Finds (found_view found)
 
 -- where the line stands, nothing is said of a refused operation
 abbrev pub RefusesInstall : Machine Chosen → Place → Place → ℕ → Bool → Unselected → Went → Type 0

@@ -4,5 +4,5 @@ pub mod Walking
 pub mod Choosing
 pub mod Asking
 pub mod Solving_verbs
-pub mod Sweeping_verbs
+pub mod Parametric_verbs
 pub mod Inserting

@@ -1,7 +1,7 @@
 -- Where the walk stands.
---     IsReady, IsSolved, IsShown   what SETUP keeps, without a basis
+--     IsReady, IsSolved, IsView   what SETUP keeps, without a basis
 --     Faces place walker           this is left of the listing, this verdict is pending, and so many reports were read
---     Stands cards machine ..      the machine and the place show this walker
+--     Represents cards machine ..      the machine and the place show this walker
 use Rattle.std.specs.Prelude.{◌≡◌, ℕ, List, Option, None, Some, Ok}
 use Rattle.problem_definitions.specs.Names.{Name}
 use Rattle.problem_definitions.specs.Problem.{Problem}
@@ -35,7 +35,7 @@ abbrev pub IsSolved : Mark → Option Name → Option Name → Filed → Chosen 
 IsSolved mark objective rhs file chosen = IsSelected file chosen.name (record { objective = objective; rhs = rhs; options = chosen.options }) chosen.lp
 
 -- the problem on file, and the options, with any bases
-pub record IsShown (file : Filed) (chosen : Chosen) (present : Present) : Type 0 where
+pub record IsView (file : Filed) (chosen : Chosen) (present : Present) : Type 0 where
   pub on_file : filed_under chosen.name file ≡ Some present.problem
   pub has_options : present.options ≡ chosen.options
 
@@ -46,9 +46,9 @@ IsSound = machines.IsSound IsReady IsSolved
 
 -- the verdict is pending, with a check that was made or refused as the listing says
 abbrev pub ShowsPending : Option Pending → Option walks.Pending → Type 0
-ShowsPending None shown = shown ≡ None
-ShowsPending (Some pending) shown =
-    (check : Check) × (shown ≡ Some (record { rest = pending.rest.now; objective = pending.objective; check = check })) × (says_checked check ≡ pending.is_checked)
+ShowsPending None viewed = viewed ≡ None
+ShowsPending (Some pending) viewed =
+    (check : Check) × (viewed ≡ Some (record { rest = pending.rest.now; objective = pending.objective; check = check })) × (says_checked check ≡ pending.is_checked)
 
 pub record Faces (place : Place) (w : walks.Walker) : Type 0 where
   pub rest : w.rest ≡ place.cursor
@@ -57,6 +57,6 @@ pub record Faces (place : Place) (w : walks.Walker) : Type 0 where
 
 -- ---- both
 
-pub record Stands (cards : List (List ℕ)) (machine : Machine Chosen) (position executed : ℕ) (place : Place) (w : walks.Walker) : Type 0 where
-  pub state : machines.Stands IsShown cards machine position executed w.state
+pub record Represents (cards : List (List ℕ)) (machine : Machine Chosen) (position executed : ℕ) (place : Place) (w : walks.Walker) : Type 0 where
+  pub state : machines.Represents IsView cards machine position executed w.state
   pub faces : Faces place w

@@ -24,8 +24,8 @@ use Rattle.listing_walk.specs.declared.went.Went.{Went}
 use Rattle.listing_walk.specs.declared.went.Went.TheVariants.{Next, Jump, Finds}
 use Rattle.listing_walk.specs.declared.went.Onward.{Onward}
 use Rattle.listing_walk.specs.declared.went.Onward.TheVariants as onward
-use Rattle.listing_walk.specs.Ended.{found_shown}
-use Rattle.listing_walk.specs.Standing.{IsShown, Faces, Stands}
+use Rattle.listing_walk.specs.Ended.{found_view}
+use Rattle.listing_walk.specs.Standing.{IsView, Faces, Represents}
 
 -- ---- what is open
 
@@ -52,13 +52,13 @@ ends_run (acts.Ends end) = true
 
 -- the walk goes on with a walker that stands here, or it ends
 abbrev pub Comes : walks.Turn → List (List ℕ) → Machine Chosen → ℕ → ℕ → Place → Went → Type 0
-Comes turn cards machine position executed place Next = (v : walks.Walker) × (turn ≡ walks.Walks v) × Stands cards machine (position + 1) executed place v
-Comes turn cards machine position executed place (Jump to) = (v : walks.Walker) × (turn ≡ walks.Walks v) × Stands cards machine to executed place v × (1 ≤ to)
-Comes turn cards machine position executed place (Finds found) = turn ≡ walks.Finds (found_shown found)
+Comes turn cards machine position executed place Next = (v : walks.Walker) × (turn ≡ walks.Walks v) × Represents cards machine (position + 1) executed place v
+Comes turn cards machine position executed place (Jump to) = (v : walks.Walker) × (turn ≡ walks.Walks v) × Represents cards machine to executed place v × (1 ≤ to)
+Comes turn cards machine position executed place (Finds found) = turn ≡ walks.Finds (found_view found)
 
 -- the outcome is that of an act, which was reached with this machine
 abbrev pub IsOutcome : Outcome → List (List ℕ) → Machine Chosen → ℕ → ℕ → Gain → Act → Type 0
-IsOutcome outcome cards machine position executed gain act = Follows IsShown Settles 0 (Does outcome) cards machine position executed gain act
+IsOutcome outcome cards machine position executed gain act = Follows IsView Settles 0 (Does outcome) cards machine position executed gain act
 
 -- after a report was passed, or where none was due
 abbrev pub Finishes : Place → Place → Act → Went → Type 0
@@ -70,16 +70,16 @@ Finishes old new act went =
 abbrev pub Passes : Machine Chosen → Place → Place → Act → List ℕ → Went → Type 0
 Passes machine old new act text went =
     (w : walks.Walker) (card : ℕ) (move : Move) (cards : List (List ℕ)) (position executed : ℕ) (gain : Gain) → Faces old w → walks.refuses_selection move ≡ false →
-    Follows IsShown Settles card move cards machine position executed gain act → gain_text gain ≡ text → Comes (walks.walk_move w move) cards machine position executed new went
+    Follows IsView Settles card move cards machine position executed gain act → gain_text gain ≡ text → Comes (walks.walk_move w move) cards machine position executed new went
 
 -- an operation is refused here, where a stop and what is pending come first
 abbrev pub IsUnchecked : Place → Found → Type 0
-IsUnchecked place found = (w : walks.Walker) → Faces place w → walks.unless_found (open_by true true w) (walks.Finds (walks.Unchecked w.rest)) ≡ walks.Finds (found_shown found)
+IsUnchecked place found = (w : walks.Walker) → Faces place w → walks.unless_found (open_by true true w) (walks.Finds (walks.Unchecked w.rest)) ≡ walks.Finds (found_view found)
 
 -- a report that can't be attested is due here, and its line stands or doesn't
 abbrev pub IsReported : Place → Bool → Bool → Found → Type 0
 IsReported place stands made found =
-    (w : walks.Walker) → Faces place w → walks.unless_found (option_or (walks.open_stop w) (walks.open_if stands w)) (walks.Finds (if made then walks.Wrong w.rest else walks.Unchecked w.rest)) ≡ walks.Finds (found_shown found)
+    (w : walks.Walker) → Faces place w → walks.unless_found (option_or (walks.open_stop w) (walks.open_if stands w)) (walks.Finds (if made then walks.Wrong w.rest else walks.Unchecked w.rest)) ≡ walks.Finds (found_view found)
 
 -- the walk ends so, where an operation is refused
 abbrev pub FindsUnchecked : Place → Went → Type 0
@@ -105,14 +105,14 @@ RefusesReport machine old new card stands NoMemory went = ⊥
 -- the statement of a verb
 abbrev pub Walks : Verb ℕ → ℕ → List (List ℕ) → Machine Chosen → Machine Chosen → Place → Place → Went → Type 0
 Walks verb card cards old new place_old place_new went =
-    (position executed : ℕ) (state : State) (w : walks.Walker) → machines.Stands IsShown cards old position executed state → Faces place_old w →
+    (position executed : ℕ) (state : State) (w : walks.Walker) → machines.Represents IsView cards old position executed state → Faces place_old w →
     Comes (walks.walk_move w (verb_move verb card state)) cards new position executed place_new went
 
 -- the statement at a position
 abbrev pub ComesTo : walks.Turn → List (List ℕ) → Machine Chosen → ℕ → Place → Onward → Type 0
-ComesTo turn cards machine executed place (onward.Goes to) = (v : walks.Walker) × (turn ≡ walks.Walks v) × Stands cards machine to executed place v × (1 ≤ to)
-ComesTo turn cards machine executed place (onward.Finds found) = turn ≡ walks.Finds (found_shown found)
+ComesTo turn cards machine executed place (onward.Goes to) = (v : walks.Walker) × (turn ≡ walks.Walks v) × Represents cards machine to executed place v × (1 ≤ to)
+ComesTo turn cards machine executed place (onward.Finds found) = turn ≡ walks.Finds (found_view found)
 
 abbrev pub Steps : Program → List (List ℕ) → ℕ → Machine Chosen → Machine Chosen → Place → Place → Onward → Type 0
 Steps program cards position old new place_old place_new went =
-    (executed : ℕ) (w : walks.Walker) → executed < 100000 → Stands cards old position executed place_old w → ComesTo (walks.turn program w) cards new (executed + 1) place_new went
+    (executed : ℕ) (w : walks.Walker) → executed < 100000 → Represents cards old position executed place_old w → ComesTo (walks.turn program w) cards new (executed + 1) place_new went

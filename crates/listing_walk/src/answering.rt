@@ -3,13 +3,13 @@ ghost use Rattle.std.specs.Prelude.{◌≡◌, ◌+◌, ◌≤◌, ◌<◌, ℕ,
 ghost use Rattle.exact_values.specs.Tests.{eq_ℚ};
 ghost use Rattle.lp_definitions.specs.LinearProgram.{IsLinearProgram};
 ghost use Rattle.listing_definitions.specs.Report.{PathVerdict, Check};
-ghost use Rattle.question_definitions.specs.Answers.{OfPath, OfSolution, OfSweep};
+ghost use Rattle.question_definitions.specs.Answers.{OfPath, OfSolution, OfParametricRun};
 ghost use Rattle.run_definitions.specs.Verbs.{mark_of};
 ghost use Rattle.walk_definitions.specs.Walker as walks;
 ghost use Rattle.listing_tables.specs.Sheets.{IsSheet};
-ghost use Rattle.listing_readers.specs.Read.{sheet_shown};
-ghost use Rattle.parametric_request.specs.Asking.{Serves, sweep_of};
-ghost use Rattle.listing_answers.specs.Taken.{conclusion_of, IsSweepAnswer};
+ghost use Rattle.listing_readers.specs.Read.{sheet_view};
+ghost use Rattle.parametric_request.specs.Asking.{Serves, parametric_run_of};
+ghost use Rattle.listing_answers.specs.Taken.{conclusion_of, IsParametricRunAnswer};
 ghost use Rattle.listing_walk.specs.Standing.{ShowsPending};
 ghost use Rattle.listing_walk.specs.Asking.{WentBy, stopped_by, is_optimal, settled_by, Answered, IsMarked, IsAny, IsSettling};
 
@@ -19,7 +19,7 @@ use crate::went::Went;
 use frac128::Frac;
 use job_devices::NoMemory;
 use listing_answers::{
-    Conclusion, Stop, SweepAnswer, answer_to_path, answer_to_solution, answer_to_sweep,
+    Conclusion, Stop, ParametricRunAnswer, answer_to_path, answer_to_solution, answer_to_parametric_run,
 };
 use listing_definitions::{Mark, Solver};
 use listing_tables::Sheet;
@@ -96,7 +96,7 @@ pub fn answer_path<'a>(
     requires lawful { IsLinearProgram sheet.lp.now }
     requires no_change { sheet.lp.now.change ≡ None }
     requires few { place.old.reports < 4294967295 }
-    ensures answered { (limit : Option ℕ) → Answered (OfPath solver limit) (sheet_shown sheet.entry) place.old place.new IsMarked result }
+    ensures answered { (limit : Option ℕ) → Answered (OfPath solver limit) (sheet_view sheet.entry) place.old place.new IsMarked result }
     ensures few { place.new.reports ≤ place.old.reports + 1 }
 {
     if let Some(found) = place.open_here(true, true) {
@@ -158,7 +158,7 @@ pub fn answer_solution<'a>(
     requires lawful { IsLinearProgram sheet.lp.now }
     requires no_change { sheet.lp.now.change ≡ None }
     requires few { place.old.reports < 4294967295 }
-    ensures answered { Answered (OfSolution mark) (sheet_shown sheet.entry) place.old place.new (IsAny (OfSolution mark)) result }
+    ensures answered { Answered (OfSolution mark) (sheet_view sheet.entry) place.old place.new (IsAny (OfSolution mark)) result }
     ensures few { place.new.reports ≤ place.old.reports + 1 }
 {
     if let Some(found) = place.open_here(true, false) {
@@ -193,25 +193,25 @@ pub fn is_optimal(mark: Mark) -> bool
 }
 
 /// Takes what PARAOBJ or PARARHS prints of a run.
-pub fn answer_sweep<'a>(
+pub fn answer_parametric_run<'a>(
     alloc: Global,
     place: &mut Place<'a>,
     sheet: Sheet<'_>,
     request: &ParametricRequest,
-) -> Result<SweepAnswer, Stopped<'a>>
+) -> Result<ParametricRunAnswer, Stopped<'a>>
     requires sheet { IsSheet sheet }
     requires lawful { IsLinearProgram sheet.lp.now }
     requires no_change { sheet.lp.now.change ≡ None }
     requires serves { Serves sheet.problem.now sheet.lp.now request.now }
     requires few { place.old.reports < 4294967295 }
-    ensures answered { (limit : ℕ) → Answered (OfSweep (sweep_of limit request.now)) (sheet_shown sheet.entry) place.old place.new IsSweepAnswer result }
+    ensures answered { (limit : ℕ) → Answered (OfParametricRun (parametric_run_of limit request.now)) (sheet_view sheet.entry) place.old place.new IsParametricRunAnswer result }
     ensures few { place.new.reports ≤ place.old.reports + 1 }
 {
     if let Some(found) = place.open_here(true, true) {
         return Err(Stopped::Finds(found));
     }
     let rest = place.cursor.left();
-    match answer_to_sweep(alloc, &mut place.cursor, sheet, request) {
+    match answer_to_parametric_run(alloc, &mut place.cursor, sheet, request) {
         Ok(answer) => {
             place.pending = None;
             place.reports += 1;

@@ -15,9 +15,9 @@ pub struct Chosen {
 }
 
 impl Kept for Chosen {
-    ghost use Rattle.listing_walk.specs.Standing.{IsShown, IsReady, IsSolved};
+    ghost use Rattle.listing_walk.specs.Standing.{IsView, IsReady, IsSolved};
 
-    ghost shows = { IsShown };
+    ghost shows = { IsView };
 
     ghost ready = { IsReady };
 

@@ -1,10 +1,10 @@
 // The walk.
 ghost use Rattle.std.specs.Prelude.{◌≡◌, ◌-◌, ◌+◌, ◌≤◌, [], IfOk, length, drop};
 ghost use Rattle.card_definitions.specs.Cards.{numbered_cards};
-ghost use Rattle.report_text.specs.Shown.{IsEnding, ending_shown};
+ghost use Rattle.report_text.specs.Views.{IsEnding, ending_view};
 ghost use Rattle.walk_definitions.specs.Walker as walks;
 ghost use Rattle.walk_definitions.specs.Found.{first_walker};
-ghost use Rattle.listing_walk.specs.Ended.{found_shown, IsFoundBy};
+ghost use Rattle.listing_walk.specs.Ended.{found_view, IsFoundBy};
 
 use crate::chosen::Chosen;
 use crate::execute::step;
@@ -65,7 +65,7 @@ pub fn closes<'a>(
     ending: &Ending<'_>,
 ) -> Result<Found<'a>, NoMemory>
     requires { IsEnding ending.now }
-    ensures { IfOk result (λ found. walks.closes (first_walker [] listing.now) (ending_shown ending.now) ≡ walks.Finds (found_shown found)) }
+    ensures { IfOk result (λ found. walks.closes (first_walker [] listing.now) (ending_view ending.now) ≡ walks.Finds (found_view found)) }
 {
     let mut place = Place::new(listing);
     place.close(alloc, ending)

@@ -1,6 +1,6 @@
 // The statements of a program.
 ghost use Rattle.std.specs.Prelude.{◌≡◌, ◌+◌, ◌≤◌, ◌<◌, IfOk, length};
-ghost use Rattle.control_verbs.specs.Shown.{shown};
+ghost use Rattle.control_verbs.specs.Views.{viewed};
 ghost use Rattle.control_compiler.specs.Valid.{IsProgram};
 ghost use Rattle.run_machine.specs.Statements.{IsSoundVerb};
 ghost use Rattle.listing_walk.specs.Standing.{IsSound};
@@ -15,7 +15,7 @@ use crate::setup::set_up;
 use crate::solution::show_solution;
 use crate::solving::{SolvingVerb, solve};
 use crate::statements::{convert, punch_problem, revise, title};
-use crate::sweeping::sweep;
+use crate::parametric_runs::parametric_run;
 use crate::went::{Onward, Went};
 use card_reader::Cards;
 use control_compiler::{Program, Verb};
@@ -34,9 +34,9 @@ fn execute<'a>(
     verb: &Verb<u32>,
 ) -> Result<Went<'a>, NoMemory>
     requires sound { IsSound cards.now machine.old }
-    requires verb { IsSoundVerb (shown verb.now) }
+    requires verb { IsSoundVerb (viewed verb.now) }
     requires few { place.old.reports < 4294967295 }
-    ensures walks { IfOk result (Walks (shown verb.now) card cards.now machine.old machine.new place.old place.new) }
+    ensures walks { IfOk result (Walks (viewed verb.now) card cards.now machine.old machine.new place.old place.new) }
     ensures sound { IsSound cards.now machine.new }
     ensures few { place.new.reports ≤ place.old.reports + 1 }
 {
@@ -77,8 +77,8 @@ fn execute<'a>(
         Verb::Primal => solve(alloc, machine, place, card, SolvingVerb::Primal),
         Verb::Dual => solve(alloc, machine, place, card, SolvingVerb::Dual),
         Verb::Solution => show_solution(alloc, machine, place, card),
-        Verb::Paraobj => sweep(alloc, machine, place, card, ParametricVerb::Paraobj),
-        Verb::Pararhs => sweep(alloc, machine, place, card, ParametricVerb::Pararhs),
+        Verb::Paraobj => parametric_run(alloc, machine, place, card, ParametricVerb::Paraobj),
+        Verb::Pararhs => parametric_run(alloc, machine, place, card, ParametricVerb::Pararhs),
         Verb::Ranging => show_ranges(alloc, machine, place, card),
         Verb::Punch => punch_basis(alloc, machine, place, card),
         Verb::Insert => insert(alloc, machine, cards, place, card),

@@ -17,7 +17,7 @@ mod setup;
 mod solution;
 mod solving;
 mod statements;
-mod sweeping;
+mod parametric_runs;
 mod went;
 
 pub use course::{closes, walk};

@@ -2,12 +2,12 @@
 ghost use Rattle.std.specs.Prelude.{◌≡◌, ◌+◌, ◌≤◌, ◌<◌, true, false, [], IfOk, option_map};
 ghost use Rattle.job_devices.specs.Memory.{sure_bytes};
 ghost use Rattle.job_devices.specs.Text.{Writes};
-ghost use Rattle.report_text.specs.Shown.{IsEnding, ending_shown};
+ghost use Rattle.report_text.specs.Views.{IsEnding, ending_view};
 ghost use Rattle.listing_definitions.specs.Listing.{ending_text};
 ghost use Rattle.walk_definitions.specs.Words.{left_after};
 ghost use Rattle.walk_definitions.specs.Walker as walks;
 ghost use Rattle.listing_readers.specs.Read.{taken};
-ghost use Rattle.listing_walk.specs.Ended.{found_shown};
+ghost use Rattle.listing_walk.specs.Ended.{found_view};
 ghost use Rattle.listing_walk.specs.Standing.{Faces};
 ghost use Rattle.listing_walk.specs.Walking.{open_by, is_loud, one_if, IsUnchecked, IsReported};
 
@@ -38,7 +38,7 @@ pub struct Place<'a> {
 // Writes the text of an end.
 fn put_end<P: Sink>(print: &mut P, ending: &Ending<'_>) -> Result<(), WriteStop>
     requires { IsEnding ending.now }
-    ensures { Writes P.written P.stopped_at P.faults P.refusals print.old print.new result (ending_text (ending_shown ending.now)) }
+    ensures { Writes P.written P.stopped_at P.faults P.refusals print.old print.new result (ending_text (ending_view ending.now)) }
 {
     text_of(&Report::End(*ending), print)
 }
@@ -46,7 +46,7 @@ fn put_end<P: Sink>(print: &mut P, ending: &Ending<'_>) -> Result<(), WriteStop>
 // The text of an end.
 fn end_text(alloc: Global, ending: &Ending<'_>) -> Result<SureSink, NoMemory>
     requires { IsEnding ending.now }
-    ensures { IfOk result (λ text. sure_bytes text ≡ ending_text (ending_shown ending.now)) }
+    ensures { IfOk result (λ text. sure_bytes text ≡ ending_text (ending_view ending.now)) }
 {
     let mut text = SureSink::new(alloc)?;
     match put_end(&mut text, ending) {
@@ -78,7 +78,7 @@ impl<'a> Place<'a> {
 
     // The verdict that is pending.
     fn pending_here(&self) -> Option<Found<'a>>
-        ensures { (w : walks.Walker) → Faces self.now w → option_map found_shown result ≡ walks.open_pending w }
+        ensures { (w : walks.Walker) → Faces self.now w → option_map found_view result ≡ walks.open_pending w }
     {
         match &self.pending {
             Some(pending) => Some(Found::Open(pending.rest)),
@@ -88,7 +88,7 @@ impl<'a> Place<'a> {
 
     /// What can't be attested here: a stop, if one is looked for, and then the verdict that is pending, if it has to be settled.
     pub fn open_here(&self, looks: bool, clears: bool) -> Option<Found<'a>>
-        ensures { (w : walks.Walker) → Faces self.now w → option_map found_shown result ≡ open_by looks clears w }
+        ensures { (w : walks.Walker) → Faces self.now w → option_map found_view result ≡ open_by looks clears w }
     {
         let rest = self.cursor.left();
         if looks && is_open_stop(rest) {
@@ -148,7 +148,7 @@ impl<'a> Place<'a> {
     pub fn close(&mut self, alloc: Global, ending: &Ending<'_>) -> Result<Found<'a>, NoMemory>
         requires { IsEnding ending.now }
         ensures closes { IfOk result (λ found. (w : walks.Walker) → Faces self.old w →
-            walks.closes w (ending_shown ending.now) ≡ walks.Finds (found_shown found)) }
+            walks.closes w (ending_view ending.now) ≡ walks.Finds (found_view found)) }
         ensures reports { self.new.reports ≡ self.old.reports }
     {
         if let Some(found) = self.open_here(true, true) {

@@ -5,7 +5,7 @@ ghost use Rattle.job_devices.specs.Text.{Writes};
 ghost use Rattle.control_definitions.specs.Program as program;
 ghost use Rattle.listing_definitions.specs.Report.{SetUp};
 ghost use Rattle.listing_definitions.specs.Text.{report_text};
-ghost use Rattle.control_verbs.specs.Shown.{options_shown};
+ghost use Rattle.control_verbs.specs.Views.{options_view};
 ghost use Rattle.listing_walk.specs.Choosing.{IsOpened, IsNotOpened};
 ghost use Rattle.listing_walk.specs.Standing.{IsSound};
 ghost use Rattle.listing_walk.specs.Walking.{Walks};
@@ -82,7 +82,7 @@ pub fn set_up<'a>(
 ) -> Result<Went<'a>, NoMemory>
     requires { place.old.reports < 4294967295 }
     ensures walks { (cards : List (List ℕ)) → IfOk result
-        (Walks (program.Setup (options_shown options.now)) card cards machine.old machine.new place.old place.new) }
+        (Walks (program.Setup (options_view options.now)) card cards machine.old machine.new place.old place.new) }
     ensures sound { (cards : List (List ℕ)) → IsSound cards machine.old → IsSound cards machine.new }
     ensures few { place.new.reports ≤ place.old.reports + 1 }
 {

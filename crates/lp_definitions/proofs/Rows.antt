@@ -6,7 +6,7 @@ use Rattle.exact_values.specs.Rational.{ℚ, whole, fraction, zero_ℚ, one_ℚ,
 use Rattle.exact_values.specs.Sums.{sum_to, sum_up_to}
 use Rattle.exact_values.proofs.Fractions.{same_parts}
 use Rattle.lp_definitions.specs.LinearProgram.{LinearProgram, value_at, KeepsEquations, IsColumn, IsVariable, lower_of, upper_of, cost, objective_value, entry}
-use Rattle.lp_definitions.specs.Solutions.{IsFeasible, AreProvingPrices, IsCrossed, IsRay, ProvesUnbounded}
+use Rattle.lp_definitions.specs.Solutions.{IsFeasible, IsDualCertificate, IsCrossed, IsRay, ProvesUnbounded}
 use Rattle.lp_definitions.specs.Basis.{row_basics, exchanged, opening_statuses}
 use Rattle.lp_definitions.specs.Waypoints.{waypoint}
 use Rattle.lp_definitions.specs.RatesEvidence.{other_basics}
@@ -75,9 +75,9 @@ testprob_feasible = record { keeps = testprob_keeps; within = within }
 abbrev testprob_prices : List ℚ
 testprob_prices = zero_ℚ ∷ zero_ℚ ∷ whole (pos 1) ∷ whole (pos 8) ∷ zero_ℚ ∷ whole (pos 12) ∷ zero_ℚ ∷ []
 
-testprob_proving : AreProvingPrices testprob (value_at testprob_point) (value_at testprob_prices)
+testprob_certificate : IsDualCertificate testprob (value_at testprob_point) (value_at testprob_prices)
 unfolding sum_to ◌+ℚ◌ ◌*ℚ◌ fraction whole gcd neg_ℚ
-testprob_proving = record { reduced = reduced; at_lower = at_lower; at_upper = at_upper }
+testprob_certificate = record { reduced = reduced; at_lower = at_lower; at_upper = at_upper }
   where
     reduced : (j : ℕ) → IsColumn testprob.matrix j → value_at testprob_prices (4 + j) ≡ cost testprob j -ℚ sum_up_to 4 (λ i. value_at testprob_prices i *ℚ entry testprob.matrix i j)
     reduced zero is = absurd (omega (arith, is.0))
@@ -181,7 +181,7 @@ falling = record {
 
 falling_is_unbounded : ProvesUnbounded falling (value_at (zero_ℚ ∷ zero_ℚ ∷ [])) (value_at (whole (negsuc 0) ∷ whole (pos 1) ∷ []))
 unfolding sum_to ◌+ℚ◌ ◌*ℚ◌ fraction whole gcd neg_ℚ
-falling_is_unbounded = record { feasible = record { keeps = at_zero; within = within }; keeps = along; falls = falls; rises = rises; betters = record { below = refl } }
+falling_is_unbounded = record { feasible = record { keeps = at_zero; within = within }; keeps = along; falls = falls; rises = rises; improves = record { below = refl } }
   where
     at_zero : KeepsEquations falling.matrix (value_at (zero_ℚ ∷ zero_ℚ ∷ []))
     at_zero zero row = absurd (omega (arith, row.0))
@@ -224,9 +224,9 @@ greatest = record {
   sense = Max;
 }
 
-greatest_proving : AreProvingPrices greatest (value_at (whole (pos 12) ∷ whole (pos 4) ∷ whole (pos 4) ∷ [])) (value_at (zero_ℚ ∷ whole (pos 3) ∷ zero_ℚ ∷ []))
+greatest_certificate : IsDualCertificate greatest (value_at (whole (pos 12) ∷ whole (pos 4) ∷ whole (pos 4) ∷ [])) (value_at (zero_ℚ ∷ whole (pos 3) ∷ zero_ℚ ∷ []))
 unfolding sum_to ◌+ℚ◌ ◌*ℚ◌ fraction whole gcd neg_ℚ
-greatest_proving = record { reduced = reduced; at_lower = at_lower; at_upper = at_upper }
+greatest_certificate = record { reduced = reduced; at_lower = at_lower; at_upper = at_upper }
   where
     reduced : (j : ℕ) → IsColumn greatest.matrix j → value_at (zero_ℚ ∷ whole (pos 3) ∷ zero_ℚ ∷ []) (2 + j) ≡ cost greatest j -ℚ sum_up_to 2 (λ i. value_at (zero_ℚ ∷ whole (pos 3) ∷ zero_ℚ ∷ []) i *ℚ entry greatest.matrix i j)
     reduced zero is = absurd (omega (arith, is.0))

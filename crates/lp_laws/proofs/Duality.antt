@@ -1,4 +1,4 @@
--- What the certificates of the three answers prove: proving prices, rays and directions.
+-- What the certificates of the three answers prove: dual certificate, rays and directions.
 use Rattle.std.proofs.Common.{◌≡◌, ℕ, suc, ◌+◌, pos, refl, sym, ap, ◌∙◌, subst, subst₂, ◌⊎◌, inl, inr, Option, Some, None, Bool, true, false, Ordering, Less, Equal, Greater, arith, [], ◌∷◌}
 use Rattle.std.specs.Prelude.{IfSome, IsSome, unwrap_or, cond}
 use Rattle.exact_values.specs.Rational.{ℚ, zero_ℚ, one_ℚ, ◌+ℚ◌, ◌*ℚ◌, neg_ℚ, ◌≤ℚ◌, ◌<ℚ◌, compare_ℚ}
@@ -10,7 +10,7 @@ use Rattle.exact_values.proofs.Compare.{lt_from_compare, compare_from_lt}
 use Rattle.exact_values.proofs.Order.{le_trans, le_of_eq, le_of_lt, le_antisymm, lt_or_le, lt_irrefl, lt_not_le, lt_of_le_of_lt, lt_by_one, le_by_product, mul-le-mul_left, mul-le-mul_negative, zero_below_one}
 use Rattle.exact_values.proofs.Sums.{sum_to-same, sum_to-zero, sum_to-neg, sum_to-le}
 use Rattle.lp_definitions.specs.LinearProgram.{Matrix, LinearProgram, Vector, size, entry, cost, objective_value, with_change_row, for_min, lower_of, upper_of, IsColumn, IsVariable, KeepsEquations, IsLinearProgram}
-use Rattle.lp_definitions.specs.Solutions.{IsFeasible, IsWithinLimits, IsBest, AreProvingPrices, IsCrossed, IsRay, limit_against, ProvesInfeasible, ProvesUnbounded, IsInfeasible, IsBettered, IsUnbounded, by_crossed, by_ray}
+use Rattle.lp_definitions.specs.Solutions.{IsFeasible, IsWithinLimits, IsBest, IsDualCertificate, IsCrossed, IsRay, limit_against, ProvesInfeasible, ProvesUnbounded, IsInfeasible, IsBettered, IsUnbounded, by_crossed, by_ray}
 use Rattle.lp_definitions.specs.declared.Change.{Change}
 use Rattle.lp_definitions.specs.declared.Sense.{Sense}
 use Rattle.lp_definitions.specs.declared.Sense.TheVariants.{Min, Max}
@@ -19,7 +19,7 @@ use Rattle.lp_laws.proofs.Values.{clash}
 use Rattle.lp_laws.proofs.Equations.{KeepsEquations-along}
 use Rattle.lp_laws.proofs.Functionals.{functional_by_columns, objective_by_columns}
 
--- ---- proving prices
+-- ---- dual certificate
 
 -- prices count each column at its cost, so they value each vector that keeps the equations at its objective
 pub objective_by_prices : (p : LinearProgram) → IsLinearProgram p → (y : Vector) → ((j : ℕ) → IsColumn p.matrix j → column_value p.matrix y j ≡ cost p j)
@@ -29,9 +29,9 @@ objective_by_prices p lawful y priced x keeps =
     ∙ sum_to-same p.cols _ _ (λ j below. ap (λ s. s *ℚ x (p.rows + suc j)) (priced (suc j) (omega arith, omega (arith, below))))
     ∙ sym (objective_by_columns p lawful x keeps)
 
-pub priced_by_proving : (p : LinearProgram) (z y : Vector) → AreProvingPrices p z y → (j : ℕ) → IsColumn p.matrix j → column_value p.matrix y j ≡ cost p j
-priced_by_proving p z y proving j is =
-    ap (λ s. s +ℚ sum_to p.rows (λ i. y (suc i) *ℚ entry p.matrix (suc i) j)) (proving.reduced j is)
+pub priced_by_certificate : (p : LinearProgram) (z y : Vector) → IsDualCertificate p z y → (j : ℕ) → IsColumn p.matrix j → column_value p.matrix y j ≡ cost p j
+priced_by_certificate p z y certificate j is =
+    ap (λ s. s +ℚ sum_to p.rows (λ i. y (suc i) *ℚ entry p.matrix (suc i) j)) (certificate.reduced j is)
     ∙ by_ring2 (cost p j) (sum_to p.rows (λ i. y (suc i) *ℚ entry p.matrix (suc i) j)) (λ c s. c ⊖ s ⊕ s ≐ c) refl
 
 -- a multiple of v by a value at the limit that v meets is at most its multiple by any value within the limits
@@ -58,19 +58,19 @@ for_min-functional Max a y x =
     ∙ sum_to-same (size a) _ _ (λ k _. by_ring2 (y (suc k)) (x (suc k)) (λ y x. opposite (y ⊗ x) ≐ opposite y ⊗ x) refl)
 
 -- weak duality: the point that the prices justify is best
-pub best_by_prices : (p : LinearProgram) → IsLinearProgram p → (z y : Vector) → IsFeasible p z → AreProvingPrices p z y → IsBest p z
-best_by_prices p lawful z y feasible proving = record { feasible = feasible; unbettered = unbettered }
+pub best_by_prices : (p : LinearProgram) → IsLinearProgram p → (z y : Vector) → IsFeasible p z → IsDualCertificate p z y → IsBest p z
+best_by_prices p lawful z y feasible certificate = record { feasible = feasible; unimproved = unimproved }
   where
     worth : (x : Vector) → KeepsEquations p.matrix x → functional p.matrix (λ k. for_min p.sense (y k)) x ≡ for_min p.sense (objective_value p x)
-    worth x keeps = sym (for_min-functional p.sense p.matrix y x) ∙ ap (for_min p.sense) (objective_by_prices p lawful y (priced_by_proving p z y proving) x keeps)
+    worth x keeps = sym (for_min-functional p.sense p.matrix y x) ∙ ap (for_min p.sense) (objective_by_prices p lawful y (priced_by_certificate p z y certificate) x keeps)
 
-    unbettered : (w : Vector) → IsFeasible p w → for_min p.sense (objective_value p z) ≤ℚ for_min p.sense (objective_value p w)
-    unbettered w other =
+    unimproved : (w : Vector) → IsFeasible p w → for_min p.sense (objective_value p z) ≤ℚ for_min p.sense (objective_value p w)
+    unimproved w other =
         subst₂ ◌≤ℚ◌ (worth z feasible.keeps) (worth w other.keeps)
         (sum_to-le (size p.matrix) _ _ (λ k below.
         let is : IsVariable p.matrix (suc k) = (omega arith, omega (arith, below)) in
         least_at_limit (for_min p.sense (y (suc k))) (z (suc k)) (w (suc k)) (lower_of p (suc k)) (upper_of p (suc k))
-        (proving.at_lower (suc k) is) (proving.at_upper (suc k) is) (other.within (suc k) is).0 (other.within (suc k) is).1))
+        (certificate.at_lower (suc k) is) (certificate.at_upper (suc k) is) (other.within (suc k) is).0 (other.within (suc k) is).1))
 
 -- ---- no feasible vector
 
@@ -173,18 +173,18 @@ along_within p z t d some falls rises within k is =
     below (Some u) none (inr falling) before = le_trans (le_by_product some falling (by_ring3 (z k) t (d k) (λ x t d. x ≐ x ⊕ t ⊗ d ⊕ (t ⊖ number (pos 0)) ⊗ (number (pos 0) ⊖ d)) refl)) before
 
 -- from each feasible vector the direction leads to a better one, at the length 1
-pub bettered_by_direction : (p : LinearProgram) (z d w : Vector) → ProvesUnbounded p z d → IsFeasible p w → IsBettered p w (along w one_ℚ d)
-bettered_by_direction p z d w proof feasible = record {
+pub improved_by_direction : (p : LinearProgram) (z d w : Vector) → ProvesUnbounded p z d → IsFeasible p w → IsBettered p w (along w one_ℚ d)
+improved_by_direction p z d w proof feasible = record {
   feasible = record {
     keeps = KeepsEquations-along p.matrix w one_ℚ d feasible.keeps proof.keeps;
     within = along_within p w one_ℚ d (le_of_lt zero_below_one) proof.falls proof.rises feasible.within;
   };
-  better = subst (λ s. s <ℚ worth w) (sym (for_min-along p w one_ℚ d))
-      (lt_by_one proof.betters (by_ring2 (worth w) (worth d) (λ u v. u ≐ u ⊕ number (pos 1) ⊗ v ⊕ (number (pos 0) ⊖ v)) refl));
+  improve = subst (λ s. s <ℚ worth w) (sym (for_min-along p w one_ℚ d))
+      (lt_by_one proof.improves (by_ring2 (worth w) (worth d) (λ u v. u ≐ u ⊕ number (pos 1) ⊗ v ⊕ (number (pos 0) ⊖ v)) refl));
 }
   where
     worth : Vector → ℚ
     worth x = for_min p.sense (objective_value p x)
 
 pub unbounded_by_direction : (p : LinearProgram) (z d : Vector) → ProvesUnbounded p z d → IsUnbounded p
-unbounded_by_direction p z d proof = record { point = z; feasible = proof.feasible; bettered = λ w feasible. (along w one_ℚ d, bettered_by_direction p z d w proof feasible) }
+unbounded_by_direction p z d proof = record { point = z; feasible = proof.feasible; improved = λ w feasible. (along w one_ℚ d, improved_by_direction p z d w proof feasible) }

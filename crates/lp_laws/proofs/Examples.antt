@@ -22,8 +22,8 @@ large = whole (pos 999999999000000000000000000)
 abbrev steep : Matrix
 steep = record { rows = 2; cols = 1; columns = (record { row = 1; value = large } ∷ record { row = 2; value = fraction (pos 1) 10000000000000000000 } ∷ []) ∷ [] }
 
-abbrev shown : Evidence
-shown = record {
+abbrev viewed : Evidence
+viewed = record {
   formula = 5;
   way = 0;
   p = 2;
@@ -51,7 +51,7 @@ not_zero : opening_rate steep 2 3 ≢ zero_ℚ
 unfolding fraction whole gcd
 not_zero e = let P : pos 1 ≡ pos 0 → ⊥ = λ h. cc in P (numerator_of_zero (fraction (pos 1) 10000000000000000000) e)
 
-price_refused : ExchangeRefused steep (row_basics steep ∷ exchanged (row_basics steep) 2 3 ∷ []) (row_basics steep) [] shown
+price_refused : ExchangeRefused steep (row_basics steep ∷ exchanged (row_basics steep) 2 3 ∷ []) (row_basics steep) [] viewed
 unfolding fraction whole gcd reciprocal inverse_ℚ ◌*ℚ◌ refuses
 price_refused = record {
   way = row_basics steep;

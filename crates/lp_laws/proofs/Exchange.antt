@@ -57,8 +57,8 @@ module _ (a : Matrix) (b : Basics) (counted : length b ≡ size a) (p q : ℕ) (
   pub leaver_out : is_in (exchanged b p q) p ≡ false
   leaver_out = get_or-set_same (set b (q - 1) true) (p - 1) false false p_below
 
-  pub enterer_in : is_in (exchanged b p q) q ≡ true
-  enterer_in = get_or-set_other (set b (q - 1) true) (p - 1) (q - 1) false false (λ e. differ (sym e)) ∙ get_or-set_same b (q - 1) true false q_below
+  pub entering_in : is_in (exchanged b p q) q ≡ true
+  entering_in = get_or-set_other (set b (q - 1) true) (p - 1) (q - 1) false false (λ e. differ (sym e)) ∙ get_or-set_same b (q - 1) true false q_below
 
   pub others_stay : (k : ℕ) → IsVariable a k → k ≢ p → k ≢ q → is_in (exchanged b p q) k ≡ is_in b k
   others_stay k is other_p other_q =
@@ -68,7 +68,7 @@ module _ (a : Matrix) (b : Basics) (counted : length b ≡ size a) (p q : ℕ) (
   -- a nonbasic after the exchange, other than the variable that left, was one before, and not the one that entered
   pub was_nonbasic : (k : ℕ) → IsNonbasic a (exchanged b p q) k → k ≢ p → IsNonbasic a b k × (k ≢ q)
   was_nonbasic k out other =
-      let not_q : k ≢ q = λ e. clash (sym enterer_in ∙ ap (is_in (exchanged b p q)) (sym e) ∙ out.1) in
+      let not_q : k ≢ q = λ e. clash (sym entering_in ∙ ap (is_in (exchanged b p q)) (sym e) ∙ out.1) in
       ((out.0, sym (others_stay k out.0 other not_q) ∙ out.1), not_q)
 
 -- ---- the vectors

@@ -7,7 +7,7 @@ use Rattle.exact_values.proofs.Ring_laws.{mul_comm, zero-mul}
 use Rattle.exact_values.proofs.Order.{lt_not_le, le_of_eq, lt_irrefl}
 use Rattle.exact_values.proofs.Sums.{sum_to-same, sum_to-add, sum_to-mul_left}
 use Rattle.lp_definitions.specs.LinearProgram.{LinearProgram, Vector, size, entry, cost, objective_value, with_change_row, for_min, lower_of, upper_of, IsRow, IsColumn, IsVariable, KeepsEquations, IsLinearProgram}
-use Rattle.lp_definitions.specs.Solutions.{IsBest, AreProvingPrices}
+use Rattle.lp_definitions.specs.Solutions.{IsBest, IsDualCertificate}
 use Rattle.lp_definitions.specs.Basis.{Basics, is_in, is_basic, basics_of, status_of, IsAllowed, StandsAt, IsBasis, IsNonsingular, AreRates, IsPointOf, IsFixed, IsRightAt, IsOptimalBasis, objective_rate, price_at}
 use Rattle.lp_definitions.specs.declared.Change.{Change}
 use Rattle.lp_definitions.specs.declared.Sense.{Sense}
@@ -80,7 +80,7 @@ for_min-zero Max = by_ring1 zero_ℚ (λ z. opposite (number (pos 0)) ≐ number
 
 module _ (p : LinearProgram) (lawful : IsLinearProgram p) (s : List Status) (basis : IsBasis p s) (one : IsNonsingular p.matrix (basics_of s)) (rate : ℕ → ℕ → ℚ) (are : AreRates p.matrix (basics_of s) rate) where
   pub prices_prove : (z y : Vector) → IsPointOf p s z → ((k : ℕ) → IsVariable p.matrix k → y k ≡ price_at p (basics_of s) rate k)
-      → ((k : ℕ) → IsVariable p.matrix k → IsFixed p k ⊎ IsRightAt (status_of s k) (for_min p.sense (objective_rate p rate k))) → AreProvingPrices p z y
+      → ((k : ℕ) → IsVariable p.matrix k → IsFixed p k ⊎ IsRightAt (status_of s k) (for_min p.sense (objective_rate p rate k))) → IsDualCertificate p z y
   prices_prove z y point prices right = record { reduced = reduced; at_lower = at_lower; at_upper = at_upper }
     where
       counts : (j : ℕ) → IsColumn p.matrix j → y (p.rows + j) +ℚ sum_to p.rows (λ i. y (suc i) *ℚ entry p.matrix (suc i) j) ≡ cost p j
@@ -125,7 +125,7 @@ module _ (p : LinearProgram) (lawful : IsLinearProgram p) (s : List Status) (bas
               (subst (λ v. v <ℚ zero_ℚ) (of_nonbasic k is mark) negative)
 
 -- the point of an optimal basis is best, and its prices prove it
-pub prices_prove_optimal : (p : LinearProgram) → IsLinearProgram p → (s : List Status) → (optimal : IsOptimalBasis p s) → AreProvingPrices p optimal.tableau.point (price_at p (basics_of s) optimal.tableau.rate)
+pub prices_prove_optimal : (p : LinearProgram) → IsLinearProgram p → (s : List Status) → (optimal : IsOptimalBasis p s) → IsDualCertificate p optimal.tableau.point (price_at p (basics_of s) optimal.tableau.rate)
 prices_prove_optimal p lawful s optimal =
     prices_prove p lawful s optimal.is_basis optimal.nonsingular optimal.tableau.rate optimal.is_tableau.are_rates
     optimal.tableau.point (price_at p (basics_of s) optimal.tableau.rate) optimal.is_tableau.is_point (λ k is. refl) optimal.right

@@ -3,7 +3,7 @@ use Rattle.std.specs.Prelude.{◌≡◌, ◌≢◌, ℕ, ◌+◌, List, map, fil
 use Rattle.exact_values.specs.Rational.{ℚ, zero_ℚ, neg_ℚ, ◌+ℚ◌, ◌*ℚ◌, ◌<ℚ◌}
 use Rattle.exact_values.specs.Sums.{sum_up_to}
 use Rattle.lp_definitions.specs.LinearProgram.{Matrix, LinearProgram, Vector, entry, column, variables, lower_of, upper_of, for_min, objective_value, IsColumn, IsVariable, IsMatrix, IsLinearProgram, KeepsEquations}
-use Rattle.lp_definitions.specs.Solutions.{IsFeasible, IsBest, AreProvingPrices, IsRay, ProvesInfeasible, ProvesUnbounded, IsInfeasible, IsUnbounded}
+use Rattle.lp_definitions.specs.Solutions.{IsFeasible, IsBest, IsDualCertificate, IsRay, ProvesInfeasible, ProvesUnbounded, IsInfeasible, IsUnbounded}
 use Rattle.lp_definitions.specs.Basis.{Basics, is_in, IsBasic, IsNonbasic, IsNonsingular, IsDirectionOf, AreRates, exchanged, row_basics, basics_of, status_of, with_status, opening_statuses, IsAllowed, StandsAt, IsBasis, IsPointOf, IsOptimalBasis, price_at}
 use Rattle.lp_definitions.specs.Waypoints.{KeepsWaypoints}
 use Rattle.lp_definitions.specs.RatesEvidence.{multiplier, other_basics, sum_from}
@@ -16,7 +16,7 @@ use Rattle.lp_laws.specs.Points.{standing}
 
 -- what the certificates of the three answers prove
 pub record CertificateLaws : Type 0 where
-  pub best : (p : LinearProgram) → IsLinearProgram p → (z y : Vector) → IsFeasible p z → AreProvingPrices p z y → IsBest p z
+  pub best : (p : LinearProgram) → IsLinearProgram p → (z y : Vector) → IsFeasible p z → IsDualCertificate p z y → IsBest p z
   pub infeasible : (p : LinearProgram) → ProvesInfeasible p → IsInfeasible p
   pub unbounded : (p : LinearProgram) (z d : Vector) → ProvesUnbounded p z d → IsUnbounded p
 
@@ -59,7 +59,7 @@ pub record BasisLaws : Type 0 where
 
 -- bases at which a path may end
 pub record EndLaws : Type 0 where
-  pub proving : (p : LinearProgram) → IsLinearProgram p → (s : List Status) → (optimal : IsOptimalBasis p s) → AreProvingPrices p optimal.tableau.point (price_at p (basics_of s) optimal.tableau.rate)
+  pub certificate : (p : LinearProgram) → IsLinearProgram p → (s : List Status) → (optimal : IsOptimalBasis p s) → IsDualCertificate p optimal.tableau.point (price_at p (basics_of s) optimal.tableau.rate)
   pub best : (p : LinearProgram) → IsLinearProgram p → (s : List Status) → (optimal : IsOptimalBasis p s) → IsBest p optimal.tableau.point
   pub ray_above : (p : LinearProgram) (w z : Vector) (r : ℕ) → IsVariable p.matrix r → ((j : ℕ) → IsColumn p.matrix j → column_value p.matrix w j ≡ zero_ℚ) → KeepsEquations p.matrix z
       → ((k : ℕ) → IsVariable p.matrix k → k ≢ r → zero_ℚ <ℚ w k → upper_of p k ≡ Some (z k)) → ((k : ℕ) → IsVariable p.matrix k → k ≢ r → w k <ℚ zero_ℚ → lower_of p k ≡ Some (z k))

@@ -16,17 +16,17 @@ use Rattle.control_run.specs.Statuses.{code_of}
 use Rattle.control_run.specs.Finishing.{cut_status}
 use Rattle.job_program.specs.declared.stop.EarlyStop.{EarlyStop}
 use Rattle.job_program.specs.declared.stop.EarlyStop.TheVariants.{Words, ReadFault, Card, Control, Memory}
-use Rattle.job_program.specs.Stops.{stop_shown}
+use Rattle.job_program.specs.Stops.{stop_view}
 use Rattle.mps_cli.specs.Endings.{EndsWith, printed, cut_off, status_at}
 
 -- ---- the end is printed, or cut off
 
-module _ {P : Type 0} (written stopped_at : P → Option (List ℕ)) (faults refusals : P → ℕ) {old new : P} (shown : Ending) (stop : EarlyStop) (same : shown ≡ stop_shown stop) where
-  pub end_printed : (status : Status) → status ≡ status_at stop → Writes {T = Unit {0}} written stopped_at faults refusals old new (Ok tt) (ending_text shown) →
+module _ {P : Type 0} (written stopped_at : P → Option (List ℕ)) (faults refusals : P → ℕ) {old new : P} (viewed : Ending) (stop : EarlyStop) (same : viewed ≡ stop_view stop) where
+  pub end_printed : (status : Status) → status ≡ status_at stop → Writes {T = Unit {0}} written stopped_at faults refusals old new (Ok tt) (ending_text viewed) →
       EndsWith written stopped_at faults refusals old new stop status
   end_printed status is writes = printed is (subst (λ (e : Ending). Writes {T = Unit {0}} written stopped_at faults refusals old new (Ok tt) (ending_text e)) same writes)
 
-  pub end_cut : (cause : WriteStop) (status : Status) → status ≡ cut_status cause → Writes {T = Unit {0}} written stopped_at faults refusals old new (Err cause) (ending_text shown) →
+  pub end_cut : (cause : WriteStop) (status : Status) → status ≡ cut_status cause → Writes {T = Unit {0}} written stopped_at faults refusals old new (Err cause) (ending_text viewed) →
       EndsWith written stopped_at faults refusals old new stop status
   end_cut cause status is writes = cut_off cause is (subst (λ (e : Ending). Writes {T = Unit {0}} written stopped_at faults refusals old new (Err cause) (ending_text e)) same writes)
 
@@ -36,7 +36,7 @@ keeps : (known : Option (List ℕ)) → Appends known known []
 keeps None = tt
 keeps (Some xs) = Appends-nothing (Some xs) (Some xs) refl
 
-gains_nothing : (stop : EarlyStop) → Gains (stop_shown stop) [] (card_text [])
+gains_nothing : (stop : EarlyStop) → Gains (stop_view stop) [] (card_text [])
 gains_nothing Words = refl
 gains_nothing ReadFault = refl
 gains_nothing (Card fault) = refl
@@ -45,7 +45,7 @@ gains_nothing Memory = ([], refl)
 
 -- ---- the status of a stop is that of its end
 
-code_is : (stop : EarlyStop) → code_of (status_at stop) ≡ status_of (stop_shown stop)
+code_is : (stop : EarlyStop) → code_of (status_at stop) ≡ status_of (stop_view stop)
 code_is Words = refl
 code_is ReadFault = refl
 code_is (Card fault) = refl
@@ -54,17 +54,17 @@ code_is Memory = refl
 
 -- ---- the answer
 
-module _ (S : Solving) (job : Job) (failures : Failures) (stop : EarlyStop) (may_end : MayEnd S job failures [] [] (stop_shown stop)) where
-  cut : (status : ℕ) (prefix back : List ℕ) → prefix ++ back ≡ ending_text (stop_shown stop) → IsCutShort S job failures (record { status = status; printed = prefix; punched = [] })
-  cut status prefix back e = in_end (stop_shown stop) prefix may_end (back, e) refl (gains_nothing stop)
+module _ (S : Solving) (job : Job) (failures : Failures) (stop : EarlyStop) (may_end : MayEnd S job failures [] [] (stop_view stop)) where
+  cut : (status : ℕ) (prefix back : List ℕ) → prefix ++ back ≡ ending_text (stop_view stop) → IsCutShort S job failures (record { status = status; printed = prefix; punched = [] })
+  cut status prefix back e = in_end (stop_view stop) prefix may_end (back, e) refl (gains_nothing stop)
 
   module _ (old new punch : Option (List ℕ)) (status : Status) where
     -- the end is printed
-    ended : status ≡ status_at stop → Appends old new (ending_text (stop_shown stop)) → IsAnswered S job failures (code_of status) (Appends old new) (Appends punch punch)
-    ended is text = (ending_text (stop_shown stop), [], text, keeps punch, whole (stop_shown stop) may_end (ap code_of is ∙ code_is stop) refl (gains_nothing stop))
+    ended : status ≡ status_at stop → Appends old new (ending_text (stop_view stop)) → IsAnswered S job failures (code_of status) (Appends old new) (Appends punch punch)
+    ended is text = (ending_text (stop_view stop), [], text, keeps punch, whole (stop_view stop) may_end (ap code_of is ∙ code_is stop) refl (gains_nothing stop))
 
-    -- the print fails, or wants memory
-    ended_early : (cause : WriteStop) → status ≡ cut_status cause → (cause ≡ Failed → failures.print) → (cause ≡ NoMemory → failures.memory) → AppendsPrefix old new (ending_text (stop_shown stop)) →
+    -- the print fails, or runs out of memory
+    ended_early : (cause : WriteStop) → status ≡ cut_status cause → (cause ≡ Failed → failures.print) → (cause ≡ NoMemory → failures.memory) → AppendsPrefix old new (ending_text (stop_view stop)) →
         IsAnswered S job failures (code_of status) (Appends old new) (Appends punch punch)
     ended_early Failed is failed wanted prefix = (prefix.0, [], prefix.2, keeps punch, print_fails (failed refl) (ap code_of is) (cut (code_of status) prefix.0 prefix.1.0 prefix.1.1))
     ended_early NoMemory is failed wanted prefix = (prefix.0, [], prefix.2, keeps punch, print_wants_memory (wanted refl) (ap code_of is) (cut (code_of status) prefix.0 prefix.1.0 prefix.1.1))

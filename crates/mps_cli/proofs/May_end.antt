@@ -7,20 +7,20 @@ use Rattle.run_definitions.specs.Answer.{Job, Read, bytes_of, Failures, Answer, 
 use Rattle.job_program.specs.declared.reading.Prepared.{Prepared}
 use Rattle.job_program.specs.declared.stop.EarlyStop.{EarlyStop}
 use Rattle.job_program.specs.declared.stop.EarlyStop.TheVariants.{Words, ReadFault, Card, Control, Memory}
-use Rattle.job_program.specs.Stops.{stop_shown, TellsEarlyStop, ArePrepared, HasStopCause}
+use Rattle.job_program.specs.Stops.{stop_view, ReportsEarlyStop, ArePrepared, HasStopCause}
 
 -- ---- a job may end with what stops it
 
 module _ (S : Solving) (job : Job) (bytes : List ℕ) (failures : Failures) (is_read : Type 0) (has : bytes_of job ≡ Some bytes) (read : failures.read → job ≡ Read bytes) where
-  told : (stop : EarlyStop) → TellsEarlyStop (Some bytes) stop → HasStopCause failures.read is_read stop → MayEnd S job failures [] [] (stop_shown stop)
-  told Words tells cause = absurd tells
-  told ReadFault tells cause = read_fails bytes (read cause) cause
-  told (Card fault) tells cause = by_itself bytes has (card_fault fault tells)
-  told (Control fault) tells cause = by_itself bytes has (control_fault fault tells.0 tells.1)
-  told Memory tells cause = memory_at_start
+  reported : (stop : EarlyStop) → ReportsEarlyStop (Some bytes) stop → HasStopCause failures.read is_read stop → MayEnd S job failures [] [] (stop_view stop)
+  reported Words tells cause = absurd tells
+  reported ReadFault tells cause = read_fails bytes (read cause) cause
+  reported (Card fault) tells cause = by_itself bytes has (card_fault fault tells)
+  reported (Control fault) tells cause = by_itself bytes has (control_fault fault tells.0 tells.1)
+  reported Memory tells cause = memory_at_start
 
-  pub may_stop : {known : Option (List ℕ)} (stop : EarlyStop) → known ≡ Some bytes → TellsEarlyStop known stop → HasStopCause failures.read is_read stop → MayEnd S job failures [] [] (stop_shown stop)
-  may_stop stop is tells cause = told stop (subst (λ (k : Option (List ℕ)). TellsEarlyStop k stop) is tells) cause
+  pub may_stop : {known : Option (List ℕ)} (stop : EarlyStop) → known ≡ Some bytes → ReportsEarlyStop known stop → HasStopCause failures.read is_read stop → MayEnd S job failures [] [] (stop_view stop)
+  may_stop stop is tells cause = reported stop (subst (λ (k : Option (List ℕ)). ReportsEarlyStop k stop) is tells) cause
 
 pub prepared_of : (bytes : List ℕ) {known : Option (List ℕ)} (prepared : Prepared) → known ≡ Some bytes → ArePrepared known prepared → ArePrepared (Some bytes) prepared
 prepared_of bytes prepared is are = subst (λ (k : Option (List ℕ)). ArePrepared k prepared) is are

@@ -55,41 +55,41 @@ decided_answer {job} {failures} {status} {PrintGains} {PunchGains} is =
 
 -- ---- the job that is asked for
 
-module _ (P : Job → Type 0) (asked : Option Request) (told : Option (List ℕ)) where
-  by_words : asked ≡ None → P WithoutBytes → (job : Job) → IsAsked asked told job → P job
+module _ (P : Job → Type 0) (asked : Option Request) (reported : Option (List ℕ)) where
+  by_words : asked ≡ None → P WithoutBytes → (job : Job) → IsAsked asked reported job → P job
   by_words none holds _ (refused also) = holds
   by_words none holds _ (from_source bytes is known) = absurd (cc)
   by_words none holds _ (generated size is) = absurd (cc)
 
-  by_source : asked ≡ Some request.Read → ((bytes : List ℕ) → told ≡ Some bytes → P (Read bytes)) → (job : Job) → IsAsked asked told job → P job
+  by_source : asked ≡ Some request.Read → ((bytes : List ℕ) → reported ≡ Some bytes → P (Read bytes)) → (job : Job) → IsAsked asked reported job → P job
   by_source read holds _ (refused none) = absurd (cc)
   by_source read holds _ (from_source bytes is known) = holds bytes known
   by_source read holds _ (generated size is) = absurd (cc)
 
-  by_size : (size : ℕ) → asked ≡ Some (request.Make size) → P (Made (made_job size)) → (job : Job) → IsAsked asked told job → P job
+  by_size : (size : ℕ) → asked ≡ Some (request.Make size) → P (Made (made_job size)) → (job : Job) → IsAsked asked reported job → P job
   by_size size made holds _ (refused none) = absurd (cc)
   by_size size made holds _ (from_source bytes is known) = absurd (cc)
   by_size size made holds _ (generated other is) = let same : size ≡ other = cc in subst (λ (n : ℕ). P (Made (made_job n))) same holds
 
 -- ---- the four ways in which a job goes
 
-module _ (asked : Option Request) (told : Option (List ℕ)) (status : Status) where
+module _ (asked : Option Request) (reported : Option (List ℕ)) (status : Status) where
   module _ {P : Type 0} (written stopped_at : P → Option (List ℕ)) (faults refusals : P → ℕ) {old new : P} (read_failed punch_failed : Type 0) (punch : Option (List ℕ)) where
     -- the words are refused
-    words_headline : asked ≡ None → EndsWith written stopped_at faults refusals old new Words status → (job : Job) → IsAsked asked told job →
+    words_headline : asked ≡ None → EndsWith written stopped_at faults refusals old new Words status → (job : Job) → IsAsked asked reported job →
         IsTrueAnswer linear_programming job (record { read = read_failed; print = Rose (faults old) (faults new); punch = punch_failed; memory = Rose (refusals old) (refusals new) })
         (code_of status) (Appends (written old) (written new)) (Appends punch punch)
     words_headline none ends =
-        by_words _ asked told none (true_answer (ending_answer linear_programming WithoutBytes _ Words (words_refused refl) written stopped_at faults refusals punch status (λ e. e) (λ e. e) ends))
+        by_words _ asked reported none (true_answer (ending_answer linear_programming WithoutBytes _ Words (words_refused refl) written stopped_at faults refusals punch status (λ e. e) (λ e. e) ends))
 
     -- memory is wanted while the words are read
-    memory_headline : EndsWith written stopped_at faults refusals old new Memory status → (job : Job) → IsAsked asked told job →
+    memory_headline : EndsWith written stopped_at faults refusals old new Memory status → (job : Job) → IsAsked asked reported job →
         IsTrueAnswer linear_programming job (record { read = read_failed; print = Rose (faults old) (faults new); punch = punch_failed; memory = Rose (refusals old) (refusals new) })
         (code_of status) (Appends (written old) (written new)) (Appends punch punch)
     memory_headline ends job is = true_answer (ending_answer linear_programming job _ Memory memory_at_start written stopped_at faults refusals punch status (λ e. e) (λ e. e) ends)
 
     -- the words ask for nothing
-    pub stopped_headline : (stop : WordsStop) → (stop ≡ stops.Refused → asked ≡ None) → EndsWith written stopped_at faults refusals old new (stop_of_words stop) status → (job : Job) → IsAsked asked told job →
+    pub stopped_headline : (stop : WordsStop) → (stop ≡ stops.Refused → asked ≡ None) → EndsWith written stopped_at faults refusals old new (stop_of_words stop) status → (job : Job) → IsAsked asked reported job →
         IsTrueAnswer linear_programming job (record { read = read_failed; print = Rose (faults old) (faults new); punch = punch_failed; memory = Rose (refusals old) (refusals new) })
         (code_of status) (Appends (written old) (written new)) (Appends punch punch)
     stopped_headline stops.Refused are_refused ends = words_headline (are_refused refl) ends
@@ -97,22 +97,22 @@ module _ (asked : Option Request) (told : Option (List ℕ)) (status : Status) w
 
   -- the job is read
   pub read_headline : (failures : Failures) (PrintGains PunchGains : List ℕ → Type 0) → asked ≡ Some request.Read →
-      ((given : Job) (bytes : List ℕ) → IsGiven told failures.read given bytes → IsAnswered linear_programming given failures (code_of status) PrintGains PunchGains) →
-      (job : Job) → IsAsked asked told job → IsTrueAnswer linear_programming job failures (code_of status) PrintGains PunchGains
+      ((given : Job) (bytes : List ℕ) → IsGiven reported failures.read given bytes → IsAnswered linear_programming given failures (code_of status) PrintGains PunchGains) →
+      (job : Job) → IsAsked asked reported job → IsTrueAnswer linear_programming job failures (code_of status) PrintGains PunchGains
   read_headline failures PrintGains PunchGains read answers =
-      by_source _ asked told read (λ bytes known. true_answer (answers (Read bytes) bytes (record { has_bytes = refl; is_told = known; is_read = λ failed. refl })))
+      by_source _ asked reported read (λ bytes known. true_answer (answers (Read bytes) bytes (record { has_bytes = refl; is_reported = known; is_read = λ failed. refl })))
 
   -- the job is made
   pub made_headline : (read_failed print_failed punch_failed memory_wanted : Type 0) (PrintGains PunchGains : List ℕ → Type 0) (size : ℕ) → asked ≡ Some (request.Make size) →
       IsAnswered linear_programming (Made (made_job size)) (failures_in_run print_failed punch_failed memory_wanted) (code_of status) PrintGains PunchGains →
-      (job : Job) → IsAsked asked told job →
+      (job : Job) → IsAsked asked reported job →
       IsTrueAnswer linear_programming job (record { read = read_failed; print = print_failed; punch = punch_failed; memory = memory_wanted }) (code_of status) PrintGains PunchGains
   made_headline read_failed print_failed punch_failed memory_wanted PrintGains PunchGains size made answer =
-      by_size _ asked told size made (true_answer
+      by_size _ asked reported size made (true_answer
       (answered_too linear_programming (Made (made_job size)) (failures_in_run print_failed punch_failed memory_wanted) _ (λ e. absurd e) (λ e. e) (λ e. e) (λ e. e) (code_of status) PrintGains PunchGains answer))
 
   -- a job that is asked for as a request is
   pub same_headline : (failures : Failures) (PrintGains PunchGains : List ℕ → Type 0) (request : Request) → asked ≡ Some request →
-      ((job : Job) → IsAsked (Some request) told job → IsTrueAnswer linear_programming job failures (code_of status) PrintGains PunchGains) →
-      (job : Job) → IsAsked asked told job → IsTrueAnswer linear_programming job failures (code_of status) PrintGains PunchGains
-  same_headline failures PrintGains PunchGains request is answers job asks = answers job (subst (λ (o : Option Request). IsAsked o told job) is asks)
+      ((job : Job) → IsAsked (Some request) reported job → IsTrueAnswer linear_programming job failures (code_of status) PrintGains PunchGains) →
+      (job : Job) → IsAsked asked reported job → IsTrueAnswer linear_programming job failures (code_of status) PrintGains PunchGains
+  same_headline failures PrintGains PunchGains request is answers job asks = answers job (subst (λ (o : Option Request). IsAsked o reported job) is asks)

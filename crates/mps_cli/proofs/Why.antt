@@ -18,7 +18,7 @@ use Rattle.job_program.specs.declared.stop.EarlyStop.{EarlyStop}
 use Rattle.job_program.specs.declared.stop.EarlyStop.TheVariants.{Words, ReadFault, Card, Control, Memory}
 use Rattle.command_line.specs.declared.request.WordsStop.{WordsStop}
 use Rattle.command_line.specs.declared.request.WordsStop.TheVariants as words
-use Rattle.job_program.specs.Stops.{stop_shown, stop_of_words, HasStopCause}
+use Rattle.job_program.specs.Stops.{stop_view, stop_of_words, HasStopCause}
 use Rattle.mps_cli.specs.Endings.{EndsWith, printed, cut_off, status_at}
 use Rattle.mps_cli.specs.Causes.{IsAtHand, IsPrintedAfter, at_hand, refused_words, a_read_fault, no_memory, HasCause, IsPunched, nothing, in_run}
 
@@ -38,14 +38,14 @@ module _ (asked : Option Request) (read_failed is_read : Type 0) where
   printed_cause print_failed punch_failed GainsPrefixOf (Control fault) is = is
   printed_cause print_failed punch_failed GainsPrefixOf Memory is = tt
 
-  after : (GainsPrefixOf : List ℕ → Type 0) (stop : EarlyStop) → IsWhy stop → GainsPrefixOf (ending_text (stop_shown stop)) → IsPrintedAfter asked read_failed is_read GainsPrefixOf
+  after : (GainsPrefixOf : List ℕ → Type 0) (stop : EarlyStop) → IsWhy stop → GainsPrefixOf (ending_text (stop_view stop)) → IsPrintedAfter asked read_failed is_read GainsPrefixOf
   after GainsPrefixOf Words is prefix = refused_words is prefix
   after GainsPrefixOf ReadFault is prefix = a_read_fault is.0 is.1 prefix
   after GainsPrefixOf (Card fault) is prefix = at_hand is
   after GainsPrefixOf (Control fault) is prefix = at_hand is
   after GainsPrefixOf Memory is prefix = no_memory prefix
 
-  cut_cause : (print_failed punch_failed : Type 0) (GainsPrefixOf : List ℕ → Type 0) (stop : EarlyStop) → IsWhy stop → (cause : WriteStop) → (cause ≡ Failed → print_failed) → GainsPrefixOf (ending_text (stop_shown stop)) →
+  cut_cause : (print_failed punch_failed : Type 0) (GainsPrefixOf : List ℕ → Type 0) (stop : EarlyStop) → IsWhy stop → (cause : WriteStop) → (cause ≡ Failed → print_failed) → GainsPrefixOf (ending_text (stop_view stop)) →
       HasCause asked read_failed is_read print_failed punch_failed GainsPrefixOf (cut_status cause)
   cut_cause print_failed punch_failed GainsPrefixOf stop is Failed failed prefix = (failed refl, after GainsPrefixOf stop is prefix)
   cut_cause print_failed punch_failed GainsPrefixOf stop is NoMemory failed prefix = tt
@@ -147,26 +147,26 @@ why_words asked read_failed is_read words.NoMemory are_refused = tt
 -- ---- where something may be punched
 
 -- the punch of a job that is asked for as a request is
-pub same_punch : {asked : Option Request} (request : Request) (told : Option (List ℕ)) (is_read is_same : Type 0) (ended : Status) → asked ≡ Some request →
-    IsPunched (Some request) told is_read is_same ended → IsPunched asked told is_read is_same ended
-same_punch request told is_read is_same ended is punched = subst (λ (o : Option Request). IsPunched o told is_read is_same ended) (sym is) punched
+pub same_punch : {asked : Option Request} (request : Request) (reported : Option (List ℕ)) (is_read is_same : Type 0) (ended : Status) → asked ≡ Some request →
+    IsPunched (Some request) reported is_read is_same ended → IsPunched asked reported is_read is_same ended
+same_punch request reported is_read is_same ended is punched = subst (λ (o : Option Request). IsPunched o reported is_read is_same ended) (sym is) punched
 
-pub read_punch : (told : Option (List ℕ)) (is_read is_same : Type 0) (ended : Status) {wanted : Request} → wanted ≡ request.Read →
-    IsPunched (Some request.Read) told is_read is_same ended → IsPunched (Some wanted) told is_read is_same ended
-read_punch told is_read is_same ended is punched = same_punch request.Read told is_read is_same ended (ap (λ (r : Request). Some r) is) punched
+pub read_punch : (reported : Option (List ℕ)) (is_read is_same : Type 0) (ended : Status) {wanted : Request} → wanted ≡ request.Read →
+    IsPunched (Some request.Read) reported is_read is_same ended → IsPunched (Some wanted) reported is_read is_same ended
+read_punch reported is_read is_same ended is punched = same_punch request.Read reported is_read is_same ended (ap (λ (r : Request). Some r) is) punched
 
 -- of a job that is made, whose source tells its bytes
-pub source_punch : (size : ℕ) (source told : Option (List ℕ)) (source_read is_read is_same : Type 0) (ended : Status) → source ≡ Some (made_job size) →
-    IsPunched (Some request.Read) source source_read is_same ended → IsPunched (Some (request.Make size)) told is_read is_same ended
-source_punch size source told source_read is_read is_same ended tells (nothing same) = nothing same
-source_punch size source told source_read is_read is_same ended tells (in_run program here known own) =
+pub source_punch : (size : ℕ) (source reported : Option (List ℕ)) (source_read is_read is_same : Type 0) (ended : Status) → source ≡ Some (made_job size) →
+    IsPunched (Some request.Read) source source_read is_same ended → IsPunched (Some (request.Make size)) reported is_read is_same ended
+source_punch size source reported source_read is_read is_same ended tells (nothing same) = nothing same
+source_punch size source reported source_read is_read is_same ended tells (in_run program here known own) =
     in_run program tt (subst (λ (o : Option (List ℕ)). IfSome o (λ bytes. IsProgramOf bytes program)) tells known) own
 
-pub made_punch : (told other : Option (List ℕ)) (is_read other_read is_same : Type 0) (ended : Status) (size : ℕ) {wanted : Request} → wanted ≡ request.Make size →
-    IsPunched (Some (request.Make size)) told is_read is_same ended → IsPunched (Some wanted) other other_read is_same ended
-made_punch told other is_read other_read is_same ended size is punched =
+pub made_punch : (reported other : Option (List ℕ)) (is_read other_read is_same : Type 0) (ended : Status) (size : ℕ) {wanted : Request} → wanted ≡ request.Make size →
+    IsPunched (Some (request.Make size)) reported is_read is_same ended → IsPunched (Some wanted) other other_read is_same ended
+made_punch reported other is_read other_read is_same ended size is punched =
     same_punch (request.Make size) other other_read is_same ended (ap (λ (r : Request). Some r) is) (moved punched)
   where
-    moved : IsPunched (Some (request.Make size)) told is_read is_same ended → IsPunched (Some (request.Make size)) other other_read is_same ended
+    moved : IsPunched (Some (request.Make size)) reported is_read is_same ended → IsPunched (Some (request.Make size)) other other_read is_same ended
     moved (nothing same) = nothing same
     moved (in_run program here known own) = in_run program tt known own

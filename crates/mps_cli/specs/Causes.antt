@@ -40,13 +40,13 @@ HasCause asked read_failed is_read print_failed punch_failed GainsPrefixOf statu
 
 -- the bytes of the job, where they are known: those that the source tells, or those of the generated job
 abbrev pub bytes_at_hand : Option Request → Option (List ℕ) → Option (List ℕ)
-bytes_at_hand None told = None
-bytes_at_hand (Some request.Read) told = told
-bytes_at_hand (Some (request.Make size)) told = Some (made_job size)
+bytes_at_hand None reported = None
+bytes_at_hand (Some request.Read) reported = reported
+bytes_at_hand (Some (request.Make size)) reported = Some (made_job size)
 
 -- The punch is as it was; or the whole job is at hand, its cards begin with a program, where they are known, and the status is one that
 -- the run of a program may have.
-pub data IsPunched (asked : Option Request) (told : Option (List ℕ)) (is_read is_same : Type 0) (status : Status) : Type 0 where
-  nothing : is_same → IsPunched asked told is_read is_same status
-  in_run : (program : Program) → IsAtHand asked is_read → IfSome (bytes_at_hand asked told) (λ bytes. IsProgramOf bytes program) →
-      IsStatusOfRun status → IsPunched asked told is_read is_same status
+pub data IsPunched (asked : Option Request) (reported : Option (List ℕ)) (is_read is_same : Type 0) (status : Status) : Type 0 where
+  nothing : is_same → IsPunched asked reported is_read is_same status
+  in_run : (program : Program) → IsAtHand asked is_read → IfSome (bytes_at_hand asked reported) (λ bytes. IsProgramOf bytes program) →
+      IsStatusOfRun status → IsPunched asked reported is_read is_same status

@@ -10,7 +10,7 @@ use Rattle.control_run.specs.declared.status.Status.TheVariants as status
 use Rattle.control_run.specs.Finishing.{cut_status}
 use Rattle.job_program.specs.declared.stop.EarlyStop.{EarlyStop}
 use Rattle.job_program.specs.declared.stop.EarlyStop.TheVariants.{Words, ReadFault, Card, Control, Memory}
-use Rattle.job_program.specs.Stops.{stop_shown}
+use Rattle.job_program.specs.Stops.{stop_view}
 
 abbrev pub status_at : EarlyStop → Status
 status_at Words = status.Words
@@ -21,7 +21,7 @@ status_at Memory = status.Memory
 
 -- The line of the stop is printed, and the status is its own; or the print stops in it.
 pub data EndsWith {P : Type 0} (written stopped_at : P → Option (List ℕ)) (faults refusals : P → ℕ) (old new : P) (stop : EarlyStop) (status : Status) : Type 0 where
-  printed : status ≡ status_at stop → Writes {T = Unit {0}} written stopped_at faults refusals old new (Ok tt) (ending_text (stop_shown stop)) →
+  printed : status ≡ status_at stop → Writes {T = Unit {0}} written stopped_at faults refusals old new (Ok tt) (ending_text (stop_view stop)) →
       EndsWith written stopped_at faults refusals old new stop status
   cut_off : (cause : WriteStop) → status ≡ cut_status cause →
-      Writes {T = Unit {0}} written stopped_at faults refusals old new (Err cause) (ending_text (stop_shown stop)) → EndsWith written stopped_at faults refusals old new stop status
+      Writes {T = Unit {0}} written stopped_at faults refusals old new (Err cause) (ending_text (stop_view stop)) → EndsWith written stopped_at faults refusals old new stop status

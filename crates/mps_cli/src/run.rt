@@ -162,8 +162,8 @@ fn run_request<S: Source, P: Sink, U: Sink>(
 /// With `--make N` or `--make=N`, where N is a whole number from 1 to 60, nothing is read, and the generated job of this
 /// size is run. All other words are refused, and nothing is read.
 ///
-/// After a fault of the print, or where the print wants memory, nothing more is printed. A deck in which a write to the punch
-/// fails, or in which the punch wants memory, is broken off, and ends the job. The status reports each of these. Want of
+/// After a fault of the print, or where the print runs out of memory, nothing more is printed. A deck in which a write to the punch
+/// fails, or in which the punch runs out of memory, is broken off, and ends the job. The status reports each of these. Want of
 /// memory may end a job at any time.
 ///
 /// A job whose run meets no evidence that a number is too large has one run, and gets the status, the whole listing and all the
@@ -178,7 +178,7 @@ pub fn run_job<S: Source, P: Sink, U: Sink>(
 ) -> Status
     // The headline. The printed bytes are the listing of a run of this job's control program, or of its early stop; or the print
     // has stopped in a report or in the lines of an end, and all before stands with a prefix of it. Each report of this run holds
-    // of the state in which it was made: a SOLUTION OPTIMAL is a feasible point that no feasible point betters, with prices that
+    // of the state in which it was made: a SOLUTION OPTIMAL is a feasible point that no feasible point improves, with prices that
     // prove it; a verdict OPTIMAL has the objective of such a point; a verdict of infeasibility prints a crossed variable or a
     // ray, and one of unboundedness a feasible point with a direction, and these prove it; RANGE prints where the basis stays
     // optimal; at every value in an interval of PARAOBJ or PARARHS the printed point is best and the printed prices prove it, each
@@ -201,7 +201,7 @@ pub fn run_job<S: Source, P: Sink, U: Sink>(
 
     // Completeness. Where no evidence of an overflow holds at any moment of the run of the job's bytes, this run is the only
     // one; the status is that of its end, the print gains its whole listing and the punch all its cards; unless a read has
-    // failed and the status is 24, or the print and it is 25, or the punch and it is 26, or it is 28, want of memory.
+    // failed and the status is 24, or the print and it is 25, or the punch and it is 26, or it is 28, running out of memory.
     ensures complete { (asked : Job) →
         IsAsked (requests.asked (map string_bytes words.now)) (S.left job.old) asked →
         IsComplete linear_programming asked
@@ -217,7 +217,7 @@ pub fn run_job<S: Source, P: Sink, U: Sink>(
 
     // What the status decides. Take any run of the job's bytes that doesn't stop with an overflow: the status is that of its end,
     // and the print gains its whole listing and the punch all its cards; or the status is 20, and this run was broken off; or
-    // a read has failed and the status is 24, or the print and it is 25, or the punch and it is 26, or it is 28, want of memory.
+    // a read has failed and the status is 24, or the print and it is 25, or the punch and it is 26, or it is 28, running out of memory.
     ensures decided { (asked : Job) →
         IsAsked (requests.asked (map string_bytes words.now)) (S.left job.old) asked →
         IsDecided linear_programming asked
@@ -258,14 +258,14 @@ pub fn run_job<S: Source, P: Sink, U: Sink>(
         (AppendsPrefix (P.written print.old) (P.written print.new))
         result }
 
-    // What the status reports: a fault of the print by 25, and want of memory there by 28; a fault of a read by 24 and one of the
-    // punch by 26, and want of memory there by 28, unless the print stops as well and the status is that of its stop.
+    // What the status reports: a fault of the print by 25, and running out of memory there by 28; a fault of a read by 24 and one of the
+    // punch by 26, and running out of memory there by 28, unless the print stops as well and the status is that of its stop.
     ensures reported { IsReported
         (counts P.faults P.refusals U.faults U.refusals (S.faults job.old) print.old punch.old)
         (counts P.faults P.refusals U.faults U.refusals (S.faults job.new) print.new punch.new)
         (code_of result) }
 
-    // After a fault of the print or of the punch, or where one of them wants memory, nothing more is written to it.
+    // After a fault of the print or of the punch, or where one of them runs out of memory, nothing more is written to it.
     ensures still { IsStill P.written P.stopped_at P.faults P.refusals print.old print.new ×
         IsStill U.written U.stopped_at U.faults U.refusals punch.old punch.new }
 

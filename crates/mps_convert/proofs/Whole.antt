@@ -54,11 +54,11 @@ is_problem deck own problem named printable fine is =
     subst (λ (p : Problem Name). IsProblem (numbered p)) (sym (named_as own (live deck) problem is)) (described-problem own (live deck) named (printable_live deck printable) (cards_fine deck None fine))
 
 -- and the deck converts to it
-pub converts : (deck : List Card) (name : Option Name) (own : Name) (shown : Problem Name) (problem : Problem ℕ) → fault_by card_fault deck ≡ None
-    → shown ≡ described [] (live deck) → own ≡ unwrap_or name (deck_name (live deck)) → problem ≡ numbered (record shown { name = own }) → conversion deck name ≡ Ok problem
-converts deck name own shown problem fine is own_is problem_is =
+pub converts : (deck : List Card) (name : Option Name) (own : Name) (viewed : Problem Name) (problem : Problem ℕ) → fault_by card_fault deck ≡ None
+    → viewed ≡ described [] (live deck) → own ≡ unwrap_or name (deck_name (live deck)) → problem ≡ numbered (record viewed { name = own }) → conversion deck name ≡ Ok problem
+converts deck name own viewed problem fine is own_is problem_is =
     whole deck name fine
-    ∙ ap (λ (p : Problem ℕ). Ok p) (ap (λ n. numbered (described n (live deck))) (sym own_is) ∙ ap numbered (sym (named_as own (live deck) shown is)) ∙ sym problem_is)
+    ∙ ap (λ (p : Problem ℕ). Ok p) (ap (λ n. numbered (described n (live deck))) (sym own_is) ∙ ap numbered (sym (named_as own (live deck) viewed is)) ∙ sym problem_is)
 
 -- after no card
 pub nothing_read : (state : State) → state.section ≡ None → state.style ≡ FixedFields → state.problem ≡ record { name = []; rows = []; columns = []; rhs = []; ranges = []; bounds = [] } → state ≡ state_of []

@@ -6,7 +6,7 @@ use Rattle.deck_definitions.specs.Conversion.{conversion}
 use Rattle.deck_fields.specs.declared.stop.DeckStop.{DeckStop}
 use Rattle.deck_fields.specs.declared.stop.DeckStop.TheVariants.{Fault, NoMemory}
 
--- a fault is what the deck converts to, and memory may be wanted at any time
+-- a fault is what the deck converts to, and memory may run out at any time
 abbrev pub Refuses : List Card → Option Name → DeckStop → Type 0
 Refuses deck name (Fault fault) = conversion deck name ≡ Err fault
 Refuses deck name NoMemory = Unit {0}

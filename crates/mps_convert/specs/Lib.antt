@@ -1,3 +1,3 @@
 pub mod State
-pub mod Draft_shown
+pub mod Draft_view
 pub mod Conversion

@@ -8,7 +8,7 @@ ghost use Rattle.deck_definitions.specs.Described.{described};
 ghost use Rattle.deck_definitions.specs.Conversion.{card_fault, fault_by, deck_name, conversion};
 ghost use Rattle.deck_definitions.proofs.Converted.{ArePrintable};
 ghost use Rattle.mps_convert.specs.Conversion.{Refuses};
-ghost use Rattle.mps_convert.specs.Draft_shown.{problem_shown};
+ghost use Rattle.mps_convert.specs.Draft_view.{problem_view};
 
 use crate::draft::DeckDraft;
 use card_reader::{Card, Cards};
@@ -79,7 +79,7 @@ fn problem_of(
     requires from_one { 1 ≤ first }
     requires ordered { first ≤ last }
     requires within { last ≤ length cards.now }
-    requires described { problem_shown draft.now ≡ described []
+    requires described { problem_view draft.now ≡ described []
         (live (cards_between first last cards.now)) }
     requires no_fault { fault_by card_fault (cards_between first last cards.now) ≡ None }
     requires printable { ArePrintable (cards_between first last cards.now) }

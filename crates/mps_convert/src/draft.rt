@@ -4,9 +4,9 @@ ghost use Rattle.card_reader.specs.Card.{card_bytes};
 ghost use Rattle.problem_definitions.specs.Groups.{in_set};
 ghost use Rattle.deck_definitions.specs.DataCards.{style_begun, entries_of};
 ghost use Rattle.deck_definitions.specs.Tests.{columns_fault};
-ghost use Rattle.deck_cards.specs.Told.{TellsDeckFault};
-ghost use Rattle.deck_parts.specs.Shown.{columns_alone};
-ghost use Rattle.deck_cards.specs.Shown.{shown};
+ghost use Rattle.deck_cards.specs.Reported.{ReportsDeckFault};
+ghost use Rattle.deck_parts.specs.Views.{columns_alone};
+ghost use Rattle.deck_cards.specs.Views.{viewed};
 
 use card_reader::Card;
 use deck_cards::{
@@ -24,7 +24,7 @@ use std::alloc::Global;
 
 // How many pairs a data card has.
 fn pair_count(card: &DataCard<'_>) -> u32
-    ensures count { result ≡ length (entries_of (shown card.now)) }
+    ensures count { result ≡ length (entries_of (viewed card.now)) }
     ensures few { result ≤ 2 }
 {
     if is_empty_text(card.name3.bytes()) && is_empty_text(card.value2) {
@@ -56,11 +56,11 @@ fn take_column(
     ensures counted { entries.new ≡ sum_by (λ column. length column.items) columns.new }
     ensures few { entries.new ≤ 50000 }
     ensures no_fault { OnOk result (columns_fault (columns_alone rows.now columns.old)
-        (shown card.now) ≡ None) }
+        (viewed card.now) ≡ None) }
     ensures step { OnOk result (columns.new ≡ in_set card.now.name1
-        (λ items. items ++ entries_of (shown card.now)) columns.old) }
-    ensures stop { IfErr result (TellsDeckFault (columns_fault (columns_alone rows.now columns.old)
-        (shown card.now))) }
+        (λ items. items ++ entries_of (viewed card.now)) columns.old) }
+    ensures stop { IfErr result (ReportsDeckFault (columns_fault (columns_alone rows.now columns.old)
+        (viewed card.now))) }
 {
     let _ = columns.len();
     match take_column_card(alloc, rows, columns, *entries, card) {
@@ -100,9 +100,9 @@ impl DeckDraft {
     ghost use Rattle.deck_definitions.specs.Conversion.{section_fault, data_card_fault};
     ghost use Rattle.deck_definitions.proofs.Steps.{with_card};
     ghost use Rattle.mps_convert.specs.State.{with_data, fault_at, state_with};
-    ghost use Rattle.deck_cards.specs.Told.{TellsDeckFault};
-    ghost use Rattle.deck_cards.specs.Shown.{shown};
-    ghost use Rattle.mps_convert.specs.Draft_shown.{problem_shown, problem_named, state_shown};
+    ghost use Rattle.deck_cards.specs.Reported.{ReportsDeckFault};
+    ghost use Rattle.deck_cards.specs.Views.{viewed};
+    ghost use Rattle.mps_convert.specs.Draft_view.{problem_view, problem_named, state_view};
     ghost use Rattle.problem_definitions.specs.Numbering.{numbered};
     ghost use Rattle.problem_definitions.specs.Valid.{IsProblem};
 
@@ -110,7 +110,7 @@ impl DeckDraft {
     pub fn new(alloc: Global) -> DeckDraft
         ensures section { result.section ≡ None }
         ensures style { result.style ≡ FixedFields }
-        ensures problem { problem_shown result ≡ record {
+        ensures problem { problem_view result ≡ record {
           name = [];
           rows = [];
           columns = [];
@@ -149,14 +149,14 @@ impl DeckDraft {
 
     // Takes a data card of this section.
     fn take_in(&mut self, section: Section, card: &DataCard<'_>) -> Result<(), CardStop>
-        ensures no_fault { OnOk result (section_fault (problem_shown self.old) section
-            (shown card.now) ≡ None) }
+        ensures no_fault { OnOk result (section_fault (problem_view self.old) section
+            (viewed card.now) ≡ None) }
         ensures same_section { OnOk result (self.new.section ≡ self.old.section) }
         ensures same_style { OnOk result (self.new.style ≡ self.old.style) }
-        ensures step { OnOk result (problem_shown self.new ≡ with_card section (shown card.now)
-            (problem_shown self.old)) }
-        ensures stop { IfErr result (TellsDeckFault (section_fault (problem_shown self.old) section
-            (shown card.now))) }
+        ensures step { OnOk result (problem_view self.new ≡ with_card section (viewed card.now)
+            (problem_view self.old)) }
+        ensures stop { IfErr result (ReportsDeckFault (section_fault (problem_view self.old) section
+            (viewed card.now))) }
     {
         match section {
             Section::Rows => take_row_card(self.alloc, &mut self.rows, card),
@@ -190,14 +190,14 @@ impl DeckDraft {
 
     // Takes a data card.
     fn take_data(&mut self, card: Card<'_>) -> Result<(), CardStop>
-        ensures no_fault { OnOk result (data_card_fault (problem_shown self.old) self.old.style
+        ensures no_fault { OnOk result (data_card_fault (problem_view self.old) self.old.style
             self.old.section (card_bytes card.entry) ≡ None) }
         ensures same_section { OnOk result (self.new.section ≡ self.old.section) }
         ensures same_style { OnOk result (self.new.style ≡ self.old.style) }
-        ensures step { OnOk result (problem_shown self.new ≡ with_data self.old.section
-            self.old.style (card_bytes card.entry) (problem_shown self.old)) }
+        ensures step { OnOk result (problem_view self.new ≡ with_data self.old.section
+            self.old.style (card_bytes card.entry) (problem_view self.old)) }
         ensures stop { IfErr result
-            (TellsDeckFault (data_card_fault (problem_shown self.old) self.old.style
+            (ReportsDeckFault (data_card_fault (problem_view self.old) self.old.style
             self.old.section (card_bytes card.entry))) }
     {
         let Some(section) = self.section else {
@@ -214,12 +214,12 @@ impl DeckDraft {
 
     // Takes a card.
     fn take_card(&mut self, card: Card<'_>) -> Result<(), CardStop>
-        ensures no_fault { OnOk result (fault_at (state_shown self.old)
+        ensures no_fault { OnOk result (fault_at (state_view self.old)
             (card_bytes card.entry) ≡ None) }
-        ensures step { OnOk result (state_shown self.new ≡ state_with (state_shown self.old)
+        ensures step { OnOk result (state_view self.new ≡ state_with (state_view self.old)
             (card_bytes card.entry)) }
         ensures stop { IfErr result
-            (TellsDeckFault (fault_at (state_shown self.old) (card_bytes card.entry))) }
+            (ReportsDeckFault (fault_at (state_view self.old) (card_bytes card.entry))) }
     {
         if begins_section(card.bytes()) {
             let section = next_section::<DeckDraft>(self.section, card.bytes())?;
@@ -245,11 +245,11 @@ impl Draft for DeckDraft {
     ghost use Rattle.std.specs.Prelude.{◌≡◌};
     ghost use Rattle.deck_definitions.specs.Conversion.{card_fault};
     ghost use Rattle.mps_convert.specs.State.{state_of};
-    ghost use Rattle.mps_convert.specs.Draft_shown.{state_shown};
+    ghost use Rattle.mps_convert.specs.Draft_view.{state_view};
 
     ghost test = { λ _. card_fault };
 
-    ghost is_made_of = { λ _ draft seen. state_shown draft ≡ state_of seen };
+    ghost is_made_of = { λ _ draft seen. state_view draft ≡ state_of seen };
 
     fn is_ended(&self) -> bool {
         match self.section {

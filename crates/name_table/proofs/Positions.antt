@@ -30,18 +30,18 @@ module _ {X : Type 0} (p : X → Bool) where
 
 -- what is new is not there yet
 absent_if_new : (b is_new : Bool) → is_new ≡ not b → is_new ≡ true → b ≡ false
-absent_if_new true is_new told is_true = cc (told, is_true)
-absent_if_new false is_new told is_true = refl
+absent_if_new true is_new reported is_true = cc (reported, is_true)
+absent_if_new false is_new reported is_true = refl
 
-module _ {X : Type 0} (p : X → Bool) (names : List X) (is_new : Bool) (told : is_new ≡ not (list_any p names)) (is_true : is_new ≡ true) where
+module _ {X : Type 0} (p : X → Bool) (names : List X) (is_new : Bool) (reported : is_new ≡ not (list_any p names)) (is_true : is_new ≡ true) where
   -- a new element goes to the end, and its number is the new length
   pub added_last : (new : List X) (name : X) (index : ℕ) → new ≡ (if list_any p names then names else names ++ name ∷ []) → index ≡ position_or_len p names
       → (new ≡ names ++ name ∷ []) × (index + 1 ≡ length new)
   added_last new name index keys place =
-      let absent = absent_if_new (list_any p names) is_new told is_true in
+      let absent = absent_if_new (list_any p names) is_new reported is_true in
       let last : new ≡ names ++ name ∷ [] = keys ∙ rw absent refl in
       (last, ap (λ n. n + 1) (place ∙ position_or_len-none p names absent) ∙ sym (ap length last ∙ length-append names (name ∷ [])))
 
   -- and it had no place
   pub new_has_no_place : position p names ≡ None
-  new_has_no_place = position-none p names (absent_if_new (list_any p names) is_new told is_true)
+  new_has_no_place = position-none p names (absent_if_new (list_any p names) is_new reported is_true)

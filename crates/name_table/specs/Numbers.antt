@@ -8,7 +8,7 @@ use Rattle.name_table.specs.declared.table.AddStop.TheVariants.{Taken, NoMemory}
 abbrev pub number_of : Name → List Name → Option ℕ
 number_of name names = option_map (λ place. place + 1) (position (same name) names)
 
--- A name is refused as taken exactly where it has a number, and with that number. Want of memory comes whenever it comes.
+-- A name is refused as taken exactly where it has a number, and with that number. Memory may run out at any time.
 abbrev pub IsTaken : {X : Type 0} → Result X AddStop → Option ℕ → Type 0
 IsTaken (Ok added) number = number ≡ None
 IsTaken (Err (Taken k)) number = number ≡ Some k

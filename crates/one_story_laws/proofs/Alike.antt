@@ -24,7 +24,7 @@ use Rattle.run_definitions.specs.Moves.{Gain, Prints, printed_by, Outcome, Goes,
 use Rattle.run_definitions.specs.Verbs.{or_deck_fault, or_selection_fault, selects, demanded, by_verdict}
 use Rattle.determinism_laws.specs.Laws.{IsOverflowStop}
 use Rattle.walk_laws.specs.Proved.{attested, Says}
-use Rattle.one_story_laws.specs.Story.{TellsSame, TellSame}
+use Rattle.one_story_laws.specs.Story.{ReportsSame, TellSame}
 
 -- whatever basis the setup opened with, and whatever steps were gone since
 pub data SameSetup : Option Present → Option Present → Type 0 where
@@ -59,12 +59,12 @@ pub goes_alike : (gain other : Gain) (state : State) (left right : Option Presen
     Alike (Goes gain (record state { setup = left })) (Goes other (record state { setup = right }))
 goes_alike gain other state left right same setups = (same, standing state left right setups)
 
-demanded_alike : (position : Option ℕ) (code : ℕ) (report other : Report) (state : State) (left right : Option Present) → TellsSame report other → SameSetup left right →
+demanded_alike : (position : Option ℕ) (code : ℕ) (report other : Report) (state : State) (left right : Option Present) → ReportsSame report other → SameSetup left right →
     Alike (demanded position code report (record state { setup = left })) (demanded position code other (record state { setup = right }))
 demanded_alike (Some position) code report other state left right same setups = goes_alike (Prints report) (Prints other) (record state { position = position }) left right (same, tt) setups
 demanded_alike None code report other state left right same setups = ((same, tt), refl)
 
-pub by_verdict_alike : (mark : Mark) (report other : Report) (state : State) (left right : Option Present) → TellsSame report other → SameSetup left right →
+pub by_verdict_alike : (mark : Mark) (report other : Report) (state : State) (left right : Option Present) → ReportsSame report other → SameSetup left right →
     Alike (by_verdict mark report (record state { setup = left })) (by_verdict mark other (record state { setup = right }))
 by_verdict_alike Optimal report other state left right same setups =
     goes_alike (Prints report) (Prints other) (record state { position = state.position + 1 }) left right (same, tt) setups

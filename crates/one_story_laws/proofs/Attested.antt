@@ -13,7 +13,7 @@ use Rattle.listing_definitions.specs.Report.{Report}
 use Rattle.listing_definitions.specs.Ending.{Ending, Ended, StatementLimit, ControlStop, CardStop}
 use Rattle.listing_definitions.specs.Text.{report_text}
 use Rattle.listing_definitions.specs.Listing.{ending_text, reports_text}
-use Rattle.question_definitions.specs.Answers.{Sheet, Question, OfPath, OfSolution, OfRanges, OfSweep, OfPunch, OfInstall, Answer, Installed}
+use Rattle.question_definitions.specs.Answers.{Sheet, Question, OfPath, OfSolution, OfRanges, OfParametricRun, OfPunch, OfInstall, Answer, Installed}
 use Rattle.run_definitions.specs.State.{State}
 use Rattle.run_definitions.specs.Moves.{Gain, printed_by, punched_by, Outcome, Ends, InSelection, InAnswer, Move, Does, MayStop, Asks, Gives}
 use Rattle.run_definitions.specs.Verbs.{verb_move}
@@ -43,9 +43,9 @@ both_parts false b e = absurd (cc e)
 
 no_evidence : (move : Move) → refuses_selection move ≡ false → HasEvidence attested move → ⊥
 no_evidence (Does outcome) e evidence = evidence
-no_evidence (MayStop (InSelection problem choice) move) e (inl shown) = (made_iff problem choice).0 (both_parts (is_made problem choice) (refuses_selection move) e).0 shown.0 shown.2.0
+no_evidence (MayStop (InSelection problem choice) move) e (inl viewed) = (made_iff problem choice).0 (both_parts (is_made problem choice) (refuses_selection move) e).0 viewed.0 viewed.2.0
 no_evidence (MayStop (InSelection problem choice) move) e (inr later) = no_evidence move (both_parts (is_made problem choice) (refuses_selection move) e).1 later
-no_evidence (MayStop (InAnswer question sheet bases) move) e (inl shown) = shown.2
+no_evidence (MayStop (InAnswer question sheet bases) move) e (inl viewed) = viewed.2
 no_evidence (MayStop (InAnswer question sheet bases) move) e (inr later) = no_evidence move e later
 no_evidence (Asks question sheet s go) e evidence = evidence
 
@@ -59,7 +59,7 @@ never_asked w (OfInstall basis) sheet go =
     never_either (open_stop w) (option_or (open_if (is_inserted_by (go Installed) w.rest) w) (open_pending w)) (never_stop w)
     (never_either (open_if (is_inserted_by (go Installed) w.rest) w) (open_pending w) (never_if (is_inserted_by (go Installed) w.rest) w) (never_pending w.pending))
 never_asked w (OfPath solver limit) sheet go = never_either (open_stop w) (open_pending w) (never_stop w) (never_pending w.pending)
-never_asked w (OfSweep sweep) sheet go = never_either (open_stop w) (open_pending w) (never_stop w) (never_pending w.pending)
+never_asked w (OfParametricRun parametric_run) sheet go = never_either (open_stop w) (open_pending w) (never_stop w) (never_pending w.pending)
 
 never_opened : (w : Walker) (move : Move) → NeverAttests (opened w move)
 never_opened w (Does outcome) = never_outcome w outcome
@@ -166,8 +166,8 @@ module _ (reading : ReadingLaw) (truth : JudgedLaws) (bytes lines : List ℕ) (p
     unstopped = ends_unstopped program w count gain ending step e;
   }
 
-  walk_told : (w : Walker) (count : ℕ) → IsCome program decks lines w → turn program w ≡ Finds (Attested count) → IsProvedListing bytes lines count
-  walk_told w count come e =
+  walk_reported : (w : Walker) (count : ℕ) → IsCome program decks lines w → turn program w ≡ Finds (Attested count) → IsProvedListing bytes lines count
+  walk_reported w count come e =
       let is : Walked w = is_walked reading truth bytes lines program is_program w come in
       let Holds : Type 0 = HoldSoFar attested Says program decks is.reaches in
       finished w count is e (subst (On (StepsTo program Holds w) (Finishes program Holds w)) e
@@ -179,19 +179,19 @@ end_alone lines ending count e =
     let EndedSo : ℕ → Type 0 = λ n. (lines ≡ ending_text ending) × (n ≡ 0) in
     subst (On (λ v. Unit {0}) EndedSo) e (on_closes (λ v. Unit {0}) EndedSo (first_walker [] lines) ending (λ settled text. (text, refl)))
 
-pub attested_told : ReadingLaw → JudgedLaws → (bytes lines : List ℕ) (count : ℕ) → Comes bytes lines (Attested count) → IsProvedListing bytes lines count
-attested_told reading truth bytes lines count (of_cards fault is e) =
+pub attested_reported : ReadingLaw → JudgedLaws → (bytes lines : List ℕ) (count : ℕ) → Comes bytes lines (Attested count) → IsProvedListing bytes lines count
+attested_reported reading truth bytes lines count (of_cards fault is e) =
     let alone = end_alone lines (CardStop fault) count e in
     record {
       proved = record { reports = []; cards = []; ending = CardStop fault; runs = card_fault fault is; is_listing = alone.0; each = tt };
       has_count = sym alone.1;
       unstopped = λ stop. let same = stop.1 in cc same;
     }
-attested_told reading truth bytes lines count (of_control fault is stops e) =
+attested_reported reading truth bytes lines count (of_control fault is stops e) =
     let alone = end_alone lines (ControlStop fault) count e in
     record {
       proved = record { reports = []; cards = []; ending = ControlStop fault; runs = control_fault fault is stops; is_listing = alone.0; each = tt };
       has_count = sym alone.1;
       unstopped = λ stop. let same = stop.1 in cc same;
     }
-attested_told reading truth bytes lines count (of_walk program w is_program come e) = walk_told reading truth bytes lines program is_program w count come e
+attested_reported reading truth bytes lines count (of_walk program w is_program come e) = walk_reported reading truth bytes lines program is_program w count come e

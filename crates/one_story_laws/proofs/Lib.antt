@@ -1,7 +1,7 @@
 mod Marks
 mod Ends
 mod Taken
-mod Told
+mod Reported
 mod Alike
 mod Questions
 mod Verbs

@@ -18,7 +18,7 @@ use Rattle.run_definitions.specs.Verbs.{mark_of}
 use Rattle.soundness_laws.specs.Truth.{IsBestObjective, IsTrueOf}
 use Rattle.parametric_laws.specs.Truth.{IsTrueFailure}
 use Rattle.answer_definitions.specs.Verdicts.{verdict_of}
-use Rattle.judged_laws.specs.Shown.{IsTrueAtFirst}
+use Rattle.judged_laws.specs.Views.{IsTrueAtFirst}
 use Rattle.one_story_laws.specs.Story.{SameObjective, SameVerdict}
 
 abbrev pub IsOfMark : LinearProgram → Mark → Type 0
@@ -27,9 +27,9 @@ IsOfMark p Infeasible = IsInfeasible p
 IsOfMark p Unbounded = IsUnbounded p
 
 best_or_unbounded : (p : LinearProgram) (z : Vector) → IsBest p z → IsUnbounded p → ⊥
-best_or_unbounded p z best endless =
-    let more = endless.bettered z best.feasible in
-    lt_not_le more.1.better (best.unbettered more.0 more.1.feasible)
+best_or_unbounded p z best unbounded_end =
+    let more = unbounded_end.improved z best.feasible in
+    lt_not_le more.1.improve (best.unimproved more.0 more.1.feasible)
 
 pub one_mark : (p : LinearProgram) (mark other : Mark) → IsOfMark p mark → IsOfMark p other → mark ≡ other
 one_mark p Optimal Optimal first second = refl
@@ -49,7 +49,7 @@ same_value Min x y below above = le_antisymm below above
 same_value Max x y below above = by_ring1 x (λ x. x ≐ opposite (opposite x)) refl ∙ ap neg_ℚ (le_antisymm below above) ∙ by_ring1 y (λ y. opposite (opposite y) ≐ y) refl
 
 pub best_objective : (p : LinearProgram) (z w : Vector) → IsBest p z → IsBest p w → objective_value p z ≡ objective_value p w
-best_objective p z w first second = same_value p.sense (objective_value p z) (objective_value p w) (first.unbettered w second.feasible) (second.unbettered z first.feasible)
+best_objective p z w first second = same_value p.sense (objective_value p z) (objective_value p w) (first.unimproved w second.feasible) (second.unimproved z first.feasible)
 
 one_objective : (p : LinearProgram) (x y : ℚ) → IsBestObjective p x → IsBestObjective p y → x ≡ y
 one_objective p x y first second = first.is_objective ∙ best_objective p (value_at first.point) (value_at second.point) first.best second.best ∙ sym second.is_objective

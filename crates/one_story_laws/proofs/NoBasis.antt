@@ -24,11 +24,11 @@ use Rattle.listing_definitions.specs.declared.Solver.TheVariants.{Primal as ByPr
 use Rattle.listing_definitions.specs.declared.VerbFault.{VerbFault}
 use Rattle.listing_definitions.specs.Report.{Report, Converted, Revised, Solved, Solution}
 use Rattle.listing_definitions.specs.Ending.{Ending}
-use Rattle.question_definitions.specs.Answers.{Basis, Sheet, Changing, sweeper, Sweep, Question, OfPath, OfSolution, OfRanges, OfSweep, OfPunch, OfInstall, Answer, PathEnd, Reached, PathLimit, PricesWrong, SweepEnd, Opening, Chained, SweepLimit}
+use Rattle.question_definitions.specs.Answers.{Basis, Sheet, Changing, parametric_solver, ParametricRun, Question, OfPath, OfSolution, OfRanges, OfParametricRun, OfPunch, OfInstall, Answer, PathEnd, Reached, PathLimit, PricesWrong, ParametricRunEnd, Opening, Chained, ParametricRunLimit}
 use Rattle.question_definitions.specs.Solving.{IsRight}
 use Rattle.run_definitions.specs.State.{Present, gone_through, State, problem_of, choice_of}
 use Rattle.run_definitions.specs.Moves.{printed_by, Outcome, Goes, Ends, gain_of, Refusals, Move, Does, MayStop, Asks, Gives, or_fault}
-use Rattle.run_definitions.specs.Verbs.{or_deck_fault, or_selection_fault, files, selects, not_less, change_row, change_set, mark_of, demanded, by_verdict, if_optimal, after_path, after_sweep, solves, shows, ranges, sweeps, converts, revises, sets_up, punches, punches_basis, inserts, verb_move}
+use Rattle.run_definitions.specs.Verbs.{or_deck_fault, or_selection_fault, files, selects, not_less, change_row, change_set, mark_of, demanded, by_verdict, if_optimal, after_path, after_parametric_run, solves, shows, ranges, parametric_runs, converts, revises, sets_up, punches, punches_basis, inserts, verb_move}
 use Rattle.run_definitions.specs.Run.{counted, Reaches, begun, stepped, IsRun, is_over, is_ended}
 use Rattle.run_definitions.specs.Answer.{IsJobRun, card_fault, control_fault, run}
 use Rattle.walk_laws.specs.Proved.{attested}
@@ -95,11 +95,11 @@ module _ (card : ℕ) where
   path_none solver present state PathLimit = nothing
   path_none solver present state (PricesWrong j) = nothing
 
-  sweep_none : (sweep : Sweep) (present : Present) (state : State) (end : SweepEnd) → NoneOf (after_sweep card sweep present state end)
-  sweep_none sweep present state (Opening bases verdict check) =
-      by_verdict_none (mark_of verdict) (Solved (sweeper sweep.changing) verdict check) (record state { setup = Some (gone_through bases present); mark = None }) tt
-  sweep_none sweep present state (Chained bases intervals end) = only _ tt
-  sweep_none sweep present state SweepLimit = nothing
+  parametric_run_none : (parametric_run : ParametricRun) (present : Present) (state : State) (end : ParametricRunEnd) → NoneOf (after_parametric_run card parametric_run present state end)
+  parametric_run_none parametric_run present state (Opening bases verdict check) =
+      by_verdict_none (mark_of verdict) (Solved (parametric_solver parametric_run.changing) verdict check) (record state { setup = Some (gone_through bases present); mark = None }) tt
+  parametric_run_none parametric_run present state (Chained bases intervals end) = only _ tt
+  parametric_run_none parametric_run present state ParametricRunLimit = nothing
 
   module _ (state : State) where
     converts_none : ShowsNone (converts card state)
@@ -142,15 +142,15 @@ module _ (card : ℕ) where
         unless_selection_fault (selected present.problem (choice_of state.cells present.options)) _ (λ lp.
         may_stop _ _ (asked OfRanges _ _ _ (λ lines taken. absurd taken))))))
 
-    sweeps_none : (fault : VerbFault) (change : Problem ℕ → Name → Option Changing) (moved : Option Name) → ShowsNone (sweeps card fault change moved state)
-    sweeps_none fault change moved =
+    parametric_runs_none : (fault : VerbFault) (change : Problem ℕ → Name → Option Changing) (moved : Option Name) → ShowsNone (parametric_runs card fault change moved state)
+    parametric_runs_none fault change moved =
         unless_fault VerbFault.NoSetup state.setup _ (λ present.
         selecting present.problem (choice_of state.cells present.options) _ (λ lp.
         unless_fault {X = Changing} fault (option_and_then (change present.problem) moved) _ (λ changing.
         unless_fault {X = ℚ} VerbFault.NoParmax state.cells.xparmax _ (λ last.
         unless_fault {X = ℚ} VerbFault.ParmaxBelow (not_less state.cells.xparam last) _ (λ to.
-        may_stop _ _ (asked (OfSweep (record { changing = changing; from = state.cells.xparam; to = to; limit = steps_allowed state.cells })) _ _ _ (λ end taken.
-        sweep_none (record { changing = changing; from = state.cells.xparam; to = to; limit = steps_allowed state.cells }) present state end)))))))
+        may_stop _ _ (asked (OfParametricRun (record { changing = changing; from = state.cells.xparam; to = to; limit = steps_allowed state.cells })) _ _ _ (λ end taken.
+        parametric_run_none (record { changing = changing; from = state.cells.xparam; to = to; limit = steps_allowed state.cells }) present state end)))))))
 
     punches_basis_none : ShowsNone (punches_basis card state)
     punches_basis_none =
@@ -182,8 +182,8 @@ module _ (card : ℕ) where
   verb_none Dual state = solves_none state ByDual (Some (steps_allowed state.cells))
   verb_none SolutionVerb state = shows_none state
   verb_none Ranging state = ranges_none state
-  verb_none Paraobj state = sweeps_none state VerbFault.NoChangeRow change_row state.cells.xchrow
-  verb_none Pararhs state = sweeps_none state VerbFault.NoChangeSet change_set state.cells.xchcol
+  verb_none Paraobj state = parametric_runs_none state VerbFault.NoChangeRow change_row state.cells.xchrow
+  verb_none Pararhs state = parametric_runs_none state VerbFault.NoChangeSet change_set state.cells.xchcol
   verb_none Bcdout state = punches_none state
   verb_none Punch state = punches_basis_none state
   verb_none Insert state = inserts_none state

@@ -1,4 +1,4 @@
--- What two runs are told where they ask about one linear program leads them alike.
+-- What two runs are reported where they ask about one linear program leads them alike.
 use Rattle.std.proofs.Common.{◌≡◌, inl, inr, ℕ, ◌+◌, List, [], ◌∷◌, ◌++◌, refl, sym, ap, subst, ◌∙◌}
 use Rattle.std.specs.Prelude.{All, Option, Some, None, Ok}
 use Rattle.std.proofs.lemmas.Option.{same_Some}
@@ -14,23 +14,23 @@ use Rattle.listing_definitions.specs.declared.Mark.{Mark}
 use Rattle.listing_definitions.specs.declared.Solver.{Solver}
 use Rattle.listing_definitions.specs.Report.{PathVerdict, Check, Interval, ChainEnd, EndsAt, UnboundedPast, InfeasiblePast, Chain, Report, Solved, Solution, Parametric}
 use Rattle.listing_definitions.specs.Ending.{LimitStop, PriceStop}
-use Rattle.question_definitions.specs.Answers.{Basis, Sheet, Changing, Row, Set, changing_name, sweeper, Sweep, OfPath, OfSolution, OfSweep, PathEnd, Reached, PathLimit, PricesWrong, SweepEnd, Opening, Chained, SweepLimit}
+use Rattle.question_definitions.specs.Answers.{Basis, Sheet, Changing, Row, Set, changing_name, parametric_solver, ParametricRun, OfPath, OfSolution, OfParametricRun, PathEnd, Reached, PathLimit, PricesWrong, ParametricRunEnd, Opening, Chained, ParametricRunLimit}
 use Rattle.question_definitions.specs.Solving.{Solving}
-use Rattle.answer_definitions.specs.Sweeps.{family_of}
+use Rattle.answer_definitions.specs.ParametricRuns.{family_of}
 use Rattle.run_definitions.specs.State.{Present, present_basis, gone_through, State, choice_of}
 use Rattle.run_definitions.specs.Moves.{Prints, printed_by, Outcome, gain_of, next}
-use Rattle.run_definitions.specs.Verbs.{mark_of, by_verdict, last_value, asks, after_path, after_sweep}
+use Rattle.run_definitions.specs.Verbs.{mark_of, by_verdict, last_value, asks, after_path, after_parametric_run}
 use Rattle.run_definitions.specs.Run.{counted}
-use Rattle.soundness_laws.specs.Truth.{PresentProgram, sheet_of, IsTrueOf, named_by, TellsOfRun}
+use Rattle.soundness_laws.specs.Truth.{PresentProgram, sheet_of, IsTrueOf, named_by, ReportsOfRun}
 use Rattle.walk_laws.specs.Proved.{attested, Says}
 use Rattle.walk_laws.proofs.Answered.{printed_verdict, IsPathSolver}
 use Rattle.one_story_laws.specs.Story.{SameVerdict, SameClose}
 use Rattle.one_story_laws.proofs.Marks.{FailsAt, same_verdict, same_failure, fails_or_best}
 use Rattle.one_story_laws.proofs.Ends.{HasRun, same_close}
-use Rattle.one_story_laws.proofs.Told.{Fails, Runs, SaysEnough, attested_says}
+use Rattle.one_story_laws.proofs.Reported.{Fails, Runs, SaysEnough, attested_says}
 use Rattle.one_story_laws.proofs.Alike.{SameSetup, one_setup, Alike, AlikeOrStopped, goes_alike, by_verdict_alike, IsAlike, may_stop, asked}
 
--- ---- the linear program, and the parametric run, of which something is told
+-- ---- the linear program, and the parametric run, of which something is reported
 
 pub same_sheet : (setup : Option Present) (cells : Cells) (present : Present) (lp : LinearProgram) (program : PresentProgram setup cells) → setup ≡ Some present →
     selected present.problem (choice_of cells present.options) ≡ Ok lp → sheet_of program ≡ record { problem = present.problem; lp = lp }
@@ -42,30 +42,30 @@ same_sheet setup cells present lp program set is =
     let same_lp : program.lp ≡ lp = cc both in
     λ i. record { problem = (same i).problem; lp = same_lp i }
 
-pub same_changing : (cells : Cells) (one two : Changing) → sweeper one ≡ sweeper two → named_by cells one ≡ Some (changing_name one) → named_by cells two ≡ Some (changing_name two) → one ≡ two
+pub same_changing : (cells : Cells) (one two : Changing) → parametric_solver one ≡ parametric_solver two → named_by cells one ≡ Some (changing_name one) → named_by cells two ≡ Some (changing_name two) → one ≡ two
 same_changing cells (Row name) (Row other) solvers first second = ap Row (same_Some name other (sym first ∙ second))
 same_changing cells (Row name) (Set other) solvers first second = absurd (cc solvers)
 same_changing cells (Set name) (Row other) solvers first second = absurd (cc solvers)
 same_changing cells (Set name) (Set other) solvers first second = ap Set (same_Some name other (sym first ∙ second))
 
 -- what the cells ask for
-pub record IsAskedBy (cells : Cells) (sweep : Sweep) : Type 0 where
-  pub is_named : named_by cells sweep.changing ≡ Some (changing_name sweep.changing)
-  pub from_first : sweep.from ≡ cells.xparam
-  pub to_last : cells.xparmax ≡ Some sweep.to
+pub record IsAskedBy (cells : Cells) (parametric_run : ParametricRun) : Type 0 where
+  pub is_named : named_by cells parametric_run.changing ≡ Some (changing_name parametric_run.changing)
+  pub from_first : parametric_run.from ≡ cells.xparam
+  pub to_last : cells.xparmax ≡ Some parametric_run.to
 
-told_here : (setup : Option Present) (cells : Cells) (present : Present) (lp : LinearProgram) (sweep : Sweep) (Tells : Sheet → Changing → ℚ → ℚ → Type 0) → setup ≡ Some present →
-    selected present.problem (choice_of cells present.options) ≡ Ok lp → IsAskedBy cells sweep →
-    TellsOfRun setup cells (sweeper sweep.changing) (λ sheet run. Tells sheet run.changing run.from run.to) → Tells (record { problem = present.problem; lp = lp }) sweep.changing sweep.from sweep.to
-told_here setup cells present lp sweep Tells set is asked told =
-    let sheets = same_sheet setup cells present lp told.program set is in
-    let changes = same_changing cells told.sweep.changing sweep.changing (sym told.is_solver) told.is_named asked.is_named in
-    let begins : told.sweep.from ≡ sweep.from = told.from_first ∙ sym asked.from_first in
-    let ends : told.sweep.to ≡ sweep.to = same_Some told.sweep.to sweep.to (sym told.to_last ∙ asked.to_last) in
-    subst (λ (x : ℚ). Tells (record { problem = present.problem; lp = lp }) sweep.changing sweep.from x) ends
-    (subst (λ (x : ℚ). Tells (record { problem = present.problem; lp = lp }) sweep.changing x told.sweep.to) begins
-    (subst (λ (x : Changing). Tells (record { problem = present.problem; lp = lp }) x told.sweep.from told.sweep.to) changes
-    (subst (λ (x : Sheet). Tells x told.sweep.changing told.sweep.from told.sweep.to) sheets told.tells)))
+reported_here : (setup : Option Present) (cells : Cells) (present : Present) (lp : LinearProgram) (parametric_run : ParametricRun) (Tells : Sheet → Changing → ℚ → ℚ → Type 0) → setup ≡ Some present →
+    selected present.problem (choice_of cells present.options) ≡ Ok lp → IsAskedBy cells parametric_run →
+    ReportsOfRun setup cells (parametric_solver parametric_run.changing) (λ sheet run. Tells sheet run.changing run.from run.to) → Tells (record { problem = present.problem; lp = lp }) parametric_run.changing parametric_run.from parametric_run.to
+reported_here setup cells present lp parametric_run Tells set is asked reported =
+    let sheets = same_sheet setup cells present lp reported.program set is in
+    let changes = same_changing cells reported.parametric_run.changing parametric_run.changing (sym reported.is_solver) reported.is_named asked.is_named in
+    let begins : reported.parametric_run.from ≡ parametric_run.from = reported.from_first ∙ sym asked.from_first in
+    let ends : reported.parametric_run.to ≡ parametric_run.to = same_Some reported.parametric_run.to parametric_run.to (sym reported.to_last ∙ asked.to_last) in
+    subst (λ (x : ℚ). Tells (record { problem = present.problem; lp = lp }) parametric_run.changing parametric_run.from x) ends
+    (subst (λ (x : ℚ). Tells (record { problem = present.problem; lp = lp }) parametric_run.changing x reported.parametric_run.to) begins
+    (subst (λ (x : Changing). Tells (record { problem = present.problem; lp = lp }) x reported.parametric_run.from reported.parametric_run.to) changes
+    (subst (λ (x : Sheet). Tells x reported.parametric_run.changing reported.parametric_run.from reported.parametric_run.to) sheets reported.tells)))
 
 same_last : (end other : ChainEnd) → SameClose end other → last_value end ≡ last_value other
 same_last (EndsAt value) (EndsAt other) same = same
@@ -151,79 +151,79 @@ module _ (S : Solving) (Speaks : State → Report → Type 0) (Open : Type 0) (e
 
   -- ---- parametric runs
 
-  module _ (sweep : Sweep) (asks_so : IsAskedBy state.cells sweep) where
-    abbrev sweep_go : SweepEnd → Outcome
-    sweep_go = after_sweep card sweep one (counted first)
+  module _ (parametric_run : ParametricRun) (asks_so : IsAskedBy state.cells parametric_run) where
+    abbrev parametric_run_go : ParametricRunEnd → Outcome
+    parametric_run_go = after_parametric_run card parametric_run one (counted first)
 
-    abbrev sweep_on : SweepEnd → Outcome
-    sweep_on = after_sweep card sweep two (counted second)
+    abbrev parametric_run_on : ParametricRunEnd → Outcome
+    parametric_run_on = after_parametric_run card parametric_run two (counted second)
 
     abbrev family : ℚ → LinearProgram
-    family = family_of sheet sweep.changing
+    family = family_of sheet parametric_run.changing
 
     abbrev chain_of : List Interval → ChainEnd → Chain
-    chain_of intervals end = record { from = sweep.from; change = changing_name sweep.changing; intervals = intervals; end = end }
+    chain_of intervals end = record { from = parametric_run.from; change = changing_name parametric_run.changing; intervals = intervals; end = end }
 
     fails_here : (setup : Option Present) (present : Present) (verdict : PathVerdict) → setup ≡ Some present → selected present.problem (choice_of state.cells present.options) ≡ Ok lp →
-        TellsOfRun setup state.cells (sweeper sweep.changing) (Fails verdict) → FailsAt (family_of (record { problem = present.problem; lp = lp }) sweep.changing sweep.from) verdict
-    fails_here setup present verdict set selects told =
-        told_here setup state.cells present lp sweep (λ sheet changing from to. FailsAt (family_of sheet changing from) verdict) set selects asks_so told
+        ReportsOfRun setup state.cells (parametric_solver parametric_run.changing) (Fails verdict) → FailsAt (family_of (record { problem = present.problem; lp = lp }) parametric_run.changing parametric_run.from) verdict
+    fails_here setup present verdict set selects reported =
+        reported_here setup state.cells present lp parametric_run (λ sheet changing from to. FailsAt (family_of sheet changing from) verdict) set selects asks_so reported
 
     runs_here : (setup : Option Present) (present : Present) (end : ChainEnd) → setup ≡ Some present → selected present.problem (choice_of state.cells present.options) ≡ Ok lp →
-        TellsOfRun setup state.cells (sweeper sweep.changing) (Runs end) → HasRun (family_of (record { problem = present.problem; lp = lp }) sweep.changing) sweep.from sweep.to end
-    runs_here setup present end set selects told =
-        told_here setup state.cells present lp sweep (λ sheet changing from to. HasRun (family_of sheet changing) from to end) set selects asks_so told
+        ReportsOfRun setup state.cells (parametric_solver parametric_run.changing) (Runs end) → HasRun (family_of (record { problem = present.problem; lp = lp }) parametric_run.changing) parametric_run.from parametric_run.to end
+    runs_here setup present end set selects reported =
+        reported_here setup state.cells present lp parametric_run (λ sheet changing from to. HasRun (family_of sheet changing) from to end) set selects asks_so reported
 
     -- an opening doesn't fail where a run has a best point
-    fails_or_runs : (verdict : PathVerdict) (end : ChainEnd) → FailsAt (family sweep.from) verdict → HasRun family sweep.from sweep.to end → ⊥
+    fails_or_runs : (verdict : PathVerdict) (end : ChainEnd) → FailsAt (family parametric_run.from) verdict → HasRun family parametric_run.from parametric_run.to end → ⊥
     fails_or_runs verdict end fails run =
-        let best = run.covers.solved sweep.from (le_refl sweep.from) run.covers.forward in
-        fails_or_best (family sweep.from) verdict best.0 fails best.1
+        let best = run.covers.solved parametric_run.from (le_refl parametric_run.from) run.covers.forward in
+        fails_or_best (family parametric_run.from) verdict best.0 fails best.1
 
     chains_alike : (bases more : List Basis) (intervals others_intervals : List Interval) (end another : ChainEnd) → SameClose end another →
-        Alike (sweep_go (Chained bases intervals end)) (sweep_on (Chained more others_intervals another))
+        Alike (parametric_run_go (Chained bases intervals end)) (parametric_run_on (Chained more others_intervals another))
     chains_alike bases more intervals others_intervals end another same =
-        subst (λ (x : ℚ). Alike (sweep_go (Chained bases intervals end))
-        (next (Prints (Parametric (sweeper sweep.changing) (chain_of others_intervals another)))
+        subst (λ (x : ℚ). Alike (parametric_run_go (Chained bases intervals end))
+        (next (Prints (Parametric (parametric_solver parametric_run.changing) (chain_of others_intervals another)))
         (record (counted second) { setup = Some (gone_through more two); mark = None; cells = record (state.cells) { xparam = x } }))) (same_last end another same)
-        (goes_alike (Prints (Parametric (sweeper sweep.changing) (chain_of intervals end))) (Prints (Parametric (sweeper sweep.changing) (chain_of others_intervals another)))
+        (goes_alike (Prints (Parametric (parametric_solver parametric_run.changing) (chain_of intervals end))) (Prints (Parametric (parametric_solver parametric_run.changing) (chain_of others_intervals another)))
         (record (counted state) { position = state.position + 1; mark = None; cells = record (state.cells) { xparam = last_value end } })
         (Some (gone_through bases one)) (Some (gone_through more two)) ((refl, refl, refl, same), tt) (gone bases more))
 
-    spoken_opening : (verdict : PathVerdict) (check : Check) (bases : List Basis) → All (Speaks first) (printed_by (gain_of (sweep_go (Opening bases verdict check)))) → FailsAt (family sweep.from) verdict
+    spoken_opening : (verdict : PathVerdict) (check : Check) (bases : List Basis) → All (Speaks first) (printed_by (gain_of (parametric_run_go (Opening bases verdict check)))) → FailsAt (family parametric_run.from) verdict
     spoken_opening verdict check bases speaks =
         fails_here (Some one) one verdict refl is
-        (enough.openings first sweep.changing verdict check (one_verdict (Speaks first) (mark_of verdict) (Solved (sweeper sweep.changing) verdict check) _ speaks))
+        (enough.openings first parametric_run.changing verdict check (one_verdict (Speaks first) (mark_of verdict) (Solved (parametric_solver parametric_run.changing) verdict check) _ speaks))
 
-    said_opening : (verdict : PathVerdict) (check : Check) (bases : List Basis) → All (Says second) (printed_by (gain_of (sweep_on (Opening bases verdict check)))) → FailsAt (family sweep.from) verdict
+    said_opening : (verdict : PathVerdict) (check : Check) (bases : List Basis) → All (Says second) (printed_by (gain_of (parametric_run_on (Opening bases verdict check)))) → FailsAt (family parametric_run.from) verdict
     said_opening verdict check bases says =
         fails_here (Some two) two verdict refl is
-        (attested_says.openings second sweep.changing verdict check (one_verdict (Says second) (mark_of verdict) (Solved (sweeper sweep.changing) verdict check) _ says))
+        (attested_says.openings second parametric_run.changing verdict check (one_verdict (Says second) (mark_of verdict) (Solved (parametric_solver parametric_run.changing) verdict check) _ says))
 
-    spoken_run : (intervals : List Interval) (end : ChainEnd) → All (Speaks first) (Parametric (sweeper sweep.changing) (chain_of intervals end) ∷ []) → HasRun family sweep.from sweep.to end
+    spoken_run : (intervals : List Interval) (end : ChainEnd) → All (Speaks first) (Parametric (parametric_solver parametric_run.changing) (chain_of intervals end) ∷ []) → HasRun family parametric_run.from parametric_run.to end
     spoken_run intervals end speaks =
-        runs_here (Some one) one end refl is (enough.chains first (sweeper sweep.changing) (chain_of intervals end) (All-head (Speaks first) _ [] speaks))
+        runs_here (Some one) one end refl is (enough.chains first (parametric_solver parametric_run.changing) (chain_of intervals end) (All-head (Speaks first) _ [] speaks))
 
-    said_run : (intervals : List Interval) (end : ChainEnd) → All (Says second) (Parametric (sweeper sweep.changing) (chain_of intervals end) ∷ []) → HasRun family sweep.from sweep.to end
+    said_run : (intervals : List Interval) (end : ChainEnd) → All (Says second) (Parametric (parametric_solver parametric_run.changing) (chain_of intervals end) ∷ []) → HasRun family parametric_run.from parametric_run.to end
     said_run intervals end says =
-        runs_here (Some two) two end refl is (attested_says.chains second (sweeper sweep.changing) (chain_of intervals end) (All-head (Says second) _ [] says))
+        runs_here (Some two) two end refl is (attested_says.chains second (parametric_solver parametric_run.changing) (chain_of intervals end) (All-head (Says second) _ [] says))
 
-    sweeps_alike : (x y : SweepEnd) → S.Sweeps sheet (present_basis one) sweep x → attested.Sweeps sheet (present_basis two) sweep y → All (Speaks first) (printed_by (gain_of (sweep_go x))) →
-        All (Says second) (printed_by (gain_of (sweep_on y))) → AlikeOrStopped Open (sweep_go x) (sweep_on y)
-    sweeps_alike SweepLimit y right taken speaks says = inr (LimitStop _, enough.sweep_limits sheet (present_basis one) sweep right, refl)
-    sweeps_alike (Opening bases verdict check) SweepLimit right taken speaks says = absurd (attested_says.sweep_limits sheet (present_basis two) sweep taken)
-    sweeps_alike (Chained bases intervals end) SweepLimit right taken speaks says = absurd (attested_says.sweep_limits sheet (present_basis two) sweep taken)
-    sweeps_alike (Opening bases verdict check) (Opening more another other_check) right taken speaks says =
-        inl (verdicts_alike (sweeper sweep.changing) verdict another check other_check bases more (λ m. None)
-        (same_failure (family sweep.from) verdict another (spoken_opening verdict check bases speaks) (said_opening another other_check more says)))
-    sweeps_alike (Opening bases verdict check) (Chained more intervals end) right taken speaks says =
+    parametric_runs_alike : (x y : ParametricRunEnd) → S.ParametricRuns sheet (present_basis one) parametric_run x → attested.ParametricRuns sheet (present_basis two) parametric_run y → All (Speaks first) (printed_by (gain_of (parametric_run_go x))) →
+        All (Says second) (printed_by (gain_of (parametric_run_on y))) → AlikeOrStopped Open (parametric_run_go x) (parametric_run_on y)
+    parametric_runs_alike ParametricRunLimit y right taken speaks says = inr (LimitStop _, enough.parametric_run_limits sheet (present_basis one) parametric_run right, refl)
+    parametric_runs_alike (Opening bases verdict check) ParametricRunLimit right taken speaks says = absurd (attested_says.parametric_run_limits sheet (present_basis two) parametric_run taken)
+    parametric_runs_alike (Chained bases intervals end) ParametricRunLimit right taken speaks says = absurd (attested_says.parametric_run_limits sheet (present_basis two) parametric_run taken)
+    parametric_runs_alike (Opening bases verdict check) (Opening more another other_check) right taken speaks says =
+        inl (verdicts_alike (parametric_solver parametric_run.changing) verdict another check other_check bases more (λ m. None)
+        (same_failure (family parametric_run.from) verdict another (spoken_opening verdict check bases speaks) (said_opening another other_check more says)))
+    parametric_runs_alike (Opening bases verdict check) (Chained more intervals end) right taken speaks says =
         absurd (fails_or_runs verdict end (spoken_opening verdict check bases speaks) (said_run intervals end says))
-    sweeps_alike (Chained bases intervals end) (Opening more verdict check) right taken speaks says =
+    parametric_runs_alike (Chained bases intervals end) (Opening more verdict check) right taken speaks says =
         absurd (fails_or_runs verdict end (said_opening verdict check more says) (spoken_run intervals end speaks))
-    sweeps_alike (Chained bases intervals end) (Chained more others_intervals another) right taken speaks says =
+    parametric_runs_alike (Chained bases intervals end) (Chained more others_intervals another) right taken speaks says =
         inl (chains_alike bases more intervals others_intervals end another
-        (same_close family sweep.from sweep.to end another (spoken_run intervals end speaks) (said_run others_intervals another says)
-        (enough.lasts sheet (present_basis one) sweep bases intervals end right) (attested_says.lasts sheet (present_basis two) sweep more others_intervals another taken)))
+        (same_close family parametric_run.from parametric_run.to end another (spoken_run intervals end speaks) (said_run others_intervals another says)
+        (enough.lasts sheet (present_basis one) parametric_run bases intervals end right) (attested_says.lasts sheet (present_basis two) parametric_run more others_intervals another taken)))
 
-    pub sweep_asked : IsAlike S Speaks Open first second card (asks (OfSweep sweep) sheet one sweep_go) (asks (OfSweep sweep) sheet two sweep_on)
-    sweep_asked = may_stop S Speaks Open first second card _ _ _ _ (asked S Speaks Open first second card (OfSweep sweep) sheet (present_basis one) (present_basis two) sweep_go sweep_on sweeps_alike)
+    pub parametric_run_asked : IsAlike S Speaks Open first second card (asks (OfParametricRun parametric_run) sheet one parametric_run_go) (asks (OfParametricRun parametric_run) sheet two parametric_run_on)
+    parametric_run_asked = may_stop S Speaks Open first second card _ _ _ _ (asked S Speaks Open first second card (OfParametricRun parametric_run) sheet (present_basis one) (present_basis two) parametric_run_go parametric_run_on parametric_runs_alike)

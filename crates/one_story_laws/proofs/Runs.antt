@@ -24,9 +24,9 @@ use Rattle.run_definitions.specs.Run.{counted, Step, IsOver, at_end, at_limit, R
 use Rattle.soundness_laws.specs.Headline.{HoldSoFar, HoldInRun}
 use Rattle.determinism_laws.specs.Laws.{IsOverflow, IsOverflowStop}
 use Rattle.walk_laws.specs.Proved.{attested, Says}
-use Rattle.one_story_laws.specs.Story.{TellsSame, TellSame}
-use Rattle.one_story_laws.specs.Shown.{made_by, made_so_far, made_in_run, AreBeside}
-use Rattle.one_story_laws.proofs.Told.{SaysEnough}
+use Rattle.one_story_laws.specs.Story.{ReportsSame, TellSame}
+use Rattle.one_story_laws.specs.Views.{made_by, made_so_far, made_in_run, AreBeside}
+use Rattle.one_story_laws.proofs.Reported.{SaysEnough}
 use Rattle.one_story_laws.proofs.Alike.{no_setup, SameStanding, standing, Alike, CutsOff, IsStopped, AlikeOrStopped}
 use Rattle.one_story_laws.proofs.Verbs.{verb_alike}
 
@@ -137,7 +137,7 @@ ends_unstopped : (gain : Gain) (ending : Ending) → (IsOverflow ending → ⊥)
 ends_unstopped gain ending none stop = let e = stop.1 in none (stop.0, cc)
 
 module _ (S : Solving) (Speaks : State → Report → Type 0) (Open : Type 0) (enough : SaysEnough S Speaks Open) (Same : State → Report → Report → Type 0)
-    (shows : (a b : State) → SameStanding a b → (report other : Report) → TellsSame report other → Speaks a report → Says b other → Same a report other) (program : Program) where
+    (shows : (a b : State) → SameStanding a b → (report other : Report) → ReportsSame report other → Speaks a report → Says b other → Same a report other) (program : Program) where
   step_alike : (a b : State) (x y : Outcome) → SameStanding a b → Step S program a x → Step attested program b y → All (Speaks a) (printed_by (gain_of x)) → All (Says b) (printed_by (gain_of y)) →
       (IsOverflowStop y → ⊥) → AlikeOrStopped Open x y
   step_alike _ _ x y (standing state left right setups) first second speaks says unstopped =

@@ -11,15 +11,15 @@ use Rattle.listing_definitions.specs.declared.Mark.{Mark}
 use Rattle.listing_definitions.specs.declared.Mark.TheVariants.{Optimal, Infeasible, Unbounded}
 use Rattle.listing_definitions.specs.declared.Solver.{Solver}
 use Rattle.listing_definitions.specs.Report.{SolutionLines, Interval, Chain, Report, Titled, Converted, Revised, SetUp, BcdOut, BasisOut, Inserted, Solved, Solution, Ranges, Parametric}
-use Rattle.question_definitions.specs.Answers.{Sheet, Changing, Sweep}
-use Rattle.answer_definitions.specs.Sweeps.{family_of}
+use Rattle.question_definitions.specs.Answers.{Sheet, Changing, ParametricRun}
+use Rattle.answer_definitions.specs.ParametricRuns.{family_of}
 use Rattle.run_definitions.specs.State.{Present, State, choice_of}
-use Rattle.soundness_laws.specs.Truth.{PresentProgram, sheet_of, TellsOfRun}
+use Rattle.soundness_laws.specs.Truth.{PresentProgram, sheet_of, ReportsOfRun}
 use Rattle.walk_definitions.specs.Tests.{point_of}
-use Rattle.judged_laws.specs.Shown.{part_of}
+use Rattle.judged_laws.specs.Views.{part_of}
 use Rattle.walk_laws.specs.Proved.{Says}
-use Rattle.one_story_laws.specs.Story.{TellsSame}
-use Rattle.one_story_laws.specs.Shown.{SameActivity, objective_at, SameAlong, ShowsSame}
+use Rattle.one_story_laws.specs.Story.{ReportsSame}
+use Rattle.one_story_laws.specs.Views.{SameActivity, objective_at, SameAlong, ShowsSame}
 use Rattle.one_story_laws.proofs.Marks.{best_objective}
 use Rattle.one_story_laws.proofs.Worth.{IsBestWorth, ShowsWorth, RunsWorth, SpeaksWorth, attested_worth}
 use Rattle.one_story_laws.proofs.Alike.{SameSetup, no_setup, one_setup, SameStanding, standing}
@@ -53,28 +53,28 @@ same_activity cells left right setups lines others first second =
 
 -- ---- parametric runs
 
-same_along : (sheet : Sheet) (sweep other : Sweep) (intervals others : List Interval) → sweep.changing ≡ other.changing → RunsWorth intervals sheet sweep → RunsWorth others sheet other →
-    SameAlong intervals others sheet sweep
-same_along sheet sweep other intervals others changes first second = λ theta one two among also from_one to_one from_two to_two.
-    same_worth (family_of sheet sweep.changing theta) (objective_at sheet sweep theta one) (objective_at sheet sweep theta two) (first one among theta from_one to_one)
+same_along : (sheet : Sheet) (parametric_run other : ParametricRun) (intervals others : List Interval) → parametric_run.changing ≡ other.changing → RunsWorth intervals sheet parametric_run → RunsWorth others sheet other →
+    SameAlong intervals others sheet parametric_run
+same_along sheet parametric_run other intervals others changes first second = λ theta one two among also from_one to_one from_two to_two.
+    same_worth (family_of sheet parametric_run.changing theta) (objective_at sheet parametric_run theta one) (objective_at sheet parametric_run theta two) (first one among theta from_one to_one)
     (subst (λ (x : Changing). IsBestWorth (family_of sheet x theta) (objective_value (family_of sheet x theta) (along theta (part_of two).value (part_of two).value_rate))) (sym changes)
     (second two also theta from_two to_two))
 
-same_runs : (cells : Cells) (left right : Option Present) → SameSetup left right → (solver : Solver) (chain another : Chain) → TellsOfRun left cells solver (RunsWorth chain.intervals) →
-    TellsOfRun right cells solver (RunsWorth another.intervals) → TellsOfRun left cells solver (SameAlong chain.intervals another.intervals)
+same_runs : (cells : Cells) (left right : Option Present) → SameSetup left right → (solver : Solver) (chain another : Chain) → ReportsOfRun left cells solver (RunsWorth chain.intervals) →
+    ReportsOfRun right cells solver (RunsWorth another.intervals) → ReportsOfRun left cells solver (SameAlong chain.intervals another.intervals)
 same_runs cells left right setups solver chain another first second =
     let sheets = same_programs cells left right setups first.program second.program in
-    let changes = same_changing cells first.sweep.changing second.sweep.changing (sym first.is_solver ∙ second.is_solver) first.is_named second.is_named in
+    let changes = same_changing cells first.parametric_run.changing second.parametric_run.changing (sym first.is_solver ∙ second.is_solver) first.is_named second.is_named in
     record {
       program = first.program;
-      sweep = first.sweep;
+      parametric_run = first.parametric_run;
       is_solver = first.is_solver;
       is_part = first.is_part;
       is_named = first.is_named;
       from_first = first.from_first;
       to_last = first.to_last;
-      tells = same_along (sheet_of first.program) first.sweep second.sweep chain.intervals another.intervals changes first.tells
-          (subst (λ (x : Sheet). RunsWorth another.intervals x second.sweep) (sym sheets) second.tells);
+      tells = same_along (sheet_of first.program) first.parametric_run second.parametric_run chain.intervals another.intervals changes first.tells
+          (subst (λ (x : Sheet). RunsWorth another.intervals x second.parametric_run) (sym sheets) second.tells);
     }
 
 -- ---- two reports
@@ -86,7 +86,7 @@ module _ (Speaks : State → Report → Type 0) (worth : SpeaksWorth Speaks) whe
   solutions_same state left right setups Infeasible lines others same first second = absurd (cc same)
   solutions_same state left right setups Unbounded lines others same first second = absurd (cc same)
 
-  beside_optimal : (state : State) (left right : Option Present) → SameSetup left right → (lines : SolutionLines) (other : Report) → TellsSame (Solution Optimal lines) other →
+  beside_optimal : (state : State) (left right : Option Present) → SameSetup left right → (lines : SolutionLines) (other : Report) → ReportsSame (Solution Optimal lines) other →
       Speaks (record state { setup = left }) (Solution Optimal lines) → Says (record state { setup = right }) other → ShowsSame (record state { setup = left }) (Solution Optimal lines) other
   beside_optimal state left right setups lines (Titled text) same first second = tt
   beside_optimal state left right setups lines (Converted filed) same first second = tt
@@ -100,7 +100,7 @@ module _ (Speaks : State → Report → Type 0) (worth : SpeaksWorth Speaks) whe
   beside_optimal state left right setups lines (Ranges others) same first second = tt
   beside_optimal state left right setups lines (Parametric other another) same first second = tt
 
-  beside_run : (state : State) (left right : Option Present) → SameSetup left right → (solver : Solver) (chain : Chain) (other : Report) → TellsSame (Parametric solver chain) other →
+  beside_run : (state : State) (left right : Option Present) → SameSetup left right → (solver : Solver) (chain : Chain) (other : Report) → ReportsSame (Parametric solver chain) other →
       Speaks (record state { setup = left }) (Parametric solver chain) → Says (record state { setup = right }) other → ShowsSame (record state { setup = left }) (Parametric solver chain) other
   beside_run state left right setups solver chain (Titled text) same first second = tt
   beside_run state left right setups solver chain (Converted filed) same first second = tt
@@ -114,9 +114,9 @@ module _ (Speaks : State → Report → Type 0) (worth : SpeaksWorth Speaks) whe
   beside_run state left right setups solver chain (Ranges others) same first second = tt
   beside_run state left right setups solver chain (Parametric other another) same first second =
       same_runs state.cells left right setups solver chain another (worth.chains (record state { setup = left }) solver chain first)
-      (subst (λ (s : Solver). TellsOfRun right state.cells s (RunsWorth another.intervals)) (sym same.0) (attested_worth.chains (record state { setup = right }) other another second))
+      (subst (λ (s : Solver). ReportsOfRun right state.cells s (RunsWorth another.intervals)) (sym same.0) (attested_worth.chains (record state { setup = right }) other another second))
 
-  pub shows_same : (a b : State) → SameStanding a b → (report other : Report) → TellsSame report other → Speaks a report → Says b other → ShowsSame a report other
+  pub shows_same : (a b : State) → SameStanding a b → (report other : Report) → ReportsSame report other → Speaks a report → Says b other → ShowsSame a report other
   shows_same a b stand (Titled text) other same first second = tt
   shows_same a b stand (Converted filed) other same first second = tt
   shows_same a b stand (Revised filed) other same first second = tt

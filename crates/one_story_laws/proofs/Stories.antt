@@ -1,4 +1,4 @@
--- Two listings of one job that are told tell one story, and so does the run of the job.
+-- Two listings of one job that are reported tell one story, and so does the run of the job.
 use Rattle.std.proofs.Common.{◌≡◌, ◌⊎◌, inl, inr, ℕ, suc, List, [], ◌∷◌, ◌++◌, map, length, refl, sym, ap, ap₂, subst, ◌∙◌}
 use Rattle.std.specs.Prelude.{All}
 use Rattle.std.proofs.lemmas.List.{map-append}
@@ -20,16 +20,16 @@ use Rattle.determinism_laws.specs.Laws.{IsOverflow}
 use Rattle.reading_laws.specs.Laws.{ReadingLaw}
 use Rattle.judged_laws.specs.Laws.{JudgedLaws}
 use Rattle.walk_laws.specs.Proved.{attested, Says, SaysAtEnd, IsTrueListing}
-use Rattle.one_story_laws.specs.Story.{TellsSame, TellSame, IsOfNoBasis, IsCutEnding}
-use Rattle.one_story_laws.specs.Shown.{made_by, made_so_far, made_in_run, made_in_job, ShowsSame}
+use Rattle.one_story_laws.specs.Story.{ReportsSame, TellSame, IsOfNoBasis, IsCutEnding}
+use Rattle.one_story_laws.specs.Views.{made_by, made_so_far, made_in_run, made_in_job, ShowsSame}
 use Rattle.one_story_laws.specs.Laws.{IsOneStory, IsBrokenOff, IsProvedListing, OneStoryLaws}
-use Rattle.one_story_laws.proofs.Told.{SaysEnough, attested_says, real_says}
+use Rattle.one_story_laws.proofs.Reported.{SaysEnough, attested_says, real_says}
 use Rattle.one_story_laws.proofs.Alike.{SameStanding, CutsOff}
 use Rattle.one_story_laws.proofs.Worth.{attested_worth, real_worth}
 use Rattle.one_story_laws.proofs.Shows.{shows_same}
 use Rattle.one_story_laws.proofs.Runs.{Whole, whole_of, Story, two_runs}
 use Rattle.one_story_laws.proofs.NoBasis.{job_of_no_basis}
-use Rattle.one_story_laws.proofs.Attested.{attested_told}
+use Rattle.one_story_laws.proofs.Attested.{attested_reported}
 
 -- ---- how a run is cut off
 
@@ -56,7 +56,7 @@ one_program : (bytes : List ℕ) (program other : Program) → IsProgramOf bytes
 one_program bytes program other first second = let e = sym second.is_compiled ∙ first.is_compiled in cc
 
 module _ (S : Solving) (Speaks : State → Report → Type 0) (AtEnd : State → Ending → Type 0) (Open : Type 0) (enough : SaysEnough S Speaks Open)
-    (Same : State → Report → Report → Type 0) (shows : (a b : State) → SameStanding a b → (report other : Report) → TellsSame report other → Speaks a report → Says b other → Same a report other)
+    (Same : State → Report → Report → Type 0) (shows : (a b : State) → SameStanding a b → (report other : Report) → ReportsSame report other → Speaks a report → Says b other → Same a report other)
     (bytes : List ℕ) where
   same_program : (program other : Program) (reports others : List Report) (cards other_cards : List (List ℕ)) (ending another : Ending) → IsProgramOf bytes program → IsProgramOf bytes other →
       (first : IsRun S program (job_decks program bytes) reports cards ending) (second : IsRun attested other (job_decks other bytes) others other_cards another) →
@@ -141,7 +141,7 @@ all_front : (P : Report → Type 0) (first later : List Report) → All P (first
 all_front P [] later all = All-nil P
 all_front P (report ∷ first) later all = All-cons P report first (All-head P report (first ++ later) all) (all_front P first later (All-tail P report (first ++ later) all))
 
-of_no_basis : (report other : Report) → TellsSame report other → IsOfNoBasis other → IsOfNoBasis report
+of_no_basis : (report other : Report) → ReportsSame report other → IsOfNoBasis other → IsOfNoBasis report
 of_no_basis (Ranges lines) other same none = subst IsOfNoBasis (sym same) none
 of_no_basis (BasisOut name count) other same none = subst IsOfNoBasis (sym same) none
 of_no_basis (Inserted name count) other same none = subst IsOfNoBasis (sym same) none
@@ -183,11 +183,11 @@ tell_as_many (report ∷ reports) [] tell = absurd tell
 
 pub stories : ReadingLaw → JudgedLaws → RunLaws → OneStoryLaws
 stories reading truth laws = record {
-  is_proved = attested_told reading truth;
+  is_proved = attested_reported reading truth;
   one_story = two_listings;
   as_many = λ bytes lines others n m first second.
-      let one = attested_told reading truth bytes lines n first in
-      let two = attested_told reading truth bytes others m second in
+      let one = attested_reported reading truth bytes lines n first in
+      let two = attested_reported reading truth bytes others m second in
       sym one.has_count ∙ tell_as_many one.proved.reports two.proved.reports (two_listings bytes lines others n m one two).tell ∙ two.has_count;
   run = beside_run laws;
   made = λ bytes lines one. made_job attested bytes one.reports one.cards one.ending one.runs;

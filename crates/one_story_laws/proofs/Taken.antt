@@ -11,10 +11,10 @@ use Rattle.check_definitions.specs.Steps.{in_turn}
 use Rattle.check_definitions.proofs.Passing.{both_checked, holds_if_checked}
 use Rattle.listing_definitions.specs.declared.Solver.{Solver}
 use Rattle.listing_definitions.specs.Report.{Interval, ChainEnd, EndsAt, UnboundedPast, InfeasiblePast}
-use Rattle.question_definitions.specs.Answers.{Sheet, Changing, Row, Set, sweeper, Sweep, OfPath, OfSweep, PathEnd, Reached, SweepEnd, Opening, Chained, SweepLimit}
+use Rattle.question_definitions.specs.Answers.{Sheet, Changing, Row, Set, parametric_solver, ParametricRun, OfPath, OfParametricRun, PathEnd, Reached, ParametricRunEnd, Opening, Chained, ParametricRunLimit}
 use Rattle.walk_definitions.specs.Words.{Parsed, left_after}
 use Rattle.walk_definitions.specs.Tests.{asked, interval_test, close_test}
-use Rattle.walk_definitions.specs.Reading.{Judged, Right, Fails, Refuses, by_verdict, tested, judged_map, Claim, interval_in, close_in, sweep_head, Run, onward, part_in, run_in, sweep_in, judged}
+use Rattle.walk_definitions.specs.Reading.{Judged, Right, Fails, Refuses, by_verdict, tested, judged_map, Claim, interval_in, close_in, parametric_run_head, Run, onward, part_in, run_in, parametric_run_in, judged}
 use Rattle.walk_laws.specs.Proved.{IsTaken}
 use Rattle.one_story_laws.proofs.Ends.{IsLast}
 
@@ -55,45 +55,45 @@ last_by_test sheet (Set name) max last (EndsAt value) e = at_last last max value
 last_by_test sheet changing max last (UnboundedPast value lines) e = tt
 last_by_test sheet changing max last (InfeasiblePast value lines) e = tt
 
-abbrev pub MayBeTaken : Sweep → SweepEnd → Type 0
-MayBeTaken sweep (Opening bases verdict check) = Unit {0}
-MayBeTaken sweep (Chained bases intervals end) = IsLast sweep.to end
-MayBeTaken sweep SweepLimit = ⊥
+abbrev pub MayBeTaken : ParametricRun → ParametricRunEnd → Type 0
+MayBeTaken parametric_run (Opening bases verdict check) = Unit {0}
+MayBeTaken parametric_run (Chained bases intervals end) = IsLast parametric_run.to end
+MayBeTaken parametric_run ParametricRunLimit = ⊥
 
-module _ (sheet : Sheet) (sweep : Sweep) where
+module _ (sheet : Sheet) (parametric_run : ParametricRun) where
   abbrev Closes : Run → Type 0
-  Closes run = IsLast sweep.to run.1
+  Closes run = IsLast parametric_run.to run.1
 
-  on_onward : (go : ℚ → List ℕ → Judged Run) → ((last : ℚ) (rest : List ℕ) → OnRight Closes (go last rest)) → (judged : Judged Interval) → OnRight Closes (onward sheet sweep go judged)
+  on_onward : (go : ℚ → List ℕ → Judged Run) → ((last : ℚ) (rest : List ℕ) → OnRight Closes (go last rest)) → (judged : Judged Interval) → OnRight Closes (onward sheet parametric_run go judged)
   on_onward go later (Right interval after) = on_map Closes (λ (run : Run). (interval ∷ run.0, run.1)) (go interval.to after) (later interval.to after)
   on_onward go later Fails = tt
   on_onward go later Refuses = tt
 
   on_close : (first : Bool) (last : ℚ) (rest : List ℕ) →
-      OnRight Closes (if first then Fails else judged_map (λ (end : ChainEnd). ([], end)) (tested (close_test sheet sweep.changing sweep.to last) (close_in sheet (sweeper sweep.changing) rest)))
+      OnRight Closes (if first then Fails else judged_map (λ (end : ChainEnd). ([], end)) (tested (close_test sheet parametric_run.changing parametric_run.to last) (close_in sheet (parametric_solver parametric_run.changing) rest)))
   on_close true last rest = tt
   on_close false last rest =
-      on_map Closes (λ (end : ChainEnd). ([], end)) (tested (close_test sheet sweep.changing sweep.to last) (close_in sheet (sweeper sweep.changing) rest))
-      (on_tested (IsLast sweep.to) (close_test sheet sweep.changing sweep.to last) (last_by_test sheet sweep.changing sweep.to last) (close_in sheet (sweeper sweep.changing) rest))
+      on_map Closes (λ (end : ChainEnd). ([], end)) (tested (close_test sheet parametric_run.changing parametric_run.to last) (close_in sheet (parametric_solver parametric_run.changing) rest))
+      (on_tested (IsLast parametric_run.to) (close_test sheet parametric_run.changing parametric_run.to last) (last_by_test sheet parametric_run.changing parametric_run.to last) (close_in sheet (parametric_solver parametric_run.changing) rest))
 
   on_part : (go : ℚ → List ℕ → Judged Run) → ((last : ℚ) (rest : List ℕ) → OnRight Closes (go last rest)) → (number : ℕ) (last : ℚ) (rest : List ℕ) (left : Option (List ℕ)) →
-      OnRight Closes (part_in sheet sweep go number last rest left)
+      OnRight Closes (part_in sheet parametric_run go number last rest left)
   on_part go later number last rest (Some after) =
-      on_onward go later (tested (interval_test sheet sweep.changing (nat_eq number 1) sweep.to) (interval_in sheet number last rest))
+      on_onward go later (tested (interval_test sheet parametric_run.changing (nat_eq number 1) parametric_run.to) (interval_in sheet number last rest))
   on_part go later number last rest None = on_close (nat_eq number 1) last rest
 
-  on_run : (room : List ℕ) (number : ℕ) (last : ℚ) (rest : List ℕ) → OnRight Closes (run_in sheet sweep room number last rest)
+  on_run : (room : List ℕ) (number : ℕ) (last : ℚ) (rest : List ℕ) → OnRight Closes (run_in sheet parametric_run room number last rest)
   on_run [] number last rest = tt
   on_run (byte ∷ room) number last rest =
-      on_part (run_in sheet sweep room (number + 1)) (λ last rest. on_run room (number + 1) last rest) number last rest (left_after (codes "INTERVAL ") rest)
+      on_part (run_in sheet parametric_run room (number + 1)) (λ last rest. on_run room (number + 1) last rest) number last rest (left_after (codes "INTERVAL ") rest)
 
-  on_sweep : (rest : List ℕ) (left : Option (List ℕ)) → OnRight (MayBeTaken sweep) (sweep_in sheet sweep rest left)
-  on_sweep rest None =
-      on_map (MayBeTaken sweep) (λ (claim : Claim). Opening [] claim.0 claim.1) _ (on_any (λ (claim : Claim). Unit {0}) (λ claim. tt) _)
-  on_sweep rest (Some after) = on_map (MayBeTaken sweep) (λ (run : Run). Chained [] run.0 run.1) (run_in sheet sweep after 1 sweep.from after) (on_run after 1 sweep.from after)
+  on_parametric_run : (rest : List ℕ) (left : Option (List ℕ)) → OnRight (MayBeTaken parametric_run) (parametric_run_in sheet parametric_run rest left)
+  on_parametric_run rest None =
+      on_map (MayBeTaken parametric_run) (λ (claim : Claim). Opening [] claim.0 claim.1) _ (on_any (λ (claim : Claim). Unit {0}) (λ claim. tt) _)
+  on_parametric_run rest (Some after) = on_map (MayBeTaken parametric_run) (λ (run : Run). Chained [] run.0 run.1) (run_in sheet parametric_run after 1 parametric_run.from after) (on_run after 1 parametric_run.from after)
 
-pub sweep_taken : (sheet : Sheet) (sweep : Sweep) (end : SweepEnd) → IsTaken (OfSweep sweep) sheet end → MayBeTaken sweep end
-sweep_taken sheet sweep end taken = subst (OnRight (MayBeTaken sweep)) taken.2 (on_sweep sheet sweep taken.0 (left_after (sweep_head sweep) taken.0))
+pub parametric_run_taken : (sheet : Sheet) (parametric_run : ParametricRun) (end : ParametricRunEnd) → IsTaken (OfParametricRun parametric_run) sheet end → MayBeTaken parametric_run end
+parametric_run_taken sheet parametric_run end taken = subst (OnRight (MayBeTaken parametric_run)) taken.2 (on_parametric_run sheet parametric_run taken.0 (left_after (parametric_run_head parametric_run) taken.0))
 
 -- ---- paths
 

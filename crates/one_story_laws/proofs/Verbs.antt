@@ -22,15 +22,15 @@ use Rattle.question_definitions.specs.Answers.{Changing, changing_name, OfRanges
 use Rattle.question_definitions.specs.Solving.{Solving}
 use Rattle.run_definitions.specs.State.{Present, State, problem_of, choice_of}
 use Rattle.run_definitions.specs.Moves.{Gain, Nothing, Prints, printed_by, Goes, Move, Does}
-use Rattle.run_definitions.specs.Verbs.{size_of, files, not_less, change_row, change_set, mark_after, if_optimal, solves, shows, ranges, sweeps, converts, revises, sets_up, punches, punches_basis, inserts, verb_move}
+use Rattle.run_definitions.specs.Verbs.{size_of, files, not_less, change_row, change_set, mark_after, if_optimal, solves, shows, ranges, parametric_runs, converts, revises, sets_up, punches, punches_basis, inserts, verb_move}
 use Rattle.run_definitions.specs.Run.{counted}
 use Rattle.soundness_laws.specs.Truth.{IsOfProblem, named_by}
 use Rattle.soundness_laws.proofs.ChangeRow.{row_named, set_named, last_is}
 use Rattle.walk_laws.proofs.Answered.{IsPathSolver}
-use Rattle.one_story_laws.specs.Story.{TellsSame, TellSame}
-use Rattle.one_story_laws.proofs.Told.{SaysEnough}
+use Rattle.one_story_laws.specs.Story.{ReportsSame, TellSame}
+use Rattle.one_story_laws.proofs.Reported.{SaysEnough}
 use Rattle.one_story_laws.proofs.Alike.{SameSetup, no_setup, one_setup, goes_alike, IsAlike, does, may_stop, asked, unless_fault, unless_deck_fault, unless_selection_fault, selecting}
-use Rattle.one_story_laws.proofs.Questions.{path_asked, solution_asked, sweep_asked}
+use Rattle.one_story_laws.proofs.Questions.{path_asked, solution_asked, parametric_run_asked}
 
 module _ (S : Solving) (Speaks : State → Report → Type 0) (Open : Type 0) (enough : SaysEnough S Speaks Open) (card : ℕ) (state : State) where
   abbrev with_setup : Option Present → State
@@ -46,7 +46,7 @@ module _ (S : Solving) (Speaks : State → Report → Type 0) (Open : Type 0) (e
       IsAlike S Speaks Open (with_setup left) (with_setup right) card (Does (Goes gain (record after { setup = later }))) (Does (Goes gain (record after { setup = other })))
   goes left right after later other gain same setups = does S Speaks Open (with_setup left) (with_setup right) card _ _ (goes_alike gain gain after later other same setups)
 
-  files_alike : (left right : Option Present) (report : Filed → Report) (decks : List (List Card)) (problem : Problem ℕ) → ((filed : Filed) → TellsSame (report filed) (report filed)) →
+  files_alike : (left right : Option Present) (report : Filed → Report) (decks : List (List Card)) (problem : Problem ℕ) → ((filed : Filed) → ReportsSame (report filed) (report filed)) →
       LeadsAlike left right (λ (s : State). files report decks s problem)
   files_alike left right report decks problem same =
       goes left right (record (counted state) { file = problem ∷ state.file; decks = decks; mark = None; position = state.position + 1 }) None None (Prints (report (size_of problem))) (same (size_of problem), tt) no_setup
@@ -97,16 +97,16 @@ module _ (S : Solving) (Speaks : State → Report → Type 0) (Open : Type 0) (e
       unless_selection_fault S Speaks Open _ _ card (selected problem (choice_of state.cells options)) _ _ (λ lp is.
       solution_asked S Speaks Open enough card state problem options opening other steps others lp is mark))
 
-  sweeps_alike : (fault : VerbFault) (change : Problem ℕ → Name → Option Changing) (moved : Option Name) →
+  parametric_runs_alike : (fault : VerbFault) (change : Problem ℕ → Name → Option Changing) (moved : Option Name) →
       ((problem : Problem ℕ) (changing : Changing) → option_and_then (change problem) moved ≡ Some changing → IsOfProblem changing problem × (named_by state.cells changing ≡ Some (changing_name changing))) →
-      (left right : Option Present) → SameSetup left right → LeadsAlike left right (sweeps card fault change moved)
-  sweeps_alike fault change moved named _ _ no_setup = does S Speaks Open (with_setup None) (with_setup None) card _ _ (tt, refl)
-  sweeps_alike fault change moved named _ _ (one_setup problem options opening other steps others) =
+      (left right : Option Present) → SameSetup left right → LeadsAlike left right (parametric_runs card fault change moved)
+  parametric_runs_alike fault change moved named _ _ no_setup = does S Speaks Open (with_setup None) (with_setup None) card _ _ (tt, refl)
+  parametric_runs_alike fault change moved named _ _ (one_setup problem options opening other steps others) =
       selecting S Speaks Open _ _ card problem (choice_of state.cells options) _ _ (λ lp is.
       unless_fault S Speaks Open _ _ card {X = Changing} fault (option_and_then (change problem) moved) _ _ (λ changing c.
       unless_fault S Speaks Open _ _ card {X = ℚ} VerbFault.NoParmax state.cells.xparmax _ _ (λ last l.
       unless_fault S Speaks Open _ _ card {X = ℚ} VerbFault.ParmaxBelow (not_less state.cells.xparam last) _ _ (λ to t.
-      sweep_asked S Speaks Open enough card state problem options opening other steps others lp is
+      parametric_run_asked S Speaks Open enough card state problem options opening other steps others lp is
       (record { changing = changing; from = state.cells.xparam; to = to; limit = steps_allowed state.cells })
       (record { is_named = (named problem changing c).1; from_first = refl; to_last = l ∙ ap (λ (x : ℚ). Some x) (last_is state.cells.xparam last to t) })))))
 
@@ -157,8 +157,8 @@ module _ (S : Solving) (Speaks : State → Report → Type 0) (Open : Type 0) (e
   verb_alike Dual left right setups = solves_alike ByDual tt (Some (steps_allowed state.cells)) left right setups
   verb_alike SolutionVerb left right setups = shows_alike left right setups
   verb_alike Ranging left right setups = ranges_alike left right setups
-  verb_alike Paraobj left right setups = sweeps_alike VerbFault.NoChangeRow change_row state.cells.xchrow (row_named state.cells) left right setups
-  verb_alike Pararhs left right setups = sweeps_alike VerbFault.NoChangeSet change_set state.cells.xchcol (set_named state.cells) left right setups
+  verb_alike Paraobj left right setups = parametric_runs_alike VerbFault.NoChangeRow change_row state.cells.xchrow (row_named state.cells) left right setups
+  verb_alike Pararhs left right setups = parametric_runs_alike VerbFault.NoChangeSet change_set state.cells.xchcol (set_named state.cells) left right setups
   verb_alike Bcdout left right setups = punches_alike left right setups
   verb_alike Punch left right setups = punches_basis_alike left right setups
   verb_alike Insert left right setups = inserts_alike left right setups

@@ -18,20 +18,20 @@ use Rattle.parametric_laws.specs.Truth.{IsTruePart}
 use Rattle.listing_definitions.specs.declared.Mark.TheVariants.{Optimal}
 use Rattle.listing_definitions.specs.declared.Solver.{Solver}
 use Rattle.listing_definitions.specs.Report.{Value, Line, SolutionLines, Interval, Chain, Report, Solution, Parametric}
-use Rattle.question_definitions.specs.Answers.{Basis, Sheet, Changing, Row, Set, Sweep}
+use Rattle.question_definitions.specs.Answers.{Basis, Sheet, Changing, Row, Set, ParametricRun}
 use Rattle.answer_definitions.specs.Lines.{lines_of, column_numbers}
 use Rattle.answer_definitions.specs.Sections.{solution_row, solution_column, solution_lines}
-use Rattle.answer_definitions.specs.Sweeps.{family_of, sheet_at, part_values, interval_of}
+use Rattle.answer_definitions.specs.ParametricRuns.{family_of, sheet_at, part_values, interval_of}
 use Rattle.run_definitions.specs.State.{Present, present_basis, State, choice_of}
-use Rattle.soundness_laws.specs.Sweeps.{ChangesFreely}
-use Rattle.soundness_laws.specs.Truth.{PresentProgram, sheet_of, TellsOfRun, ShowsChain, Holds}
+use Rattle.soundness_laws.specs.ParametricRuns.{ChangesFreely}
+use Rattle.soundness_laws.specs.Truth.{PresentProgram, sheet_of, ReportsOfRun, ShowsChain, Holds}
 use Rattle.soundness_laws.proofs.ChangeRow.{changes_freely}
 use Rattle.soundness_laws.proofs.Selected.{selected_has_no_change}
 use Rattle.walk_definitions.specs.Tables.{number_of, column_of}
 use Rattle.walk_definitions.specs.Tests.{point_of}
-use Rattle.judged_laws.specs.Shown.{part_of}
+use Rattle.judged_laws.specs.Views.{part_of}
 use Rattle.walk_laws.specs.Proved.{ShowsProvedChain, Says}
-use Rattle.one_story_laws.specs.Shown.{objective_at}
+use Rattle.one_story_laws.specs.Views.{objective_at}
 
 pub record IsBestWorth (p : LinearProgram) (value : ℚ) : Type 0 where
   pub point : Vector
@@ -42,15 +42,15 @@ pub record ShowsWorth (setup : Option Present) (cells : Cells) (lines : Solution
   pub program : PresentProgram setup cells
   pub is_worth : IsBestWorth program.lp (point_of (sheet_of program) lines program.lp.objective)
 
-abbrev pub IntervalWorth : Sheet → Sweep → Interval → Type 0
-IntervalWorth sheet sweep interval = (theta : ℚ) → interval.from ≤ℚ theta → theta ≤ℚ interval.to → IsBestWorth (family_of sheet sweep.changing theta) (objective_at sheet sweep theta interval)
+abbrev pub IntervalWorth : Sheet → ParametricRun → Interval → Type 0
+IntervalWorth sheet parametric_run interval = (theta : ℚ) → interval.from ≤ℚ theta → theta ≤ℚ interval.to → IsBestWorth (family_of sheet parametric_run.changing theta) (objective_at sheet parametric_run theta interval)
 
-abbrev pub RunsWorth : List Interval → Sheet → Sweep → Type 0
-RunsWorth intervals sheet sweep = (interval : Interval) → Contains intervals interval → IntervalWorth sheet sweep interval
+abbrev pub RunsWorth : List Interval → Sheet → ParametricRun → Type 0
+RunsWorth intervals sheet parametric_run = (interval : Interval) → Contains intervals interval → IntervalWorth sheet parametric_run interval
 
 pub record SpeaksWorth (Speaks : State → Report → Type 0) : Type 0 where
   pub solutions : (state : State) (lines : SolutionLines) → Speaks state (Solution Optimal lines) → ShowsWorth state.setup state.cells lines
-  pub chains : (state : State) (solver : Solver) (chain : Chain) → Speaks state (Parametric solver chain) → TellsOfRun state.setup state.cells solver (RunsWorth chain.intervals)
+  pub chains : (state : State) (solver : Solver) (chain : Chain) → Speaks state (Parametric solver chain) → ReportsOfRun state.setup state.cells solver (RunsWorth chain.intervals)
 
 activity_is : (setup : Option Present) (cells : Cells) (program : PresentProgram setup cells) (z : Vector) → z program.lp.objective ≡ objective_value program.lp z
 activity_is setup cells program z = selected_has_no_change program.present.problem (choice_of cells program.present.options) program.lp program.is_selected z
@@ -70,8 +70,8 @@ all_weaker P Q weaker (x ∷ xs) all = All-cons Q x xs (weaker x (All-head P x x
 
 -- ---- an attested listing
 
-shown_solution : (state : State) (lines : SolutionLines) → Says state (Solution Optimal lines) → ShowsWorth state.setup state.cells lines
-shown_solution state lines says = record {
+reported_solution : (state : State) (lines : SolutionLines) → Says state (Solution Optimal lines) → ShowsWorth state.setup state.cells lines
+reported_solution state lines says = record {
   program = says.program;
   is_worth = record {
     point = point_of (sheet_of says.program) lines;
@@ -80,33 +80,33 @@ shown_solution state lines says = record {
   };
 }
 
-shown_interval : (sheet : Sheet) (sweep : Sweep) (interval : Interval) → IsTruePart (family_of sheet sweep.changing) sweep.to (part_of interval) → IntervalWorth sheet sweep interval
-shown_interval sheet sweep interval is_true = λ theta after before. record {
+reported_interval : (sheet : Sheet) (parametric_run : ParametricRun) (interval : Interval) → IsTruePart (family_of sheet parametric_run.changing) parametric_run.to (part_of interval) → IntervalWorth sheet parametric_run interval
+reported_interval sheet parametric_run interval is_true = λ theta after before. record {
   point = along theta (part_of interval).value (part_of interval).value_rate;
   best = (is_true.solved theta after before).best;
   worth = refl;
 }
 
-shown_run : (chain : Chain) (sheet : Sheet) (sweep : Sweep) → ShowsProvedChain chain sheet sweep → RunsWorth chain.intervals sheet sweep
-shown_run chain sheet sweep shows = λ interval among.
-    All-contains (IntervalWorth sheet sweep) chain.intervals interval
-    (all_weaker (λ (i : Interval). IsTruePart (family_of sheet sweep.changing) sweep.to (part_of i)) (IntervalWorth sheet sweep) (shown_interval sheet sweep) chain.intervals
-    (all_before (IsTruePart (family_of sheet sweep.changing) sweep.to) part_of chain.intervals shows.is_true.intervals)) among
+reported_run : (chain : Chain) (sheet : Sheet) (parametric_run : ParametricRun) → ShowsProvedChain chain sheet parametric_run → RunsWorth chain.intervals sheet parametric_run
+reported_run chain sheet parametric_run shows = λ interval among.
+    All-contains (IntervalWorth sheet parametric_run) chain.intervals interval
+    (all_weaker (λ (i : Interval). IsTruePart (family_of sheet parametric_run.changing) parametric_run.to (part_of i)) (IntervalWorth sheet parametric_run) (reported_interval sheet parametric_run) chain.intervals
+    (all_before (IsTruePart (family_of sheet parametric_run.changing) parametric_run.to) part_of chain.intervals shows.is_true.intervals)) among
 
-shown_chain : (state : State) (solver : Solver) (chain : Chain) → Says state (Parametric solver chain) → TellsOfRun state.setup state.cells solver (RunsWorth chain.intervals)
-shown_chain state solver chain says = record {
+reported_chain : (state : State) (solver : Solver) (chain : Chain) → Says state (Parametric solver chain) → ReportsOfRun state.setup state.cells solver (RunsWorth chain.intervals)
+reported_chain state solver chain says = record {
   program = says.program;
-  sweep = says.sweep;
+  parametric_run = says.parametric_run;
   is_solver = says.is_solver;
   is_part = says.is_part;
   is_named = says.is_named;
   from_first = says.from_first;
   to_last = says.to_last;
-  tells = shown_run chain (sheet_of says.program) says.sweep says.tells;
+  tells = reported_run chain (sheet_of says.program) says.parametric_run says.tells;
 }
 
 pub attested_worth : SpeaksWorth Says
-attested_worth = record { solutions = shown_solution; chains = shown_chain }
+attested_worth = record { solutions = reported_solution; chains = reported_chain }
 
 -- ---- the lines of the run itself
 
@@ -117,8 +117,8 @@ second_of sheet values f each zero first i more below = absurd (omega (arith, be
 second_of sheet values f each (suc n) first zero more below = each first ∙ ap f (omega arith)
 second_of sheet values f each (suc n) first (suc i) more below = second_of sheet values f each n (suc first) i more (omega (arith, below)) ∙ ap f (omega arith)
 
-shown_activity : (sheet : Sheet) (s : Basis) (t : Tableau) (k : ℕ) → IsRow sheet.lp.matrix k → point_of sheet (solution_lines sheet s t) k ≡ t.point k
-shown_activity sheet s t k is =
+reported_activity : (sheet : Sheet) (s : Basis) (t : Tableau) (k : ℕ) → IsRow sheet.lp.matrix k → point_of sheet (solution_lines sheet s t) k ≡ t.point k
+reported_activity sheet s t k is =
     second_of sheet (solution_row sheet s t) t.point (λ k. refl) sheet.lp.matrix.rows 1 (k - 1) (lines_of sheet (solution_column sheet s t) (column_numbers sheet.lp)) (omega (arith, is.0, is.1))
     ∙ ap t.point (omega (arith, is.0))
 
@@ -133,7 +133,7 @@ held_solution state lines holds =
         best = holds.best;
         worth =
             ap (λ (l : SolutionLines). point_of sheet l holds.program.lp.objective) holds.are_lines
-            ∙ shown_activity sheet (present_basis holds.program.present) t holds.program.lp.objective holds.program.is_linear_program.objective_row
+            ∙ reported_activity sheet (present_basis holds.program.present) t holds.program.lp.objective holds.program.is_linear_program.objective_row
             ∙ activity_is state.setup state.cells holds.program t.point;
       };
     }
@@ -170,36 +170,36 @@ same_objective : (sheet : Sheet) (changing : Changing) (from theta : ℚ) (z w :
 same_objective sheet (Row name) from theta z w lawful free agree = same_combined sheet.lp (Some (record { row = _; theta = theta })) z w lawful free agree
 same_objective sheet (Set name) from theta z w lawful free agree = same_combined sheet.lp sheet.lp.change z w lawful lawful.change_free agree
 
-held_interval : (sheet : Sheet) (sweep : Sweep) → IsLinearProgram sheet.lp → ChangesFreely sheet sweep.changing → (part : Part) → IsTruePart (family_of sheet sweep.changing) sweep.to part →
-    IntervalWorth sheet sweep (interval_of (sheet_at sheet sweep.changing sweep.from) part)
-held_interval sheet sweep lawful free part is_true = λ theta after before. record {
+held_interval : (sheet : Sheet) (parametric_run : ParametricRun) → IsLinearProgram sheet.lp → ChangesFreely sheet parametric_run.changing → (part : Part) → IsTruePart (family_of sheet parametric_run.changing) parametric_run.to part →
+    IntervalWorth sheet parametric_run (interval_of (sheet_at sheet parametric_run.changing parametric_run.from) part)
+held_interval sheet parametric_run lawful free part is_true = λ theta after before. record {
   point = along theta part.value part.value_rate;
   best = (is_true.solved theta after before).best;
-  worth = same_objective sheet sweep.changing sweep.from theta _ (along theta part.value part.value_rate) lawful free (along_is (sheet_at sheet sweep.changing sweep.from) part theta);
+  worth = same_objective sheet parametric_run.changing parametric_run.from theta _ (along theta part.value part.value_rate) lawful free (along_is (sheet_at sheet parametric_run.changing parametric_run.from) part theta);
 }
 
-held_run : (chain : Chain) (sheet : Sheet) (sweep : Sweep) → IsLinearProgram sheet.lp → ChangesFreely sheet sweep.changing → ShowsChain chain sheet sweep → RunsWorth chain.intervals sheet sweep
-held_run chain sheet sweep lawful free shows = λ interval among.
+held_run : (chain : Chain) (sheet : Sheet) (parametric_run : ParametricRun) → IsLinearProgram sheet.lp → ChangesFreely sheet parametric_run.changing → ShowsChain chain sheet parametric_run → RunsWorth chain.intervals sheet parametric_run
+held_run chain sheet parametric_run lawful free shows = λ interval among.
     let truth = shows.is_true in
-    let made : Part → Interval = interval_of (sheet_at sheet sweep.changing sweep.from) in
-    All-contains (IntervalWorth sheet sweep) chain.intervals interval
-    (subst (All (IntervalWorth sheet sweep)) (sym truth.are_intervals)
-    (all_map (IntervalWorth sheet sweep) made truth.parts
-    (all_weaker (IsTruePart (family_of sheet sweep.changing) sweep.to) (λ (part : Part). IntervalWorth sheet sweep (made part)) (held_interval sheet sweep lawful free) truth.parts truth.is_true.intervals))) among
+    let made : Part → Interval = interval_of (sheet_at sheet parametric_run.changing parametric_run.from) in
+    All-contains (IntervalWorth sheet parametric_run) chain.intervals interval
+    (subst (All (IntervalWorth sheet parametric_run)) (sym truth.are_intervals)
+    (all_map (IntervalWorth sheet parametric_run) made truth.parts
+    (all_weaker (IsTruePart (family_of sheet parametric_run.changing) parametric_run.to) (λ (part : Part). IntervalWorth sheet parametric_run (made part)) (held_interval sheet parametric_run lawful free) truth.parts truth.is_true.intervals))) among
 
-held_chain : (state : State) (solver : Solver) (chain : Chain) → Holds state (Parametric solver chain) → TellsOfRun state.setup state.cells solver (RunsWorth chain.intervals)
+held_chain : (state : State) (solver : Solver) (chain : Chain) → Holds state (Parametric solver chain) → ReportsOfRun state.setup state.cells solver (RunsWorth chain.intervals)
 held_chain state solver chain holds =
     let sheet : Sheet = sheet_of holds.program in
-    let free = changes_freely sheet (choice_of state.cells holds.program.present.options) holds.sweep.changing holds.program.is_problem holds.program.is_selected holds.is_part in
+    let free = changes_freely sheet (choice_of state.cells holds.program.present.options) holds.parametric_run.changing holds.program.is_problem holds.program.is_selected holds.is_part in
     record {
       program = holds.program;
-      sweep = holds.sweep;
+      parametric_run = holds.parametric_run;
       is_solver = holds.is_solver;
       is_part = holds.is_part;
       is_named = holds.is_named;
       from_first = holds.from_first;
       to_last = holds.to_last;
-      tells = held_run chain sheet holds.sweep holds.program.is_linear_program free holds.tells;
+      tells = held_run chain sheet holds.parametric_run holds.program.is_linear_program free holds.tells;
     }
 
 pub real_worth : SpeaksWorth Holds

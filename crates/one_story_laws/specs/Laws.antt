@@ -14,7 +14,7 @@ use Rattle.walk_definitions.specs.Walker.{Attested}
 use Rattle.walk_definitions.specs.Found.{Comes}
 use Rattle.walk_laws.specs.Proved.{attested, IsTrueListing}
 use Rattle.one_story_laws.specs.Story.{TellSame, IsOfNoBasis, IsCutEnding}
-use Rattle.one_story_laws.specs.Shown.{made_in_job, ShowSame}
+use Rattle.one_story_laws.specs.Views.{made_in_job, ShowSame}
 
 -- The reports of the one are also given with the states in which they were made.
 pub record IsOneStory (made : List (State × Report)) (reports others : List Report) (ending other : Ending) : Type 0 where

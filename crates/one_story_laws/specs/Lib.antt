@@ -1,3 +1,3 @@
 pub mod Story
-pub mod Shown
+pub mod Views
 pub mod Laws

@@ -1,7 +1,7 @@
 -- When two reports tell the same.
 --     SameObjective, SameVerdict   two verdicts leave one mark, and optimal ones have one objective
 --     SameClose end other          two parametric runs end at the same value, and in the same way
---     TellsSame report other       two reports tell the same
+--     ReportsSame report other       two reports tell the same
 --     TellSame reports others      so do those of two lists, one by one
 --     IsOfNoBasis report           it isn't of RANGE, PUNCH or INSERT
 --     IsCutEnding ending           a run was cut off: by the limit on steps, by a price that is wrong for DUAL, or by an overflow
@@ -26,17 +26,17 @@ SameClose end other = ⊥
 
 -- Verdicts are of one solver, and SOLUTION is shown under one mark; parametric runs are of one solver, from the same first value, with
 -- the same row or set that changes, and end at the same value in the same way. Other reports are equal.
-abbrev pub TellsSame : Report → Report → Type 0
-TellsSame (Solved solver verdict check) (Solved other another other_check) = (solver ≡ other) × SameVerdict verdict another
-TellsSame (Solution mark lines) (Solution other other_lines) = mark ≡ other
-TellsSame (Parametric solver chain) (Parametric other another) =
+abbrev pub ReportsSame : Report → Report → Type 0
+ReportsSame (Solved solver verdict check) (Solved other another other_check) = (solver ≡ other) × SameVerdict verdict another
+ReportsSame (Solution mark lines) (Solution other other_lines) = mark ≡ other
+ReportsSame (Parametric solver chain) (Parametric other another) =
     (solver ≡ other) × (chain.from ≡ another.from) × (chain.change ≡ another.change) × SameClose chain.end another.end
-TellsSame report other = report ≡ other
+ReportsSame report other = report ≡ other
 
 -- they are as many, and each tells the same as the one in its place
 abbrev pub TellSame : List Report → List Report → Type 0
 TellSame [] [] = Unit {0}
-TellSame (report ∷ reports) (other ∷ others) = TellsSame report other × TellSame reports others
+TellSame (report ∷ reports) (other ∷ others) = ReportsSame report other × TellSame reports others
 TellSame reports others = ⊥
 
 -- what RANGE, PUNCH and INSERT report is known by a basis alone, which no listing shows

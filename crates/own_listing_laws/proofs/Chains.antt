@@ -15,19 +15,19 @@ use Rattle.lp_definitions.specs.declared.Status.{Status}
 use Rattle.check_definitions.specs.declared.Verdict.{Verdict}
 use Rattle.check_definitions.specs.declared.Verdict.TheVariants.{Checked, Failed, Unchecked}
 use Rattle.simplex_definitions.specs.Path.{last_of}
-use Rattle.simplex_definitions.specs.Chain.{Part, ChainEnd as PastBreak, AtMax, UnboundedPast as PastUnbounded, InfeasiblePast as PastInfeasible, IsPart, IsChain, at_max, past_break, goes_on, Chain}
+use Rattle.simplex_definitions.specs.Chain.{Part, ChainEnd as PastBreakpoint, AtMax, UnboundedPast as PastUnbounded, InfeasiblePast as PastInfeasible, IsPart, IsChain, at_max, past_breakpoint, goes_on, Chain}
 use Rattle.problem_definitions.specs.Problem.{Problem}
 use Rattle.listing_definitions.specs.declared.Solver.{Solver}
 use Rattle.listing_definitions.specs.Numbers.{rational_text}
 use Rattle.listing_definitions.specs.Report.{Interval, ChainEnd, EndsAt, UnboundedPast, InfeasiblePast}
 use Rattle.listing_definitions.specs.Text.{solver_text, interval_text, chain_end_text, chain_text}
-use Rattle.question_definitions.specs.Answers.{Basis, Sheet, Changing, Row, Set, changing_name, sweeper, Sweep, OfSweep, SweepEnd, Chained}
-use Rattle.answer_definitions.specs.Sweeps.{row_of, shifts_of, family_of, IsFace, sheet_at, interval_of, end_of, IsChained}
-use Rattle.soundness_laws.specs.Sweeps.{ChangesFreely}
+use Rattle.question_definitions.specs.Answers.{Basis, Sheet, Changing, Row, Set, changing_name, parametric_solver, ParametricRun, OfParametricRun, ParametricRunEnd, Chained}
+use Rattle.answer_definitions.specs.ParametricRuns.{row_of, shifts_of, family_of, IsFace, sheet_at, interval_of, end_of, IsChained}
+use Rattle.soundness_laws.specs.ParametricRuns.{ChangesFreely}
 use Rattle.simplex_laws.specs.Laws.{IsNonsingularBasis}
 use Rattle.run_definitions.specs.State.{Present, present_basis, State}
 use Rattle.run_definitions.specs.Moves.{Outcome}
-use Rattle.run_definitions.specs.Verbs.{after_sweep}
+use Rattle.run_definitions.specs.Verbs.{after_parametric_run}
 use Rattle.run_definitions.specs.Run.{counted}
 use Rattle.parametric_laws.specs.Laws.{HasTrueRuns}
 use Rattle.parametric_laws.specs.Truth.{IsTruePart, AreLongPast, last_end, IsTrueEnd, IsTrueRun}
@@ -36,7 +36,7 @@ use Rattle.control_definitions.specs.Cells.{steps_allowed}
 use Rattle.walk_definitions.specs.Words.{Parsed, left_after, max_count}
 use Rattle.walk_definitions.specs.Tables.{begins_table_line}
 use Rattle.walk_definitions.specs.Tests.{interval_test, close_test}
-use Rattle.walk_definitions.specs.Reading.{Judged, Right, Fails, Refuses, by_verdict, tested, judged_map, interval_in, close_in, Run, onward, part_in, run_in, sweep_head, sweep_in, judged}
+use Rattle.walk_definitions.specs.Reading.{Judged, Right, Fails, Refuses, by_verdict, tested, judged_map, interval_in, close_in, Run, onward, part_in, run_in, parametric_run_head, parametric_run_in, judged}
 use Rattle.walk_definitions.specs.Walker.{Walker, answered}
 use Rattle.walk_definitions.proofs.Texts.{stands}
 use Rattle.own_listing_laws.specs.Laws.{IsNoFailure, chain_of}
@@ -45,7 +45,7 @@ use Rattle.own_listing_laws.specs.Printed.{IsEndOf, of_end, of_direction, of_ray
 use Rattle.own_listing_laws.proofs.Sections.{interval_read, close_read}
 use Rattle.own_listing_laws.proofs.Tests.{Passes}
 use Rattle.own_listing_laws.proofs.Pace.{rebased, Lands}
-use Rattle.own_listing_laws.proofs.Openings.{SweepLands}
+use Rattle.own_listing_laws.proofs.Openings.{ParametricRunLands}
 use Rattle.own_listing_laws.proofs.Parts.{part_passes, IsKind, face_kind, close_passes}
 
 pub data IsFine {X : Type 0} (x : X) (rest : List ℕ) : Judged X → Type 0 where
@@ -70,11 +70,11 @@ same_interval_in : (sheet : Sheet) (changing : Changing) (theta : ℚ) (number :
 same_interval_in sheet (Row name) theta number from rest = refl
 same_interval_in sheet (Set name) theta number from rest = refl
 
-same_close_in : (sheet : Sheet) (changing : Changing) (theta : ℚ) (rest : List ℕ) → close_in sheet (sweeper changing) rest ≡ close_in (sheet_at sheet changing theta) (sweeper changing) rest
+same_close_in : (sheet : Sheet) (changing : Changing) (theta : ℚ) (rest : List ℕ) → close_in sheet (parametric_solver changing) rest ≡ close_in (sheet_at sheet changing theta) (parametric_solver changing) rest
 same_close_in sheet (Row name) theta rest = refl
 same_close_in sheet (Set name) theta rest = refl
 
-is_end_of : (sheet : Sheet) (changing : Changing) (max : ℚ) (past : PastBreak) → IsKind changing past → IsEndOf sheet (sweeper changing) (end_of sheet max past)
+is_end_of : (sheet : Sheet) (changing : Changing) (max : ℚ) (past : PastBreakpoint) → IsKind changing past → IsEndOf sheet (parametric_solver changing) (end_of sheet max past)
 is_end_of sheet changing max AtMax kind = of_end max
 is_end_of sheet (Row name) max (PastUnbounded past z d) kind = of_direction past z d
 is_end_of sheet (Set name) max (PastInfeasible past w) kind = of_ray past w
@@ -82,7 +82,7 @@ is_end_of sheet (Row name) max (PastInfeasible past w) kind = absurd kind
 is_end_of sheet (Set name) max (PastUnbounded past z d) kind = absurd kind
 
 -- no interval stands where the run closes
-no_interval : (changing : Changing) (end : ChainEnd) (more : List ℕ) → left_after (codes "INTERVAL ") (chain_end_text (sweeper changing) end ++ more) ≡ None
+no_interval : (changing : Changing) (end : ChainEnd) (more : List ℕ) → left_after (codes "INTERVAL ") (chain_end_text (parametric_solver changing) end ++ more) ≡ None
 no_interval (Row name) (EndsAt value) more = refl
 no_interval (Row name) (UnboundedPast value lines) more = refl
 no_interval (Row name) (InfeasiblePast value lines) more = refl
@@ -90,7 +90,7 @@ no_interval (Set name) (EndsAt value) more = refl
 no_interval (Set name) (UnboundedPast value lines) more = refl
 no_interval (Set name) (InfeasiblePast value lines) more = refl
 
-some_close : (changing : Changing) (end : ChainEnd) (more : List ℕ) → 1 ≤ length (chain_end_text (sweeper changing) end ++ more)
+some_close : (changing : Changing) (end : ChainEnd) (more : List ℕ) → 1 ≤ length (chain_end_text (parametric_solver changing) end ++ more)
 some_close (Row name) (EndsAt value) more = omega arith
 some_close (Row name) (UnboundedPast value lines) more = omega arith
 some_close (Row name) (InfeasiblePast value lines) more = omega arith
@@ -101,18 +101,18 @@ some_close (Set name) (InfeasiblePast value lines) more = omega arith
 later_number : (number : ℕ) → 0 < number → nat_eq (number + 1) 1 ≡ false
 later_number number some = grind (arith, nat_tests, some)
 
-module _ (problem : Problem ℕ) (lp : LinearProgram) (sweep : Sweep) (lawful : IsLinearProgram lp) (free : ChangesFreely (record { problem = problem; lp = lp }) sweep.changing) (more : List ℕ) (plain : begins_table_line more ≡ false) where
+module _ (problem : Problem ℕ) (lp : LinearProgram) (parametric_run : ParametricRun) (lawful : IsLinearProgram lp) (free : ChangesFreely (record { problem = problem; lp = lp }) parametric_run.changing) (more : List ℕ) (plain : begins_table_line more ≡ false) where
   abbrev sheet : Sheet
   sheet = record { problem = problem; lp = lp }
 
   abbrev first : Sheet
-  first = sheet_at sheet sweep.changing sweep.from
+  first = sheet_at sheet parametric_run.changing parametric_run.from
 
   abbrev family : ℚ → LinearProgram
-  family = family_of sheet sweep.changing
+  family = family_of sheet parametric_run.changing
 
   abbrev solver : Solver
-  solver = sweeper sweep.changing
+  solver = parametric_solver parametric_run.changing
 
   -- the text of the intervals from a number on, and of the close
   abbrev pub body : ℕ → List Part → ChainEnd → List ℕ
@@ -120,44 +120,44 @@ module _ (problem : Problem ℕ) (lp : LinearProgram) (sweep : Sweep) (lawful : 
 
   -- ---- the close
 
-  close_fine : (room : List ℕ) (number : ℕ) (last : ℚ) (v : Vector) (past : PastBreak) → 1 ≤ length room → nat_eq number 1 ≡ false → IsBest (family last) v → IsKind sweep.changing past →
-      IsTrueEnd family sweep.to last past → EndFits (end_of first sweep.to past) → IsFine ([], end_of first sweep.to past) more (run_in sheet sweep room number last (chain_end_text solver (end_of first sweep.to past) ++ more))
+  close_fine : (room : List ℕ) (number : ℕ) (last : ℚ) (v : Vector) (past : PastBreakpoint) → 1 ≤ length room → nat_eq number 1 ≡ false → IsBest (family last) v → IsKind parametric_run.changing past →
+      IsTrueEnd family parametric_run.to last past → EndFits (end_of first parametric_run.to past) → IsFine ([], end_of first parametric_run.to past) more (run_in sheet parametric_run room number last (chain_end_text solver (end_of first parametric_run.to past) ++ more))
   close_fine [] number last v past some later best kind is fit = absurd (omega (arith, some))
   close_fine (byte ∷ room) number last v past some later best kind is fit =
-      subst (λ (o : Option (List ℕ)). IsFine ([], end) more (part_in sheet sweep (run_in sheet sweep room (number + 1)) number last text o)) (sym (no_interval sweep.changing end more))
-      (subst (λ b. IsFine ([], end) more (if b then Fails else judged_map {Y = Run} (λ e. ([], e)) (tested (close_test sheet sweep.changing sweep.to last) (close_in sheet solver text)))) (sym later)
-      (fine_map {Y = Run} (λ e. ([], e)) end more (tested (close_test sheet sweep.changing sweep.to last) (close_in sheet solver text))
-      (subst (λ (parsed : Parsed ChainEnd). IsFine end more (tested (close_test sheet sweep.changing sweep.to last) parsed)) (sym read)
-      (fine_tested (close_test sheet sweep.changing sweep.to last) end more (close_passes problem lp sweep.changing lawful free sweep.from sweep.to last v best past kind is)))))
+      subst (λ (o : Option (List ℕ)). IsFine ([], end) more (part_in sheet parametric_run (run_in sheet parametric_run room (number + 1)) number last text o)) (sym (no_interval parametric_run.changing end more))
+      (subst (λ b. IsFine ([], end) more (if b then Fails else judged_map {Y = Run} (λ e. ([], e)) (tested (close_test sheet parametric_run.changing parametric_run.to last) (close_in sheet solver text)))) (sym later)
+      (fine_map {Y = Run} (λ e. ([], e)) end more (tested (close_test sheet parametric_run.changing parametric_run.to last) (close_in sheet solver text))
+      (subst (λ (parsed : Parsed ChainEnd). IsFine end more (tested (close_test sheet parametric_run.changing parametric_run.to last) parsed)) (sym read)
+      (fine_tested (close_test sheet parametric_run.changing parametric_run.to last) end more (close_passes problem lp parametric_run.changing lawful free parametric_run.from parametric_run.to last v best past kind is)))))
     where
       end : ChainEnd
-      end = end_of first sweep.to past
+      end = end_of first parametric_run.to past
 
       text : List ℕ
-      text = chain_end_text solver (end_of first sweep.to past) ++ more
+      text = chain_end_text solver (end_of first parametric_run.to past) ++ more
 
-      read : close_in sheet solver (chain_end_text solver (end_of first sweep.to past) ++ more) ≡ Some (end_of first sweep.to past, more)
+      read : close_in sheet solver (chain_end_text solver (end_of first parametric_run.to past) ++ more) ≡ Some (end_of first parametric_run.to past, more)
       read =
-          same_close_in sheet sweep.changing sweep.from (chain_end_text solver (end_of first sweep.to past) ++ more)
-          ∙ close_read first solver (end_of first sweep.to past) more (is_end_of first sweep.changing sweep.to past kind) fit plain
+          same_close_in sheet parametric_run.changing parametric_run.from (chain_end_text solver (end_of first parametric_run.to past) ++ more)
+          ∙ close_read first solver (end_of first parametric_run.to past) more (is_end_of first parametric_run.changing parametric_run.to past kind) fit plain
 
   -- ---- an interval, and what follows it
 
-  part_fine : (byte : ℕ) (room : List ℕ) (number : ℕ) (last : ℚ) (part : Part) (rest : List ℕ) (run : Run) → part.from ≡ last → Passes (interval_test sheet sweep.changing (nat_eq number 1) sweep.to (interval_of first part)) →
-      TermsFit part.to → LinesFit (interval_of first part).lines → IsFine run more (run_in sheet sweep room (number + 1) part.to rest) →
-      IsFine (interval_of first part ∷ run.0, run.1) more (run_in sheet sweep (byte ∷ room) number last (interval_text (number, interval_of first part) ++ rest))
+  part_fine : (byte : ℕ) (room : List ℕ) (number : ℕ) (last : ℚ) (part : Part) (rest : List ℕ) (run : Run) → part.from ≡ last → Passes (interval_test sheet parametric_run.changing (nat_eq number 1) parametric_run.to (interval_of first part)) →
+      TermsFit part.to → LinesFit (interval_of first part).lines → IsFine run more (run_in sheet parametric_run room (number + 1) part.to rest) →
+      IsFine (interval_of first part ∷ run.0, run.1) more (run_in sheet parametric_run (byte ∷ room) number last (interval_text (number, interval_of first part) ++ rest))
   part_fine byte room number last part rest run begins passes fit lines_fit later =
-      subst (λ (o : Option (List ℕ)). IsFine (interval ∷ run.0, run.1) more (part_in sheet sweep go number last text o)) (sym there)
-      (subst (λ (parsed : Parsed Interval). IsFine (interval ∷ run.0, run.1) more (onward sheet sweep go (tested test parsed))) (sym read) (by (test interval) passes))
+      subst (λ (o : Option (List ℕ)). IsFine (interval ∷ run.0, run.1) more (part_in sheet parametric_run go number last text o)) (sym there)
+      (subst (λ (parsed : Parsed Interval). IsFine (interval ∷ run.0, run.1) more (onward sheet parametric_run go (tested test parsed))) (sym read) (by (test interval) passes))
     where
       interval : Interval
       interval = interval_of first part
 
       go : ℚ → List ℕ → Judged Run
-      go = run_in sheet sweep room (number + 1)
+      go = run_in sheet parametric_run room (number + 1)
 
       test : Interval → Verdict
-      test = interval_test sheet sweep.changing (nat_eq number 1) sweep.to
+      test = interval_test sheet parametric_run.changing (nat_eq number 1) parametric_run.to
 
       text : List ℕ
       text = interval_text (number, interval_of first part) ++ rest
@@ -167,11 +167,11 @@ module _ (problem : Problem ℕ) (lp : LinearProgram) (sweep : Sweep) (lawful : 
 
       read : interval_in sheet number last (interval_text (number, interval_of first part) ++ rest) ≡ Some (interval_of first part, rest)
       read =
-          same_interval_in sheet sweep.changing sweep.from number last (interval_text (number, interval_of first part) ++ rest)
+          same_interval_in sheet parametric_run.changing parametric_run.from number last (interval_text (number, interval_of first part) ++ rest)
           ∙ ap (λ (x : ℚ). interval_in first number x (interval_text (number, interval_of first part) ++ rest)) (sym begins) ∙ interval_read first number part rest fit lines_fit
 
-      by : (v : Verdict) → Passes v → IsFine (interval_of first part ∷ run.0, run.1) more (onward sheet sweep (run_in sheet sweep room (number + 1)) (by_verdict v (interval_of first part) rest))
-      by Checked passes = fine_map {Y = Run} (λ (r : Run). (interval_of first part ∷ r.0, r.1)) run more (run_in sheet sweep room (number + 1) part.to rest) later
+      by : (v : Verdict) → Passes v → IsFine (interval_of first part ∷ run.0, run.1) more (onward sheet parametric_run (run_in sheet parametric_run room (number + 1)) (by_verdict v (interval_of first part) rest))
+      by Checked passes = fine_map {Y = Run} (λ (r : Run). (interval_of first part ∷ r.0, r.1)) run more (run_in sheet parametric_run room (number + 1) part.to rest) later
       by (Failed one two) passes = absurd (passes.never one two refl)
       by (Unchecked refused) passes = fine_refused
 
@@ -193,38 +193,38 @@ module _ (problem : Problem ℕ) (lp : LinearProgram) (sweep : Sweep) (lawful : 
   body_more : (number : ℕ) (part : Part) (parts : List Part) (end : ChainEnd) → body number (part ∷ parts) end ≡ interval_text (number, interval_of first part) ++ body (number + 1) parts end
   body_more number part parts end = append_assoc (interval_text (number, interval_of first part)) (flat_map interval_text (enumerate_from (number + 1) (map (interval_of first) parts))) (chain_end_text solver end ++ more)
 
-  abbrev run_of : List Part → PastBreak → Run
-  run_of parts past = (map (interval_of first) parts, end_of first sweep.to past)
+  abbrev run_of : List Part → PastBreakpoint → Run
+  run_of parts past = (map (interval_of first) parts, end_of first parametric_run.to past)
 
-  abbrev Fine : List ℕ → ℕ → ℚ → List Part → PastBreak → Type 0
-  Fine room number last parts past = IsFine (run_of parts past) more (run_in sheet sweep room number last (body number parts (end_of first sweep.to past)))
+  abbrev Fine : List ℕ → ℕ → ℚ → List Part → PastBreakpoint → Type 0
+  Fine room number last parts past = IsFine (run_of parts past) more (run_in sheet parametric_run room number last (body number parts (end_of first parametric_run.to past)))
 
   -- an interval before a run that is fine
-  one_more : (room : List ℕ) (number : ℕ) (last : ℚ) (s : List Status) (part : Part) (parts : List Part) (past : PastBreak) → length parts + 2 ≤ length room → IsPart family last sweep.to s part → IsTruePart family sweep.to part →
+  one_more : (room : List ℕ) (number : ℕ) (last : ℚ) (s : List Status) (part : Part) (parts : List Part) (past : PastBreakpoint) → length parts + 2 ≤ length room → IsPart family last parametric_run.to s part → IsTruePart family parametric_run.to part →
       (nat_eq number 1 ≡ true) ⊎ (part.from <ℚ part.to) → TermsFit part.to → LinesFit (interval_of first part).lines → ((left : List ℕ) → length parts + 1 ≤ length left → Fine left (number + 1) part.to parts past) →
       Fine room number last (part ∷ parts) past
   one_more [] number last s part parts past enough is truth long fit lines_fit later = absurd (omega (arith, enough))
   one_more (byte ∷ room) number last s part parts past enough is truth long fit lines_fit later =
-      subst (λ (text : List ℕ). IsFine (run_of (part ∷ parts) past) more (run_in sheet sweep (byte ∷ room) number last text)) (sym (body_more number part parts (end_of first sweep.to past)))
-      (part_fine byte room number last part (body (number + 1) parts (end_of first sweep.to past)) (run_of parts past) is.begins
-      (part_passes sheet sweep.changing lawful free sweep.to part truth last s is sweep.from (nat_eq number 1) long) fit lines_fit (later room (omega (arith, enough))))
+      subst (λ (text : List ℕ). IsFine (run_of (part ∷ parts) past) more (run_in sheet parametric_run (byte ∷ room) number last text)) (sym (body_more number part parts (end_of first parametric_run.to past)))
+      (part_fine byte room number last part (body (number + 1) parts (end_of first parametric_run.to past)) (run_of parts past) is.begins
+      (part_passes sheet parametric_run.changing lawful free parametric_run.to part truth last s is parametric_run.from (nat_eq number 1) long) fit lines_fit (later room (omega (arith, enough))))
 
-  pub chain_fine : (room : List ℕ) (number : ℕ) (last : ℚ) (s : List Status) (parts : List Part) (past : PastBreak) (path : List (List Status)) → length parts + 1 ≤ length room → 0 < number →
-      IsChain family (IsFace sheet sweep.changing) sweep.to last s parts past path → All (IsTruePart family sweep.to) parts → IsLongEnough number parts → AreLongPast parts → IsTrueEnd family sweep.to (last_end last parts) past →
-      IntervalsFit (map (interval_of first) parts) → EndFits (end_of first sweep.to past) → Fine room number last parts past
+  pub chain_fine : (room : List ℕ) (number : ℕ) (last : ℚ) (s : List Status) (parts : List Part) (past : PastBreakpoint) (path : List (List Status)) → length parts + 1 ≤ length room → 0 < number →
+      IsChain family (IsFace sheet parametric_run.changing) parametric_run.to last s parts past path → All (IsTruePart family parametric_run.to) parts → IsLongEnough number parts → AreLongPast parts → IsTrueEnd family parametric_run.to (last_end last parts) past →
+      IntervalsFit (map (interval_of first) parts) → EndFits (end_of first parametric_run.to past) → Fine room number last parts past
   chain_fine room number last s _ _ _ enough some (at_max {part = part} is is_max) truths long past_long end fit end_fit =
-      let truth = All-head (IsTruePart family sweep.to) part [] truths in
+      let truth = All-head (IsTruePart family parametric_run.to) part [] truths in
       one_more room number last s part [] AtMax (omega (arith, enough)) is truth long fit.0.0 fit.0.1 (λ left room_left.
       close_fine left (number + 1) part.to _ AtMax (omega (arith, room_left)) (later_number number some) (truth.solved part.to truth.forward (le_refl part.to)).best tt end end_fit)
-  chain_fine room number last s _ _ _ enough some (past_break {part = part} {end = past} is faces) truths long past_long end fit end_fit =
-      let truth = All-head (IsTruePart family sweep.to) part [] truths in
+  chain_fine room number last s _ _ _ enough some (past_breakpoint {part = part} {end = past} is faces) truths long past_long end fit end_fit =
+      let truth = All-head (IsTruePart family parametric_run.to) part [] truths in
       one_more room number last s part [] past (omega (arith, enough)) is truth long fit.0.0 fit.0.1 (λ left room_left.
       close_fine left (number + 1) part.to _ past (omega (arith, room_left)) (later_number number some) (truth.solved part.to truth.forward (le_refl part.to)).best
-      (face_kind sheet sweep.changing part.to _ past faces.last) end end_fit)
+      (face_kind sheet parametric_run.changing part.to _ past faces.last) end end_fit)
   chain_fine room number last s _ _ _ enough some (goes_on {part = part} {parts = parts} {end = past} {bases = bases} {later = later} is faces rest) truths long past_long end fit end_fit =
-      let truth = All-head (IsTruePart family sweep.to) part parts truths in
+      let truth = All-head (IsTruePart family parametric_run.to) part parts truths in
       one_more room number last s part parts past (omega (arith, enough)) is truth long fit.0.0 fit.0.1 (λ left room_left.
-      chain_fine left (number + 1) part.to (last_of s bases) parts past later room_left (omega (arith, some)) rest (All-tail (IsTruePart family sweep.to) part parts truths)
+      chain_fine left (number + 1) part.to (last_of s bases) parts past later room_left (omega (arith, some)) rest (All-tail (IsTruePart family parametric_run.to) part parts truths)
       (tail_long number part parts past_long) (tail_past part parts past_long) end fit.1 end_fit)
 
   some_interval : (number : ℕ) (interval : Interval) → 1 ≤ length (interval_text (number, interval))
@@ -232,7 +232,7 @@ module _ (problem : Problem ℕ) (lp : LinearProgram) (sweep : Sweep) (lawful : 
 
   -- each interval takes a byte of room at least
   pub room_enough : (number : ℕ) (parts : List Part) (end : ChainEnd) → length parts + 1 ≤ length (body number parts end)
-  room_enough number [] end = let some = some_close sweep.changing end more in omega (arith, some)
+  room_enough number [] end = let some = some_close parametric_run.changing end more in omega (arith, some)
   room_enough number (part ∷ parts) end =
       let later = room_enough (number + 1) parts end in
       let some = some_interval number (interval_of first part) in
@@ -247,7 +247,7 @@ as_chain : (who from start change name end intervals close more : List ℕ) → 
 as_chain who from start change name end intervals close more = simp (append_assoc, append-nil)
 
 -- what is printed of a close doesn't depend on the value
-same_end : (own : Sheet) (changing : Changing) (theta max : ℚ) (past : PastBreak) → end_of own max past ≡ end_of (sheet_at own changing theta) max past
+same_end : (own : Sheet) (changing : Changing) (theta max : ℚ) (past : PastBreakpoint) → end_of own max past ≡ end_of (sheet_at own changing theta) max past
 same_end own (Row name) theta max AtMax = refl
 same_end own (Row name) theta max (PastUnbounded past z d) = refl
 same_end own (Row name) theta max (PastInfeasible past w) = refl
@@ -259,66 +259,66 @@ true_run : (sheet : Sheet) (changing : Changing) → IsLinearProgram sheet.lp �
 true_run sheet (Row name) lawful free = objective_runs sheet.lp (row_of sheet.problem name) lawful free.0 free.1
 true_run sheet (Set name) lawful free = rhs_runs sheet.lp (shifts_of sheet.problem name) lawful
 
-module _ (problem : Problem ℕ) (lp : LinearProgram) (sweep : Sweep) (lawful : IsLinearProgram lp) (free : ChangesFreely (record { problem = problem; lp = lp }) sweep.changing) (basis : Basis) (at : IsNonsingularBasis lp basis)
+module _ (problem : Problem ℕ) (lp : LinearProgram) (parametric_run : ParametricRun) (lawful : IsLinearProgram lp) (free : ChangesFreely (record { problem = problem; lp = lp }) parametric_run.changing) (basis : Basis) (at : IsNonsingularBasis lp basis)
     (bases : List Basis) (intervals : List Interval) (end : ChainEnd) (more : List ℕ) where
   abbrev sheet_here : Sheet
   sheet_here = record { problem = problem; lp = lp }
 
   abbrev body_here : List ℕ
-  body_here = flat_map interval_text (enumerate_from 1 intervals) ++ (chain_end_text (sweeper sweep.changing) end ++ more)
+  body_here = flat_map interval_text (enumerate_from 1 intervals) ++ (chain_end_text (parametric_solver parametric_run.changing) end ++ more)
 
-  run_fine : IsChained sheet_here basis sweep bases intervals end → begins_table_line more ≡ false → IntervalsFit intervals → EndFits end → IsFine (intervals, end) more (run_in sheet_here sweep body_here 1 sweep.from body_here)
+  run_fine : IsChained sheet_here basis parametric_run bases intervals end → begins_table_line more ≡ false → IntervalsFit intervals → EndFits end → IsFine (intervals, end) more (run_in sheet_here parametric_run body_here 1 parametric_run.from body_here)
   run_fine chained plain fits end_fits =
-      subst (λ (is : List Interval). IsFine (is, end) more (run_in sheet_here sweep (text_of is end) 1 sweep.from (text_of is end))) (sym chained.are_intervals)
-      (subst (λ (e : ChainEnd). IsFine (all, e) more (run_in sheet_here sweep (text_of all e) 1 sweep.from (text_of all e))) (sym end_is)
-      (chain_fine problem lp sweep lawful free more plain (text_of all close) 1 sweep.from (last_of basis chained.is_run.opening) chained.parts chained.past chained.is_run.faces
-      (room_enough problem lp sweep lawful free more plain 1 chained.parts close) (omega arith) chained.is_run.chain truth.intervals (first_long chained.parts) truth.long truth.closes
+      subst (λ (is : List Interval). IsFine (is, end) more (run_in sheet_here parametric_run (text_of is end) 1 parametric_run.from (text_of is end))) (sym chained.are_intervals)
+      (subst (λ (e : ChainEnd). IsFine (all, e) more (run_in sheet_here parametric_run (text_of all e) 1 parametric_run.from (text_of all e))) (sym end_is)
+      (chain_fine problem lp parametric_run lawful free more plain (text_of all close) 1 parametric_run.from (last_of basis chained.is_run.opening) chained.parts chained.past chained.is_run.faces
+      (room_enough problem lp parametric_run lawful free more plain 1 chained.parts close) (omega arith) chained.is_run.chain truth.intervals (first_long chained.parts) truth.long truth.closes
       (subst IntervalsFit chained.are_intervals fits) (subst EndFits end_is end_fits)))
     where
       text_of : List Interval → ChainEnd → List ℕ
-      text_of is e = flat_map interval_text (enumerate_from 1 is) ++ (chain_end_text (sweeper sweep.changing) e ++ more)
+      text_of is e = flat_map interval_text (enumerate_from 1 is) ++ (chain_end_text (parametric_solver parametric_run.changing) e ++ more)
 
       first : Sheet
-      first = sheet_at (record { problem = problem; lp = lp }) sweep.changing sweep.from
+      first = sheet_at (record { problem = problem; lp = lp }) parametric_run.changing parametric_run.from
 
       all : List Interval
       all = map (interval_of first) chained.parts
 
       close : ChainEnd
-      close = end_of first sweep.to chained.past
+      close = end_of first parametric_run.to chained.past
 
-      end_is : end ≡ end_of (sheet_at (record { problem = problem; lp = lp }) sweep.changing sweep.from) sweep.to chained.past
-      end_is = chained.is_end ∙ same_end (record { problem = problem; lp = lp }) sweep.changing sweep.from sweep.to chained.past
+      end_is : end ≡ end_of (sheet_at (record { problem = problem; lp = lp }) parametric_run.changing parametric_run.from) parametric_run.to chained.past
+      end_is = chained.is_end ∙ same_end (record { problem = problem; lp = lp }) parametric_run.changing parametric_run.from parametric_run.to chained.past
 
-      truth : IsTrueRun (family_of (record { problem = problem; lp = lp }) sweep.changing) sweep.from sweep.to chained.parts chained.past
-      truth = true_run (record { problem = problem; lp = lp }) sweep.changing lawful free sweep.from sweep.to basis (Chain chained.parts chained.past) bases at chained.is_run
+      truth : IsTrueRun (family_of (record { problem = problem; lp = lp }) parametric_run.changing) parametric_run.from parametric_run.to chained.parts chained.past
+      truth = true_run (record { problem = problem; lp = lp }) parametric_run.changing lawful free parametric_run.from parametric_run.to basis (Chain chained.parts chained.past) bases at chained.is_run
 
-      first_long : (parts : List Part) → IsLongEnough problem lp sweep lawful free more plain 1 parts
+      first_long : (parts : List Part) → IsLongEnough problem lp parametric_run lawful free more plain 1 parts
       first_long [] = tt
       first_long (part ∷ parts) = inl refl
 
   -- a parametric run is read of its text
-  pub answer_fine : (rest : List ℕ) → rest ≡ chain_text (sweeper sweep.changing) (chain_of sweep intervals end) ++ more → IsChained sheet_here basis sweep bases intervals end → begins_table_line more ≡ false →
-      IntervalsFit intervals → EndFits end → IsFine (Chained [] intervals end) more (judged (OfSweep sweep) sheet_here rest)
+  pub answer_fine : (rest : List ℕ) → rest ≡ chain_text (parametric_solver parametric_run.changing) (chain_of parametric_run intervals end) ++ more → IsChained sheet_here basis parametric_run bases intervals end → begins_table_line more ≡ false →
+      IntervalsFit intervals → EndFits end → IsFine (Chained [] intervals end) more (judged (OfParametricRun parametric_run) sheet_here rest)
   answer_fine rest is chained plain fits end_fits =
-      subst (λ (o : Option (List ℕ)). IsFine (Chained [] intervals end) more (sweep_in sheet_here sweep rest o)) (sym head)
-      (fine_map f (intervals, end) more (run_in sheet_here sweep body_here 1 sweep.from body_here) (run_fine chained plain fits end_fits))
+      subst (λ (o : Option (List ℕ)). IsFine (Chained [] intervals end) more (parametric_run_in sheet_here parametric_run rest o)) (sym head)
+      (fine_map f (intervals, end) more (run_in sheet_here parametric_run body_here 1 parametric_run.from body_here) (run_fine chained plain fits end_fits))
     where
-      f : Run → SweepEnd
+      f : Run → ParametricRunEnd
       f run = Chained [] run.0 run.1
 
-      head : left_after (sweep_head sweep) rest ≡ Some body_here
+      head : left_after (parametric_run_head parametric_run) rest ≡ Some body_here
       head =
-          ap (left_after (sweep_head sweep)) (is ∙ as_chain (solver_text (sweeper sweep.changing)) (codes " FROM ") (rational_text sweep.from) (codes " CHANGE ") (changing_name sweep.changing) (codes "\n")
-          (flat_map interval_text (enumerate_from 1 intervals)) (chain_end_text (sweeper sweep.changing) end) more) ∙ stands (sweep_head sweep) body_here
+          ap (left_after (parametric_run_head parametric_run)) (is ∙ as_chain (solver_text (parametric_solver parametric_run.changing)) (codes " FROM ") (rational_text parametric_run.from) (codes " CHANGE ") (changing_name parametric_run.changing) (codes "\n")
+          (flat_map interval_text (enumerate_from 1 intervals)) (chain_end_text (parametric_solver parametric_run.changing) end) more) ∙ stands (parametric_run_head parametric_run) body_here
 
 -- no test fails
 pub fine_passes : {X : Type 0} (x : X) (rest : List ℕ) (j : Judged X) → IsFine x rest j → IsNoFailure j
 fine_passes x rest _ fine_right = tt
 fine_passes x rest _ fine_refused = tt
 
-module _ (w : Walker) (s : State) (opening : Basis) (steps : List Basis) (limits : steps_allowed s.cells ≤ max_count) (card : ℕ) (sweep : Sweep) (present : Present) (lp : LinearProgram) (lawful : IsLinearProgram lp)
-    (free : ChangesFreely (record { problem = present.problem; lp = lp }) sweep.changing) (at : IsNonsingularBasis lp (present_basis present)) where
+module _ (w : Walker) (s : State) (opening : Basis) (steps : List Basis) (limits : steps_allowed s.cells ≤ max_count) (card : ℕ) (parametric_run : ParametricRun) (present : Present) (lp : LinearProgram) (lawful : IsLinearProgram lp)
+    (free : ChangesFreely (record { problem = present.problem; lp = lp }) parametric_run.changing) (at : IsNonsingularBasis lp (present_basis present)) where
   abbrev sheet_walked : Sheet
   sheet_walked = record { problem = present.problem; lp = lp }
 
@@ -328,18 +328,18 @@ module _ (w : Walker) (s : State) (opening : Basis) (steps : List Basis) (limits
   abbrev set_up : Present
   set_up = record present { opening = opening; steps = steps }
 
-  abbrev go : SweepEnd → Outcome
-  go = after_sweep card sweep set_up (counted walked)
+  abbrev go : ParametricRunEnd → Outcome
+  go = after_parametric_run card parametric_run set_up (counted walked)
 
-  abbrev own : SweepEnd → Outcome
-  own = after_sweep card sweep present (counted s)
+  abbrev own : ParametricRunEnd → Outcome
+  own = after_parametric_run card parametric_run present (counted s)
 
   module _ (bases : List Basis) (intervals : List Interval) (end : ChainEnd) (more : List ℕ) where
-    fine_lands : (j : Judged SweepEnd) → IsFine (Chained [] intervals end) more j → Lands (own (Chained bases intervals end)) more (answered w (OfSweep sweep) sheet_walked go j)
+    fine_lands : (j : Judged ParametricRunEnd) → IsFine (Chained [] intervals end) more j → Lands (own (Chained bases intervals end)) more (answered w (OfParametricRun parametric_run) sheet_walked go j)
     fine_lands _ fine_right = record { like = record { opening = opening; steps = steps ++ []; is = refl; limits = limits }; is_rest = refl; waits = tt }
     fine_lands _ fine_refused = tt
 
-    pub chain_lands : IsChained sheet_walked (present_basis present) sweep bases intervals end → SweepLands w s opening steps limits card sweep present lp (Chained bases intervals end) more
+    pub chain_lands : IsChained sheet_walked (present_basis present) parametric_run bases intervals end → ParametricRunLands w s opening steps limits card parametric_run present lp (Chained bases intervals end) more
     chain_lands chained given =
-        fine_lands (judged (OfSweep sweep) sheet_walked w.rest)
-        (answer_fine present.problem lp sweep lawful free (present_basis present) at bases intervals end more w.rest given.text chained given.plain given.fits.0 given.fits.1)
+        fine_lands (judged (OfParametricRun parametric_run) sheet_walked w.rest)
+        (answer_fine present.problem lp parametric_run lawful free (present_basis present) at bases intervals end more w.rest given.text chained given.plain given.fits.0 given.fits.1)

@@ -29,11 +29,11 @@ use Rattle.simplex_definitions.specs.ObjectiveRun.{objective_family}
 use Rattle.simplex_definitions.specs.RhsRun.{shift_of, rhs_family}
 use Rattle.simplex_laws.proofs.Ends.{value_at-listed, IsFeasible-same}
 use Rattle.simplex_laws.proofs.Rays.{IsRay-same}
-use Rattle.parametric_laws.specs.Truth.{IsEndlessBy, IsRefutedBy}
+use Rattle.parametric_laws.specs.Truth.{IsUnboundedBy, IsRefutedBy}
 use Rattle.problem_definitions.specs.Names.{Name}
 use Rattle.problem_definitions.specs.Problem.{Problem}
 use Rattle.question_definitions.specs.Answers.{Sheet, Changing, Set}
-use Rattle.answer_definitions.specs.Sweeps.{shifts_of}
+use Rattle.answer_definitions.specs.ParametricRuns.{shifts_of}
 use Rattle.walk_definitions.specs.Tests.{asked, making_steps, unbounded_past, shift_products, infeasible_past}
 use Rattle.own_listing_laws.proofs.Tests.{Passes, pass_none, pass_then, passes_steps, passes_asked, never_sum}
 use Rattle.own_listing_laws.proofs.Openings.{never_making}
@@ -81,7 +81,7 @@ past_zero a b t past at_t = (not_above (lt_or_le zero_ℚ (a +ℚ t *ℚ b)), fa
 -- ---- a direction
 
 module _ (p : LinearProgram) (h : ℕ) (lawful : IsLinearProgram p) (row : IsRow p.matrix h) (t : ℚ) (point direction : List ℚ) (v : Vector) (best : IsBest (objective_family p h t) v)
-    (endless : (theta : ℚ) → t <ℚ theta → IsEndlessBy (objective_family p h theta) (value_at point) (value_at direction)) where
+    (unbounded_end : (theta : ℚ) → t <ℚ theta → IsUnboundedBy (objective_family p h theta) (value_at point) (value_at direction)) where
   -- as they are printed
   abbrev pub printed_point : Vector
   printed_point = value_at (listed p.matrix (value_at point))
@@ -93,7 +93,7 @@ module _ (p : LinearProgram) (h : ℕ) (lawful : IsLinearProgram p) (row : IsRow
   next_value = lt_by_one zero_below_one (by_ring1 t (λ t. t ⊕ number (pos 1) ≐ t ⊕ (number (pos 1) ⊖ number (pos 0))) refl)
 
   proof : ProvesUnbounded (objective_family p h (t +ℚ one_ℚ)) (value_at point) (value_at direction)
-  proof = (endless (t +ℚ one_ℚ) next_value).proof
+  proof = (unbounded_end (t +ℚ one_ℚ) next_value).proof
 
   abbrev own : ℚ
   own = for_min p.sense (value_at direction p.objective)
@@ -102,7 +102,7 @@ module _ (p : LinearProgram) (h : ℕ) (lawful : IsLinearProgram p) (row : IsRow
   changing = for_min p.sense (value_at direction h)
 
   negative : (x : ℚ) → t <ℚ x → own +ℚ x *ℚ changing <ℚ zero_ℚ
-  negative x past = subst (λ (y : ℚ). y <ℚ zero_ℚ) (for_min-add p.sense (value_at direction p.objective) x (value_at direction h)) (endless x past).proof.betters
+  negative x past = subst (λ (y : ℚ). y <ℚ zero_ℚ) (for_min-add p.sense (value_at direction p.objective) x (value_at direction h)) (unbounded_end x past).proof.improves
 
   -- there is a best point at t
   not_at_end : own +ℚ t *ℚ changing <ℚ zero_ℚ → ⊥
@@ -112,10 +112,10 @@ module _ (p : LinearProgram) (h : ℕ) (lawful : IsLinearProgram p) (row : IsRow
         keeps = proof.keeps;
         falls = proof.falls;
         rises = proof.rises;
-        betters = subst (λ (y : ℚ). y <ℚ zero_ℚ) (sym (for_min-add p.sense (value_at direction p.objective) t (value_at direction h))) below;
+        improves = subst (λ (y : ℚ). y <ℚ zero_ℚ) (sym (for_min-add p.sense (value_at direction p.objective) t (value_at direction h))) below;
       } in
-      let better = (unbounded_by_direction (objective_family p h t) (value_at point) (value_at direction) proves).bettered v best.feasible in
-      lt_not_le better.1.better (best.unbettered better.0 better.1.feasible)
+      let improve = (unbounded_by_direction (objective_family p h t) (value_at point) (value_at direction) proves).improved v best.feasible in
+      lt_not_le improve.1.improve (best.unimproved improve.0 improve.1.feasible)
 
   at_end : (own +ℚ t *ℚ changing ≤ℚ zero_ℚ) × (changing <ℚ zero_ℚ)
   at_end = past_zero own changing t negative not_at_end
@@ -133,8 +133,8 @@ module _ (p : LinearProgram) (h : ℕ) (lawful : IsLinearProgram p) (row : IsRow
   not_worse =
       subst (λ (y : ℚ). y ≤ℚ zero_ℚ) (sym (ap₂ (λ (a b : ℚ). for_min p.sense (a +ℚ t *ℚ b)) objective_is change_is ∙ for_min-add p.sense (value_at direction p.objective) t (value_at direction h))) at_end.0
 
-  betters : for_min p.sense (printed_direction h) <ℚ zero_ℚ
-  betters = subst (λ (y : ℚ). y <ℚ zero_ℚ) (sym (ap (for_min p.sense) change_is)) at_end.1
+  improves : for_min p.sense (printed_direction h) <ℚ zero_ℚ
+  improves = subst (λ (y : ℚ). y <ℚ zero_ℚ) (sym (ap (for_min p.sense) change_is)) at_end.1
 
   pub unbounded_passes : (problem : Problem ℕ) (changed : Changing) → Passes (unbounded_past (record { problem = problem; lp = p }) changed h t printed_point printed_direction)
   unbounded_passes problem changed =
@@ -147,7 +147,7 @@ module _ (p : LinearProgram) (h : ℕ) (lawful : IsLinearProgram p) (row : IsRow
       })))
       (pass_then (verdict_of (sum_steps (printed_direction p.objective) (record { left = t; right = printed_direction h } ∷ []))) _ (passes_steps _ (never_sum (printed_direction p.objective) (record { left = t; right = printed_direction h } ∷ [])))
       (pass_then (asked (le_ℚ (for_min p.sense (printed_direction p.objective +ℚ t *ℚ printed_direction h)) zero_ℚ)) _ (passes_asked _ (test_from_le _ _ not_worse))
-      (pass_then (asked (lt_ℚ (for_min p.sense (printed_direction h)) zero_ℚ)) [] (passes_asked _ (test_from_lt _ _ betters)) pass_none)))))).passes
+      (pass_then (asked (lt_ℚ (for_min p.sense (printed_direction h)) zero_ℚ)) [] (passes_asked _ (test_from_lt _ _ improves)) pass_none)))))).passes
 
 -- ---- a ray
 

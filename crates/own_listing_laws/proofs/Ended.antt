@@ -5,7 +5,7 @@ use Rattle.lp_definitions.specs.LinearProgram.{LinearProgram, Vector, size, IsVa
 use Rattle.lp_definitions.specs.declared.Status.{Status}
 use Rattle.lp_definitions.specs.Basis.{basics_of, Tableau, price_at}
 use Rattle.simplex_definitions.specs.Moves.{is_crossed, goes_up, stopper, is_below}
-use Rattle.simplex_definitions.specs.Path.{PathEnding, EndsOptimal, EndsCrossed, EndsInfeasible, EndsUnbounded, Turn, Moves, Ends, listed, speeds, crossed, outside, worth_rate, mover, bring_back, run_until, better, turn_for, turn}
+use Rattle.simplex_definitions.specs.Path.{PathEnding, EndsOptimal, EndsCrossed, EndsInfeasible, EndsUnbounded, Turn, Moves, Ends, listed, speeds, crossed, outside, worth_rate, entering_variable, restore_feasibility, run_until, improve, turn_for, turn}
 use Rattle.simplex_definitions.specs.DualPath.{dual_for, dual_turn}
 use Rattle.simplex_definitions.specs.DualRatio.{cheapest}
 use Rattle.simplex_laws.proofs.Numbered.{find_some}
@@ -19,55 +19,55 @@ module _ (p : LinearProgram) (s : List Status) (t : Tableau) where
   IsOf (EndsInfeasible w) = length w ≡ size p.matrix
   IsOf (EndsUnbounded z d) = (length z ≡ size p.matrix) × (length d ≡ size p.matrix)
 
-  abbrev TellsOf : Turn → Type 0
-  TellsOf (Moves m) = Unit {0}
-  TellsOf (Ends ending) = IsOf ending
+  abbrev ReportsOf : Turn → Type 0
+  ReportsOf (Moves m) = Unit {0}
+  ReportsOf (Ends ending) = IsOf ending
 
-  back_tells : (r : ℕ) (o : Option ℕ) → TellsOf (bring_back p s t r o)
+  back_tells : (r : ℕ) (o : Option ℕ) → ReportsOf (restore_feasibility p s t r o)
   back_tells r (Some q) = tt
   back_tells r None = sized p.matrix _
 
-  until_tells : (q : ℕ) (v : Vector) (o : Option ℕ) → TellsOf (run_until p s t q v o)
+  until_tells : (q : ℕ) (v : Vector) (o : Option ℕ) → ReportsOf (run_until p s t q v o)
   until_tells q v (Some k) = tt
   until_tells q v None = (sized p.matrix t.point, sized p.matrix v)
 
-  better_tells : (o : Option ℕ) → TellsOf (better p s t o)
-  better_tells (Some q) = until_tells q (speeds t.rate (goes_up (worth_rate p s t) q) q) (stopper p t.point (speeds t.rate (goes_up (worth_rate p s t) q) q))
-  better_tells None = (refl, refl)
+  improve_tells : (o : Option ℕ) → ReportsOf (improve p s t o)
+  improve_tells (Some q) = until_tells q (speeds t.rate (goes_up (worth_rate p s t) q) q) (stopper p t.point (speeds t.rate (goes_up (worth_rate p s t) q) q))
+  improve_tells None = (refl, refl)
 
   crossed_tells : (k : ℕ) → crossed p s t ≡ Some k → IsVariable p.matrix k
   crossed_tells k e = let found = find_some (is_crossed p) (size p.matrix) 1 k e in (found.low, omega (arith, found.high))
 
-  turn_tells : (c o : Option ℕ) → crossed p s t ≡ c → TellsOf (turn_for p s t c o)
+  turn_tells : (c o : Option ℕ) → crossed p s t ≡ c → ReportsOf (turn_for p s t c o)
   turn_tells (Some k) o e = crossed_tells k e
-  turn_tells None (Some r) e = back_tells r (mover p s t (Some r))
-  turn_tells None None e = better_tells (mover p s t None)
+  turn_tells None (Some r) e = back_tells r (entering_variable p s t (Some r))
+  turn_tells None None e = improve_tells (entering_variable p s t None)
 
-  dual_tells : (c o : Option ℕ) → crossed p s t ≡ c → TellsOf (dual_for p s t c o)
+  dual_tells : (c o : Option ℕ) → crossed p s t ≡ c → ReportsOf (dual_for p s t c o)
   dual_tells (Some k) o e = crossed_tells k e
   dual_tells None (Some r) e = back_tells r (cheapest p s t r (is_below p t.point r))
-  dual_tells None None e = better_tells None
+  dual_tells None None e = improve_tells None
 
-  turn_is : TellsOf (turn p s t)
+  turn_is : ReportsOf (turn p s t)
   unfolding turn
   turn_is = turn_tells (crossed p s t) (outside p s t) refl
 
-  dual_turn_is : TellsOf (dual_turn p s t)
+  dual_turn_is : ReportsOf (dual_turn p s t)
   unfolding dual_turn
   dual_turn_is = dual_tells (crossed p s t) (outside p s t) refl
 
   pub end_is : (ending : PathEnding) → turn p s t ≡ Ends ending → IsOf ending
-  end_is ending e = subst TellsOf e turn_is
+  end_is ending e = subst ReportsOf e turn_is
 
   pub dual_end_is : (ending : PathEnding) → dual_turn p s t ≡ Ends ending → IsOf ending
-  dual_end_is ending e = subst TellsOf e dual_turn_is
+  dual_end_is ending e = subst ReportsOf e dual_turn_is
 
   -- a dual path never finds that there is no best point
   abbrev NeverUnbounded : Turn → Type 0
   NeverUnbounded (Ends (EndsUnbounded z d)) = ⊥
   NeverUnbounded _ = Unit {0}
 
-  back_bounded : (r : ℕ) (o : Option ℕ) → NeverUnbounded (bring_back p s t r o)
+  back_bounded : (r : ℕ) (o : Option ℕ) → NeverUnbounded (restore_feasibility p s t r o)
   back_bounded r (Some q) = tt
   back_bounded r None = tt
 

@@ -82,7 +82,7 @@ module _ (family : ℚ → LinearProgram) (a : Matrix) (sense : Sense) (matrix_i
 
     lower_at_both : (x : ℚ) → zero_ℚ <ℚ for_min sense (y theta k) → (lower_of (family theta) k ≡ Some (z theta k)) × (lower_of (family x) k ≡ Some (z x k))
     lower_at_both x positive =
-        let here = (truth.solved theta low high).proving.at_lower k (there theta) (subst (λ (own : Sense). zero_ℚ <ℚ for_min own (y theta k)) (sym (sense_is theta)) positive) in (
+        let here = (truth.solved theta low high).certificate.at_lower k (there theta) (subst (λ (own : Sense). zero_ℚ <ℚ for_min own (y theta k)) (sym (sense_is theta)) positive) in (
           here,
           lower_kept (status_of s k) (lower_of (family theta) k) (upper_of (family theta) k) (lower_of (family x) k) (upper_of (family x) k) (z theta k) (z x k)
               ((is.values theta).placed k (there theta)) ((is.values x).placed k (there x)) (optimal.is_basis.allowed k (there theta))
@@ -92,7 +92,7 @@ module _ (family : ℚ → LinearProgram) (a : Matrix) (sense : Sense) (matrix_i
 
     upper_at_both : (x : ℚ) → for_min sense (y theta k) <ℚ zero_ℚ → (upper_of (family theta) k ≡ Some (z theta k)) × (upper_of (family x) k ≡ Some (z x k))
     upper_at_both x negative =
-        let here = (truth.solved theta low high).proving.at_upper k (there theta) (subst (λ (own : Sense). for_min own (y theta k) <ℚ zero_ℚ) (sym (sense_is theta)) negative) in (
+        let here = (truth.solved theta low high).certificate.at_upper k (there theta) (subst (λ (own : Sense). for_min own (y theta k) <ℚ zero_ℚ) (sym (sense_is theta)) negative) in (
           here,
           upper_kept (status_of s k) (lower_of (family theta) k) (upper_of (family theta) k) (lower_of (family x) k) (upper_of (family x) k) (z theta k) (z x k)
               ((is.values theta).placed k (there theta)) ((is.values x).placed k (there x)) (optimal.is_basis.allowed k (there theta))

@@ -8,7 +8,7 @@ mod Tests
 mod Stops
 mod Pace
 mod Paths
-mod Shown
+mod Views
 mod Openly
 mod Openings
 mod Paced

@@ -13,21 +13,21 @@ use Rattle.listing_definitions.specs.Numbers.{rational_text}
 use Rattle.listing_definitions.specs.Report.{PathVerdict, OptimalAt, CrossedAt, InfeasibleBy, UnboundedBy, Check, Interval, ChainEnd, Solved}
 use Rattle.listing_definitions.specs.Text.{check_text, table_text, solver_text, verdict_head, verdict_lines, verdict_text}
 use Rattle.listing_laws.proofs.Words.{begin_otherwise}
-use Rattle.question_definitions.specs.Answers.{Basis, Sheet, Changing, Row, Set, changing_name, sweeper, Sweep, Question, OfSweep, SweepEnd, Opening, Chained, SweepLimit}
+use Rattle.question_definitions.specs.Answers.{Basis, Sheet, Changing, Row, Set, changing_name, parametric_solver, ParametricRun, Question, OfParametricRun, ParametricRunEnd, Opening, Chained, ParametricRunLimit}
 use Rattle.question_definitions.specs.Solving.{IsRight}
 use Rattle.answer_definitions.specs.Verdicts as verdicts
-use Rattle.answer_definitions.specs.Sweeps.{shifts_of, sheet_at, FailsToOpen, IsChained}
+use Rattle.answer_definitions.specs.ParametricRuns.{shifts_of, sheet_at, FailsToOpen, IsChained}
 use Rattle.answer_definitions.specs.Real.{linear_programming}
 use Rattle.run_definitions.specs.State.{Present, present_basis, path_of, gone_through, State}
 use Rattle.run_definitions.specs.Moves.{Gain, Prints, gain_of, gain_text, Outcome, InAnswer, Asks}
-use Rattle.run_definitions.specs.Verbs.{asks, mark_of, after_sweep}
+use Rattle.run_definitions.specs.Verbs.{asks, mark_of, after_parametric_run}
 use Rattle.run_definitions.specs.Run.{counted}
 use Rattle.soundness_laws.proofs.Runs.{knows_linear_programming}
 use Rattle.control_definitions.specs.Cells.{steps_allowed}
 use Rattle.walk_definitions.specs.Words.{Parsed, left_after, max_count}
 use Rattle.walk_definitions.specs.Forms.{is_open_stop}
 use Rattle.walk_definitions.specs.Tests.{verdict_test, moving_steps, making_steps}
-use Rattle.walk_definitions.specs.Reading.{Judged, Right, tested, judged_map, judged, Claim, verdict_in, sweep_head, sweep_in}
+use Rattle.walk_definitions.specs.Reading.{Judged, Right, tested, judged_map, judged, Claim, verdict_in, parametric_run_head, parametric_run_in}
 use Rattle.walk_definitions.specs.Walker.{Walker, open_question, passed, answered}
 use Rattle.walk_definitions.proofs.Texts.{is_text}
 use Rattle.own_listing_laws.specs.Fitting.{VerdictFits, CheckFits}
@@ -69,7 +69,7 @@ same_lines sheet (Set name) theta (CrossedAt k) printed = printed
 same_lines sheet (Set name) theta (InfeasibleBy steps lines) printed = record { small = printed.small; ray = printed.ray; are_lines = printed.are_lines }
 same_lines sheet (Set name) theta (UnboundedBy steps objective lines) printed = record { small = printed.small; point = printed.point; direction = printed.direction; are_lines = printed.are_lines }
 
-failure_readable : (sheet : Sheet) (changing : Changing) (n : ℕ) (ending : PathEnding) → IsFailure ending → IsReadable (sweeper changing) (verdicts.verdict_of sheet n ending)
+failure_readable : (sheet : Sheet) (changing : Changing) (n : ℕ) (ending : PathEnding) → IsFailure ending → IsReadable (parametric_solver changing) (verdicts.verdict_of sheet n ending)
 failure_readable sheet changing n (EndsOptimal z y) fails = absurd fails
 failure_readable sheet (Row name) n (EndsCrossed k) fails = tt
 failure_readable sheet (Row name) n (EndsInfeasible w) fails = tt
@@ -91,32 +91,32 @@ as_head solver from change left = simp append_assoc
 as_verdict : (solver head check lines more : List ℕ) → (solver ++ (codes " " ++ (head ++ (codes " " ++ (check ++ (codes "\n" ++ (lines ++ []))))))) ++ more ≡ (solver ++ codes " ") ++ (head ++ (codes " " ++ (check ++ (codes "\n" ++ (lines ++ more)))))
 as_verdict solver head check lines more = simp (append_assoc, append-nil)
 
-no_chain : (sweep : Sweep) (verdict : PathVerdict) (check : Check) (more : List ℕ) → left_after (sweep_head sweep) (verdict_text (sweeper sweep.changing) verdict check ++ more) ≡ None
-no_chain sweep verdict check more = by (left_after (sweep_head sweep) text) refl
+no_chain : (parametric_run : ParametricRun) (verdict : PathVerdict) (check : Check) (more : List ℕ) → left_after (parametric_run_head parametric_run) (verdict_text (parametric_solver parametric_run.changing) verdict check ++ more) ≡ None
+no_chain parametric_run verdict check more = by (left_after (parametric_run_head parametric_run) text) refl
   where
     solver : List ℕ
-    solver = solver_text (sweeper sweep.changing)
+    solver = solver_text (parametric_solver parametric_run.changing)
 
     text : List ℕ
-    text = verdict_text (sweeper sweep.changing) verdict check ++ more
+    text = verdict_text (parametric_solver parametric_run.changing) verdict check ++ more
 
-    by : (o : Option (List ℕ)) → left_after (sweep_head sweep) text ≡ o → o ≡ None
+    by : (o : Option (List ℕ)) → left_after (parametric_run_head parametric_run) text ≡ o → o ≡ None
     by None e = refl
     by (Some left) e =
-        let change = codes " CHANGE " ++ (changing_name sweep.changing ++ codes "\n") in
+        let change = codes " CHANGE " ++ (changing_name parametric_run.changing ++ codes "\n") in
         let after = codes " " ++ (check_text check ++ (codes "\n" ++ (table_text (verdict_lines verdict) ++ more))) in
-        absurd (no_from after (rational_text sweep.from ++ (change ++ left)) verdict
-        (append_cancel_left (solver ++ codes " ") (codes "FROM " ++ (rational_text sweep.from ++ (change ++ left))) (verdict_head verdict ++ after)
-        (sym (as_head solver (rational_text sweep.from) change left) ∙ sym (is_text (sweep_head sweep) text left e) ∙ as_verdict solver (verdict_head verdict) (check_text check) (table_text (verdict_lines verdict)) more)))
+        absurd (no_from after (rational_text parametric_run.from ++ (change ++ left)) verdict
+        (append_cancel_left (solver ++ codes " ") (codes "FROM " ++ (rational_text parametric_run.from ++ (change ++ left))) (verdict_head verdict ++ after)
+        (sym (as_head solver (rational_text parametric_run.from) change left) ∙ sym (is_text (parametric_run_head parametric_run) text left e) ∙ as_verdict solver (verdict_head verdict) (check_text check) (table_text (verdict_lines verdict)) more)))
 
 -- ---- the question of a parametric run
 
-module _ (w : Walker) (s : State) (opening : Basis) (steps : List Basis) (limits : steps_allowed s.cells ≤ max_count) (card : ℕ) (sweep : Sweep) (present : Present) (lp : LinearProgram) where
+module _ (w : Walker) (s : State) (opening : Basis) (steps : List Basis) (limits : steps_allowed s.cells ≤ max_count) (card : ℕ) (parametric_run : ParametricRun) (present : Present) (lp : LinearProgram) where
   abbrev sheet : Sheet
   sheet = record { problem = present.problem; lp = lp }
 
-  abbrev pub sweep_sheet : Sheet
-  sweep_sheet = sheet
+  abbrev pub parametric_run_sheet : Sheet
+  parametric_run_sheet = sheet
 
   abbrev walked : State
   walked = record s { setup = rebased opening steps s.setup }
@@ -124,83 +124,83 @@ module _ (w : Walker) (s : State) (opening : Basis) (steps : List Basis) (limits
   abbrev set_up : Present
   set_up = record present { opening = opening; steps = steps }
 
-  abbrev go : SweepEnd → Outcome
-  go = after_sweep card sweep set_up (counted walked)
+  abbrev go : ParametricRunEnd → Outcome
+  go = after_parametric_run card parametric_run set_up (counted walked)
 
-  abbrev own : SweepEnd → Outcome
-  own = after_sweep card sweep present (counted s)
+  abbrev own : ParametricRunEnd → Outcome
+  own = after_parametric_run card parametric_run present (counted s)
 
   abbrev question : Question
-  question = OfSweep sweep
+  question = OfParametricRun parametric_run
 
-  abbrev pub SweepLands : SweepEnd → List ℕ → Type 0
-  SweepLands end more = IsDue w (own end) more → Lands (own end) more (answered w question sheet go (judged question sheet w.rest))
+  abbrev pub ParametricRunLands : ParametricRunEnd → List ℕ → Type 0
+  ParametricRunLands end more = IsDue w (own end) more → Lands (own end) more (answered w question sheet go (judged question sheet w.rest))
 
-  opening_lands : (bases : List Basis) (verdict : PathVerdict) (check : Check) (more : List ℕ) → FailsToOpen sheet (present_basis present) sweep bases verdict check → SweepLands (Opening bases verdict check) more
+  opening_lands : (bases : List Basis) (verdict : PathVerdict) (check : Check) (more : List ℕ) → FailsToOpen sheet (present_basis present) parametric_run bases verdict check → ParametricRunLands (Opening bases verdict check) more
   opening_lands bases verdict check more failed given =
-      subst (λ (o : Option (List ℕ)). LandsSo (sweep_in sheet sweep w.rest o)) (sym none)
+      subst (λ (o : Option (List ℕ)). LandsSo (parametric_run_in sheet parametric_run w.rest o)) (sym none)
       (subst (λ (parsed : Parsed Claim). LandsSo (judged_map f (tested test parsed))) (sym read) (judged_so (test (verdict, check)) (verdict, check) more (λ j. LandsSo (judged_map f j)) passes (λ checked. right) tt))
     where
-      f : Claim → SweepEnd
+      f : Claim → ParametricRunEnd
       f claim = Opening [] claim.0 claim.1
 
       first : Sheet
-      first = sheet_at sheet sweep.changing sweep.from
+      first = sheet_at sheet parametric_run.changing parametric_run.from
 
       test : Claim → Verdict
-      test claim = in_turn (verdict_of (making_steps sheet sweep.changing sweep.from) ∷ verdict_test first claim.0 claim.1 ∷ [])
+      test claim = in_turn (verdict_of (making_steps sheet parametric_run.changing parametric_run.from) ∷ verdict_test first claim.0 claim.1 ∷ [])
 
       after : State
       after = record (counted s) { setup = Some (gone_through bases present); mark = None }
 
-      gain : gain_of (own (Opening bases verdict check)) ≡ Prints (Solved (sweeper sweep.changing) verdict check)
-      gain = verdict_gain (mark_of verdict) (Solved (sweeper sweep.changing) verdict check) after
+      gain : gain_of (own (Opening bases verdict check)) ≡ Prints (Solved (parametric_solver parametric_run.changing) verdict check)
+      gain = verdict_gain (mark_of verdict) (Solved (parametric_solver parametric_run.changing) verdict check) after
 
       fits : VerdictFits verdict × CheckFits check
       fits = subst GainFits gain given.fits
 
-      LandsSo : Judged SweepEnd → Type 0
+      LandsSo : Judged ParametricRunEnd → Type 0
       LandsSo j = Lands (own (Opening bases verdict check)) more (answered w question sheet go j)
 
       there : Basis
       there = last_of (present_basis present) bases
 
-      none : left_after (sweep_head sweep) w.rest ≡ None
-      none = ap (left_after (sweep_head sweep)) (given.text ∙ ap (λ (g : Gain). gain_text g ++ more) gain) ∙ no_chain sweep verdict check more
+      none : left_after (parametric_run_head parametric_run) w.rest ≡ None
+      none = ap (left_after (parametric_run_head parametric_run)) (given.text ∙ ap (λ (g : Gain). gain_text g ++ more) gain) ∙ no_chain parametric_run verdict check more
 
       of : IsOf first.lp there failed.opens.opens.ends.tableau failed.ending
       of = end_is first.lp there failed.opens.opens.ends.tableau failed.ending failed.opens.opens.ends.turns
 
-      readable : IsReadable (sweeper sweep.changing) verdict
-      readable = subst (IsReadable (sweeper sweep.changing)) (sym failed.is_verdict.is_verdict) (failure_readable first sweep.changing (length bases) failed.ending failed.opens.is_failure)
+      readable : IsReadable (parametric_solver parametric_run.changing) verdict
+      readable = subst (IsReadable (parametric_solver parametric_run.changing)) (sym failed.is_verdict.is_verdict) (failure_readable first parametric_run.changing (length bases) failed.ending failed.opens.is_failure)
 
       printed : IsPrinted sheet verdict
-      printed = same_lines sheet sweep.changing sweep.from verdict (verdict_printed first there failed.opens.opens.ends.tableau (length bases) failed.ending verdict of failed.is_verdict.is_verdict)
+      printed = same_lines sheet parametric_run.changing parametric_run.from verdict (verdict_printed first there failed.opens.opens.ends.tableau (length bases) failed.ending verdict of failed.is_verdict.is_verdict)
 
-      read : verdict_in sheet (sweeper sweep.changing) w.rest ≡ Some ((verdict, check), more)
+      read : verdict_in sheet (parametric_solver parametric_run.changing) w.rest ≡ Some ((verdict, check), more)
       read =
-          ap (verdict_in sheet (sweeper sweep.changing)) (given.text ∙ ap (λ (g : Gain). gain_text g ++ more) gain)
-          ∙ verdict_read sheet check fits.1 more (sweeper sweep.changing) verdict readable printed fits.0 given.plain
+          ap (verdict_in sheet (parametric_solver parametric_run.changing)) (given.text ∙ ap (λ (g : Gain). gain_text g ++ more) gain)
+          ∙ verdict_read sheet check fits.1 more (parametric_solver parametric_run.changing) verdict readable printed fits.0 given.plain
 
       passes : Passes (test (verdict, check))
-      passes = (pass_then (verdict_of (making_steps sheet sweep.changing sweep.from)) _ (passes_steps _ (never_making sheet sweep.changing sweep.from))
+      passes = (pass_then (verdict_of (making_steps sheet parametric_run.changing parametric_run.from)) _ (passes_steps _ (never_making sheet parametric_run.changing parametric_run.from))
           (pass_then (verdict_test first verdict check) [] (verdict_passes first there failed.opens.opens.ends.tableau (length bases) failed.ending verdict check of failed.is_verdict) pass_none)).passes
 
       right : LandsSo (Right (Opening [] verdict check) more)
       right = follows_lands (record (passed more 1 w) { pending = None }) (go (Opening [] verdict check)) (own (Opening bases verdict check)) more
-          (verdict_alike (Solved (sweeper sweep.changing) verdict check) after opening (steps ++ []) limits (mark_of verdict)) refl given.ends (verdict_waits None (Solved (sweeper sweep.changing) verdict check) after tt (mark_of verdict))
+          (verdict_alike (Solved (parametric_solver parametric_run.changing) verdict check) after opening (steps ++ []) limits (mark_of verdict)) refl given.ends (verdict_waits None (Solved (parametric_solver parametric_run.changing) verdict check) after tt (mark_of verdict))
 
-  pub sweep_followed : ((bases : List Basis) (intervals : List Interval) (end : ChainEnd) (more : List ℕ) → IsChained sheet (present_basis present) sweep bases intervals end → SweepLands (Chained bases intervals end) more) →
+  pub parametric_run_followed : ((bases : List Basis) (intervals : List Interval) (end : ChainEnd) (more : List ℕ) → IsChained sheet (present_basis present) parametric_run bases intervals end → ParametricRunLands (Chained bases intervals end) more) →
       IsFollowed w card (asks question sheet set_up go) (asks question sheet present own)
-  sweep_followed chained =
+  parametric_run_followed chained =
       may_stop w card (Asks question sheet (present_basis set_up) go) (Asks question sheet (present_basis present) own) (InAnswer question sheet (path_of set_up)) (InAnswer question sheet (path_of present))
       (asked_lands w card question sheet (present_basis set_up) (present_basis present) go own lands)
     where
-      lands : card ≤ max_count → (answer : SweepEnd) (more : List ℕ) → IsRight linear_programming question sheet (present_basis present) answer → IsDue w (own answer) more → open_question w question sheet go ≡ None →
+      lands : card ≤ max_count → (answer : ParametricRunEnd) (more : List ℕ) → IsRight linear_programming question sheet (present_basis present) answer → IsDue w (own answer) more → open_question w question sheet go ≡ None →
           Lands (own answer) more (answered w question sheet go (judged question sheet w.rest))
       lands small (Opening bases verdict check) more right given none =
-          opening_lands bases verdict check more (knows_linear_programming.sweeps sheet (present_basis present) sweep (Opening bases verdict check) right) given
+          opening_lands bases verdict check more (knows_linear_programming.parametric_runs sheet (present_basis present) parametric_run (Opening bases verdict check) right) given
       lands small (Chained bases intervals end) more right given none =
-          chained bases intervals end more (knows_linear_programming.sweeps sheet (present_basis present) sweep (Chained bases intervals end) right) given
-      lands small SweepLimit more right given none =
+          chained bases intervals end more (knows_linear_programming.parametric_runs sheet (present_basis present) parametric_run (Chained bases intervals end) right) given
+      lands small ParametricRunLimit more right given none =
           absurd (never_stopped w card question sheet (present_basis set_up) (present_basis present) go own none (ap is_open_stop (given.text ∙ given.ends.0) ∙ open_limit _ limits small))

@@ -23,7 +23,7 @@ use Rattle.listing_definitions.specs.declared.VerbFault.{VerbFault}
 use Rattle.listing_definitions.specs.Report.{Report}
 use Rattle.listing_definitions.specs.Ending.{Overflow, Ending, OverflowStop}
 use Rattle.listing_definitions.specs.Listing.{ending_text}
-use Rattle.question_definitions.specs.Answers.{Basis, Sheet, Question, OfPath, OfSolution, OfRanges, OfSweep, OfPunch, OfInstall, Answer, Installed}
+use Rattle.question_definitions.specs.Answers.{Basis, Sheet, Question, OfPath, OfSolution, OfRanges, OfParametricRun, OfPunch, OfInstall, Answer, Installed}
 use Rattle.question_definitions.specs.Solving.{IsRight}
 use Rattle.answer_definitions.specs.Verdicts.{found}
 use Rattle.answer_definitions.specs.Real.{linear_programming}
@@ -148,7 +148,7 @@ never_question w (OfInstall basis) sheet go =
     never_either (open_stop w) (option_or (open_if (is_inserted_by (go Installed) w.rest) w) (open_pending w)) (never_stop w)
     (never_either (open_if (is_inserted_by (go Installed) w.rest) w) (open_pending w) (never_if (is_inserted_by (go Installed) w.rest) w) (never_pending w.pending))
 never_question w (OfPath solver limit) sheet go = never_either (open_stop w) (open_pending w) (never_stop w) (never_pending w.pending)
-never_question w (OfSweep sweep) sheet go = never_either (open_stop w) (open_pending w) (never_stop w) (never_pending w.pending)
+never_question w (OfParametricRun parametric_run) sheet go = never_either (open_stop w) (open_pending w) (never_stop w) (never_pending w.pending)
 
 none_either : (a b : Option Found) → option_or a b ≡ None → (a ≡ None) × (b ≡ None)
 none_either None b e = (refl, e)
@@ -314,7 +314,7 @@ module _ (w : Walker) where
   question_looks OfPunch sheet go is = stop_first _ is
   question_looks (OfInstall basis) sheet go is = stop_first _ is
   question_looks (OfPath solver limit) sheet go is = stop_first _ is
-  question_looks (OfSweep sweep) sheet go is = stop_first _ is
+  question_looks (OfParametricRun parametric_run) sheet go is = stop_first _ is
 
   module _ (card : ℕ) (question : Question) (sheet : Sheet) (s t : Basis) (go own : Answer question → Outcome) where
     abbrev pub LandsAnswered : Answer question → List ℕ → Type 0

@@ -29,22 +29,22 @@ use Rattle.listing_definitions.specs.declared.Solver.TheVariants.{Primal as ByPr
 use Rattle.listing_definitions.specs.declared.VerbFault.{VerbFault}
 use Rattle.listing_definitions.specs.Report.{Filed, Report, Titled, Converted, Revised, SetUp}
 use Rattle.listing_definitions.specs.Ending.{Ended}
-use Rattle.question_definitions.specs.Answers.{Basis, Changing, changing_name, Sweep}
+use Rattle.question_definitions.specs.Answers.{Basis, Changing, changing_name, ParametricRun}
 use Rattle.run_definitions.specs.State.{Present, present_basis, State, problem_of, choice_of}
 use Rattle.run_definitions.specs.Moves.{Gain, Nothing, Prints, Punches, Goes, Does}
-use Rattle.run_definitions.specs.Verbs.{size_of, files, not_less, change_row, change_set, mark_after, if_optimal, solves, shows, ranges, sweeps, converts, revises, sets_up, punches, punches_basis, inserts, verb_move}
+use Rattle.run_definitions.specs.Verbs.{size_of, files, not_less, change_row, change_set, mark_after, if_optimal, solves, shows, ranges, parametric_runs, converts, revises, sets_up, punches, punches_basis, inserts, verb_move}
 use Rattle.run_definitions.specs.Run.{counted}
 use Rattle.soundness_laws.specs.Truth.{IsOfProblem, named_by}
 use Rattle.soundness_laws.proofs.ChangeRow.{changes_freely, row_named, set_named}
 use Rattle.soundness_laws.proofs.Moves.{HasProblem, EndsOptimally, Knows}
-use Rattle.soundness_laws.proofs.Ends.{IsProvedBest, shown_is_best}
+use Rattle.soundness_laws.proofs.Ends.{IsProvedBest, reported_is_best}
 use Rattle.selection_laws.proofs.Selected.{selected_is_lawful}
 use Rattle.walk_definitions.specs.Walker.{Pending, Walker}
 use Rattle.own_listing_laws.proofs.Pace.{rebased, IsLike, WaitsFor, WaitsAt, IsMatched, IsFollowed, does, does_stop, prints_looks, punches_looks, waits_on, unless_fault, unless_no_setup, unless_deck_fault, unless_selection_fault, selecting}
 use Rattle.own_listing_laws.proofs.Paths.{IsPathSolver, path_followed}
-use Rattle.own_listing_laws.proofs.Shown.{shown_followed}
+use Rattle.own_listing_laws.proofs.Views.{reported_followed}
 use Rattle.own_listing_laws.proofs.Openly.{ranges_followed, punch_followed, install_followed}
-use Rattle.own_listing_laws.proofs.Openings.{sweep_followed}
+use Rattle.own_listing_laws.proofs.Openings.{parametric_run_followed}
 use Rattle.walk_definitions.specs.Words.{max_count}
 use Rattle.own_listing_laws.proofs.Counted.{MovesSmall, few_variables}
 use Rattle.own_listing_laws.proofs.Chains.{chain_lands}
@@ -108,7 +108,7 @@ best_here s present lp set is lawful knows mark marked optimal t tab =
     let same : known.present ≡ present = (let e = sym known.is_setup ∙ set in cc) in
     let moved = subst (λ (x : Present). (selected x.problem (choice_of s.cells x.options) ≡ Ok known.lp) × EndsAt known.lp (present_basis x) (EndsOptimal known.point known.prices)) same (known.is_selected, known.ends) in
     let same_lp : known.lp ≡ lp = (let e = sym moved.0 ∙ is in cc) in
-    shown_is_best lp (present_basis present) t known.point known.prices tab (subst (λ (p : LinearProgram). EndsAt p (present_basis present) (EndsOptimal known.point known.prices)) same_lp moved.1)
+    reported_is_best lp (present_basis present) t known.point known.prices tab (subst (λ (p : LinearProgram). EndsAt p (present_basis present) (EndsOptimal known.point known.prices)) same_lp moved.1)
     ((knows.bases present set).in_each s.cells.xobj s.cells.xrhs lp is) (selected_is_lawful present.problem (choice_of s.cells present.options) lp (lawful present set) is)
 
 module _ (w : Walker) (s : State) (opening : Basis) (steps : List Basis) (limits : steps_allowed s.cells ≤ max_count) (waits : WaitsAt w.pending s) (lawful : HasProblem s.setup) (knows : Knows s) where
@@ -168,7 +168,7 @@ module _ (w : Walker) (s : State) (opening : Basis) (steps : List Basis) (limits
       unless_no_setup w card VerbFault.NoSetup opening steps s.setup _ _ (λ present set.
       unless_fault w card VerbFault.NotSolved s.mark _ _ (λ mark m.
       unless_selection_fault w card (selected present.problem (choice_of s.cells present.options)) _ _ (λ lp is.
-      shown_followed w s opening steps card mark present lp set is waits limits (selected_is_lawful present.problem (choice_of s.cells present.options) lp (lawful present set) is)
+      reported_followed w s opening steps card mark present lp set is waits limits (selected_is_lawful present.problem (choice_of s.cells present.options) lp (lawful present set) is)
       ((knows.bases present set).in_each s.cells.xobj s.cells.xrhs lp is) (best_here s present lp set is lawful knows mark m))))
 
   ranges_all_followed : (card : ℕ) → IsFollowed w card (ranges card (counted walked)) (ranges card (counted s))
@@ -190,18 +190,18 @@ module _ (w : Walker) (s : State) (opening : Basis) (steps : List Basis) (limits
       unless_fault w {X = List Card × List (List Card)} card VerbFault.DeckNotFound (deck_taken s.cells.xdata s.decks) _ _ (λ taken t.
       unless_deck_fault w card (basis_reading present.problem lp taken.0) _ _ (λ b read. install_followed w s opening steps card present lp b taken (few present lp set is)))))
 
-  sweeps_followed : (card : ℕ) (fault : VerbFault) (change : Problem ℕ → Name → Option Changing) (moved : Option Name) →
+  parametric_runs_followed : (card : ℕ) (fault : VerbFault) (change : Problem ℕ → Name → Option Changing) (moved : Option Name) →
       ((problem : Problem ℕ) (changing : Changing) → option_and_then (change problem) moved ≡ Some changing → IsOfProblem changing problem × (named_by s.cells changing ≡ Some (changing_name changing))) →
-      IsFollowed w card (sweeps card fault change moved (counted walked)) (sweeps card fault change moved (counted s))
-  sweeps_followed card fault change moved part =
+      IsFollowed w card (parametric_runs card fault change moved (counted walked)) (parametric_runs card fault change moved (counted s))
+  parametric_runs_followed card fault change moved part =
       unless_no_setup w card VerbFault.NoSetup opening steps s.setup _ _ (λ present set.
       selecting w card present.problem (choice_of s.cells present.options) _ _ (λ lp is.
       unless_fault w {X = Changing} card fault (option_and_then (change present.problem) moved) _ _ (λ changing c.
       unless_fault w {X = ℚ} card VerbFault.NoParmax s.cells.xparmax _ _ (λ last l.
       unless_fault w {X = ℚ} card VerbFault.ParmaxBelow (not_less s.cells.xparam last) _ _ (λ to t.
-      let sweep : Sweep = record { changing = changing; from = s.cells.xparam; to = to; limit = steps_allowed s.cells } in
-      sweep_followed w s opening steps limits card sweep present lp
-      (chain_lands w s opening steps limits card sweep present lp (selected_is_lawful present.problem (choice_of s.cells present.options) lp (lawful present set) is)
+      let parametric_run : ParametricRun = record { changing = changing; from = s.cells.xparam; to = to; limit = steps_allowed s.cells } in
+      parametric_run_followed w s opening steps limits card parametric_run present lp
+      (chain_lands w s opening steps limits card parametric_run present lp (selected_is_lawful present.problem (choice_of s.cells present.options) lp (lawful present set) is)
       (changes_freely (record { problem = present.problem; lp = lp }) (choice_of s.cells present.options) changing (lawful present set) is (part present.problem changing c).0)
       ((knows.bases present set).in_each s.cells.xobj s.cells.xrhs lp is)))))))
 
@@ -224,8 +224,8 @@ module _ (w : Walker) (s : State) (opening : Basis) (steps : List Basis) (limits
   verb_matched Dual card small moves = (solves_followed ByDual tt (Some (steps_allowed s.cells)) card).matched small
   verb_matched SolutionVerb card small moves = (shows_followed card).matched small
   verb_matched Ranging card small moves = (ranges_all_followed card).matched small
-  verb_matched Paraobj card small moves = (sweeps_followed card VerbFault.NoChangeRow change_row s.cells.xchrow (row_named s.cells)).matched small
-  verb_matched Pararhs card small moves = (sweeps_followed card VerbFault.NoChangeSet change_set s.cells.xchcol (set_named s.cells)).matched small
+  verb_matched Paraobj card small moves = (parametric_runs_followed card VerbFault.NoChangeRow change_row s.cells.xchrow (row_named s.cells)).matched small
+  verb_matched Pararhs card small moves = (parametric_runs_followed card VerbFault.NoChangeSet change_set s.cells.xchcol (set_named s.cells)).matched small
   verb_matched Bcdout card small moves = (punches_followed card).matched small
   verb_matched Punch card small moves = (punches_basis_followed card).matched small
   verb_matched Insert card small moves = (inserts_followed card).matched small

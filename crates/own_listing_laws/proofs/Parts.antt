@@ -17,15 +17,15 @@ use Rattle.sensitivity_laws.proofs.MovedLimits.{fixed_at}
 use Rattle.simplex_definitions.specs.Moves.{stopper}
 use Rattle.simplex_definitions.specs.Path.{listed}
 use Rattle.simplex_definitions.specs.DualRatio.{cheapest}
-use Rattle.simplex_definitions.specs.Chain.{Part, along, ChainEnd as PastBreak, AtMax, UnboundedPast as PastUnbounded, InfeasiblePast as PastInfeasible, FaceTurn, FaceEnds, IsPart}
-use Rattle.simplex_definitions.specs.ObjectiveRun.{face_mover, face_until, face_by, objective_face}
+use Rattle.simplex_definitions.specs.Chain.{Part, along, ChainEnd as PastBreakpoint, AtMax, UnboundedPast as PastUnbounded, InfeasiblePast as PastInfeasible, FaceTurn, FaceEnds, IsPart}
+use Rattle.simplex_definitions.specs.ObjectiveRun.{face_entering_variable, face_until, face_by, objective_face}
 use Rattle.simplex_definitions.specs.RhsRun.{leaves_below, leaving, face_exchange, face_at, rhs_face}
 use Rattle.problem_definitions.specs.Problem.{Problem}
 use Rattle.listing_definitions.specs.Report.{Value, Line}
 use Rattle.question_definitions.specs.Answers.{Sheet, Changing, Row, Set}
 use Rattle.answer_definitions.specs.Lines.{pair_lines, ray_lines}
-use Rattle.answer_definitions.specs.Sweeps.{row_of, shifts_of, family_of, IsFace, sheet_at, part_values, interval_of, end_of}
-use Rattle.soundness_laws.specs.Sweeps.{ChangesFreely}
+use Rattle.answer_definitions.specs.ParametricRuns.{row_of, shifts_of, family_of, IsFace, sheet_at, part_values, interval_of, end_of}
+use Rattle.soundness_laws.specs.ParametricRuns.{ChangesFreely}
 use Rattle.parametric_laws.specs.Truth.{IsTruePart, IsTrueEnd}
 use Rattle.parametric_laws.proofs.OneObjective.{lawful_objective}
 use Rattle.parametric_laws.proofs.OneRhs.{lawful_rhs}
@@ -72,7 +72,7 @@ module _ (sheet : Sheet) (changing : Changing) (lawful : IsLinearProgram sheet.l
         (pass_then (verdict_of (along_steps sheet theta part.value part.value_rate)) _ (passes_steps _ (never_along theta part.value part.value_rate))
         (pass_then (verdict_of (along_steps sheet theta part.price part.price_rate)) _ (passes_steps _ (never_along theta part.price part.price_rate))
         (pass_then (optimal_check (family_of sheet changing theta) (along theta part.value part.value_rate) (along theta part.price part.price_rate)) []
-        (passes_steps _ (never_optimal (family_of sheet changing theta) (lawful_of sheet changing lawful free theta).is_matrix (along theta part.value part.value_rate) (along theta part.price part.price_rate) solved.best.feasible solved.proving)) pass_none)))).passes
+        (passes_steps _ (never_optimal (family_of sheet changing theta) (lawful_of sheet changing lawful free theta).is_matrix (along theta part.value part.value_rate) (along theta part.price part.price_rate) solved.best.feasible solved.certificate)) pass_none)))).passes
 
     forward_holds : (is_first : Bool) → (is_first ≡ true) ⊎ (part.from <ℚ part.to) → (lt_ℚ part.from part.to || (is_first && eq_ℚ part.from part.to)) ≡ true
     forward_holds is_first (inr longer) = ap (λ b. b || (is_first && eq_ℚ part.from part.to)) (test_from_lt part.from part.to longer)
@@ -130,7 +130,7 @@ module _ (sheet : Sheet) (changing : Changing) (lawful : IsLinearProgram sheet.l
 
 -- ---- closes
 
-abbrev pub IsKind : Changing → PastBreak → Type 0
+abbrev pub IsKind : Changing → PastBreakpoint → Type 0
 IsKind changing AtMax = Unit {0}
 IsKind (Row name) (PastUnbounded past z d) = Unit {0}
 IsKind (Set name) (PastInfeasible past w) = Unit {0}
@@ -142,7 +142,7 @@ IsKindOf changing _ = Unit {0}
 
 objective_kind : (name : List ℕ) (p : LinearProgram) (h : ℕ) (theta : ℚ) (s : List Status) (t : Tableau) → IsKindOf (Row name) (objective_face p h theta s t)
 unfolding objective_face
-objective_kind name p h theta s t = by (face_mover p h theta s t)
+objective_kind name p h theta s t = by (face_entering_variable p h theta s t)
   where
     until : (q : ℕ) (v : Vector) (o : Option ℕ) → IsKindOf (Row name) (face_until p h theta s t q v o)
     until q v (Some k) = tt
@@ -164,12 +164,12 @@ rhs_kind name p shift theta s t v = by (leaving p shift theta s t v)
     by (Some r) = exchange r (leaves_below p shift theta s t v r) (cheapest p s t r (leaves_below p shift theta s t v r))
     by None = tt
 
-pub face_kind : (sheet : Sheet) (changing : Changing) (theta : ℚ) (s : List Status) (end : PastBreak) → IsFace sheet changing theta s (FaceEnds end) → IsKind changing end
+pub face_kind : (sheet : Sheet) (changing : Changing) (theta : ℚ) (s : List Status) (end : PastBreakpoint) → IsFace sheet changing theta s (FaceEnds end) → IsKind changing end
 face_kind sheet (Row name) theta s end face = subst (IsKindOf (Row name)) face.2 (objective_kind name _ (row_of sheet.problem name) theta s face.0)
 face_kind sheet (Set name) theta s end face = subst (IsKindOf (Set name)) face.4 (rhs_kind name _ (shifts_of sheet.problem name) theta s face.0 face.1)
 
 pub close_passes : (problem : Problem ℕ) (lp : LinearProgram) (changing : Changing) → IsLinearProgram lp → ChangesFreely (record { problem = problem; lp = lp }) changing → (start max last : ℚ) (v : Vector) →
-    IsBest (family_of (record { problem = problem; lp = lp }) changing last) v → (past : PastBreak) → IsKind changing past → IsTrueEnd (family_of (record { problem = problem; lp = lp }) changing) max last past →
+    IsBest (family_of (record { problem = problem; lp = lp }) changing last) v → (past : PastBreakpoint) → IsKind changing past → IsTrueEnd (family_of (record { problem = problem; lp = lp }) changing) max last past →
     Passes (close_test (record { problem = problem; lp = lp }) changing max last (end_of (sheet_at (record { problem = problem; lp = lp }) changing start) max past))
 close_passes problem lp (Row name) lawful free start max last v best AtMax kind is =
     (pass_then (asked (eq_ℚ max last)) _ (passes_asked _ (test_from_same max last (sym is))) (pass_then (asked (eq_ℚ max max)) [] (passes_asked _ (test_from_same max max refl)) pass_none)).passes

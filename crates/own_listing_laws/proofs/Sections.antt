@@ -15,7 +15,7 @@ use Rattle.listing_definitions.specs.Text.{mark_text, solver_text, table_text, s
 use Rattle.question_definitions.specs.Answers.{Basis, Sheet}
 use Rattle.answer_definitions.specs.Lines.{row_numbers, column_numbers, lines_of, pair_lines, ray_lines}
 use Rattle.answer_definitions.specs.Sections.{solution_row, solution_column, solution_lines}
-use Rattle.answer_definitions.specs.Sweeps.{part_values}
+use Rattle.answer_definitions.specs.ParametricRuns.{part_values}
 use Rattle.walk_definitions.specs.Words.{Parsed, left_after, with_text, with_word, fraction_in}
 use Rattle.walk_definitions.specs.Tables.{begins_table_line, pair_slots, part_slots, table_in, ray_in}
 use Rattle.walk_definitions.specs.Reading.{row_slots, column_slots, solution_in, interval_in, close_in}
@@ -37,9 +37,9 @@ module _ (sheet : Sheet) where
     column_matches : (k : ℕ) → ValuesFit (solution_column sheet s t k) → AllMatch (column_slots sheet k) (solution_column sheet s t k)
     column_matches k (code, (point, (cost, (low, (high, (price, end)))))) = (tt, (point, (refl, (refl, (refl, (price, tt))))))
 
-    pub shown_read : (mark : Mark) (after : List ℕ) → LinesFit (solution_lines sheet s t).rows → LinesFit (solution_lines sheet s t).columns →
+    pub reported_read : (mark : Mark) (after : List ℕ) → LinesFit (solution_lines sheet s t).rows → LinesFit (solution_lines sheet s t).columns →
         solution_in sheet mark (solution_text mark (solution_lines sheet s t) ++ after) ≡ Some (solution_lines sheet s t, after)
-    shown_read mark after rows_fit columns_fit =
+    reported_read mark after rows_fit columns_fit =
         ap (solution_in sheet mark) (as_solution (mark_text mark) (codes "\n") (codes "SECTION 1 - ROWS\nNUMBER ROW AT ACTIVITY SLACK LOWER UPPER DUAL\n") (table_text rows) second (table_text columns) after)
         ∙ ap (option_and_then columns_in) first ∙ ap (option_map (λ (more : List Line × List ℕ). (record { rows = rows; columns = more.0 }, more.1))) last
       where

@@ -1,6 +1,6 @@
 -- A test of what a run prints never fails: the run has made the same check, and what it prints is true.
 --     Passes v                     no comparison fails
---     verdict_passes, shown_passes those of a verdict and of SOLUTION
+--     verdict_passes, reported_passes those of a verdict and of SOLUTION
 use Rattle.std.proofs.Common.{◌≡◌, ℕ, zero, suc, ◌+◌, ◌-◌, ◌<◌, ◌≤◌, Bool, true, false, List, [], ◌∷◌, ◌++◌, Some, refl, sym, ap, ap₂, subst, ◌∙◌, arith}
 use Rattle.std.specs.Prelude.{if◌then◌else◌}
 use Rattle.std.specs.List.{flat_map}
@@ -14,7 +14,7 @@ use Rattle.exact_values.proofs.Ring.{by_ring2, ◌⊕◌, ◌⊖◌, ◌≐◌}
 use Rattle.exact_values.proofs.Sums.{sum_to-same}
 use Rattle.exact_values.proofs.Tests_laws.{test_from_same}
 use Rattle.lp_definitions.specs.LinearProgram.{LinearProgram, Vector, IsLinearProgram, IsColumn, KeepsEquations, value_at, numbers_from, entry, cost, for_min}
-use Rattle.lp_definitions.specs.Solutions.{IsFeasible, IsBest, AreProvingPrices}
+use Rattle.lp_definitions.specs.Solutions.{IsFeasible, IsBest, IsDualCertificate}
 use Rattle.lp_definitions.specs.Basis.{Tableau, IsTableau, basics_of, price_at}
 use Rattle.lp_laws.proofs.Equations.{KeepsEquations-same}
 use Rattle.lp_laws.proofs.Optimal.{price_of_column}
@@ -109,9 +109,9 @@ never_each f first (suc n) h =
 -- ---- verdicts
 
 -- what the run found of its own check, it says
-told : (v : Verdict) (check : Check) → v ≡ found check → Passes (in_turn (v ∷ asked (says_checked check) ∷ []))
-told v reports.Checked e = passes_same _ Checked (ap (λ u. in_turn (u ∷ asked true ∷ [])) e) passes_checked
-told v (reports.Unchecked refused) e = passes_same _ (Unchecked refused) (ap (λ u. in_turn (u ∷ asked false ∷ [])) e) (record { never = λ part number f. cc f })
+reported : (v : Verdict) (check : Check) → v ≡ found check → Passes (in_turn (v ∷ asked (says_checked check) ∷ []))
+reported v reports.Checked e = passes_same _ Checked (ap (λ u. in_turn (u ∷ asked true ∷ [])) e) passes_checked
+reported v (reports.Unchecked refused) e = passes_same _ (Unchecked refused) (ap (λ u. in_turn (u ∷ asked false ∷ [])) e) (record { never = λ part number f. cc f })
 
 with_asked : (v : Verdict) (b : Bool) → b ≡ true → in_turn (v ∷ asked b ∷ []) ≡ v
 with_asked Checked true e = refl
@@ -122,16 +122,16 @@ with_asked v false e = absurd (cc e)
 module _ (sheet : Sheet) (s : Basis) (t : Tableau) where
   ended_passes : (steps : ℕ) (ending : PathEnding) (check : Check) → IsOf sheet.lp s t ending → check_of sheet.lp ending ≡ found check → Passes (verdict_test sheet (verdicts.verdict_of sheet steps ending) check)
   ended_passes steps (EndsOptimal z y) check is e = passes_checked
-  ended_passes steps (EndsCrossed k) check is e = told (crossed_check sheet.lp k) check e
-  ended_passes steps (EndsInfeasible w) check is e = told _ check (ap (λ (xs : List ℚ). infeasible_check sheet.lp (value_at xs)) (multipliers_of_ray sheet w is) ∙ e)
+  ended_passes steps (EndsCrossed k) check is e = reported (crossed_check sheet.lp k) check e
+  ended_passes steps (EndsInfeasible w) check is e = reported _ check (ap (λ (xs : List ℚ). infeasible_check sheet.lp (value_at xs)) (multipliers_of_ray sheet w is) ∙ e)
   ended_passes steps (EndsUnbounded z d) check is e =
       let o = sheet.lp.objective in
-      told _ check (ap₂ (λ (xs ys : List ℚ). in_turn (unbounded_check sheet.lp (value_at xs) (value_at ys) ∷ asked (eq_ℚ (value_at z o) (value_at xs o)) ∷ [])) (first_of_pairs sheet z d is.0) (second_of_pairs sheet z d is.1)
+      reported _ check (ap₂ (λ (xs ys : List ℚ). in_turn (unbounded_check sheet.lp (value_at xs) (value_at ys) ∷ asked (eq_ℚ (value_at z o) (value_at xs o)) ∷ [])) (first_of_pairs sheet z d is.0) (second_of_pairs sheet z d is.1)
       ∙ with_asked (unbounded_check sheet.lp (value_at z) (value_at d)) (eq_ℚ (value_at z o) (value_at z o)) (test_from_same (value_at z o) (value_at z o) refl) ∙ e)
 
   pub verdict_passes : (steps : ℕ) (ending : PathEnding) (verdict : PathVerdict) (check : Check) → IsOf sheet.lp s t ending → IsVerdict sheet steps ending verdict check → Passes (verdict_test sheet verdict check)
-  verdict_passes steps ending verdict check is told_so =
-      subst (λ v. Passes (verdict_test sheet v check)) (sym told_so.is_verdict) (ended_passes steps ending check is told_so.is_check)
+  verdict_passes steps ending verdict check is reported_so =
+      subst (λ v. Passes (verdict_test sheet v check)) (sym reported_so.is_verdict) (ended_passes steps ending check is reported_so.is_check)
 
   -- ---- SOLUTION
 
@@ -142,11 +142,11 @@ module _ (sheet : Sheet) (s : Basis) (t : Tableau) where
   prices = price_at p (basics_of s) t.rate
 
   -- the point and the prices as they are printed
-  abbrev pub shown_point : Vector
-  shown_point = value_at (listed p.matrix t.point)
+  abbrev pub reported_point : Vector
+  reported_point = value_at (listed p.matrix t.point)
 
-  abbrev pub shown_prices : Vector
-  shown_prices = value_at (listed p.matrix prices)
+  abbrev pub reported_prices : Vector
+  reported_prices = value_at (listed p.matrix prices)
 
   abbrev test_by : Mark → List ℚ → List ℚ → Verdict
   test_by mark xs ys =
@@ -154,21 +154,21 @@ module _ (sheet : Sheet) (s : Basis) (t : Tableau) where
       verdict_of (flat_map (slack_steps sheet (value_at xs) (value_at (column_of 2 (solution_lines sheet s t).rows))) (row_numbers p)) ∷ best_test sheet mark (value_at xs) (value_at ys) ∷ [])
 
   module _ (lawful : IsLinearProgram p) (tab : IsTableau p s t) (at : IsNonsingularBasis p s) where
-    keeps : KeepsEquations p.matrix shown_point
-    keeps = KeepsEquations-same p.matrix t.point shown_point (λ k is. sym (value_at-listed p.matrix t.point k is)) tab.is_point.keeps
+    keeps : KeepsEquations p.matrix reported_point
+    keeps = KeepsEquations-same p.matrix t.point reported_point (λ k is. sym (value_at-listed p.matrix t.point k is)) tab.is_point.keeps
 
-    counts : (j : ℕ) → IsColumn p.matrix j → shown_prices (p.rows + j) +ℚ sum_to p.rows (λ i. shown_prices (suc i) *ℚ entry p.matrix (suc i) j) ≡ cost p j
+    counts : (j : ℕ) → IsColumn p.matrix j → reported_prices (p.rows + j) +ℚ sum_to p.rows (λ i. reported_prices (suc i) *ℚ entry p.matrix (suc i) j) ≡ cost p j
     counts j is =
         ap₂ ◌+ℚ◌ (value_at-listed p.matrix prices (p.rows + j) (omega (arith, is.0), omega (arith, is.1)))
         (sum_to-same p.rows _ _ (λ i below. ap (λ x. x *ℚ entry p.matrix (suc i) j) (value_at-listed p.matrix prices (suc i) (omega arith, omega (arith, below)))))
         ∙ price_of_column p lawful (basics_of s) at.nonsingular t.rate tab.are_rates j is
 
-    reduced : AreReducedCosts p shown_prices
+    reduced : AreReducedCosts p reported_prices
     reduced j is =
-        by_ring2 (shown_prices (p.rows + j)) (sum_to p.rows (λ i. shown_prices (suc i) *ℚ entry p.matrix (suc i) j)) (λ y s. y ≐ y ⊕ s ⊖ s) refl
-        ∙ ap (λ c. c -ℚ sum_to p.rows (λ i. shown_prices (suc i) *ℚ entry p.matrix (suc i) j)) (counts j is)
+        by_ring2 (reported_prices (p.rows + j)) (sum_to p.rows (λ i. reported_prices (suc i) *ℚ entry p.matrix (suc i) j)) (λ y s. y ≐ y ⊕ s ⊖ s) refl
+        ∙ ap (λ c. c -ℚ sum_to p.rows (λ i. reported_prices (suc i) *ℚ entry p.matrix (suc i) j)) (counts j is)
 
-    slack_is : (i : ℕ) → 1 ≤ i → i < 1 + p.rows → value_at p.rhs i -ℚ shown_point i ≡ value_at (column_of 2 (solution_lines sheet s t).rows) i
+    slack_is : (i : ℕ) → 1 ≤ i → i < 1 + p.rows → value_at p.rhs i -ℚ reported_point i ≡ value_at (column_of 2 (solution_lines sheet s t).rows) i
     slack_is i low high =
         let own : 1 + (i - 1) ≡ i = omega (arith, low) in
         ap (λ x. value_at p.rhs i -ℚ x) (value_at-listed p.matrix t.point i (low, omega (arith, high)))
@@ -176,26 +176,26 @@ module _ (sheet : Sheet) (s : Basis) (t : Tableau) where
         ∙ sym (get_or-listed (λ k. value_at p.rhs k -ℚ t.point k) p.rows 1 (i - 1) zero_ℚ (omega (arith, low, high)))
         ∙ ap (λ (xs : List ℚ). value_at xs i) (sym (column_is sheet (solution_row sheet s t) 2 (row_numbers p)))
 
-    never_slacks : NeverFails (flat_map (slack_steps sheet shown_point (value_at (column_of 2 (solution_lines sheet s t).rows))) (row_numbers p))
-    never_slacks = never_each (slack_steps sheet shown_point (value_at (column_of 2 (solution_lines sheet s t).rows))) 1 p.rows (λ i low high.
-        never_operation Sub (value_at p.rhs i) (shown_point i) _ (never_comparison 6 i _ (test_from_same _ _ (slack_is i low high))))
+    never_slacks : NeverFails (flat_map (slack_steps sheet reported_point (value_at (column_of 2 (solution_lines sheet s t).rows))) (row_numbers p))
+    never_slacks = never_each (slack_steps sheet reported_point (value_at (column_of 2 (solution_lines sheet s t).rows))) 1 p.rows (λ i low high.
+        never_operation Sub (value_at p.rhs i) (reported_point i) _ (never_comparison 6 i _ (test_from_same _ _ (slack_is i low high))))
 
-    pub shown_passes : (mark : Mark) → Passes (best_test sheet mark shown_point shown_prices) → Passes (solution_test sheet mark (solution_lines sheet s t))
-    shown_passes mark best =
+    pub reported_passes : (mark : Mark) → Passes (best_test sheet mark reported_point reported_prices) → Passes (solution_test sheet mark (solution_lines sheet s t))
+    reported_passes mark best =
         passes_same (solution_test sheet mark (solution_lines sheet s t)) (test_by mark (listed p.matrix t.point) (listed p.matrix prices)) (ap₂ (test_by mark) (points_of_lines sheet s t) (prices_of_lines sheet s t))
-        (pass_then (verdict_of (equations p 1 shown_point)) _ (passes_steps _ (never_equations p 1 shown_point keeps))
-        (pass_then (verdict_of (reduced_costs p shown_prices)) _ (passes_steps _ (never_costs p lawful.is_matrix shown_prices reduced))
+        (pass_then (verdict_of (equations p 1 reported_point)) _ (passes_steps _ (never_equations p 1 reported_point keeps))
+        (pass_then (verdict_of (reduced_costs p reported_prices)) _ (passes_steps _ (never_costs p lawful.is_matrix reported_prices reduced))
         (pass_then _ _ (passes_steps _ never_slacks) (pass_then _ [] best pass_none)))).passes
 
-    feasible : IsFeasible p t.point → IsFeasible p shown_point
-    feasible h = IsFeasible-same p t.point shown_point (λ k is. sym (value_at-listed p.matrix t.point k is)) h
+    feasible : IsFeasible p t.point → IsFeasible p reported_point
+    feasible h = IsFeasible-same p t.point reported_point (λ k is. sym (value_at-listed p.matrix t.point k is)) h
 
-    proving : AreProvingPrices p t.point prices → AreProvingPrices p shown_point shown_prices
-    proving h = record {
+    certificate : IsDualCertificate p t.point prices → IsDualCertificate p reported_point reported_prices
+    certificate h = record {
       reduced = reduced;
       at_lower = λ k is positive. h.at_lower k is (subst (λ y. zero_ℚ <ℚ for_min p.sense y) (value_at-listed p.matrix prices k is) positive) ∙ ap (λ (x : ℚ). Some x) (sym (value_at-listed p.matrix t.point k is));
       at_upper = λ k is negative. h.at_upper k is (subst (λ y. for_min p.sense y <ℚ zero_ℚ) (value_at-listed p.matrix prices k is) negative) ∙ ap (λ (x : ℚ). Some x) (sym (value_at-listed p.matrix t.point k is));
     }
 
-    pub best_passes : IsBest p t.point → AreProvingPrices p t.point prices → Passes (optimal_check p shown_point shown_prices)
-    best_passes best proves = passes_steps _ (never_optimal p lawful.is_matrix shown_point shown_prices (feasible best.feasible) (proving proves))
+    pub best_passes : IsBest p t.point → IsDualCertificate p t.point prices → Passes (optimal_check p reported_point reported_prices)
+    best_passes best proves = passes_steps _ (never_optimal p lawful.is_matrix reported_point reported_prices (feasible best.feasible) (certificate proves))

@@ -19,11 +19,11 @@ use Rattle.listing_definitions.specs.Report.{PathVerdict, Check, SolutionLines, 
 use Rattle.listing_definitions.specs.Text.{verdict_text, solution_text, interval_text, chain_end_text, chain_text}
 use Rattle.listing_definitions.specs.Ending.{Ending}
 use Rattle.listing_definitions.specs.Listing.{listing}
-use Rattle.question_definitions.specs.Answers.{Basis, Sheet, changing_name, sweeper, Sweep, OfSweep, Reached}
+use Rattle.question_definitions.specs.Answers.{Basis, Sheet, changing_name, parametric_solver, ParametricRun, OfParametricRun, Reached}
 use Rattle.answer_definitions.specs.Verdicts.{IsSolvedBy}
-use Rattle.answer_definitions.specs.Sections.{IsShown, solution_lines}
-use Rattle.answer_definitions.specs.Sweeps.{interval_of, IsChained}
-use Rattle.soundness_laws.specs.Sweeps.{ChangesFreely}
+use Rattle.answer_definitions.specs.Sections.{IsSolutionOf, solution_lines}
+use Rattle.answer_definitions.specs.ParametricRuns.{interval_of, IsChained}
+use Rattle.soundness_laws.specs.ParametricRuns.{ChangesFreely}
 use Rattle.answer_definitions.specs.Real.{linear_programming}
 use Rattle.run_definitions.specs.Answer.{IsJobRun}
 use Rattle.walk_definitions.specs.Tests.{verdict_test, solution_test}
@@ -46,8 +46,8 @@ IsNoFailure Fails = ⊥
 IsNoFailure _ = Unit {0}
 
 -- what is printed of a parametric run
-abbrev pub chain_of : Sweep → List Interval → ChainEnd → Chain
-chain_of sweep intervals end = record { from = sweep.from; change = changing_name sweep.changing; intervals = intervals; end = end }
+abbrev pub chain_of : ParametricRun → List Interval → ChainEnd → Chain
+chain_of parametric_run intervals end = record { from = parametric_run.from; change = changing_name parametric_run.changing; intervals = intervals; end = end }
 
 abbrev pub IsNotWrong : Found → Type 0
 IsNotWrong (Wrong rest) = ⊥
@@ -71,12 +71,12 @@ pub record TestsPass : Type 0 where
   pub verdict : (solver : Solver) (sheet : Sheet) (s : Basis) (limit : Option ℕ) (bases : List Basis) (verdict : PathVerdict) (check : Check) → IsSolvedBy solver sheet s limit (Reached bases verdict check) →
       IsNotFailed (verdict_test sheet verdict check)
   -- SOLUTION, where the mark is OPTIMAL only if the path has ended optimal at the basis
-  pub solution : (mark : Mark) (sheet : Sheet) (s : Basis) (lines : SolutionLines) → IsLinearProgram sheet.lp → IsNonsingularBasis sheet.lp s → (mark ≡ Optimal → EndsBest sheet.lp s) → IsShown sheet s lines →
+  pub solution : (mark : Mark) (sheet : Sheet) (s : Basis) (lines : SolutionLines) → IsLinearProgram sheet.lp → IsNonsingularBasis sheet.lp s → (mark ≡ Optimal → EndsBest sheet.lp s) → IsSolutionOf sheet s lines →
       IsNotFailed (solution_test sheet mark lines)
   -- a parametric run, whose intervals and close are tested as they are read of its text
-  pub run : (sheet : Sheet) (s : Basis) (sweep : Sweep) (bases : List Basis) (intervals : List Interval) (end : ChainEnd) (after : List ℕ) → IsLinearProgram sheet.lp → ChangesFreely sheet sweep.changing →
-      IsNonsingularBasis sheet.lp s → IsChained sheet s sweep bases intervals end → IntervalsFit intervals → EndFits end → begins_table_line after ≡ false →
-      IsNoFailure (judged (OfSweep sweep) sheet (chain_text (sweeper sweep.changing) (chain_of sweep intervals end) ++ after))
+  pub run : (sheet : Sheet) (s : Basis) (parametric_run : ParametricRun) (bases : List Basis) (intervals : List Interval) (end : ChainEnd) (after : List ℕ) → IsLinearProgram sheet.lp → ChangesFreely sheet parametric_run.changing →
+      IsNonsingularBasis sheet.lp s → IsChained sheet s parametric_run bases intervals end → IntervalsFit intervals → EndFits end → begins_table_line after ≡ false →
+      IsNoFailure (judged (OfParametricRun parametric_run) sheet (chain_text (parametric_solver parametric_run.changing) (chain_of parametric_run intervals end) ++ after))
 
 -- The listing of a job's run is never found wrong by the walk, where its fractions have 128 bits and the counts of an overflow's evidence
 -- have 32: it is attested, or a line of it can't be attested, or an operation of a test is refused.

@@ -1,4 +1,4 @@
--- What is done at a break, from what the calls there found.
+-- What is done at a breakpoint, from what the calls there found.
 use Rattle.std.proofs.Common.{◌≡◌, ◌≢◌, ℕ, Bool, true, false, List, length, cond, refl, sym, ap, ap₂, subst, ◌∙◌}
 use Rattle.std.specs.Prelude.{Option, Some, None, IsTrue, ◌&&◌, ◌||◌, option_map, if◌then◌else◌}
 use Rattle.exact_values.specs.Rational.{ℚ, zero_ℚ}
@@ -19,7 +19,7 @@ use Rattle.simplex_laws.specs.Laws.{IsNonsingularBasis}
 use Rattle.simplex_laws.proofs.Searches.{found_passes}
 use Rattle.simplex_laws.proofs.Stoppers.{stopper_some}
 use Rattle.simplex_definitions.specs.Chain.{FaceMoves, FaceDone, FaceEnds, UnboundedPast}
-use Rattle.simplex_definitions.specs.ObjectiveRun.{objective_family, change_rate, face_mover, face_until, face_by, objective_face, IsObjectiveFace}
+use Rattle.simplex_definitions.specs.ObjectiveRun.{objective_family, change_rate, face_entering_variable, face_until, face_by, objective_face, IsObjectiveFace}
 use Rattle.basis_values.specs.Motions.{may_move, motion}
 use Rattle.bounded_primal.specs.Moves.{stop_at, stopper_of, IsStepBy, is_stopper, move_by}
 use Rattle.bounded_primal.specs.declared.moves.Stopper.{Stopper}
@@ -29,9 +29,9 @@ use Rattle.std.proofs.lemmas.Bool.{and_parts}
 use Rattle.parametric_laws.proofs.Objective.{to_objective}
 use Rattle.parametric_laws.proofs.OneObjective.{lawful_objective}
 use Rattle.parametric_laws.proofs.Intervals.{point_feasible}
-use Rattle.parametric_laws.proofs.ObjectiveEnds.{face_mover_is}
-use Rattle.para_objective.specs.Breaks.{IsFaceMover}
-use Rattle.para_objective.specs.Faces.{face_up, IsEndlessPast}
+use Rattle.parametric_laws.proofs.ObjectiveEnds.{face_entering_variable_is}
+use Rattle.para_objective.specs.Breaks.{IsFaceEnteringVariable}
+use Rattle.para_objective.specs.Faces.{face_up, IsUnboundedPast}
 use Rattle.para_objective.proofs.Kept.{kept_optimal, pivot}
 
 -- what lowers a quantity rises where its rate is negative, and else falls
@@ -61,22 +61,22 @@ module _ (p : LinearProgram) (h : ℕ) (lawful : IsLinearProgram p) (row : IsRow
   there = to_objective p h theta s at
 
   -- nobody moves
-  pub face_done : IsFaceMover p h theta s None → IsObjectiveFace p h theta s FaceDone
+  pub face_done : IsFaceEnteringVariable p h theta s None → IsObjectiveFace p h theta s FaceDone
   unfolding objective_face
   face_done found = (t, tab, ap (face_by present h theta s t) (sym (found t tab)))
 
   pub feasible : IsFeasible p z
   feasible = let f = point_feasible present (lawful_objective p h lawful row free theta) s optimal z tab.is_point in record { keeps = f.keeps; within = f.within }
 
-  module _ (q : ℕ) (found : IsFaceMover p h theta s (Some q)) where
-    found_is : face_mover present h theta s t ≡ Some q
+  module _ (q : ℕ) (found : IsFaceEnteringVariable p h theta s (Some q)) where
+    found_is : face_entering_variable present h theta s t ≡ Some q
     found_is = sym (found t tab)
 
     pub nonbasic : IsNonbasic p.matrix (basics_of s) q
-    nonbasic = (face_mover_is present h theta s t q there found_is).mover.nonbasic
+    nonbasic = (face_entering_variable_is present h theta s t q there found_is).entering_variable.nonbasic
 
     zero_rate : objective_rate present t.rate q ≡ zero_ℚ
-    zero_rate = (face_mover_is present h theta s t q there found_is).zero_rate
+    zero_rate = (face_entering_variable_is present h theta s t q there found_is).zero_rate
 
     rate_is : change q ≡ t.rate h q
     rate_is = changed.entries q nonbasic.0 ∙ ap (λ m. cond m zero_ℚ (changed.rate h q)) nonbasic.1
@@ -116,7 +116,7 @@ module _ (p : LinearProgram) (h : ℕ) (lawful : IsLinearProgram p) (row : IsRow
       some_stops by (Some k) e = (k, refl, cc)
 
       -- nothing stops q
-      pub face_ends : None ≡ stopper_of p z d up → (zs : List ℚ) → length zs ≡ size p.matrix → ((k : ℕ) → IsVariable p.matrix k → value_at zs k ≡ z k) → (end : ParaEnd) → IsEndlessPast p theta zs d up end →
+      pub face_ends : None ≡ stopper_of p z d up → (zs : List ℚ) → length zs ≡ size p.matrix → ((k : ℕ) → IsVariable p.matrix k → value_at zs k ≡ z k) → (end : ParaEnd) → IsUnboundedPast p theta zs d up end →
           IsObjectiveFace p h theta s (FaceEnds (end_of end))
       face_ends none zs zs_counted zs_are end is = (
         t,
@@ -155,5 +155,5 @@ module _ (p : LinearProgram) (h : ℕ) (lawful : IsLinearProgram p) (row : IsRow
         face_by_stopper = is_stopper up feasible (subst (λ b. IsTrue (may_move p s b q)) (sym up_found) may) (sym stops)
 
     -- q is what a step would move
-    pub face_enters : (u : Tableau) × IsTableau present s u × (face_mover present h theta s u ≡ Some q)
+    pub face_enters : (u : Tableau) × IsTableau present s u × (face_entering_variable present h theta s u ≡ Some q)
     face_enters = (t, tab, found_is)

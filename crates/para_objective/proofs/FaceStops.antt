@@ -17,8 +17,8 @@ use Rattle.bounded_primal.specs.Turns.{RunStops as TurnStops, by_direction, by_s
 use Rattle.bounded_primal.specs.declared.moves.PrimalStop.{PrimalStop}
 use Rattle.bounded_primal.specs.declared.moves.PrimalStop.TheVariants.{Limit, Overflow, NoMemory}
 use Rattle.parametric_run.specs.Calls.{RunOverflows, RunStops}
-use Rattle.parametric_run.specs.Chains.{MethodStops, MethodUnhindered, Overflows}
-use Rattle.parametric_run.specs.Complete.{RunEndsUnhindered}
+use Rattle.parametric_run.specs.Chains.{MethodStops, MethodOverflowFree, Overflows}
+use Rattle.parametric_run.specs.Complete.{RunEndsOverflowFree}
 use Rattle.parametric_run.specs.Walks.{FaceStops}
 use Rattle.parametric_run.specs.declared.method.Span.{Span}
 use Rattle.para_objective.specs.Method.{objective_problem}
@@ -53,6 +53,6 @@ module _ (p : LinearProgram) (h : ℕ) (span : Span) (s : List Status) (before :
   stops_at_basis now after (Overflow e) stops = at_basis now after e stops
   stops_at_basis now after NoMemory stops = stops
 
-  pub unhindered : (report : RunReport) (path : List (List Status)) →
-      RunEndsUnhindered (objective_family p h) (IsObjectiveFace p h) span.from span.to s span.limit (λ now after e. IsOnRun now after e) report path → MethodUnhindered (objective_problem p h) span s before report path
-  unhindered report path goes = record { ends = goes.ends; within = goes.within; no_evidence = λ now after e over. goes.no_evidence now after e (at_basis now after e over) }
+  pub overflow_free : (report : RunReport) (path : List (List Status)) →
+      RunEndsOverflowFree (objective_family p h) (IsObjectiveFace p h) span.from span.to s span.limit (λ now after e. IsOnRun now after e) report path → MethodOverflowFree (objective_problem p h) span s before report path
+  overflow_free report path goes = record { ends = goes.ends; within = goes.within; no_evidence = λ now after e over. goes.no_evidence now after e (at_basis now after e over) }

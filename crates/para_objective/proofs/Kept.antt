@@ -1,4 +1,4 @@
--- A face step keeps the basis optimal at its break.
+-- A face step keeps the basis optimal at its breakpoint.
 use Rattle.std.proofs.Common.{◌≡◌, ◌≢◌, ℕ, ◌-◌, ◌⊎◌, inl, inr, Bool, true, false, List, refl, sym, ap, ap₂, subst, ◌∙◌, pos}
 use Rattle.std.specs.Prelude.{Option, Some, None, ◌&&◌, ◌||◌, not, option_map, if◌then◌else◌, eqb}
 use Rattle.std.proofs.lemmas.Bool.Decides.{eqb_tells}
@@ -17,7 +17,7 @@ use Rattle.lp_laws.proofs.Values.{clash, sub-zero}
 use Rattle.lp_laws.proofs.Exchange.{AreRates-exchanged, was_nonbasic}
 use Rattle.lp_laws.proofs.Statuses.{basics_of-replaced, basics_of-flipped, changed_other, status_of_nonbasic}
 use Rattle.lp_laws.proofs.Optimal.{for_min-zero}
-use Rattle.simplex_definitions.specs.Moves.{rises_from, falls_from, is_fixed, lowers, signed, room, reached, stopper}
+use Rattle.simplex_definitions.specs.Moves.{rises_from, falls_from, is_fixed, lowers, signed, step_length, reached, stopper}
 use Rattle.simplex_definitions.specs.Path.{after, speeds, stopped_by}
 use Rattle.simplex_laws.specs.Laws.{IsNonsingularBasis}
 use Rattle.simplex_laws.proofs.Stoppers.{stopper_some, reaches_limit}
@@ -87,11 +87,11 @@ module _ (p : LinearProgram) (h : ℕ) (lawful : IsLinearProgram p) (row : IsRow
   k_is = (stopper_some present t.point v k stops).0
 
   pub pivot : t.rate k q ≢ zero_ℚ
-  pivot zero = nothing (reaches_limit (room present t.point v k) (room present t.point v k) ((stopper_some present t.point v k stops).1 k k_is))
+  pivot zero = nothing (reaches_limit (step_length present t.point v k) (step_length present t.point v k) ((stopper_some present t.point v k stops).1 k k_is))
     where
-      nothing : (x : ℚ) × (room present t.point v k ≡ Some x) → ⊥
+      nothing : (x : ℚ) × (step_length present t.point v k ≡ Some x) → ⊥
       nothing (x, e) =
-          let none : room present t.point v k ≡ None = ap (option_map (λ l. (l -ℚ t.point k) /ℚ v k)) (no_limit (lower_of p k) (upper_of p k) (v k) (ap (signed up) zero ∙ signed_zero up)) in
+          let none : step_length present t.point v k ≡ None = ap (option_map (λ l. (l -ℚ t.point k) /ℚ v k)) (no_limit (lower_of p k) (upper_of p k) (v k) (ap (signed up) zero ∙ signed_zero up)) in
           let P : Some x ≡ None → ⊥ = λ e. cc in P (sym e ∙ none)
 
   not_basic : status_of s q ≢ Bs

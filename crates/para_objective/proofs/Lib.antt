@@ -1,6 +1,6 @@
 pub mod Zeros
 pub mod Reaches
-pub mod Movers
+pub mod EnteringVariables
 pub mod Refusals
 pub mod Kept
 pub mod IntervalFacts

@@ -22,7 +22,7 @@ use Rattle.parametric_run.specs.declared.method.Span.{Span}
 use Rattle.parametric_run.proofs.Openings.{opening_goes_on, opening_stands}
 use Rattle.para_objective.specs.Method.{objective_problem, FitsObjective}
 
--- ---- evidence of a run is told of the linear program with any multiple of the change row, or none
+-- ---- evidence of a run is reported of the linear program with any multiple of the change row, or none
 
 module _ (p : LinearProgram) (h : ℕ) (x from : ℚ) (Goes Other : Status → Type 0) (s : List Status) (e : Evidence) (goes : (to : Status) → Goes to → Other to) where
   formula_of : (t : Tableau) (w : Basics) (rate : ℕ → ℕ → ℚ) → Formula (Paraobj (objective_family p h x) h from) Goes s t w rate e → Formula (Paraobj p h from) Other s t w rate e

@@ -65,10 +65,10 @@ module _ (p : LinearProgram) (h : ℕ) (from : ℚ) (no_change : p.change ≡ No
       first (suc k, below, is) = absurd (omega (arith, below))
 
   -- a point, prices, and the rates of a row or a column
-  pub of_point : (break : Option ℚ) → PointRefused p before s now e → EvidenceHere (Paraobj p h from) p.matrix break left s before now e
-  of_point break r =
+  pub of_point : (breakpoint : Option ℚ) → PointRefused p before s now e → EvidenceHere (Paraobj p h from) p.matrix breakpoint left s before now e
+  of_point breakpoint r =
       let number : (is_between 1 5 e.formula || is_between 10 12 e.formula) ≡ true = subst (λ (c : Option Change). IsTrue (is_of_point c e.formula)) no_change r.of_call in
-      evidence_here p (Some (record { row = h; theta = e.theta })) (Paraobj p h from) s e refl (point_number e.formula e.term number) no_change break left before now
+      evidence_here p (Some (record { row = h; theta = e.theta })) (Paraobj p h from) s e refl (point_number e.formula e.term number) no_change breakpoint left before now
       (zero_theta (λ to. ⊥) (basics_of s ∷ before) r.stops)
       (record {
         enters = λ is. absurd (clash (sym is ∙ point_moves_not e.formula e.term number));
@@ -78,9 +78,9 @@ module _ (p : LinearProgram) (h : ℕ) (from : ℚ) (no_change : p.change ≡ No
       (point_belongs e.formula e.term number) (λ to. ⊥) (λ to none is. absurd none) r.stops
 
   -- an end of an interval
-  pub of_end : (break : Option ℚ) → EndRefused p h s e → EvidenceHere (Paraobj p h from) p.matrix break left s before now e
-  of_end break r =
-      evidence_own (Paraobj p h from) p.matrix s e break left before now (λ ends. (0, omega arith, sym r.no_theta))
+  pub of_end : (breakpoint : Option ℚ) → EndRefused p h s e → EvidenceHere (Paraobj p h from) p.matrix breakpoint left s before now e
+  of_end breakpoint r =
+      evidence_own (Paraobj p h from) p.matrix s e breakpoint left before now (λ ends. (0, omega arith, sym r.no_theta))
       (record {
         enters = λ is. absurd (clash (sym is ∙ ap (is_between 7 9) r.number));
         brings = λ is. absurd (clash (sym is ∙ ap (λ n. nat_eq n 14) r.number));

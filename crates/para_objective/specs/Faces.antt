@@ -1,6 +1,6 @@
 -- What a run of the objective is over, and what is done at a breakpoint of it.
 --     family, Face, statement      the run's linear programs, what is done at its breakpoints, and its statement
---     IsEndlessPast                the end past theta, from a point and a direction
+--     IsUnboundedPast                the end past theta, from a point and a direction
 --     face_up p change q           whether q rises, by the rates of the change row
 use Rattle.std.specs.Prelude.{◌≡◌, ℕ, Bool, List, length}
 use Rattle.exact_values.specs.Rational.{ℚ}
@@ -19,7 +19,7 @@ abbrev pub face_up : LinearProgram → Vector → ℕ → Bool
 face_up p change q = goes_up (λ k. for_min p.sense (change k)) q
 
 -- the end past theta has the point zs, and the motion of what has the direction d
-pub record IsEndlessPast (p : LinearProgram) (theta : ℚ) (zs : List ℚ) (d : Vector) (up : Bool) (end : ParaEnd) : Type 0 where
+pub record IsUnboundedPast (p : LinearProgram) (theta : ℚ) (zs : List ℚ) (d : Vector) (up : Bool) (end : ParaEnd) : Type 0 where
   pub ds : List ℚ
   pub is_end : end ≡ Unbounded theta zs ds
   pub counted : length ds ≡ size p.matrix

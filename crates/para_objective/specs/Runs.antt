@@ -1,6 +1,6 @@
 -- A run of the objective, as code makes it.
 --     ObjectiveEnds, ObjectiveStops, ObjectiveFollows     what the whole call promises
---     ObjectiveUnhindered          the run that the whole call has to answer
+--     ObjectiveOverflowFree          the run that the whole call has to answer
 use Rattle.std.specs.Prelude.{List}
 use Rattle.lp_definitions.specs.LinearProgram.{LinearProgram}
 use Rattle.lp_definitions.specs.Basis.{Basics}
@@ -9,7 +9,7 @@ use Rattle.lp_model.specs.declared.reports.ParaReport.{ParaReport}
 use Rattle.simplex_definitions.specs.Chain.{RunReport}
 use Rattle.bounded_primal.specs.declared.moves.PrimalStop.{PrimalStop}
 use Rattle.parametric_run.specs.Calls.{RunEnds, WaypointsFollowRun, RunOverflows, RunStops}
-use Rattle.parametric_run.specs.Complete.{RunEndsUnhindered}
+use Rattle.parametric_run.specs.Complete.{RunEndsOverflowFree}
 use Rattle.parametric_run.specs.Truth.{IsTrueReported}
 use Rattle.para_objective.specs.Faces.{family, Face, statement}
 use Rattle.para_objective.specs.declared.parts.ParaObj.{ParaObj}
@@ -32,7 +32,7 @@ module _ (p : LinearProgram) (run : ParaObj) where
   IsTrueObjective = IsTrueReported (family p run) run.from run.to
 
   -- the run from s ends within the limit, and wherever the call may be on it, no evidence of an overflow holds
-  abbrev pub ObjectiveUnhindered : List Status → List Basics → RunReport → List (List Status) → Type 0
-  ObjectiveUnhindered s before =
-      RunEndsUnhindered (family p run) (Face p run) run.from run.to s run.limit
+  abbrev pub ObjectiveOverflowFree : List Status → List Basics → RunReport → List (List Status) → Type 0
+  ObjectiveOverflowFree s before =
+      RunEndsOverflowFree (family p run) (Face p run) run.from run.to s run.limit
       (λ now after e. RunOverflows (family p run) (Face p run) run.from run.to s now run.limit (statement p run) p.matrix before after e)

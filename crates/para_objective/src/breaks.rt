@@ -1,4 +1,4 @@
-//! Who moves at a break.
+//! Who moves at a breakpoint.
 
 ghost use Rattle.std.specs.Prelude.{◌≡◌, length, None};
 ghost use Rattle.exact_values.specs.Rational.{zero_ℚ, ◌+ℚ◌, ◌*ℚ◌};
@@ -8,7 +8,7 @@ ghost use Rattle.lp_definitions.specs.Basis.{basics_of, ArePricesOf};
 ghost use Rattle.lp_model.specs.RatesCalls.{IsRowOf};
 ghost use Rattle.simplex_definitions.specs.Moves.{least};
 ghost use Rattle.simplex_laws.specs.Laws.{IsNonsingularBasis};
-ghost use Rattle.para_objective.specs.Breaks.{is_mover, IsFaceMover};
+ghost use Rattle.para_objective.specs.Breaks.{is_entering_variable, IsFaceEnteringVariable};
 
 use crate::choices::worth;
 use bounded_primal::may_lower;
@@ -30,18 +30,18 @@ fn is_zero_at(theta: Frac, price: Frac, rate: Frac) -> bool
 fn may_move(lp: &Lp, basis: &Basis, theta: Frac, price: Frac, rate: Frac, k: u32) -> bool
     requires variable { IsVariable lp.now.matrix k }
     requires counted { length basis.now ≡ size lp.now.matrix }
-    ensures { result ≡ is_mover lp.now basis.now theta (λ _. price) (λ _. rate) k }
+    ensures { result ≡ is_entering_variable lp.now basis.now theta (λ _. price) (λ _. rate) k }
 {
     is_zero_at(theta, price, rate) && may_lower(lp, basis, worth(lp.sense, rate), k)
 }
 
 /// The least-numbered of those that may move, from the prices and the rates of the change row.
-fn mover_by(lp: &Lp, basis: &Basis, prices: &[Frac], change: &[Frac], theta: Frac) -> Option<u32>
+fn entering_variable_by(lp: &Lp, basis: &Basis, prices: &[Frac], change: &[Frac], theta: Frac) -> Option<u32>
     requires counted { length basis.now ≡ size lp.now.matrix }
     requires prices { length prices.now ≡ size lp.now.matrix }
     requires places { length change.now ≡ size lp.now.matrix }
     ensures { result ≡ least lp.now
-        (is_mover lp.now basis.now theta (value_at prices.now) (value_at change.now)) }
+        (is_entering_variable lp.now basis.now theta (value_at prices.now) (value_at change.now)) }
 {
     for k in 0..lp.number_of_variables() {
         let price = prices[k as usize];
@@ -55,7 +55,7 @@ fn mover_by(lp: &Lp, basis: &Basis, prices: &[Frac], change: &[Frac], theta: Fra
 
 /// The least-numbered nonbasic whose combined rate is 0 at theta and which may move so as to better the row `row`. `prices` has the
 /// basis's prices, and `change` the rates of that row. Nothing stops this.
-pub fn face_mover(
+pub fn face_entering_variable(
     lp: &Lp,
     basis: &Basis,
     prices: &[Frac],
@@ -71,7 +71,7 @@ pub fn face_mover(
     requires change { IsRowOf lp.now.matrix (basics_of basis.now) row (value_at change.now) }
     requires price_places { length prices.now ≡ size lp.now.matrix }
     requires change_places { length change.now ≡ size lp.now.matrix }
-    ensures { IsFaceMover lp.now row theta basis.now result }
+    ensures { IsFaceEnteringVariable lp.now row theta basis.now result }
 {
-    mover_by(lp, basis, prices, change, theta)
+    entering_variable_by(lp, basis, prices, change, theta)
 }

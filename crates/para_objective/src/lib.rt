@@ -10,7 +10,7 @@ mod rows;
 mod run;
 mod turns;
 
-pub use breaks::face_mover;
+pub use breaks::face_entering_variable;
 pub use parts::ParaObj;
 pub use reaching::reach;
 pub use run::para_obj;

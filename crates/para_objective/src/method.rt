@@ -1,9 +1,9 @@
 //! The objective as a parameter.
 
-use crate::breaks::face_mover;
+use crate::breaks::face_entering_variable;
 use crate::reaching::reach;
 use crate::rows::fill_rows;
-use crate::turns::{endless, rises, stopper_of};
+use crate::turns::{unbounded_end, rises, stopper_of};
 use bounded_primal::{PrimalStop, primal};
 use frac128::Frac;
 use lp_model::{Basis, Change, Lp, Outcome, ParaPart, Point, Rates, Stop};
@@ -114,7 +114,7 @@ impl<'a> Parametric for Objective<'a> {
         theta: Frac,
         left: u32,
     ) -> Result<FaceStep, PrimalStop> {
-        let Some(q) = face_mover(
+        let Some(q) = face_entering_variable(
             self.lp,
             basis,
             &workspace.prices,
@@ -127,7 +127,7 @@ impl<'a> Parametric for Objective<'a> {
         let up = rises(self.lp, workspace, q);
         let stopped = stopper_of(self.lp, basis, rates, workspace, q, up)?;
         let Some(by) = stopped else {
-            let end = endless(alloc, self.lp, workspace, up, theta)?;
+            let end = unbounded_end(alloc, self.lp, workspace, up, theta)?;
             return Ok(FaceStep::Ends(end));
         };
         if left == 0 {

@@ -141,8 +141,8 @@ fn reach_from(
     Ok(best)
 }
 
-/// The least of `max` and those ends that can be had in a search that leaves out the others.
-fn least_had(lp: &Lp, basis: &Basis, prices: &[Frac], change: &[Frac], max: Frac) -> Frac
+/// The least of `max` and those ends that can be computed in a search that leaves out the others.
+fn least_computed(lp: &Lp, basis: &Basis, prices: &[Frac], change: &[Frac], max: Frac) -> Frac
     requires counted { length basis.now ≡ size lp.now.matrix }
     requires prices { length prices.now ≡ size lp.now.matrix }
     requires places { length change.now ≡ size lp.now.matrix }
@@ -161,7 +161,7 @@ fn least_had(lp: &Lp, basis: &Basis, prices: &[Frac], change: &[Frac], max: Frac
     best
 }
 
-/// The least of `max` and the ends that the variables make. Where one of them can't be had, the search begins again from the least of
+/// The least of `max` and the ends that the variables make. Where one of them can't be computed, the search begins again from the least of
 /// the others, which may tell that it isn't needed.
 fn reach_by(
     lp: &Lp,
@@ -181,7 +181,7 @@ fn reach_by(
     match reach_from(lp, basis, prices, change, max) {
         Ok(to) => Ok(to),
         Err(_evidence) => {
-            let best = least_had(lp, basis, prices, change, max);
+            let best = least_computed(lp, basis, prices, change, max);
             reach_from(lp, basis, prices, change, best)
         }
     }

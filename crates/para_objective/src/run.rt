@@ -7,7 +7,7 @@ ghost use Rattle.lp_definitions.specs.declared.Status.{Status};
 ghost use Rattle.basis_values.specs.Calls.{HasRates};
 ghost use Rattle.simplex_definitions.specs.Chain.{RunReport};
 ghost use Rattle.parametric_run.specs.Complete.{IsRunOrMemory};
-ghost use Rattle.para_objective.specs.Runs.{ObjectiveEnds, ObjectiveStops, ObjectiveFollows, ObjectiveUnhindered, IsTrueObjective};
+ghost use Rattle.para_objective.specs.Runs.{ObjectiveEnds, ObjectiveStops, ObjectiveFollows, ObjectiveOverflowFree, IsTrueObjective};
 
 use crate::method::Objective;
 use crate::parts::ParaObj;
@@ -44,7 +44,7 @@ pub fn para_obj<R: Rates>(
         (R.waypoints rates.old) (R.waypoints rates.new) }
     ensures truth { IfOk result (IsTrueObjective lp.now run.now) }
     ensures complete { (report : RunReport) → (path : List (List Status)) →
-        ObjectiveUnhindered lp.now run.now basis.old (R.waypoints rates.old) report path →
+        ObjectiveOverflowFree lp.now run.now basis.old (R.waypoints rates.old) report path →
         IsRunOrMemory basis.old report path basis.new result }
 {
     let _size = lp.number_of_variables();

@@ -1,4 +1,4 @@
-//! A face step: which way the mover goes, and what stops it.
+//! A face step: which way the entering variable goes, and what stops it.
 
 ghost use Rattle.std.specs.Prelude.{◌≡◌, ℕ, length, IsTrue, OnOk, IfOk, IfErr};
 ghost use Rattle.lp_definitions.specs.LinearProgram.{size, value_at, IsVariable};
@@ -10,7 +10,7 @@ ghost use Rattle.basis_values.specs.Motions.{may_move, motion};
 ghost use Rattle.bounded_primal.specs.Moves.{stopper_of as stopper_by};
 ghost use Rattle.bounded_primal.specs.Turns.{RunStops};
 ghost use Rattle.parametric_run.specs.Standing.{AreSized};
-ghost use Rattle.para_objective.specs.Faces.{face_up, IsEndlessPast};
+ghost use Rattle.para_objective.specs.Faces.{face_up, IsUnboundedPast};
 
 use crate::choices::worth;
 use bounded_primal::{Stopper, counted, stopper};
@@ -97,7 +97,7 @@ pub fn stopper_of<R: Rates>(
 }
 
 /// The end without a bound past `theta`.
-pub fn endless(
+pub fn unbounded_end(
     alloc: Global,
     lp: &Lp,
     workspace: &Workspace,
@@ -105,7 +105,7 @@ pub fn endless(
     theta: Frac,
 ) -> Result<ParaEnd, NoMemory>
     requires { length workspace.now.direction.items ≡ size lp.now.matrix }
-    ensures { IfOk result (IsEndlessPast lp.now theta workspace.now.point.items
+    ensures { IfOk result (IsUnboundedPast lp.now theta workspace.now.point.items
         (value_at workspace.now.direction.items) up) }
 {
     let point = point_with(alloc, &workspace.point)?;

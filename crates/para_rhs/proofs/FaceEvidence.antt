@@ -1,4 +1,4 @@
--- Evidence of the calls at a break is evidence of the run.
+-- Evidence of the calls at a breakpoint is evidence of the run.
 use Rattle.std.proofs.Common.{◌≡◌, ◌≢◌, ℕ, ◌≤◌, List, true, refl, sym, arith}
 use Rattle.std.specs.Prelude.{Some, None, not, ◌&&◌, ◌||◌, nat_eq}
 use Rattle.exact_values.specs.Rational.{ℚ, zero_ℚ}
@@ -36,7 +36,7 @@ use Rattle.para_rhs.proofs.RunEvidence.{of_point}
 face_number : (n term : ℕ) → (is_between 1 14 n && (not (nat_eq n 6) || not (nat_eq term 3))) ≡ true → ((is_between 1 14 n || nat_eq n 18) && (not (nat_eq n 6) || not (nat_eq term 3))) ≡ true
 face_number n term h = grind arith
 
--- a run of the right-hand side at a break
+-- a run of the right-hand side at a breakpoint
 face_own : (p : LinearProgram) (shift : List ℚ) (theta from : ℚ) (s : List Status) → IsLinearProgram p → p.change ≡ None → IsOwn p (Pararhs p shift from) (Some theta) s
 face_own p shift theta from s lawful no_change = record {
   no_change = no_change;
@@ -58,7 +58,7 @@ module _ (p : LinearProgram) (shift : List ℚ) (lawful : IsLinearProgram p) (no
       SomeRatioRefused p s prices row l.r (not (is_upper l.side)) e → EvidenceHere (Pararhs p shift from) p.matrix (Some theta) left s before now e
   of_ratio l found prices row priced rowed h =
       own.of_ratio p (Pararhs p shift from) (Some theta) s statement_own left before now e lawful at z point l.r (not (is_upper l.side)) (basic p shift lawful no_change theta s at z v point slope l found) prices row priced rowed h
-      (face_brings p shift lawful no_change theta s at z v point slope l found prices row priced rowed h.j h.is_variable h.brings_back)
+      (face_brings p shift lawful no_change theta s at z v point slope l found prices row priced rowed h.j h.is_variable h.restores_feasibility)
 
   -- the way back of a basic
   pub of_return : (mid : List Basics) → KeepsWaypoints p.matrix (basics_of s) before (basics_of s) mid → (q r : ℕ) (to : Status) → IsBasic p.matrix (basics_of s) r → IsNonbasic p.matrix (basics_of s) q →
@@ -73,7 +73,7 @@ module _ (p : LinearProgram) (shift : List ℚ) (lawful : IsLinearProgram p) (no
       EvidenceHere (Pararhs p shift from) p.matrix (Some theta) left s before now e
   of_step q by moves apart one_left h = own.of_step p (Pararhs p shift from) (Some theta) s statement_own left before now e q by moves apart one_left h
 
--- ---- stops of calls at a break
+-- ---- stops of calls at a breakpoint
 
 module _ (p : LinearProgram) (shift : List ℚ) (lawful : IsLinearProgram p) (no_change : p.change ≡ None) (theta : ℚ) (s : List Status) (from : ℚ) (left : ℕ) (before now : List Basics) where
   module _ (at : IsNonsingularBasis p s) (z v : Vector) (point : IsPointOf p s z) (slope : IsSlope p s shift v) where

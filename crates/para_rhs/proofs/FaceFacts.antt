@@ -1,4 +1,4 @@
--- What is done at a break, from what the calls there found.
+-- What is done at a breakpoint, from what the calls there found.
 use Rattle.std.proofs.Common.{◌≡◌, ◌≢◌, ℕ, Bool, true, false, List, length, refl, sym, ap, subst, ◌∙◌, pos, arith}
 use Rattle.std.specs.Prelude.{Option, Some, None, IsTrue, unwrap_or, ◌&&◌, ◌||◌, not, option_map, if◌then◌else◌}
 use Rattle.exact_values.specs.Rational.{ℚ, zero_ℚ, ◌-ℚ◌, ◌/ℚ◌, ◌≤ℚ◌}
@@ -18,7 +18,7 @@ use Rattle.lp_laws.proofs.Uniqueness.{one_direction}
 use Rattle.lp_laws.specs.Vectors.{along}
 use Rattle.lp_laws.specs.Rates.{exchanged_rate}
 use Rattle.lp_model.specs.RatesCalls.{IsRowOf}
-use Rattle.simplex_definitions.specs.DualRatio.{brings_back, ratio, is_cheapest, cheapest}
+use Rattle.simplex_definitions.specs.DualRatio.{restores_feasibility, ratio, is_cheapest, cheapest}
 use Rattle.simplex_definitions.specs.Moves.{on_limit}
 use Rattle.simplex_definitions.specs.Path.{Move, after, ray_of}
 use Rattle.simplex_laws.specs.Laws.{IsNonsingularBasis}
@@ -111,14 +111,14 @@ module _ (p : LinearProgram) (shift : List ℚ) (lawful : IsLinearProgram p) (no
       -- who may bring it back
       pub face_brings : (j : ℕ) → IsVariable p.matrix j → may_bring p s row below j ≡ true →
           (u : Tableau) × (w : Vector) × IsTableau (rhs_family p shift theta) s u × IsSlope (rhs_family p shift theta) s shift w × (leaving (rhs_family p shift theta) shift theta s u w ≡ Some l.r)
-          × IsTrue (brings_back (rhs_family p shift theta) s u l.r (leaves_below (rhs_family p shift theta) shift theta s u w l.r) j)
+          × IsTrue (restores_feasibility (rhs_family p shift theta) s u l.r (leaves_below (rhs_family p shift theta) shift theta s u w l.r) j)
       face_brings j is own = (
         t,
         v,
         tab,
         sloped,
         leaver.0,
-        subst (λ b. brings_back (rhs_family p shift theta) s t l.r b j ≡ true) (sym leaver.1)
+        subst (λ b. restores_feasibility (rhs_family p shift theta) s t l.r b j ≡ true) (sym leaver.1)
             (sym (brings_same p shift theta s lawful no_change at prices row priced l.r basic.0 rowed (not (is_upper l.side)) (along z theta v) j is) ∙ own),
       )
 
@@ -140,17 +140,17 @@ module _ (p : LinearProgram) (shift : List ℚ) (lawful : IsLinearProgram p) (no
         pub face_moves : IsRhsFace p shift theta s (FaceMoves (record { enters = q; leaves = l.r; to = if not (is_upper l.side) then Ll else Ul }))
         face_moves = (t, v, tab, sloped, face_is (Some q) chosen)
 
-        passes : IsVariable p.matrix q × ((brings_back (rhs_family p shift theta) s t l.r below q && is_cheapest (rhs_family p shift theta) s t l.r below q) ≡ true)
-        passes = found_passes (rhs_family p shift theta) (λ q. brings_back (rhs_family p shift theta) s t l.r below q && is_cheapest (rhs_family p shift theta) s t l.r below q) q (sym same ∙ chosen)
+        passes : IsVariable p.matrix q × ((restores_feasibility (rhs_family p shift theta) s t l.r below q && is_cheapest (rhs_family p shift theta) s t l.r below q) ≡ true)
+        passes = found_passes (rhs_family p shift theta) (λ q. restores_feasibility (rhs_family p shift theta) s t l.r below q && is_cheapest (rhs_family p shift theta) s t l.r below q) q (sym same ∙ chosen)
 
-        tests : (brings_back (rhs_family p shift theta) s t l.r below q ≡ true) × (is_cheapest (rhs_family p shift theta) s t l.r below q ≡ true)
+        tests : (restores_feasibility (rhs_family p shift theta) s t l.r below q ≡ true) × (is_cheapest (rhs_family p shift theta) s t l.r below q ≡ true)
         tests = and_parts _ _ passes.1
 
-        least : (j : ℕ) → IsVariable p.matrix j → brings_back (rhs_family p shift theta) s t l.r below j ≡ true → ratio (rhs_family p shift theta) s t l.r q ≤ℚ ratio (rhs_family p shift theta) s t l.r j
+        least : (j : ℕ) → IsVariable p.matrix j → restores_feasibility (rhs_family p shift theta) s t l.r below j ≡ true → ratio (rhs_family p shift theta) s t l.r q ≤ℚ ratio (rhs_family p shift theta) s t l.r j
         least j is own =
             le_from_test (ratio (rhs_family p shift theta) s t l.r q) (ratio (rhs_family p shift theta) s t l.r j)
-            (passes_left (brings_back (rhs_family p shift theta) s t l.r below j) _
-            (list_all_true (λ j. not (brings_back (rhs_family p shift theta) s t l.r below j) || le_ℚ (ratio (rhs_family p shift theta) s t l.r q) (ratio (rhs_family p shift theta) s t l.r j)) (size p.matrix) 1 tests.1 j is.0 (omega (arith, is.1))) own)
+            (passes_left (restores_feasibility (rhs_family p shift theta) s t l.r below j) _
+            (list_all_true (λ j. not (restores_feasibility (rhs_family p shift theta) s t l.r below j) || le_ℚ (ratio (rhs_family p shift theta) s t l.r q) (ratio (rhs_family p shift theta) s t l.r j)) (size p.matrix) 1 tests.1 j is.0 (omega (arith, is.1))) own)
 
         rows : HasRows (rhs_family p shift theta)
         rows = record { objective = lawful.objective_row; change = no_row p.change no_change }
@@ -204,7 +204,7 @@ module _ (p : LinearProgram) (shift : List ℚ) (lawful : IsLinearProgram p) (no
           pub face_step : (d : Vector) → IsStepBy p s z d q (return_by p z d l.r (if not (is_upper l.side) then Ll else Ul))
           face_step d = brings face_limit.0 basic face_limit.1 (ap (λ o. (unwrap_or o zero_ℚ -ℚ z l.r) /ℚ d l.r) face_limit.1)
 
-          -- the point at the break doesn't move
+          -- the point at the breakpoint doesn't move
           point_after : IsPointOf (rhs_family p shift theta) (after s move) (along z theta v)
           point_after =
               subst (IsPointOf (rhs_family p shift theta) (after s move)) (λ i k. by_ring2 (along z theta v k) (rowed.rate k q) (λ y d. y ⊕ number (pos 0) ⊗ d ≐ y) refl i)

@@ -34,7 +34,7 @@ use Rattle.parametric_run.specs.declared.method.Span.{Span}
 use Rattle.parametric_run.proofs.Openings.{opening_goes_on, opening_stands}
 use Rattle.simplex_definitions.specs.RhsRun.{rhs_family, IsRhsFace}
 use Rattle.para_rhs.specs.Method.{rhs_problem}
-use Rattle.para_rhs.specs.Runs.{told_at}
+use Rattle.para_rhs.specs.Runs.{reported_at}
 
 step_belongs : (n term : ℕ) → (is_between 1 12 n && (not (nat_eq n 6) || not (nat_eq term 3))) ≡ true → ((is_between 1 14 n || nat_eq n 18) && (not (nat_eq n 6) || not (nat_eq term 3))) ≡ true
 step_belongs n term h = grind arith
@@ -166,7 +166,7 @@ module _ (p : LinearProgram) (shift : List ℚ) (from : ℚ) (a : Matrix) (b : B
 -- ---- the opening path
 
 module _ (p : LinearProgram) (shift : List ℚ) (span : Span) (s now : List Status) (before after : List Basics) where
-  pub opening_stops : p.change ≡ None → (why : PrimalStop) → PrimalStops (rhs_family p shift span.from) s now span.limit before after why → MethodStops (rhs_problem p shift) span s now before after (told_at span.from why)
+  pub opening_stops : p.change ≡ None → (why : PrimalStop) → PrimalStops (rhs_family p shift span.from) s now span.limit before after why → MethodStops (rhs_problem p shift) span s now before after (reported_at span.from why)
   opening_stops no_change Limit h = opening_goes_on (rhs_family p shift) (IsRhsFace p shift) span.from span.to p.matrix s before now span.limit h
   opening_stops no_change (Overflow e) h = inl (record {
     stands = opening_stands (rhs_family p shift) (IsRhsFace p shift) span.from span.to p.matrix s before now span.limit h.bases h.is_path h.reaches h.within;

@@ -66,9 +66,9 @@ module _ (p : LinearProgram) (shift : List ℚ) (lawful : IsLinearProgram p) (s 
       (λ j out. ap (λ x. rate k j *ℚ x) (slope.placed j out))
 
   module _ (e : Evidence) (no_way : e.way ≡ 0) (none : e.theta ≡ zero_ℚ) (names : names_waypoint e.formula ≡ false) (quiet : is_quiet e.formula) (of_run : (from : ℚ) → IsTrue (belongs (Pararhs p shift from) e)) where
-    shown : (from : ℚ) (Goes : Status → Type 0) (wider : List Basics) → IsWithinOne p.matrix (basics_of s) wider → Formula (Pararhs p shift from) Goes s tableau (basics_of s) rate e →
+    viewed : (from : ℚ) (Goes : Status → Type 0) (wider : List Basics) → IsWithinOne p.matrix (basics_of s) wider → Formula (Pararhs p shift from) Goes s tableau (basics_of s) rate e →
         ShowsRefusal (Pararhs p shift from) Goes wider s (basics_of s) e
-    shown from Goes wider own formula = record {
+    viewed from Goes wider own formula = record {
       tableau = tableau;
       is_tableau = subst (λ (q : LinearProgram). IsTableau q s tableau) (family_at_zero p shift lawful e.theta none) is_tableau;
       way_rate = rate;
@@ -83,7 +83,7 @@ module _ (p : LinearProgram) (shift : List ℚ) (lawful : IsLinearProgram p) (s 
     here before after formula =
         run_refused p shift s before after e (omega (arith, no_way)) none quiet of_run
         (λ from wider cover Goes.
-        subst (λ (w : Basics). ShowsRefusal (Pararhs p shift from) Goes wider s w e) (sym (ap (waypoint (basics_of s) after) no_way)) (shown from Goes wider cover.0 (formula from Goes)))
+        subst (λ (w : Basics). ShowsRefusal (Pararhs p shift from) Goes wider s w e) (sym (ap (waypoint (basics_of s) after) no_way)) (viewed from Goes wider cover.0 (formula from Goes)))
 
     pub by_slopes : (before after : List Basics) → SlopeFormula p s tableau (shift_of p.matrix shift) e → RunRefused p shift s before after e
     by_slopes before after f = here before after (λ from Goes. by_slope tableau

@@ -159,8 +159,8 @@ module _ (p : LinearProgram) (shift : List ℚ) (lawful : IsLinearProgram p) (s 
 
   module _ (from : ℚ) (Goes : Status → Type 0) (around wider : List Basics) (w : Basics) (none : e.theta ≡ zero_ℚ) (call : of_call e.formula) (cover : Covers p.matrix around wider)
       (h : ShowsRefusal (Primal (slope_program p shift)) (λ to. ⊥) around s w e) where
-    same_shown : nat_eq e.formula 10 ≡ false → ShowsRefusal (Pararhs p shift from) Goes wider s w e
-    same_shown other = record {
+    same_view : nat_eq e.formula 10 ≡ false → ShowsRefusal (Pararhs p shift from) Goes wider s w e
+    same_view other = record {
       tableau = u from Goes h.tableau h.is_tableau w h.way_rate;
       is_tableau = subst (λ (q : LinearProgram). IsTableau q s (u from Goes h.tableau h.is_tableau w h.way_rate)) (family_at_zero p shift lawful e.theta none) (is_u from Goes h.tableau h.is_tableau w h.way_rate);
       way_rate = h.way_rate;
@@ -171,8 +171,8 @@ module _ (p : LinearProgram) (shift : List ℚ) (lawful : IsLinearProgram p) (s 
       no_way = h.no_way;
     }
 
-    slope_shown : nat_eq e.formula 10 ≡ true → ShowsRefusal (Pararhs p shift from) Goes wider s w (record e { formula = 18 })
-    slope_shown ten = record {
+    slope_view : nat_eq e.formula 10 ≡ true → ShowsRefusal (Pararhs p shift from) Goes wider s w (record e { formula = 18 })
+    slope_view ten = record {
       tableau = u from Goes h.tableau h.is_tableau w h.way_rate;
       is_tableau = subst (λ (q : LinearProgram). IsTableau q s (u from Goes h.tableau h.is_tableau w h.way_rate)) (family_at_zero p shift lawful e.theta none) (is_u from Goes h.tableau h.is_tableau w h.way_rate);
       way_rate = h.way_rate;
@@ -192,13 +192,13 @@ module _ (p : LinearProgram) (shift : List ℚ) (lawful : IsLinearProgram p) (s 
       none : e.theta ≡ zero_ℚ
       none = only_zero p shift s before after e (subst (λ (o : Option Change). Contains (thetas_of (job_of (slope_program p shift) o) []) e.theta) no_change h.stops.is_theta)
 
-      shown : ShowsRefusal (Primal (slope_program p shift)) (λ to. ⊥) (basics_of s ∷ before) s (waypoint (basics_of s) after e.way) e
-      shown = subst (λ (o : Option Change). ShowsRefusal (job_of (slope_program p shift) o) (λ to. ⊥) (basics_of s ∷ before) s (waypoint (basics_of s) after e.way) e) no_change h.stops.shows
+      viewed : ShowsRefusal (Primal (slope_program p shift)) (λ to. ⊥) (basics_of s ∷ before) s (waypoint (basics_of s) after e.way) e
+      viewed = subst (λ (o : Option Change). ShowsRefusal (job_of (slope_program p shift) o) (λ to. ⊥) (basics_of s ∷ before) s (waypoint (basics_of s) after e.way) e) no_change h.stops.shows
 
       by_number : (b : Bool) → nat_eq e.formula 10 ≡ b → RunRefused p shift s before after (cond b (record e { formula = 18 }) e)
       by_number true ten =
           run_refused p shift s before after (record e { formula = 18 }) h.stops.is_way none (refl, refl) (λ from. refl)
-          (λ from wider cover Goes. slope_shown from Goes (basics_of s ∷ before) wider (waypoint (basics_of s) after e.way) none call cover shown ten)
+          (λ from wider cover Goes. slope_view from Goes (basics_of s ∷ before) wider (waypoint (basics_of s) after e.way) none call cover viewed ten)
       by_number false other =
           run_refused p shift s before after e h.stops.is_way none (quiet_call e.formula call) (λ from. of_run e.formula e.term call)
-          (λ from wider cover Goes. same_shown from Goes (basics_of s ∷ before) wider (waypoint (basics_of s) after e.way) none call cover shown other)
+          (λ from wider cover Goes. same_view from Goes (basics_of s ∷ before) wider (waypoint (basics_of s) after e.way) none call cover viewed other)

@@ -1,4 +1,4 @@
--- Who leaves its limits at a break, variable by variable.
+-- Who leaves its limits at a breakpoint, variable by variable.
 --     stands_at theta ..           the value at theta is the limit there
 --     leaving_side .. k            the limit at which k stands at theta and which it would break beyond, if there is one
 --     IsLeaverOf                   the least-numbered variable with such a limit

@@ -9,6 +9,6 @@ use Rattle.lp_definitions.specs.declared.Evidence.{Evidence}
 use Rattle.lp_definitions.specs.declared.Status.{Status}
 use Rattle.bounded_primal.specs.Calls.{EvidenceHere}
 
--- with any number of steps left, at a break or where an interval begins; before and after are the waypoints of the call
+-- with any number of steps left, at a breakpoint or where an interval begins; before and after are the waypoints of the call
 abbrev pub RunRefused : LinearProgram → List ℚ → List Status → List Basics → List Basics → Evidence → Type 0
-RunRefused p shift s before after e = (from : ℚ) (break : Option ℚ) (left : ℕ) → EvidenceHere (Pararhs p shift from) p.matrix break left s before after e
+RunRefused p shift s before after e = (from : ℚ) (breakpoint : Option ℚ) (left : ℕ) → EvidenceHere (Pararhs p shift from) p.matrix breakpoint left s before after e

@@ -1,8 +1,8 @@
 -- A run of the right-hand side, as code makes it.
---     told_at theta stop           a stop of the path at theta, as that of a run
+--     reported_at theta stop           a stop of the path at theta, as that of a run
 --     Overflows e                  why a call stops by an overflow
 --     RhsEnds, RhsStops, RhsFollows     what the whole call promises
---     RhsUnhindered                the run that the whole call has to answer
+--     RhsOverflowFree                the run that the whole call has to answer
 use Rattle.std.specs.Prelude.{◌⊎◌, List, []}
 use Rattle.exact_values.specs.Rational.{ℚ}
 use Rattle.lp_definitions.specs.LinearProgram.{LinearProgram}
@@ -15,16 +15,16 @@ use Rattle.simplex_definitions.specs.Evidence.{ShiftHolds}
 use Rattle.bounded_primal.specs.declared.moves.PrimalStop.{PrimalStop}
 use Rattle.bounded_primal.specs.declared.moves.PrimalStop.TheVariants.{Limit, Overflow, NoMemory}
 use Rattle.parametric_run.specs.Calls.{RunEnds, StandsThere, WaypointsFollowRun, RunOverflows, RunStops}
-use Rattle.parametric_run.specs.Complete.{RunEndsUnhindered}
+use Rattle.parametric_run.specs.Complete.{RunEndsOverflowFree}
 use Rattle.parametric_run.specs.Truth.{IsTrueReported}
 use Rattle.para_rhs.specs.Faces.{family, Face, statement}
 use Rattle.para_rhs.specs.declared.parts.ParaRhs.{ParaRhs}
 
--- the stop of the path at the first value, as that of a run: its evidence is told of that value
-abbrev pub told_at : ℚ → PrimalStop → PrimalStop
-told_at theta Limit = Limit
-told_at theta (Overflow e) = Overflow (record e { theta = theta })
-told_at theta NoMemory = NoMemory
+-- the stop of the path at the first value, as that of a run: its evidence is reported of that value
+abbrev pub reported_at : ℚ → PrimalStop → PrimalStop
+reported_at theta Limit = Limit
+reported_at theta (Overflow e) = Overflow (record e { theta = theta })
+reported_at theta NoMemory = NoMemory
 
 module _ (p : LinearProgram) (run : ParaRhs) where
   -- the run from s has ended at now within the limit, with this report
@@ -50,6 +50,6 @@ module _ (p : LinearProgram) (run : ParaRhs) where
 
   -- the run from s ends within the limit, and wherever the call may be on it, no evidence of an overflow holds, nor any of a limit
   -- that could not be made
-  abbrev pub RhsUnhindered : List Status → List Basics → RunReport → List (List Status) → Type 0
-  RhsUnhindered s before =
-      RunEndsUnhindered (family p run) (Face p run) run.from run.to s run.limit (λ now after e. Overflows s now before after e)
+  abbrev pub RhsOverflowFree : List Status → List Basics → RunReport → List (List Status) → Type 0
+  RhsOverflowFree s before =
+      RunEndsOverflowFree (family p run) (Face p run) run.from run.to s run.limit (λ now after e. Overflows s now before after e)

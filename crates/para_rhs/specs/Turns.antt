@@ -1,7 +1,7 @@
 -- A face step of the right-hand side, as code makes it.
 --     goes_to l                    the status in which the leaver stands at the limit that it would break
 --     EntryRefused                 an operation is refused, where the nonbasic that brings the leaver back is sought
---     IsStuckPast                  the end past theta, from the multipliers of a ray
+--     IsInfeasiblePast                  the end past theta, from the multipliers of a ray
 use Rattle.std.specs.Prelude.{◌≡◌, ℕ, not, List, length, if◌then◌else◌}
 use Rattle.exact_values.specs.Rational.{ℚ}
 use Rattle.lp_definitions.specs.LinearProgram.{LinearProgram, Vector, size, value_at, IsVariable}
@@ -27,7 +27,7 @@ pub data EntryRefused (p : LinearProgram) (s : List Status) (y : Vector) (l : Le
       EntryRefused p s y l before after e
 
 -- the end past theta has these multipliers
-pub record IsStuckPast (p : LinearProgram) (theta : ℚ) (w : Vector) (end : ParaEnd) : Type 0 where
+pub record IsInfeasiblePast (p : LinearProgram) (theta : ℚ) (w : Vector) (end : ParaEnd) : Type 0 where
   pub ws : List ℚ
   pub is_end : end ≡ Infeasible theta ws
   pub counted : length ws ≡ size p.matrix

@@ -1,4 +1,4 @@
-//! Who leaves its limits at a break.
+//! Who leaves its limits at a breakpoint.
 
 ghost use Rattle.std.specs.Prelude.{◌≡◌, ◌≢◌, None, Some, length, List, IfOk, IfErr, OnErr};
 ghost use Rattle.exact_values.specs.Rational.{◌*ℚ◌};
@@ -17,7 +17,7 @@ use crate::reaching::{formula, side_ahead};
 use frac128::Frac;
 use lp_model::{Basis, Evidence, Lp};
 
-/// A basic that stands at a limit which it would break beyond the break.
+/// A basic that stands at a limit which it would break beyond the breakpoint.
 #[derive(Clone, Copy, Debug)]
 pub struct Leaver {
     pub r: u32,

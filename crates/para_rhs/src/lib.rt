@@ -9,7 +9,7 @@ mod parts;
 mod reaching;
 mod run;
 mod slopes;
-mod told;
+mod reported;
 mod turns;
 
 pub use breaks::{Leaver, face_leaver};

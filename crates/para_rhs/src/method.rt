@@ -3,8 +3,8 @@
 use crate::breaks::face_leaver;
 use crate::limits::program_at;
 use crate::reaching::reach;
-use crate::told::told_at;
-use crate::turns::{entering, returning, stuck};
+use crate::reported::reported_at;
+use crate::turns::{entering, returning, infeasible_end};
 use bounded_primal::{PrimalStop, point_of, prices_of, primal};
 use frac128::Frac;
 use lp_model::{Basis, Lp, Outcome, ParaPart, Point, Rates, Stop};
@@ -43,7 +43,7 @@ impl<'a> Parametric for RightHandSide<'a> {
         let program = program_at(alloc, self.lp, self.shift, span.from)?;
         match primal(alloc, &program, basis, rates, span.limit) {
             Ok(outcome) => Ok(outcome),
-            Err(stop) => Err(told_at(span.from, stop)),
+            Err(stop) => Err(reported_at(span.from, stop)),
         }
     }
 
@@ -133,7 +133,7 @@ impl<'a> Parametric for RightHandSide<'a> {
         };
         let chosen = entering(self.lp, basis, rates, workspace, &leaver)?;
         let Some(q) = chosen else {
-            let end = stuck(alloc, self.lp, workspace, &leaver, theta)?;
+            let end = infeasible_end(alloc, self.lp, workspace, &leaver, theta)?;
             return Ok(FaceStep::Ends(end));
         };
         if left == 0 {

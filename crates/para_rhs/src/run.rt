@@ -6,7 +6,7 @@ ghost use Rattle.basis_values.specs.Calls.{HasRates};
 ghost use Rattle.lp_definitions.specs.declared.Status.{Status};
 ghost use Rattle.simplex_definitions.specs.Chain.{RunReport};
 ghost use Rattle.parametric_run.specs.Complete.{IsRunOrMemory};
-ghost use Rattle.para_rhs.specs.Runs.{RhsEnds, RhsStops, RhsFollows, RhsUnhindered, IsTrueRhs};
+ghost use Rattle.para_rhs.specs.Runs.{RhsEnds, RhsStops, RhsFollows, RhsOverflowFree, IsTrueRhs};
 
 use crate::method::RightHandSide;
 use crate::parts::ParaRhs;
@@ -45,7 +45,7 @@ pub fn para_rhs<R: Rates>(
         (R.waypoints rates.old) (R.waypoints rates.new) }
     ensures truth { IfOk result (IsTrueRhs lp.now run.now) }
     ensures complete { (report : RunReport) → (path : List (List Status)) →
-        RhsUnhindered lp.now run.now basis.old (R.waypoints rates.old) report path →
+        RhsOverflowFree lp.now run.now basis.old (R.waypoints rates.old) report path →
         IsRunOrMemory basis.old report path basis.new result }
 {
     let shift = run.shift.as_slice();

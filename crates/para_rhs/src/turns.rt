@@ -12,7 +12,7 @@ ghost use Rattle.bounded_primal.specs.Turns.{ReturnStops, ray_from};
 ghost use Rattle.dual_step.specs.Cheapest.{cheapest_by};
 ghost use Rattle.parametric_run.specs.Standing.{AreSized};
 ghost use Rattle.para_rhs.specs.Limits.{is_upper};
-ghost use Rattle.para_rhs.specs.Turns.{goes_to, EntryRefused, IsStuckPast};
+ghost use Rattle.para_rhs.specs.Turns.{goes_to, EntryRefused, IsInfeasiblePast};
 
 use crate::breaks::Leaver;
 use crate::limits::is_lower;
@@ -102,7 +102,7 @@ pub fn returning<R: Rates>(
 }
 
 /// The end past `theta`: the multipliers that show that the leaver can't come back.
-pub fn stuck(
+pub fn infeasible_end(
     alloc: Global,
     lp: &Lp,
     workspace: &Workspace,
@@ -110,7 +110,7 @@ pub fn stuck(
     theta: Frac,
 ) -> Result<ParaEnd, NoMemory>
     requires { length workspace.now.row.items ≡ size lp.now.matrix }
-    ensures { IfOk result (IsStuckPast lp.now theta (ray_from (value_at workspace.now.row.items)
+    ensures { IfOk result (IsInfeasiblePast lp.now theta (ray_from (value_at workspace.now.row.items)
         leaver.now.r (not (is_upper leaver.now.side)))) }
 {
     let below = is_lower(leaver.side);

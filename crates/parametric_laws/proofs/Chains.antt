@@ -1,4 +1,4 @@
--- What is proved of the breaks of a family makes its runs true.
+-- What is proved of the breakpoints of a family makes its runs true.
 use Rattle.std.proofs.Common.{◌≡◌, suc, ◌⊎◌, inl, inr, List, [], ◌∷◌, refl, arith}
 use Rattle.std.specs.Prelude.{All}
 use Rattle.std.proofs.lemmas.List.Elements.{All-cons}
@@ -10,9 +10,9 @@ use Rattle.lp_definitions.specs.declared.Status.{Status}
 use Rattle.lp_laws.proofs.Duality.{infeasible_by_crossed, infeasible_by_ray, unbounded_by_direction}
 use Rattle.simplex_definitions.specs.Path.{Move, after, last_of, PathEnding, EndsOptimal, EndsCrossed, EndsInfeasible, EndsUnbounded, PathEnds}
 use Rattle.simplex_laws.specs.Laws.{IsNonsingularBasis}
-use Rattle.simplex_laws.proofs.Endless.{crossed_end, unbounded_end}
+use Rattle.simplex_laws.proofs.UnboundedEnds.{crossed_end, unbounded_end}
 use Rattle.simplex_laws.proofs.Rays.{infeasible_end}
-use Rattle.simplex_definitions.specs.Chain.{Part, ChainEnd, FailedOpening, Chain, FaceTurn, FaceMoves, FaceDone, FaceEnds, IsFailure, IsPart, IsFaceStep, IsFacePath, IsChain, at_max, past_break, goes_on}
+use Rattle.simplex_definitions.specs.Chain.{Part, ChainEnd, FailedOpening, Chain, FaceTurn, FaceMoves, FaceDone, FaceEnds, IsFailure, IsPart, IsFaceStep, IsFacePath, IsChain, at_max, past_breakpoint, goes_on}
 use Rattle.parametric_laws.proofs.Runs.{KeepsBases, face_step_leads, face_path_leads, opening_leads}
 use Rattle.parametric_laws.specs.Truth.{IsCovered, IsTruePart, IsTrueEnd, IsTrueRun, IsTrueFailure}
 use Rattle.parametric_laws.specs.Laws.{HasTrueRuns}
@@ -48,7 +48,7 @@ failure_true p s (EndsUnbounded z d) path lawful at ends failure =
     let proof = unbounded_end p (last_of s path) z d lawful at.is_basis ends.ends in
     record { proof = proof; unbounded = unbounded_by_direction p _ _ proof }
 
--- what is asked of the breaks: what is known of an optimal basis is kept by face steps; where none is left the next interval is
+-- what is asked of the breakpoints: what is known of an optimal basis is kept by face steps; where none is left the next interval is
 -- longer than a point; and an end is proved for all greater values
 module _ (p : LinearProgram) (family : ℚ → LinearProgram) (Face : ℚ → List Status → FaceTurn → Type 0) (keeps : KeepsBases p family Face)
     (lawful : (theta : ℚ) → IsLinearProgram (family theta)) (Known : ℚ → List Status → Type 0)
@@ -67,11 +67,11 @@ module _ (p : LinearProgram) (family : ℚ → LinearProgram) (Face : ℚ → Li
   long : (from max : ℚ) (s : List Status) (part : Part) → IsNonsingularBasis p s → from <ℚ max → Face from s FaceDone → IsPart family from max s part → IsLong part
   long from max s part at before done is = rw is.begins (grows from max s part at before done is)
 
-  -- the intervals past a break
+  -- the intervals past a breakpoint
   chain_long : (max from : ℚ) (s : List Status) (parts : List Part) (end : ChainEnd) (path : List (List Status)) → IsNonsingularBasis p s → from <ℚ max → Face from s FaceDone →
       IsChain family Face max from s parts end path → All IsLong parts
   chain_long max _ _ _ _ _ at before done (at_max {from} {s} {part} is whole) = All-cons IsLong part [] (long from max s part at before done is) (none_fails IsLong)
-  chain_long max _ _ _ _ _ at before done (past_break {from} {s} {part} is faces) = All-cons IsLong part [] (long from max s part at before done is) (none_fails IsLong)
+  chain_long max _ _ _ _ _ at before done (past_breakpoint {from} {s} {part} is faces) = All-cons IsLong part [] (long from max s part at before done is) (none_fails IsLong)
   chain_long max _ _ _ _ _ at before done (goes_on {from} {s} {part} {parts} {end} {bases} {later} is faces chain) =
       All-cons IsLong part parts (long from max s part at before done is)
       (chain_long max part.to (last_of s bases) parts end later (face_path_leads p family Face keeps part.to s bases at faces.face_path) faces.before_max faces.last chain)
@@ -85,7 +85,7 @@ module _ (p : LinearProgram) (family : ℚ → LinearProgram) (Face : ℚ → Li
     long = none_fails IsLong;
     closes = whole;
   }
-  chain_true max _ _ _ _ _ at (past_break {from} {s} {part} {end} {path} is faces) = record {
+  chain_true max _ _ _ _ _ at (past_breakpoint {from} {s} {part} {end} {path} is faces) = record {
     intervals = All-cons (IsTruePart family max) part [] (is_true_part family lawful from max s part is) (none_fails (IsTruePart family max));
     joined = (is.begins, tt);
     covered = λ theta after before. covered_one from theta part is.begins after before;

@@ -1,15 +1,15 @@
--- At a value at which its basis is optimal an interval tells a best point and proving prices.
+-- At a value at which its basis is optimal an interval tells a best point and dual certificate.
 use Rattle.std.proofs.Common.{◌≡◌, ℕ, Bool, true, false, List, refl, ◌∙◌}
 use Rattle.std.specs.Prelude.{if◌then◌else◌}
 use Rattle.exact_values.specs.Rational.{ℚ, zero_ℚ}
 use Rattle.lp_definitions.specs.LinearProgram.{LinearProgram, Vector, IsVariable, IsLinearProgram}
-use Rattle.lp_definitions.specs.Solutions.{IsFeasible, AreProvingPrices}
+use Rattle.lp_definitions.specs.Solutions.{IsFeasible, IsDualCertificate}
 use Rattle.lp_definitions.specs.Basis.{is_in, basics_of, IsOptimalBasis, IsPointOf, ArePricesOf, objective_rate, price_at}
 use Rattle.lp_definitions.specs.declared.Status.{Status}
 use Rattle.lp_laws.proofs.Duality.{best_by_prices}
 use Rattle.lp_laws.proofs.Optimal.{prices_prove}
 use Rattle.lp_laws.proofs.Uniqueness.{one_point, one_table}
-use Rattle.simplex_laws.proofs.Endless.{objective_value-same}
+use Rattle.simplex_laws.proofs.UnboundedEnds.{objective_value-same}
 use Rattle.simplex_laws.proofs.Ends.{IsFeasible-same}
 use Rattle.simplex_definitions.specs.Chain.{Part, along, IsPart}
 use Rattle.parametric_laws.specs.Truth.{IsSolvedBy, IsTruePart}
@@ -30,12 +30,12 @@ module _ (p : LinearProgram) (lawful : IsLinearProgram p) (s : List Status) (opt
             objective_value-same p (λ i. prices.rate i k) (λ i. optimal.tableau.rate i k) lawful
             (λ i out. one_table p.matrix (basics_of s) prices.rate optimal.tableau.rate optimal.nonsingular prices.are_rates optimal.is_tableau.are_rates i k out (is, mark))
 
-    proving : AreProvingPrices p z y
-    proving =
+    certificate : IsDualCertificate p z y
+    certificate =
         prices_prove p lawful s optimal.is_basis optimal.nonsingular optimal.tableau.rate optimal.is_tableau.are_rates z y point same_price optimal.right
 
     pub solved : IsSolvedBy p z y
-    solved = record { best = best_by_prices p lawful z y point_feasible proving; proving = proving }
+    solved = record { best = best_by_prices p lawful z y point_feasible certificate; certificate = certificate }
 
 module _ (family : ℚ → LinearProgram) (lawful : (theta : ℚ) → IsLinearProgram (family theta)) (from max : ℚ) (s : List Status) (part : Part) (is : IsPart family from max s part) where
   pub is_true_part : IsTruePart family max part

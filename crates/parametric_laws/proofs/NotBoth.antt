@@ -7,14 +7,14 @@ use Rattle.lp_definitions.specs.declared.Status.{Status}
 use Rattle.simplex_definitions.specs.Path.{last_of, PathEnding, EndsOptimal, IsStep, EndsAt, PathEnds}
 use Rattle.simplex_laws.specs.Laws.{IsNonsingularBasis}
 use Rattle.simplex_laws.proofs.OnePath.{one_step, one_end, step_or_end}
-use Rattle.simplex_definitions.specs.Chain.{Part, ChainEnd, RunReport, FailedOpening, Chain, FaceTurn, FaceMoves, FaceDone, FaceEnds, IsFailure, ReachesTo, IsFaceStep, IsFacePath, IsChain, at_max, past_break, goes_on, IsReport, RunPlace, InOpening, AtBreak, basis_of, Reaches, begins, path_step, first_break, face_step, next_break, GoesOn, RunGoesOnFor}
+use Rattle.simplex_definitions.specs.Chain.{Part, ChainEnd, RunReport, FailedOpening, Chain, FaceTurn, FaceMoves, FaceDone, FaceEnds, IsFailure, ReachesTo, IsFaceStep, IsFacePath, IsChain, at_max, past_breakpoint, goes_on, IsReport, RunPlace, InOpening, AtBreakpoint, basis_of, Reaches, begins, path_step, first_breakpoint, face_step, next_breakpoint, GoesOn, RunGoesOnFor}
 use Rattle.parametric_laws.proofs.Runs.{reached_leads}
 use Rattle.parametric_laws.proofs.OneRun.{HasOneFace, IsStill, one_reach, still_or_steps, one_face_step}
 
 module _ (p : LinearProgram) (family : ℚ → LinearProgram) (Face : ℚ → List Status → FaceTurn → Type 0) (one : HasOneFace p family Face) where
   -- ---- the rest of a run, from where it stands
 
-  -- what comes after the face steps at a break
+  -- what comes after the face steps at a breakpoint
   abbrev Follows : ℚ → ℚ → List Status → FaceTurn → List (List Status) → Type 0
   Follows max theta s (FaceMoves m) later = ⊥
   Follows max theta s FaceDone later = (parts : List Part) × (end : ChainEnd) × IsChain family Face max theta s parts end later
@@ -31,7 +31,7 @@ module _ (p : LinearProgram) (family : ℚ → LinearProgram) (Face : ℚ → Li
 
   abbrev Remains : ℚ → ℚ → RunPlace → List (List Status) → Type 0
   Remains from max (InOpening now) rest = (report : RunReport) × IsReport family Face from max now report rest
-  Remains from max (AtBreak theta now) rest = RestOfFaces max theta now rest
+  Remains from max (AtBreakpoint theta now) rest = RestOfFaces max theta now rest
 
   still_by : (max theta : ℚ) (s : List Status) (turn : FaceTurn) (later : List (List Status)) → Follows max theta s turn later → IsStill turn
   still_by max theta s (FaceMoves m) later follows = follows
@@ -100,7 +100,7 @@ module _ (p : LinearProgram) (family : ℚ → LinearProgram) (Face : ℚ → Li
       ReachesTo family now from max to → to <ℚ max → RestOfFaces max to now rest
   chain_breaks max _ _ _ _ _ to (at_max {from} {s} {part} is whole) reaches within =
       absurd (lt_irrefl (subst (λ x. x <ℚ max) (one_reach family s from max to part.to reaches is.reaches ∙ whole) within))
-  chain_breaks max _ _ _ _ _ to (past_break {from} {s} {part} {end} {path} is faces) reaches within =
+  chain_breaks max _ _ _ _ _ to (past_breakpoint {from} {s} {part} {end} {path} is faces) reaches within =
       let same : part.to ≡ to = one_reach family s from max part.to to is.reaches reaches in
       record {
         bases = path;
@@ -133,11 +133,11 @@ module _ (p : LinearProgram) (family : ℚ → LinearProgram) (Face : ℚ → Li
       subst (RestOfFaces max to now) (sym (run.whole ∙ ap (λ xs. xs ++ run.faces) none)) (chain_breaks max from now parts end run.faces to chain reaches within)
 
   face_took : (from max theta : ℚ) (now next : List Status) (rest : List (List Status)) → IsNonsingularBasis p now → RestOfFaces max theta now rest → IsFaceStep family Face theta now next →
-      Took from max next (AtBreak theta next) rest
+      Took from max next (AtBreakpoint theta next) rest
   face_took from max theta now next rest at h step = by_bases h.bases h.face_path h.last h.follows h.whole
     where
       by_bases : (bases : List (List Status)) → IsFacePath family Face theta now bases → Face theta (last_of now bases) h.turn → Follows max theta (last_of now bases) h.turn h.later →
-          rest ≡ bases ++ h.later → Took from max next (AtBreak theta next) rest
+          rest ≡ bases ++ h.later → Took from max next (AtBreakpoint theta next) rest
       by_bases [] path last follows whole = absurd (still_or_steps p family Face one theta now next h.turn at last (still_by max theta now h.turn h.later follows) step)
       by_bases (x ∷ bases) path last follows whole =
           let same : x ≡ next = one_face_step p family Face one theta now x next at path.0 step in
@@ -193,7 +193,7 @@ module _ (p : LinearProgram) (family : ℚ → LinearProgram) (Face : ℚ → Li
     has_left _ _ _ (path_step {now} {next} {path} before step) =
         let left = has_left (InOpening now) path [] before in
         took (InOpening now) (InOpening next) path next left (step_took from max now next left.remains.0 left.rest (stands (InOpening now) path [] before) left.remains.1 step)
-    has_left _ _ _ (first_break {now} {path} {to} point prices before ends reaches within) =
+    has_left _ _ _ (first_breakpoint {now} {path} {to} point prices before ends reaches within) =
         let left = has_left (InOpening now) path [] before in
         record {
           rest = left.rest;
@@ -201,14 +201,14 @@ module _ (p : LinearProgram) (family : ℚ → LinearProgram) (Face : ℚ → Li
           remains = report_breaks from max now left.remains.0 left.rest point prices to (stands (InOpening now) path [] before) left.remains.1 ends reaches within;
         }
     has_left _ _ _ (face_step {theta} {now} {next} {path} {ends} before step) =
-        let left = has_left (AtBreak theta now) path ends before in
-        took (AtBreak theta now) (AtBreak theta next) path next left (face_took from max theta now next left.rest (stands (AtBreak theta now) path ends before) left.remains step)
-    has_left _ _ _ (next_break {theta} {now} {path} {ends} {to} before done reaches within) =
-        let left = has_left (AtBreak theta now) path ends before in
+        let left = has_left (AtBreakpoint theta now) path ends before in
+        took (AtBreakpoint theta now) (AtBreakpoint theta next) path next left (face_took from max theta now next left.rest (stands (AtBreakpoint theta now) path ends before) left.remains step)
+    has_left _ _ _ (next_breakpoint {theta} {now} {path} {ends} {to} before done reaches within) =
+        let left = has_left (AtBreakpoint theta now) path ends before in
         record {
           rest = left.rest;
           is_whole = left.is_whole;
-          remains = faces_done max theta now left.rest to (stands (AtBreak theta now) path ends before) left.remains done reaches within;
+          remains = faces_done max theta now left.rest to (stands (AtBreakpoint theta now) path ends before) left.remains done reaches within;
         }
 
     -- one more step than the whole has
@@ -225,10 +225,10 @@ module _ (p : LinearProgram) (family : ℚ → LinearProgram) (Face : ℚ → Li
         let left = has_left (InOpening now) path ends reaches in
         one_more (InOpening now) (InOpening on.0) path on.0 steps within taken left
         (step_took from max now on.0 left.remains.0 left.rest (stands (InOpening now) path ends reaches) left.remains.1 on.1)
-    goes_on_not (AtBreak theta now) path ends steps within taken reaches on =
-        let left = has_left (AtBreak theta now) path ends reaches in
-        one_more (AtBreak theta now) (AtBreak theta on.0) path on.0 steps within taken left
-        (face_took from max theta now on.0 left.rest (stands (AtBreak theta now) path ends reaches) left.remains on.1)
+    goes_on_not (AtBreakpoint theta now) path ends steps within taken reaches on =
+        let left = has_left (AtBreakpoint theta now) path ends reaches in
+        one_more (AtBreakpoint theta now) (AtBreakpoint theta on.0) path on.0 steps within taken left
+        (face_took from max theta now on.0 left.rest (stands (AtBreakpoint theta now) path ends reaches) left.remains on.1)
 
   pub not_both : (from max : ℚ) (s : List Status) (report : RunReport) (path : List (List Status)) (steps : ℕ) → IsNonsingularBasis p s → IsReport family Face from max s report path →
       length path ≤ steps → RunGoesOnFor family Face from max s steps → ⊥

@@ -12,8 +12,8 @@ use Rattle.simplex_definitions.specs.Path.{Move, after, speeds, stopped_by}
 use Rattle.simplex_laws.specs.Laws.{IsNonsingularBasis}
 use Rattle.simplex_laws.proofs.Searches.{found_passes}
 use Rattle.simplex_definitions.specs.Chain.{FaceMoves}
-use Rattle.simplex_definitions.specs.ObjectiveRun.{objective_family, change_rate, face_mover, face_until, face_by, objective_face, IsObjectiveFace}
-use Rattle.dual_laws.proofs.Movers.{is_mover}
+use Rattle.simplex_definitions.specs.ObjectiveRun.{objective_family, change_rate, face_entering_variable, face_until, face_by, objective_face, IsObjectiveFace}
+use Rattle.dual_laws.proofs.EnteringVariables.{is_entering_variable}
 use Rattle.parametric_laws.proofs.Leads.{stopped_leads}
 
 -- the change row is added to the objective; matrix and limits are as they were
@@ -35,22 +35,22 @@ module _ (p : LinearProgram) (h : ℕ) (theta : ℚ) (s : List Status) (t : Tabl
 
   -- q moves until k stops it
   record IsFaceMove (m : Move) (q k : ℕ) : Type 0 where
-    found : face_mover p h theta s t ≡ Some q
+    found : face_entering_variable p h theta s t ≡ Some q
     stops : stopper p t.point (motion q) ≡ Some k
     gives : m ≡ stopped_by q (motion q) k
 
-  stopped_move : (m : Move) (q : ℕ) → face_mover p h theta s t ≡ Some q → (o : Option ℕ) → stopper p t.point (motion q) ≡ o →
+  stopped_move : (m : Move) (q : ℕ) → face_entering_variable p h theta s t ≡ Some q → (o : Option ℕ) → stopper p t.point (motion q) ≡ o →
       face_until p h theta s t q (motion q) o ≡ FaceMoves m → (q : ℕ) × (k : ℕ) × IsFaceMove m q k
   stopped_move m q found (Some k) stops e = (q, k, record { found = found; stops = stops; gives = let same : m ≡ stopped_by q (motion q) k = cc in same })
   stopped_move m q found None stops e = cc
 
-  found_move : (m : Move) (o : Option ℕ) → face_mover p h theta s t ≡ o → face_by p h theta s t o ≡ FaceMoves m → (q : ℕ) × (k : ℕ) × IsFaceMove m q k
+  found_move : (m : Move) (o : Option ℕ) → face_entering_variable p h theta s t ≡ o → face_by p h theta s t o ≡ FaceMoves m → (q : ℕ) × (k : ℕ) × IsFaceMove m q k
   found_move m (Some q) found e = stopped_move m q found (stopper p t.point (motion q)) refl e
   found_move m None found e = cc
 
   face_move : (m : Move) → objective_face p h theta s t ≡ FaceMoves m → (q : ℕ) × (k : ℕ) × IsFaceMove m q k
   unfolding objective_face
-  face_move m e = found_move m (face_mover p h theta s t) refl e
+  face_move m e = found_move m (face_entering_variable p h theta s t) refl e
 
   move_leads : (m : Move) → IsNonsingularBasis p s → IsTableau p s t → objective_face p h theta s t ≡ FaceMoves m → IsNonsingularBasis p (after s m)
   move_leads m at tab e = by_move (face_move m e)
@@ -59,9 +59,9 @@ module _ (p : LinearProgram) (h : ℕ) (theta : ℚ) (s : List Status) (t : Tabl
       by_move (q, k, move) =
           let found = found_passes p (λ q. eq_ℚ (objective_rate p t.rate q) zero_ℚ && lowers p s (change_rate p h theta s t) q) q move.found in
           let lowering = (and_parts (eq_ℚ (objective_rate p t.rate q) zero_ℚ) (lowers p s (change_rate p h theta s t) q) found.1).1 in
-          let mover = is_mover p s (change_rate p h theta s t) q at found.0 lowering in
+          let entering_variable = is_entering_variable p s (change_rate p h theta s t) q at found.0 lowering in
           subst (λ m. IsNonsingularBasis p (after s m)) (sym move.gives)
-          (stopped_leads p s t at tab q k (goes_up (change_rate p h theta s t) q) mover.nonbasic move.stops)
+          (stopped_leads p s t at tab q k (goes_up (change_rate p h theta s t) q) entering_variable.nonbasic move.stops)
 
 pub objective_leads : (p : LinearProgram) (h : ℕ) (theta : ℚ) (s : List Status) (m : Move) → IsNonsingularBasis p s → IsObjectiveFace p h theta s (FaceMoves m) → IsNonsingularBasis p (after s m)
 objective_leads p h theta s m at face =

@@ -1,4 +1,4 @@
--- In a run of the objective the point stays feasible at a break, and a direction in which nothing stops the change row proves for
+-- In a run of the objective the point stays feasible at a breakpoint, and a direction in which nothing stops the change row proves for
 -- every greater value that the program is unbounded.
 use Rattle.std.proofs.Common.{◌≡◌, ◌≢◌, ℕ, Bool, true, false, List, refl, sym, subst, pos}
 use Rattle.std.specs.Prelude.{Option, Some, None, ◌&&◌}
@@ -20,18 +20,18 @@ use Rattle.lp_laws.proofs.Uniqueness.{one_point}
 use Rattle.simplex_definitions.specs.Moves.{signed, goes_up, lowers, stopper}
 use Rattle.simplex_definitions.specs.Path.{Move, after, listed, speeds, stopped_by}
 use Rattle.simplex_laws.specs.Laws.{IsNonsingularBasis}
-use Rattle.simplex_laws.proofs.Endless.{keeps-signed, motion_proves}
+use Rattle.simplex_laws.proofs.UnboundedEnds.{keeps-signed, motion_proves}
 use Rattle.simplex_laws.proofs.Ends.{IsFeasible-same}
 use Rattle.simplex_laws.proofs.Searches.{found_passes}
 use Rattle.simplex_definitions.specs.Chain.{ChainEnd, UnboundedPast, FaceMoves, FaceEnds}
-use Rattle.simplex_definitions.specs.ObjectiveRun.{objective_family, change_rate, face_mover, face_until, face_by, objective_face, IsObjectiveFace}
-use Rattle.dual_laws.proofs.Movers.{IsMover, is_mover}
+use Rattle.simplex_definitions.specs.ObjectiveRun.{objective_family, change_rate, face_entering_variable, face_until, face_by, objective_face, IsObjectiveFace}
+use Rattle.dual_laws.proofs.EnteringVariables.{IsEnteringVariable, is_entering_variable}
 use Rattle.parametric_laws.proofs.Objective.{to_objective}
 use Rattle.parametric_laws.proofs.OneObjective.{lawful_objective}
-use Rattle.parametric_laws.specs.Truth.{IsEndlessBy, IsTrueEnd}
+use Rattle.parametric_laws.specs.Truth.{IsUnboundedBy, IsTrueEnd}
 use Rattle.parametric_laws.proofs.Motions.{HasFeasiblePoint, stopped_feasible}
 
--- ---- what is done at a break
+-- ---- what is done at a breakpoint
 
 module _ (p : LinearProgram) (h : ℕ) (theta : ℚ) (s : List Status) (t : Tableau) where
   abbrev motion : ℕ → Vector
@@ -41,54 +41,54 @@ module _ (p : LinearProgram) (h : ℕ) (theta : ℚ) (s : List Status) (t : Tabl
   record IsStopped (m : Move) : Type 0 where
     q : ℕ
     k : ℕ
-    found : face_mover p h theta s t ≡ Some q
+    found : face_entering_variable p h theta s t ≡ Some q
     stops : stopper p t.point (motion q) ≡ Some k
     gives : m ≡ stopped_by q (motion q) k
 
   -- nothing stops q
-  record IsEndless (end : ChainEnd) : Type 0 where
+  record IsUnboundedEnd (end : ChainEnd) : Type 0 where
     q : ℕ
-    found : face_mover p h theta s t ≡ Some q
+    found : face_entering_variable p h theta s t ≡ Some q
     stops : stopper p t.point (motion q) ≡ None
     gives : end ≡ UnboundedPast theta (listed p.matrix t.point) (listed p.matrix (motion q))
 
-  stopped_by_one : (m : Move) (q : ℕ) → face_mover p h theta s t ≡ Some q → (o : Option ℕ) → stopper p t.point (motion q) ≡ o →
+  stopped_by_one : (m : Move) (q : ℕ) → face_entering_variable p h theta s t ≡ Some q → (o : Option ℕ) → stopper p t.point (motion q) ≡ o →
       face_until p h theta s t q (motion q) o ≡ FaceMoves m → IsStopped m
   stopped_by_one m q found (Some k) stops e = record { q = q; k = k; found = found; stops = stops; gives = let same : m ≡ stopped_by q (motion q) k = cc in same }
   stopped_by_one m q found None stops e = cc
 
-  moving : (m : Move) (o : Option ℕ) → face_mover p h theta s t ≡ o → face_by p h theta s t o ≡ FaceMoves m → IsStopped m
+  moving : (m : Move) (o : Option ℕ) → face_entering_variable p h theta s t ≡ o → face_by p h theta s t o ≡ FaceMoves m → IsStopped m
   moving m (Some q) found e = stopped_by_one m q found (stopper p t.point (motion q)) refl e
   moving m None found e = cc
 
   is_stopped : (m : Move) → objective_face p h theta s t ≡ FaceMoves m → IsStopped m
   unfolding objective_face
-  is_stopped m e = moving m (face_mover p h theta s t) refl e
+  is_stopped m e = moving m (face_entering_variable p h theta s t) refl e
 
-  stopped_by_none : (end : ChainEnd) (q : ℕ) → face_mover p h theta s t ≡ Some q → (o : Option ℕ) → stopper p t.point (motion q) ≡ o →
-      face_until p h theta s t q (motion q) o ≡ FaceEnds end → IsEndless end
+  stopped_by_none : (end : ChainEnd) (q : ℕ) → face_entering_variable p h theta s t ≡ Some q → (o : Option ℕ) → stopper p t.point (motion q) ≡ o →
+      face_until p h theta s t q (motion q) o ≡ FaceEnds end → IsUnboundedEnd end
   stopped_by_none end q found (Some k) stops e = cc
   stopped_by_none end q found None stops e =
       record { q = q; found = found; stops = stops; gives = let same : end ≡ UnboundedPast theta (listed p.matrix t.point) (listed p.matrix (motion q)) = cc in same }
 
-  ending : (end : ChainEnd) (o : Option ℕ) → face_mover p h theta s t ≡ o → face_by p h theta s t o ≡ FaceEnds end → IsEndless end
+  ending : (end : ChainEnd) (o : Option ℕ) → face_entering_variable p h theta s t ≡ o → face_by p h theta s t o ≡ FaceEnds end → IsUnboundedEnd end
   ending end (Some q) found e = stopped_by_none end q found (stopper p t.point (motion q)) refl e
   ending end None found e = cc
 
-  is_endless : (end : ChainEnd) → objective_face p h theta s t ≡ FaceEnds end → IsEndless end
+  is_unbounded : (end : ChainEnd) → objective_face p h theta s t ≡ FaceEnds end → IsUnboundedEnd end
   unfolding objective_face
-  is_endless end e = ending end (face_mover p h theta s t) refl e
+  is_unbounded end e = ending end (face_entering_variable p h theta s t) refl e
 
   -- the combined rate of what moves is 0, and it lowers the change row
-  pub record IsFaceMover (q : ℕ) : Type 0 where
+  pub record IsFaceEnteringVariable (q : ℕ) : Type 0 where
     pub zero_rate : objective_rate p t.rate q ≡ zero_ℚ
-    pub mover : IsMover p s (change_rate p h theta s t) q
+    pub entering_variable : IsEnteringVariable p s (change_rate p h theta s t) q
 
-  pub face_mover_is : (q : ℕ) → IsNonsingularBasis p s → face_mover p h theta s t ≡ Some q → IsFaceMover q
-  face_mover_is q at found =
+  pub face_entering_variable_is : (q : ℕ) → IsNonsingularBasis p s → face_entering_variable p h theta s t ≡ Some q → IsFaceEnteringVariable q
+  face_entering_variable_is q at found =
       let passes = found_passes p (λ q. eq_ℚ (objective_rate p t.rate q) zero_ℚ && lowers p s (change_rate p h theta s t) q) q found in
       let both = and_parts (eq_ℚ (objective_rate p t.rate q) zero_ℚ) (lowers p s (change_rate p h theta s t) q) passes.1 in
-      record { zero_rate = same_from_test _ _ both.0; mover = is_mover p s (change_rate p h theta s t) q at passes.0 both.1 }
+      record { zero_rate = same_from_test _ _ both.0; entering_variable = is_entering_variable p s (change_rate p h theta s t) q at passes.0 both.1 }
 
 -- ---- the point stays feasible
 
@@ -119,9 +119,9 @@ moves_kept : (p : LinearProgram) (h : ℕ) (theta : ℚ) (s : List Status) (t : 
     objective_face p h theta s t ≡ FaceMoves m → HasFeasiblePoint p (after s m)
 moves_kept p h theta s t m at tab have e =
     let move = is_stopped p h theta s t m e in
-    let mover = face_mover_is p h theta s t move.q at move.found in
+    let entering_variable = face_entering_variable_is p h theta s t move.q at move.found in
     subst (λ m. HasFeasiblePoint p (after s m)) (sym move.gives)
-    (stopped_feasible p s t at tab (tableau_feasible p s t at tab have) move.q move.k (goes_up (change_rate p h theta s t) move.q) mover.mover.nonbasic move.stops)
+    (stopped_feasible p s t at tab (tableau_feasible p s t at tab have) move.q move.k (goes_up (change_rate p h theta s t) move.q) entering_variable.entering_variable.nonbasic move.stops)
 
 pub objective_kept : (p : LinearProgram) (h : ℕ) (theta : ℚ) (s : List Status) (m : Move) → IsNonsingularBasis p s → HasFeasiblePoint p s →
     IsObjectiveFace p h theta s (FaceMoves m) → HasFeasiblePoint p (after s m)
@@ -131,7 +131,7 @@ objective_kept p h theta s m at have face =
 
 -- ---- a direction without end
 
--- past theta the objective betters: its rate is 0 at theta, and theta's part betters
+-- past theta the objective improves: its rate is 0 at theta, and theta's part improves
 value_past : (sense : Sense) (up : Bool) (o h theta x : ℚ) → o +ℚ theta *ℚ h ≡ zero_ℚ → for_min sense (signed up o +ℚ x *ℚ signed up h) ≡ (x -ℚ theta) *ℚ signed up (for_min sense h)
 value_past Min true o h theta x e = same_by_one one_ℚ e (by_ring4 o h theta x (λ o h y x. o ⊕ x ⊗ h ≐ (x ⊖ y) ⊗ h ⊕ number (pos 1) ⊗ (o ⊕ y ⊗ h ⊖ number (pos 0))) refl)
 value_past Min false o h theta x e =
@@ -152,7 +152,7 @@ turned_below c apart = by_test (lt_ℚ c zero_ℚ) refl
     by_test false is = neg_below c (lt_from_le (le_from_lt_fails c zero_ℚ is) (λ e. apart (sym e)))
 
 module _ (p : LinearProgram) (h : ℕ) (theta : ℚ) (s : List Status) (t : Tableau) (lawful : (x : ℚ) → IsLinearProgram (objective_family p h x)) (at : IsNonsingularBasis p s)
-    (tab : IsTableau (objective_family p h theta) s t) (have : HasFeasiblePoint p s) (q : ℕ) (mover : IsFaceMover (objective_family p h theta) h theta s t q)
+    (tab : IsTableau (objective_family p h theta) s t) (have : HasFeasiblePoint p s) (q : ℕ) (entering_variable : IsFaceEnteringVariable (objective_family p h theta) h theta s t q)
     (stops : stopper (objective_family p h theta) t.point (motion (objective_family p h theta) h theta s t q) ≡ None) (x : ℚ) (past : theta <ℚ x) where
   abbrev c : ℚ
   c = change_rate (objective_family p h theta) h theta s t q
@@ -163,25 +163,25 @@ module _ (p : LinearProgram) (h : ℕ) (theta : ℚ) (s : List Status) (t : Tabl
   feasible_here : IsFeasible (objective_family p h theta) t.point
   feasible_here = tableau_feasible (objective_family p h theta) s t (to_objective p h theta s at) tab (to_family p h theta s have)
 
-  betters : for_min p.sense (objective_value (objective_family p h x) d) <ℚ zero_ℚ
-  betters =
-      subst (λ y. y <ℚ zero_ℚ) (sym (value_past p.sense (goes_up (change_rate (objective_family p h theta) h theta s t) q) (t.rate p.objective q) (t.rate h q) theta x mover.zero_rate))
-      (falls_past (signed (lt_ℚ c zero_ℚ) c) theta x past (turned_below c mover.mover.rate_apart))
+  improves : for_min p.sense (objective_value (objective_family p h x) d) <ℚ zero_ℚ
+  improves =
+      subst (λ y. y <ℚ zero_ℚ) (sym (value_past p.sense (goes_up (change_rate (objective_family p h theta) h theta s t) q) (t.rate p.objective q) (t.rate h q) theta x entering_variable.zero_rate))
+      (falls_past (signed (lt_ℚ c zero_ℚ) c) theta x past (turned_below c entering_variable.entering_variable.rate_apart))
 
-  pub endless : IsEndlessBy (objective_family p h x) (value_at (listed p.matrix t.point)) (value_at (listed p.matrix d))
-  endless = record { proof = proof; unbounded = unbounded_by_direction (objective_family p h x) (value_at (listed p.matrix t.point)) (value_at (listed p.matrix d)) proof }
+  pub unbounded_end : IsUnboundedBy (objective_family p h x) (value_at (listed p.matrix t.point)) (value_at (listed p.matrix d))
+  unbounded_end = record { proof = proof; unbounded = unbounded_by_direction (objective_family p h x) (value_at (listed p.matrix t.point)) (value_at (listed p.matrix d)) proof }
     where
       proof : ProvesUnbounded (objective_family p h x) (value_at (listed p.matrix t.point)) (value_at (listed p.matrix d))
       proof = motion_proves (objective_family p h x) t.point d (lawful x) (record { keeps = feasible_here.keeps; within = feasible_here.within })
-          (keeps-signed p.matrix (goes_up (change_rate (objective_family p h theta) h theta s t) q) (λ i. t.rate i q) (tab.are_rates q mover.mover.nonbasic).keeps) stops betters
+          (keeps-signed p.matrix (goes_up (change_rate (objective_family p h theta) h theta s t) q) (λ i. t.rate i q) (tab.are_rates q entering_variable.entering_variable.nonbasic).keeps) stops improves
 
 pub objective_closes : (p : LinearProgram) (h : ℕ) → IsLinearProgram p → IsRow p.matrix h → HasNoLimits p h → (theta max : ℚ) (s : List Status) (end : ChainEnd) → IsNonsingularBasis p s → theta <ℚ max →
     HasFeasiblePoint p s → IsObjectiveFace p h theta s (FaceEnds end) → IsTrueEnd (objective_family p h) max theta end
 objective_closes p h lawful row free theta max s end at before have face =
-    let last = is_endless (objective_family p h theta) h theta s face.0 end face.2 in
+    let last = is_unbounded (objective_family p h theta) h theta s face.0 end face.2 in
     subst (IsTrueEnd (objective_family p h) max theta) (sym last.gives) (record {
       at_last = refl;
       before_max = before;
-      proved = λ x past. endless p h theta s face.0 (lawful_objective p h lawful row free) at face.1 have last.q
-          (face_mover_is (objective_family p h theta) h theta s face.0 last.q (to_objective p h theta s at) last.found) last.stops x past;
+      proved = λ x past. unbounded_end p h theta s face.0 (lawful_objective p h lawful row free) at face.1 have last.q
+          (face_entering_variable_is (objective_family p h theta) h theta s face.0 last.q (to_objective p h theta s at) last.found) last.stops x past;
     })

@@ -1,4 +1,4 @@
--- In a run of the objective an interval past a break is longer than a point.
+-- In a run of the objective an interval past a breakpoint is longer than a point.
 use Rattle.std.proofs.Common.{◌≡◌, ℕ, Bool, true, false, List, refl, sym, ap, ap₂, ◌∙◌, pos, subst}
 use Rattle.std.specs.Prelude.{Option, Some, None, ◌&&◌, ◌||◌}
 use Rattle.std.proofs.lemmas.Bool.{or_right}
@@ -23,7 +23,7 @@ use Rattle.sensitivity_laws.specs.Laws.{IsFeasibleBasis}
 use Rattle.sensitivity_laws.proofs.Rows.{objective}
 use Rattle.sensitivity_laws.proofs.Signs.{for_min-add}
 use Rattle.simplex_definitions.specs.Chain.{Part, FaceDone, IsPart}
-use Rattle.simplex_definitions.specs.ObjectiveRun.{objective_family, change_rate, face_mover, face_until, face_by, objective_face, IsObjectiveFace}
+use Rattle.simplex_definitions.specs.ObjectiveRun.{objective_family, change_rate, face_entering_variable, face_until, face_by, objective_face, IsObjectiveFace}
 use Rattle.parametric_laws.proofs.OneObjective.{lawful_objective}
 use Rattle.parametric_laws.proofs.Intervals.{point_feasible}
 use Rattle.parametric_laws.proofs.Spans.{SideEnds, first_ends, second_ends, IsSpan, span}
@@ -35,15 +35,15 @@ module _ (p : LinearProgram) (h : ℕ) (theta : ℚ) (s : List Status) (t : Tabl
   goes_or_ends q v (Some k) e = cc
   goes_or_ends q v None e = cc
 
-  by_mover : (o : Option ℕ) → face_mover p h theta s t ≡ o → face_by p h theta s t o ≡ FaceDone → face_mover p h theta s t ≡ None
-  by_mover (Some q) is e =
+  by_entering_variable : (o : Option ℕ) → face_entering_variable p h theta s t ≡ o → face_by p h theta s t o ≡ FaceDone → face_entering_variable p h theta s t ≡ None
+  by_entering_variable (Some q) is e =
       let v : Vector = speeds t.rate (goes_up (change_rate p h theta s t) q) q in
       absurd (goes_or_ends q v (stopper p t.point v) e)
-  by_mover None is e = is
+  by_entering_variable None is e = is
 
-  done_mover : objective_face p h theta s t ≡ FaceDone → face_mover p h theta s t ≡ None
+  done_entering_variable : objective_face p h theta s t ≡ FaceDone → face_entering_variable p h theta s t ≡ None
   unfolding objective_face
-  done_mover e = by_mover (face_mover p h theta s t) refl e
+  done_entering_variable e = by_entering_variable (face_entering_variable p h theta s t) refl e
 
 -- ---- a condition that ends
 
@@ -96,22 +96,22 @@ module _ (p : LinearProgram) (h : ℕ) (lawful : IsLinearProgram p) (row : IsRow
   hold = (objective p s t feasible h row theta).0 optimal
 
   -- a nonbasic whose combined rate is 0 doesn't lower the change row
-  no_mover : (k : ℕ) → IsVariable p.matrix k → IsStill (worths p t k) (slopes p t h k) theta (may_rise p s k) (may_fall p s k) → ⊥
-  no_mover k is_k still =
+  no_entering_variable : (k : ℕ) → IsVariable p.matrix k → IsStill (worths p t k) (slopes p t h k) theta (may_rise p s k) (may_fall p s k) → ⊥
+  no_entering_variable k is_k still =
       let zero_rate : objective_rate (objective_family p h theta) t.rate k ≡ zero_ℚ =
       for_min_zero p.sense _ (for_min-add p.sense (t.rate p.objective k) theta (t.rate h k) ∙ still.zero_rate) in
       let fails = none_passes (objective_family p h theta)
       (λ q. eq_ℚ (objective_rate (objective_family p h theta) t.rate q) zero_ℚ && lowers (objective_family p h theta) s (change_rate (objective_family p h theta) h theta s t) q)
-      (done_mover (objective_family p h theta) h theta s t done) k is_k in
+      (done_entering_variable (objective_family p h theta) h theta s t done) k is_k in
       clash (sym (ap₂ (λ a b. a && b) (test_from_same _ zero_ℚ zero_rate) still.moves) ∙ fails)
 
   none_ends : (k : ℕ) → IsVariable p.matrix k → SideEnds (sides k) theta → ⊥
   none_ends k is_k (first_ends c is_c ends) =
       let there = if_there (may_rise p s k) (worths p t k) (slopes p t h k) c is_c in
-      no_mover k is_k (still_first (worths p t k) (slopes p t h k) theta (may_rise p s k) (may_fall p s k) there.0 (subst (EndsAt theta) (sym there.1) ends))
+      no_entering_variable k is_k (still_first (worths p t k) (slopes p t h k) theta (may_rise p s k) (may_fall p s k) there.0 (subst (EndsAt theta) (sym there.1) ends))
   none_ends k is_k (second_ends c is_c ends) =
       let there = if_there (may_fall p s k) (neg_ℚ (worths p t k)) (neg_ℚ (slopes p t h k)) c is_c in
-      no_mover k is_k (still_second (worths p t k) (slopes p t h k) theta (may_rise p s k) (may_fall p s k) there.0 (subst (EndsAt theta) (sym there.1) ends))
+      no_entering_variable k is_k (still_second (worths p t k) (slopes p t h k) theta (may_rise p s k) (may_fall p s k) there.0 (subst (EndsAt theta) (sym there.1) ends))
 
   spans : IsSpan sides (size p.matrix) theta max
   spans = span sides (size p.matrix) theta max before (λ k low high. hold k (low, high)) (λ k low high. none_ends k (low, high))

@@ -1,4 +1,4 @@
--- What is done at a break of a parametric run of the objective is one thing.
+-- What is done at a breakpoint of a parametric run of the objective is one thing.
 use Rattle.std.proofs.Common.{◌≡◌, ℕ, Bool, true, false, List, refl, sym, ap, ap₂, ◌∙◌, arith}
 use Rattle.std.specs.Prelude.{Option, Some, None, ◌&&◌, if◌then◌else◌}
 use Rattle.std.proofs.lemmas.Bool.{and_parts, and_right}
@@ -12,12 +12,12 @@ use Rattle.simplex_definitions.specs.Moves.{goes_up, lowers, signed, stopper}
 use Rattle.simplex_definitions.specs.Path.{speeds}
 use Rattle.simplex_laws.specs.Laws.{IsNonsingularBasis}
 use Rattle.simplex_laws.proofs.Numbered.{find_same}
-use Rattle.simplex_laws.proofs.Endless.{objective_value-same}
+use Rattle.simplex_laws.proofs.UnboundedEnds.{objective_value-same}
 use Rattle.simplex_laws.proofs.OneTurn.{SameTableau}
 use Rattle.simplex_laws.proofs.Searches.{found_passes}
 use Rattle.simplex_definitions.specs.Chain.{FaceTurn, FaceMoves, FaceEnds, UnboundedPast}
-use Rattle.simplex_definitions.specs.ObjectiveRun.{objective_family, change_rate, face_mover, face_until, face_by, objective_face, IsObjectiveFace}
-use Rattle.dual_laws.proofs.Movers.{is_mover}
+use Rattle.simplex_definitions.specs.ObjectiveRun.{objective_family, change_rate, face_entering_variable, face_until, face_by, objective_face, IsObjectiveFace}
+use Rattle.dual_laws.proofs.EnteringVariables.{is_entering_variable}
 use Rattle.parametric_laws.proofs.Objective.{to_objective}
 use Rattle.simplex_laws.proofs.OneTurn.{listed_same, lowers_idle, lowers_same, stopper_same}
 use Rattle.simplex_laws.proofs.OnePath.{same_tableau}
@@ -54,8 +54,8 @@ module _ (p : LinearProgram) (h : ℕ) (theta : ℚ) (s : List Status) (t u : Ta
       by_mark false mark =
           ap₂ (λ r b. eq_ℚ r zero_ℚ && b) (rate_same q (is, mark)) (lowers_same p s at.is_basis (change_rate p h theta s t) (change_rate p h theta s u) q is (change_same q))
 
-  mover_same : face_mover p h theta s t ≡ face_mover p h theta s u
-  mover_same = find_same (moves t) (moves u) (size p.matrix) 1 (λ k low high. moves_same k (low, omega (arith, high)))
+  entering_variable_same : face_entering_variable p h theta s t ≡ face_entering_variable p h theta s u
+  entering_variable_same = find_same (moves t) (moves u) (size p.matrix) 1 (λ k low high. moves_same k (low, omega (arith, high)))
 
   abbrev motion : Tableau → ℕ → Vector
   motion t q = speeds t.rate (goes_up (change_rate p h theta s t) q) q
@@ -75,14 +75,14 @@ module _ (p : LinearProgram) (h : ℕ) (theta : ℚ) (s : List Status) (t u : Ta
       ∙ until_same q (motion t q) (motion u q) same_motion (stopper p u.point (motion u q)) (λ k e. (found_passes p _ k e).0)
   by_same None out = refl
 
-  moves_nonbasic : (q : ℕ) → face_mover p h theta s t ≡ Some q → IsNonbasic p.matrix (basics_of s) q
+  moves_nonbasic : (q : ℕ) → face_entering_variable p h theta s t ≡ Some q → IsNonbasic p.matrix (basics_of s) q
   moves_nonbasic q e =
       let found = found_passes p (moves t) q e in
-      (is_mover p s (change_rate p h theta s t) q at found.0 (and_parts (eq_ℚ (objective_rate p t.rate q) zero_ℚ) (lowers p s (change_rate p h theta s t) q) found.1).1).nonbasic
+      (is_entering_variable p s (change_rate p h theta s t) q at found.0 (and_parts (eq_ℚ (objective_rate p t.rate q) zero_ℚ) (lowers p s (change_rate p h theta s t) q) found.1).1).nonbasic
 
   face_same : objective_face p h theta s t ≡ objective_face p h theta s u
   unfolding objective_face
-  face_same = by_same (face_mover p h theta s t) moves_nonbasic ∙ ap (face_by p h theta s u) mover_same
+  face_same = by_same (face_entering_variable p h theta s t) moves_nonbasic ∙ ap (face_by p h theta s u) entering_variable_same
 
 pub one_objective_face : (p : LinearProgram) (h : ℕ) → IsLinearProgram p → IsRow p.matrix h → HasNoLimits p h → (theta : ℚ) (s : List Status) (turn other : FaceTurn) → IsNonsingularBasis p s →
     IsObjectiveFace p h theta s turn → IsObjectiveFace p h theta s other → turn ≡ other

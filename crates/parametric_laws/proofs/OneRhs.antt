@@ -1,4 +1,4 @@
--- What is done at a break of a parametric run of the right-hand side is one thing.
+-- What is done at a breakpoint of a parametric run of the right-hand side is one thing.
 use Rattle.std.proofs.Common.{◌≡◌, ℕ, Bool, List, length, refl, sym, ap, ap₂, ◌∙◌, arith}
 use Rattle.std.specs.Prelude.{Option, Some, None, ◌&&◌, ◌||◌}
 use Rattle.std.proofs.lemmas.List.{length-map}

@@ -11,9 +11,9 @@ use Rattle.lp_definitions.specs.declared.Status.{Status}
 use Rattle.lp_laws.proofs.Uniqueness.{one_point, one_table}
 use Rattle.simplex_definitions.specs.Path.{after, last_of, PathEnding, EndsOptimal, PathEnds}
 use Rattle.simplex_laws.specs.Laws.{IsNonsingularBasis, SameEnds}
-use Rattle.simplex_laws.proofs.Endless.{objective_value-same}
+use Rattle.simplex_laws.proofs.UnboundedEnds.{objective_value-same}
 use Rattle.simplex_laws.proofs.OnePath.{one_path}
-use Rattle.simplex_definitions.specs.Chain.{Part, ChainEnd, RunReport, FailedOpening, Chain, FaceTurn, FaceMoves, FaceDone, FaceEnds, along, IsFailure, ReachesTo, IsPart, IsFaceStep, IsFacePath, FacesTo, IsChain, at_max, past_break, goes_on, IsRun, IsFailedOpening, IsReport}
+use Rattle.simplex_definitions.specs.Chain.{Part, ChainEnd, RunReport, FailedOpening, Chain, FaceTurn, FaceMoves, FaceDone, FaceEnds, along, IsFailure, ReachesTo, IsPart, IsFaceStep, IsFacePath, FacesTo, IsChain, at_max, past_breakpoint, goes_on, IsRun, IsFailedOpening, IsReport}
 use Rattle.simplex_definitions.specs.ObjectiveRun.{objective_family, IsObjectiveFace}
 use Rattle.simplex_definitions.specs.RhsRun.{rhs_family, IsRhsFace}
 use Rattle.parametric_laws.specs.Laws.{SameReports}
@@ -73,7 +73,7 @@ IsStill (FaceMoves m) = ⊥
 IsStill FaceDone = Unit {0}
 IsStill (FaceEnds end) = Unit {0}
 
--- what is asked of a family: it keeps bases, each of its programs is one, of one size, and one thing is done at a break
+-- what is asked of a family: it keeps bases, each of its programs is one, of one size, and one thing is done at a breakpoint
 pub record HasOneFace (p : LinearProgram) (family : ℚ → LinearProgram) (Face : ℚ → List Status → FaceTurn → Type 0) : Type 0 where
   pub keeps : KeepsBases p family Face
   pub lawful : (theta : ℚ) → IsLinearProgram (family theta)
@@ -159,25 +159,25 @@ module _ (p : LinearProgram) (family : ℚ → LinearProgram) (Face : ℚ → Li
     same_end = refl;
     same_path = refl;
   }
-  one_chain max _ _ _ _ _ _ _ _ at (at_max {from} {s} {part} is whole) (past_break {part = other} is' faces') =
+  one_chain max _ _ _ _ _ _ _ _ at (at_max {from} {s} {part} is whole) (past_breakpoint {part = other} is' faces') =
       absurd (lt_irrefl (subst (λ x. x <ℚ max) (ap (λ (part : Part). part.to) (sym (one_part from max s part other at is is')) ∙ whole) faces'.before_max))
   one_chain max _ _ _ _ _ _ _ _ at (at_max {from} {s} {part} is whole) (goes_on {part = other} is' faces' chain') =
       absurd (lt_irrefl (subst (λ x. x <ℚ max) (ap (λ (part : Part). part.to) (sym (one_part from max s part other at is is')) ∙ whole) faces'.before_max))
-  one_chain max _ _ _ _ _ _ _ _ at (past_break {from} {s} {part} is faces) (at_max {part = other} is' whole') =
+  one_chain max _ _ _ _ _ _ _ _ at (past_breakpoint {from} {s} {part} is faces) (at_max {part = other} is' whole') =
       absurd (lt_irrefl (subst (λ x. x <ℚ max) (ap (λ (part : Part). part.to) (one_part from max s part other at is is') ∙ whole') faces.before_max))
-  one_chain max _ _ _ _ _ _ _ _ at (past_break {from} {s} {part} {end} {path} is faces) (past_break {part = other} {end = end'} {path = path'} is' faces') =
+  one_chain max _ _ _ _ _ _ _ _ at (past_breakpoint {from} {s} {part} {end} {path} is faces) (past_breakpoint {part = other} {end = end'} {path = path'} is' faces') =
       let same : part ≡ other = one_part from max s part other at is is' in
       let moved : FacesTo family Face max part.to s path' (FaceEnds end') = subst (λ (x : Part). FacesTo family Face max x.to s path' (FaceEnds end')) (sym same) faces' in
       let all = one_faces max part.to s path path' (FaceEnds end) (FaceEnds end') at faces tt moved tt in
       let turns = all.same_turn in
       record { same_parts = ap (λ x. x ∷ []) same; same_end = cc; same_path = all.same_bases }
-  one_chain max _ _ _ _ _ _ _ _ at (past_break {from} {s} {part} {end} {path} is faces) (goes_on {part = other} {bases = bases'} is' faces' chain') =
+  one_chain max _ _ _ _ _ _ _ _ at (past_breakpoint {from} {s} {part} {end} {path} is faces) (goes_on {part = other} {bases = bases'} is' faces' chain') =
       let same : part ≡ other = one_part from max s part other at is is' in
       let moved : FacesTo family Face max part.to s bases' FaceDone = subst (λ (x : Part). FacesTo family Face max x.to s bases' FaceDone) (sym same) faces' in
       let turns = (one_faces max part.to s path bases' (FaceEnds end) FaceDone at faces tt moved tt).same_turn in cc
   one_chain max _ _ _ _ _ _ _ _ at (goes_on {from} {s} {part} is faces chain) (at_max {part = other} is' whole') =
       absurd (lt_irrefl (subst (λ x. x <ℚ max) (ap (λ (part : Part). part.to) (one_part from max s part other at is is') ∙ whole') faces.before_max))
-  one_chain max _ _ _ _ _ _ _ _ at (goes_on {from} {s} {part} {bases = bases} is faces chain) (past_break {part = other} {end = end'} {path = path'} is' faces') =
+  one_chain max _ _ _ _ _ _ _ _ at (goes_on {from} {s} {part} {bases = bases} is faces chain) (past_breakpoint {part = other} {end = end'} {path = path'} is' faces') =
       let same : part ≡ other = one_part from max s part other at is is' in
       let moved : FacesTo family Face max part.to s path' (FaceEnds end') = subst (λ (x : Part). FacesTo family Face max x.to s path' (FaceEnds end')) (sym same) faces' in
       let turns = (one_faces max part.to s bases path' FaceDone (FaceEnds end') at faces tt moved tt).same_turn in cc

@@ -13,11 +13,11 @@ use Rattle.simplex_definitions.specs.Path.{Move, after, excess_rate}
 use Rattle.simplex_laws.specs.Laws.{IsNonsingularBasis}
 use Rattle.simplex_laws.proofs.Searches.{found_passes}
 use Rattle.simplex_definitions.specs.Chain.{FaceMoves}
-use Rattle.simplex_definitions.specs.DualRatio.{brings_back, is_cheapest, cheapest}
+use Rattle.simplex_definitions.specs.DualRatio.{restores_feasibility, is_cheapest, cheapest}
 use Rattle.simplex_definitions.specs.RhsRun.{shift_of, rhs_family, leaves_below, leaves_above, leaving, face_exchange, face_at, rhs_face, IsRhsFace}
 use Rattle.sensitivity_laws.proofs.MovedLimits.{basis_to, basis_from}
 use Rattle.simplex_laws.proofs.Steps.{MayStand, signed_zero, lower_apart, upper_apart, exchange_leads}
-use Rattle.dual_laws.proofs.Movers.{IsMover, is_mover}
+use Rattle.dual_laws.proofs.EnteringVariables.{IsEnteringVariable, is_entering_variable}
 
 -- the programs have the same nonsingular bases
 module _ (p : LinearProgram) (shift : List ℚ) (theta : ℚ) (s : List Status) where
@@ -80,19 +80,19 @@ module _ (p : LinearProgram) (shift : List ℚ) (theta : ℚ) (s : List Status) 
           (below r) refl tests.1;
     }
 
-    entered : IsVariable p.matrix q × ((brings_back p s t r (below r) q && is_cheapest p s t r (below r) q) ≡ true)
-    entered = found_passes p (λ q. brings_back p s t r (below r) q && is_cheapest p s t r (below r) q) q move.enters
+    entered : IsVariable p.matrix q × ((restores_feasibility p s t r (below r) q && is_cheapest p s t r (below r) q) ≡ true)
+    entered = found_passes p (λ q. restores_feasibility p s t r (below r) q && is_cheapest p s t r (below r) q) q move.enters
 
-    mover : IsMover p s (excess_rate t.rate r (below r)) q
-    mover = is_mover p s (excess_rate t.rate r (below r)) q at entered.0
-        (and_parts (brings_back p s t r (below r) q) (is_cheapest p s t r (below r) q) entered.1).0
+    entering_variable : IsEnteringVariable p s (excess_rate t.rate r (below r)) q
+    entering_variable = is_entering_variable p s (excess_rate t.rate r (below r)) q at entered.0
+        (and_parts (restores_feasibility p s t r (below r) q) (is_cheapest p s t r (below r) q) entered.1).0
 
     pivot : t.rate r q ≢ zero_ℚ
-    pivot zero = mover.rate_apart (ap (signed (not (below r))) zero ∙ signed_zero (not (below r)))
+    pivot zero = entering_variable.rate_apart (ap (signed (not (below r))) zero ∙ signed_zero (not (below r)))
 
     exchange_is : IsNonsingularBasis p (after s m)
     exchange_is = subst (λ m. IsNonsingularBasis p (after s m)) (sym move.gives)
-        (exchange_leads p s t at.is_basis at.nonsingular tab r q (if below r then Ll else Ul) (found.0, tests.0) mover.nonbasic stands pivot).at
+        (exchange_leads p s t at.is_basis at.nonsingular tab r q (if below r then Ll else Ul) (found.0, tests.0) entering_variable.nonbasic stands pivot).at
 
   move_leads : (m : Move) → IsNonsingularBasis p s → IsTableau p s t → rhs_face p shift theta s t v ≡ FaceMoves m → IsNonsingularBasis p (after s m)
   move_leads m at tab e = let move = face_move m e in exchange_is at tab m move.0 move.1 move.2

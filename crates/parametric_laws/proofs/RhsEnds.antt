@@ -31,36 +31,36 @@ use Rattle.parametric_laws.proofs.Rhs.{to_rhs}
 use Rattle.parametric_laws.specs.Truth.{IsRefutedBy, IsTrueEnd}
 use Rattle.dual_laws.proofs.Cheapest.{cheapest_none}
 
--- ---- what is done at a break
+-- ---- what is done at a breakpoint
 
 module _ (p : LinearProgram) (shift : List ℚ) (theta : ℚ) (s : List Status) (t : Tableau) (v : Vector) where
   abbrev side : ℕ → Bool
   side r = leaves_below p shift theta s t v r
 
   -- nothing brings r back
-  record IsStuck (end : ChainEnd) : Type 0 where
+  record IsInfeasibleEnd (end : ChainEnd) : Type 0 where
     r : ℕ
     found : leaving p shift theta s t v ≡ Some r
     alone : cheapest p s t r (side r) ≡ None
     gives : end ≡ InfeasiblePast theta (listed p.matrix (ray_of (basics_of s) t.rate r (side r)))
 
-  stuck_by : (end : ChainEnd) (r : ℕ) → leaving p shift theta s t v ≡ Some r → (o : Option ℕ) → cheapest p s t r (side r) ≡ o →
-      face_exchange p shift theta s t v r (side r) o ≡ FaceEnds end → IsStuck end
-  stuck_by end r found (Some q) alone e = cc
-  stuck_by end r found None alone e = record {
+  infeasible_by : (end : ChainEnd) (r : ℕ) → leaving p shift theta s t v ≡ Some r → (o : Option ℕ) → cheapest p s t r (side r) ≡ o →
+      face_exchange p shift theta s t v r (side r) o ≡ FaceEnds end → IsInfeasibleEnd end
+  infeasible_by end r found (Some q) alone e = cc
+  infeasible_by end r found None alone e = record {
     r = r;
     found = found;
     alone = alone;
     gives = let same : end ≡ InfeasiblePast theta (listed p.matrix (ray_of (basics_of s) t.rate r (side r))) = cc in same;
   }
 
-  ending : (end : ChainEnd) (o : Option ℕ) → leaving p shift theta s t v ≡ o → face_at p shift theta s t v o ≡ FaceEnds end → IsStuck end
-  ending end (Some r) found e = stuck_by end r found (cheapest p s t r (side r)) refl e
+  ending : (end : ChainEnd) (o : Option ℕ) → leaving p shift theta s t v ≡ o → face_at p shift theta s t v o ≡ FaceEnds end → IsInfeasibleEnd end
+  ending end (Some r) found e = infeasible_by end r found (cheapest p s t r (side r)) refl e
   ending end None found e = cc
 
-  is_stuck : (end : ChainEnd) → rhs_face p shift theta s t v ≡ FaceEnds end → IsStuck end
+  is_infeasible : (end : ChainEnd) → rhs_face p shift theta s t v ≡ FaceEnds end → IsInfeasibleEnd end
   unfolding rhs_face
-  is_stuck end e = ending end (leaving p shift theta s t v) refl e
+  is_infeasible end e = ending end (leaving p shift theta s t v) refl e
 
 -- what leaves stands at a limit, and moves across it
 data Crosses (low high : Option ℚ) (z v shift : ℚ) (below : Bool) : Type 0 where
@@ -108,15 +108,15 @@ breaks_on low high theta x shift z v below past (crosses_upper is stands faster)
     (lt_by_product past faster (by_ring5 theta x shift z v (λ y x s z v. z ⊕ (x ⊖ y) ⊗ v ≐ (z ⊕ (x ⊖ y) ⊗ s) ⊕ (x ⊖ y) ⊗ (v ⊖ s)) refl))
 
 module _ (p : LinearProgram) (shift : List ℚ) (theta : ℚ) (s : List Status) (at : IsNonsingularBasis p s) (t : Tableau) (tab : IsTableau (rhs_family p shift theta) s t)
-    (v : Vector) (slope : IsSlope (rhs_family p shift theta) s shift v) (end : ChainEnd) (stuck : IsStuck (rhs_family p shift theta) shift theta s t v end) (x : ℚ) (past : theta <ℚ x) where
+    (v : Vector) (slope : IsSlope (rhs_family p shift theta) s shift v) (end : ChainEnd) (infeasible_end : IsInfeasibleEnd (rhs_family p shift theta) shift theta s t v end) (x : ℚ) (past : theta <ℚ x) where
   abbrev by : ℕ → ℚ
   by k = shift_of p.matrix shift k
 
   abbrev r : ℕ
-  r = stuck.r
+  r = infeasible_end.r
 
   abbrev below : Bool
-  below = side (rhs_family p shift theta) shift theta s t v stuck.r
+  below = side (rhs_family p shift theta) shift theta s t v infeasible_end.r
 
   abbrev later : Vector
   later = along t.point (x -ℚ theta) v
@@ -138,51 +138,51 @@ module _ (p : LinearProgram) (shift : List ℚ) (theta : ℚ) (s : List Status) 
         (stands_on (status_of s k) (lower_of p k) (upper_of p k) theta x (by k) (t.point k) (v k) (out_of k is) (free_unshifted p shift s k at is) (stands_here k is)));
   }
 
-  found : IsVariable p.matrix stuck.r ×
-      ((is_in (basics_of s) stuck.r && (leaves_below (rhs_family p shift theta) shift theta s t v stuck.r || leaves_above (rhs_family p shift theta) shift theta s t v stuck.r)) ≡ true)
+  found : IsVariable p.matrix infeasible_end.r ×
+      ((is_in (basics_of s) infeasible_end.r && (leaves_below (rhs_family p shift theta) shift theta s t v infeasible_end.r || leaves_above (rhs_family p shift theta) shift theta s t v infeasible_end.r)) ≡ true)
   found = found_passes (rhs_family p shift theta)
-      (λ k. is_in (basics_of s) k && (leaves_below (rhs_family p shift theta) shift theta s t v k || leaves_above (rhs_family p shift theta) shift theta s t v k)) stuck.r stuck.found
+      (λ k. is_in (basics_of s) k && (leaves_below (rhs_family p shift theta) shift theta s t v k || leaves_above (rhs_family p shift theta) shift theta s t v k)) infeasible_end.r infeasible_end.found
 
-  tests : (is_in (basics_of s) stuck.r ≡ true) × ((below || leaves_above (rhs_family p shift theta) shift theta s t v stuck.r) ≡ true)
-  tests = and_parts (is_in (basics_of s) stuck.r) (below || leaves_above (rhs_family p shift theta) shift theta s t v stuck.r) found.1
+  tests : (is_in (basics_of s) infeasible_end.r ≡ true) × ((below || leaves_above (rhs_family p shift theta) shift theta s t v infeasible_end.r) ≡ true)
+  tests = and_parts (is_in (basics_of s) infeasible_end.r) (below || leaves_above (rhs_family p shift theta) shift theta s t v infeasible_end.r) found.1
 
-  crosses_here : Crosses (moved theta (by stuck.r) (lower_of p stuck.r)) (moved theta (by stuck.r) (upper_of p stuck.r)) (t.point stuck.r) (v stuck.r) (by stuck.r) below
+  crosses_here : Crosses (moved theta (by infeasible_end.r) (lower_of p infeasible_end.r)) (moved theta (by infeasible_end.r) (upper_of p infeasible_end.r)) (t.point infeasible_end.r) (v infeasible_end.r) (by infeasible_end.r) below
   crosses_here =
-      subst (λ low. Crosses low (moved theta (by stuck.r) (upper_of p stuck.r)) (t.point stuck.r) (v stuck.r) (by stuck.r) below) (lower_is p shift theta stuck.r found.0)
-      (subst (λ high. Crosses (lower_of (rhs_family p shift theta) stuck.r) high (t.point stuck.r) (v stuck.r) (by stuck.r) below) (upper_is p shift theta stuck.r found.0)
-      (crosses (lower_of (rhs_family p shift theta) stuck.r) (upper_of (rhs_family p shift theta) stuck.r) (t.point stuck.r) (v stuck.r) (by stuck.r) below refl tests.1))
+      subst (λ low. Crosses low (moved theta (by infeasible_end.r) (upper_of p infeasible_end.r)) (t.point infeasible_end.r) (v infeasible_end.r) (by infeasible_end.r) below) (lower_is p shift theta infeasible_end.r found.0)
+      (subst (λ high. Crosses (lower_of (rhs_family p shift theta) infeasible_end.r) high (t.point infeasible_end.r) (v infeasible_end.r) (by infeasible_end.r) below) (upper_is p shift theta infeasible_end.r found.0)
+      (crosses (lower_of (rhs_family p shift theta) infeasible_end.r) (upper_of (rhs_family p shift theta) infeasible_end.r) (t.point infeasible_end.r) (v infeasible_end.r) (by infeasible_end.r) below refl tests.1))
 
-  breaks_later : Breaks (lower_of (rhs_family p shift x) stuck.r) (upper_of (rhs_family p shift x) stuck.r) (later stuck.r) below
+  breaks_later : Breaks (lower_of (rhs_family p shift x) infeasible_end.r) (upper_of (rhs_family p shift x) infeasible_end.r) (later infeasible_end.r) below
   breaks_later =
-      subst (λ low. Breaks low (upper_of (rhs_family p shift x) stuck.r) (later stuck.r) below) (sym (lower_is p shift x stuck.r found.0))
-      (subst (λ high. Breaks (moved x (by stuck.r) (lower_of p stuck.r)) high (later stuck.r) below) (sym (upper_is p shift x stuck.r found.0))
-      (breaks_on (lower_of p stuck.r) (upper_of p stuck.r) theta x (by stuck.r) (t.point stuck.r) (v stuck.r) below past crosses_here))
+      subst (λ low. Breaks low (upper_of (rhs_family p shift x) infeasible_end.r) (later infeasible_end.r) below) (sym (lower_is p shift x infeasible_end.r found.0))
+      (subst (λ high. Breaks (moved x (by infeasible_end.r) (lower_of p infeasible_end.r)) high (later infeasible_end.r) below) (sym (upper_is p shift x infeasible_end.r found.0))
+      (breaks_on (lower_of p infeasible_end.r) (upper_of p infeasible_end.r) theta x (by infeasible_end.r) (t.point infeasible_end.r) (v infeasible_end.r) below past crosses_here))
 
   -- nothing brings it back, at theta and at x
-  idle : (k : ℕ) → IsVariable p.matrix k → IsFixed (rhs_family p shift x) k ⊎ IsRightAt (status_of s k) (excess_rate t.rate stuck.r below k)
+  idle : (k : ℕ) → IsVariable p.matrix k → IsFixed (rhs_family p shift x) k ⊎ IsRightAt (status_of s k) (excess_rate t.rate infeasible_end.r below k)
   idle k is =
-      carried (right (status_of s k) (lower_of (rhs_family p shift theta) k) (upper_of (rhs_family p shift theta) k) (excess_rate t.rate stuck.r below k) (is_fixed (rhs_family p shift theta) k) refl
-      (cheapest_none (rhs_family p shift theta) s t stuck.r below stuck.alone k is))
+      carried (right (status_of s k) (lower_of (rhs_family p shift theta) k) (upper_of (rhs_family p shift theta) k) (excess_rate t.rate infeasible_end.r below k) (is_fixed (rhs_family p shift theta) k) refl
+      (cheapest_none (rhs_family p shift theta) s t infeasible_end.r below infeasible_end.alone k is))
     where
-      carried : IsFixed (rhs_family p shift theta) k ⊎ IsRightAt (status_of s k) (excess_rate t.rate stuck.r below k) →
-          IsFixed (rhs_family p shift x) k ⊎ IsRightAt (status_of s k) (excess_rate t.rate stuck.r below k)
+      carried : IsFixed (rhs_family p shift theta) k ⊎ IsRightAt (status_of s k) (excess_rate t.rate infeasible_end.r below k) →
+          IsFixed (rhs_family p shift x) k ⊎ IsRightAt (status_of s k) (excess_rate t.rate infeasible_end.r below k)
       carried (inl fixed) = inl (fixed_at p shift theta x k is fixed)
       carried (inr idle) = inr idle
 
   abbrev ray : Vector
-  ray = ray_of (basics_of s) t.rate stuck.r below
+  ray = ray_of (basics_of s) t.rate infeasible_end.r below
 
   refuted : IsRefutedBy (rhs_family p shift x) (value_at (listed p.matrix ray))
   refuted =
       let is : IsRay (rhs_family p shift x) (value_at (listed p.matrix ray)) =
       IsRay-same (rhs_family p shift x) ray (value_at (listed p.matrix ray)) (λ k is. sym (value_at-listed p.matrix ray k is))
       (ray_is (rhs_family p shift x) s (record { point = later; rate = t.rate }) (to_rhs p shift x s at).is_basis at.nonsingular (record { is_point = later_point; are_rates = tab.are_rates })
-      stuck.r below (found.0, tests.0) breaks_later idle) in
+      infeasible_end.r below (found.0, tests.0) breaks_later idle) in
       record { ray = is; infeasible = infeasible_by_ray (rhs_family p shift x) (value_at (listed p.matrix ray)) is }
 
 pub rhs_closes : (p : LinearProgram) (shift : List ℚ) (theta max : ℚ) (s : List Status) (end : ChainEnd) → IsNonsingularBasis p s → theta <ℚ max →
     IsRhsFace p shift theta s (FaceEnds end) → IsTrueEnd (rhs_family p shift) max theta end
 rhs_closes p shift theta max s end at before face =
-    let stuck = is_stuck (rhs_family p shift theta) shift theta s face.0 face.1 end face.4 in
-    subst (IsTrueEnd (rhs_family p shift) max theta) (sym stuck.gives)
-    (record { at_last = refl; before_max = before; proved = λ x past. refuted p shift theta s at face.0 face.2 face.1 face.3 end stuck x past })
+    let infeasible_end = is_infeasible (rhs_family p shift theta) shift theta s face.0 face.1 end face.4 in
+    subst (IsTrueEnd (rhs_family p shift) max theta) (sym infeasible_end.gives)
+    (record { at_last = refl; before_max = before; proved = λ x past. refuted p shift theta s at face.0 face.2 face.1 face.3 end infeasible_end x past })

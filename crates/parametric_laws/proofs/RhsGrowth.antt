@@ -1,4 +1,4 @@
--- In a run of the right-hand side an interval past a break is longer than a point.
+-- In a run of the right-hand side an interval past a breakpoint is longer than a point.
 use Rattle.std.proofs.Common.{◌≡◌, ◌≢◌, ℕ, Bool, true, false, List, refl, sym, ap, ap₂, ◌∙◌, pos, subst}
 use Rattle.std.specs.Prelude.{◌↔◌, Option, Some, None, option_map, ◌&&◌, ◌||◌}
 use Rattle.std.proofs.lemmas.Bool.{or_left, or_right}

@@ -7,7 +7,7 @@ use Rattle.simplex_definitions.specs.Path.{Move, after, last_of, PathEnding, End
 use Rattle.simplex_laws.specs.Laws.{IsNonsingularBasis}
 use Rattle.simplex_laws.proofs.Steps.{step_leads}
 use Rattle.simplex_laws.proofs.OnePath.{path_leads}
-use Rattle.simplex_definitions.specs.Chain.{Part, ChainEnd, RunReport, FailedOpening, Chain, FaceTurn, FaceMoves, IsFaceStep, IsFacePath, IsChain, at_max, past_break, goes_on, IsRun, IsReport, RunPlace, InOpening, AtBreak, basis_of, Reaches, begins, path_step, first_break, face_step, next_break}
+use Rattle.simplex_definitions.specs.Chain.{Part, ChainEnd, RunReport, FailedOpening, Chain, FaceTurn, FaceMoves, IsFaceStep, IsFacePath, IsChain, at_max, past_breakpoint, goes_on, IsRun, IsReport, RunPlace, InOpening, AtBreakpoint, basis_of, Reaches, begins, path_step, first_breakpoint, face_step, next_breakpoint}
 use Rattle.simplex_definitions.specs.ObjectiveRun.{objective_family, IsObjectiveFace}
 use Rattle.simplex_definitions.specs.RhsRun.{rhs_family, IsRhsFace}
 use Rattle.parametric_laws.specs.Laws.{LeadsToBases}
@@ -37,15 +37,15 @@ module _ (p : LinearProgram) (family : ℚ → LinearProgram) (Face : ℚ → Li
     reached_leads _ _ _ begins = at
     reached_leads _ _ _ (path_step {now} {next} {path} before step) =
         keeps.from_family from next (step_leads (family from) now next (keeps.to_family from now (reached_leads (InOpening now) path [] before)) step)
-    reached_leads _ _ _ (first_break {now} {path} point prices before ends reaches within) = reached_leads (InOpening now) path [] before
+    reached_leads _ _ _ (first_breakpoint {now} {path} point prices before ends reaches within) = reached_leads (InOpening now) path [] before
     reached_leads _ _ _ (face_step {theta} {now} {next} {path} {ends} before step) =
-        face_step_leads theta now next (reached_leads (AtBreak theta now) path ends before) step
-    reached_leads _ _ _ (next_break {theta} {now} {path} {ends} before done reaches within) = reached_leads (AtBreak theta now) path ends before
+        face_step_leads theta now next (reached_leads (AtBreakpoint theta now) path ends before) step
+    reached_leads _ _ _ (next_breakpoint {theta} {now} {path} {ends} before done reaches within) = reached_leads (AtBreakpoint theta now) path ends before
 
   chain_leads : (max from : ℚ) (s : List Status) (parts : List Part) (end : ChainEnd) (path : List (List Status)) → IsNonsingularBasis p s →
       IsChain family Face max from s parts end path → IsNonsingularBasis p (last_of s path)
   chain_leads max _ _ _ _ _ at (at_max part is) = at
-  chain_leads max _ _ _ _ _ at (past_break {s} {part} {path} is faces) = face_path_leads part.to s path at faces.face_path
+  chain_leads max _ _ _ _ _ at (past_breakpoint {s} {part} {path} is faces) = face_path_leads part.to s path at faces.face_path
   chain_leads max _ _ _ _ _ at (goes_on {s} {part} {parts} {end} {bases} {later} is faces chain) =
       subst (IsNonsingularBasis p) (sym (last_of-append s bases later))
       (chain_leads max part.to (last_of s bases) parts end later (face_path_leads part.to s bases at faces.face_path) chain)

@@ -15,7 +15,7 @@ use Rattle.simplex_definitions.specs.ObjectiveRun.{objective_family, IsObjective
 use Rattle.simplex_definitions.specs.RhsRun.{rhs_family, IsRhsFace}
 use Rattle.parametric_laws.specs.Truth.{IsTrueReport}
 
--- what is done at a break with this value and basis
+-- what is done at a breakpoint with this value and basis
 abbrev pub Faces : Type 1
 Faces = ℚ → List Status → FaceTurn → Type 0
 

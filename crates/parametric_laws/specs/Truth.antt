@@ -1,6 +1,6 @@
 -- What a parametric run tells of the linear programs of its family, at each value of the parameter.
 --     IsSolvedBy p z y             z is best in p, and the prices y prove it
---     IsTruePart family max part   the interval shows a best point and proving prices at each value in it
+--     IsTruePart family max part   the interval shows a best point and dual certificate at each value in it
 --     AreJoined from parts         the first interval begins at from, each other one where the last ended
 --     last_end from parts          where the last interval ends
 --     IsCovered parts theta        one of the intervals has theta in it
@@ -11,14 +11,14 @@
 use Rattle.std.specs.Prelude.{◌≡◌, List, [], ◌∷◌, All, Contains}
 use Rattle.exact_values.specs.Rational.{ℚ, ◌≤ℚ◌, ◌<ℚ◌}
 use Rattle.lp_definitions.specs.LinearProgram.{LinearProgram, Vector, value_at}
-use Rattle.lp_definitions.specs.Solutions.{IsBest, AreProvingPrices, IsCrossed, IsRay, ProvesUnbounded, IsInfeasible, IsUnbounded}
+use Rattle.lp_definitions.specs.Solutions.{IsBest, IsDualCertificate, IsCrossed, IsRay, ProvesUnbounded, IsInfeasible, IsUnbounded}
 use Rattle.simplex_definitions.specs.Path.{PathEnding, EndsOptimal, EndsCrossed, EndsInfeasible, EndsUnbounded}
 use Rattle.simplex_definitions.specs.Chain.{Part, ChainEnd, AtMax, UnboundedPast, InfeasiblePast, RunReport, FailedOpening, Chain, along}
 
--- the point is feasible, no feasible point betters it, and the prices prove that
+-- the point is feasible, no feasible point improves it, and the prices prove that
 pub record IsSolvedBy (p : LinearProgram) (z y : Vector) : Type 0 where
   pub best : IsBest p z
-  pub proving : AreProvingPrices p z y
+  pub certificate : IsDualCertificate p z y
 
 -- no vector is feasible, as the ray proves
 pub record IsRefutedBy (p : LinearProgram) (w : Vector) : Type 0 where
@@ -26,7 +26,7 @@ pub record IsRefutedBy (p : LinearProgram) (w : Vector) : Type 0 where
   pub infeasible : IsInfeasible p
 
 -- each feasible vector is bettered by another, as the point and the direction prove
-pub record IsEndlessBy (p : LinearProgram) (z d : Vector) : Type 0 where
+pub record IsUnboundedBy (p : LinearProgram) (z d : Vector) : Type 0 where
   pub proof : ProvesUnbounded p z d
   pub unbounded : IsUnbounded p
 
@@ -71,7 +71,7 @@ pub record IsProvedPast (max last past : ℚ) (Proved : ℚ → Type 0) : Type 0
 abbrev pub IsTrueEnd : (ℚ → LinearProgram) → ℚ → ℚ → ChainEnd → Type 0
 IsTrueEnd family max last AtMax = last ≡ max
 IsTrueEnd family max last (UnboundedPast past z d) =
-    IsProvedPast max last past (λ theta. IsEndlessBy (family theta) (value_at z) (value_at d))
+    IsProvedPast max last past (λ theta. IsUnboundedBy (family theta) (value_at z) (value_at d))
 IsTrueEnd family max last (InfeasiblePast past w) =
     IsProvedPast max last past (λ theta. IsRefutedBy (family theta) (value_at w))
 
@@ -88,7 +88,7 @@ abbrev pub IsTrueFailure : LinearProgram → PathEnding → Type 0
 IsTrueFailure p (EndsOptimal z y) = ⊥
 IsTrueFailure p (EndsCrossed k) = IsCrossed p k × IsInfeasible p
 IsTrueFailure p (EndsInfeasible w) = IsRefutedBy p (value_at w)
-IsTrueFailure p (EndsUnbounded z d) = IsEndlessBy p (value_at z) (value_at d)
+IsTrueFailure p (EndsUnbounded z d) = IsUnboundedBy p (value_at z) (value_at d)
 
 abbrev pub IsTrueReport : (ℚ → LinearProgram) → ℚ → ℚ → RunReport → Type 0
 IsTrueReport family from max (FailedOpening ending) = IsTrueFailure (family from) ending

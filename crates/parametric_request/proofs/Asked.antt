@@ -11,7 +11,7 @@ use Rattle.control_definitions.specs.Cells.{Cells}
 use Rattle.selection_definitions.specs.Changes.{free_row_number, values_in, set_values}
 use Rattle.listing_definitions.specs.declared.VerbFault.TheVariants.{ParmaxBelow}
 use Rattle.question_definitions.specs.Answers.{Row, Set}
-use Rattle.answer_definitions.specs.Sweeps.{row_of, shifts_of}
+use Rattle.answer_definitions.specs.ParametricRuns.{row_of, shifts_of}
 use Rattle.run_definitions.specs.Verbs.{change_row, change_set, not_less}
 use Rattle.parametric_request.specs.declared.request.ParametricVerb.{ParametricVerb}
 use Rattle.parametric_request.specs.declared.request.ParametricVerb.TheVariants.{Paraobj, Pararhs}

@@ -2,7 +2,7 @@
 --     verb_of, change_of ..        the verb, and what it changes
 --     IsAsked, IsAskFault          what a verb asks for by the cells, and why it asks for nothing
 --     IsNotAsked                   why it is refused; or there is no memory
---     sweep_of limit request       a request, in the words of runs
+--     parametric_run_of limit request       a request, in the words of runs
 --     IsOf problem request         its row or its shifts are those of the problem
 --     Serves problem p request     the run can be made in the linear program p
 use Rattle.std.specs.Prelude.{◌≡◌, ℕ, Option, Some, None, length, option_and_then}
@@ -15,9 +15,9 @@ use Rattle.listing_definitions.specs.declared.VerbFault.{VerbFault}
 use Rattle.listing_definitions.specs.declared.VerbFault.TheVariants.{NoChangeRow, NoChangeSet, NoParmax, ParmaxBelow}
 use Rattle.control_definitions.specs.Program as program
 use Rattle.control_definitions.specs.Cells.{Cells, steps_allowed}
-use Rattle.question_definitions.specs.Answers.{Changing, Sweep}
+use Rattle.question_definitions.specs.Answers.{Changing, ParametricRun}
 use Rattle.question_definitions.specs.Answers as answers
-use Rattle.answer_definitions.specs.Sweeps.{row_of, shifts_of}
+use Rattle.answer_definitions.specs.ParametricRuns.{row_of, shifts_of}
 use Rattle.run_definitions.specs.Verbs.{change_row, change_set, not_less}
 use Rattle.parametric_request.specs.declared.request.ParametricVerb.{ParametricVerb}
 use Rattle.parametric_request.specs.declared.request.ParametricVerb.TheVariants.{Paraobj, Pararhs}
@@ -64,11 +64,11 @@ module _ (verb : ParametricVerb) (problem : Problem ℕ) (cells : Cells) where
   Changes changing = option_and_then (change_of verb problem) (name_moved verb cells) ≡ Some changing
 
   -- the run goes from XPARAM to XPARMAX, which isn't less, in as many steps as a verb may take
-  pub record IsAsked (sweep : Sweep) : Type 0 where
-    pub changes : Changes sweep.changing
-    pub is_last : IsLastValue cells sweep.to
-    pub is_first : sweep.from ≡ cells.xparam
-    pub is_limit : sweep.limit ≡ steps_allowed cells
+  pub record IsAsked (parametric_run : ParametricRun) : Type 0 where
+    pub changes : Changes parametric_run.changing
+    pub is_last : IsLastValue cells parametric_run.to
+    pub is_first : parametric_run.from ≡ cells.xparam
+    pub is_limit : parametric_run.limit ≡ steps_allowed cells
 
   -- nothing has the name of what is to change; or the last value is refused
   pub data IsAskFault : VerbFault → Type 0 where
@@ -86,8 +86,8 @@ abbrev pub changing_of : Name → Change → Changing
 changing_of name (Row row) = answers.Row name
 changing_of name (Set shift) = answers.Set name
 
-abbrev pub sweep_of : ℕ → ParametricRequest → Sweep
-sweep_of limit request = record { changing = changing_of request.name request.change; from = request.from; to = request.to; limit = limit }
+abbrev pub parametric_run_of : ℕ → ParametricRequest → ParametricRun
+parametric_run_of limit request = record { changing = changing_of request.name request.change; from = request.from; to = request.to; limit = limit }
 
 -- the row has this name, and no limits in what is selected, or the shifts are those of the set
 abbrev pub IsChangeOf : Problem ℕ → Name → Change → Type 0

@@ -1,7 +1,7 @@
 // What PARAOBJ and PARARHS ask for.
 ghost use Rattle.std.specs.Prelude.{IfOk, IfErr};
 ghost use Rattle.control_definitions.specs.Cells.{steps_allowed};
-ghost use Rattle.parametric_request.specs.Asking.{IsAsked, IsNotAsked, IsLastValue, IsLastFault, IsOf, sweep_of};
+ghost use Rattle.parametric_request.specs.Asking.{IsAsked, IsNotAsked, IsLastValue, IsLastFault, IsOf, parametric_run_of};
 
 use frac128::Frac;
 use listing_definitions::VerbFault;
@@ -62,7 +62,7 @@ fn last_value(cells: &Cells) -> Result<Frac, VerbFault>
 // The run of the objective that the cells ask for.
 fn row_request(problem: &Problem, cells: &Cells) -> Result<ParametricRequest, RequestStop>
     ensures asked { IfOk result (λ request. IsAsked ParametricVerb.Paraobj problem.now cells.now
-        (sweep_of (steps_allowed cells.now) request)) }
+        (parametric_run_of (steps_allowed cells.now) request)) }
     ensures of { IfOk result (IsOf problem.now) }
     ensures refused { IfErr result (IsNotAsked ParametricVerb.Paraobj problem.now cells.now) }
 {
@@ -90,7 +90,7 @@ fn set_request(
     cells: &Cells,
 ) -> Result<ParametricRequest, RequestStop>
     ensures asked { IfOk result (λ request. IsAsked ParametricVerb.Pararhs problem.now cells.now
-        (sweep_of (steps_allowed cells.now) request)) }
+        (parametric_run_of (steps_allowed cells.now) request)) }
     ensures of { IfOk result (IsOf problem.now) }
     ensures refused { IfErr result (IsNotAsked ParametricVerb.Pararhs problem.now cells.now) }
 {
@@ -122,7 +122,7 @@ pub fn request_of(
     verb: ParametricVerb,
 ) -> Result<ParametricRequest, RequestStop>
     ensures asked { IfOk result (λ request. IsAsked verb problem.now cells.now
-        (sweep_of (steps_allowed cells.now) request)) }
+        (parametric_run_of (steps_allowed cells.now) request)) }
     ensures of { IfOk result (IsOf problem.now) }
     ensures refused { IfErr result (IsNotAsked verb problem.now cells.now) }
 {

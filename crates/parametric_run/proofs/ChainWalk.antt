@@ -15,7 +15,7 @@ use Rattle.lp_model.specs.declared.reports.ParaEnd.TheVariants as end
 use Rattle.lp_model.specs.declared.reports.ParaPart.{ParaPart}
 use Rattle.simplex_definitions.specs.Path.{last_of}
 use Rattle.simplex_laws.specs.Laws.{IsNonsingularBasis}
-use Rattle.simplex_definitions.specs.Chain.{Part, AtBreak, FaceDone, FaceEnds, IsPart, IsChain, at_max, past_break}
+use Rattle.simplex_definitions.specs.Chain.{Part, AtBreakpoint, FaceDone, FaceEnds, IsPart, IsChain, at_max, past_breakpoint}
 use Rattle.bounded_primal.specs.Stops.{primal_stop_of}
 use Rattle.bounded_primal.specs.declared.moves.PrimalStop.{PrimalStop}
 use Rattle.parametric_laws.proofs.Runs.{last_of-append}
@@ -132,7 +132,7 @@ module _ (m : ParametricProgram) (span : Span) (s : List Status) (begun : ℕ) w
           chain =
               subst (λ (xs : List Part). IsChain m.family m.face span.to span.from s xs (end_of last) (b.path ++ reach.bases)) (sym parts_are)
               (closes m.family m.face span.from span.to s (map part_of old) theta now b.path (part_of part ∷ []) (end_of last) reach.bases b.is_begun
-              (past_break {from = theta} {s = now} {part = part_of part} is
+              (past_breakpoint {from = theta} {s = now} {part = part_of part} is
               (record { before_max = before; face_path = reach.path; last = subst (λ x. m.face part.to x (FaceEnds (end_of last))) (sym reach.reaches) ends })));
           reaches = last_of-append s b.path reach.bases ∙ ap (λ x. last_of x reach.bases) (begun_last m.family m.face span.from span.to s (map part_of old) theta now b.path b.is_begun) ∙ reach.reaches;
           within = omega (arith, first, second, both);
@@ -199,7 +199,7 @@ module _ (m : ParametricProgram) (span : Span) (s : List Status) (begun : ℕ) (
       stood_past later all start before steps taken counted h =
           let o = any start before steps (steps + begun - left) (omega (arith, within)) h in
           record {
-            place = AtBreak part.to next;
+            place = AtBreakpoint part.to next;
             ends = part.to ∷ o.ends;
             is_now = refl;
             run_there = all span.from span.to start before (part.to ∷ o.ends) (steps + begun - left) taken (omega (arith, within, counted))

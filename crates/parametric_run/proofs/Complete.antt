@@ -18,25 +18,25 @@ use Rattle.parametric_laws.proofs.NotBoth.{not_both}
 use Rattle.bounded_primal.specs.declared.moves.PrimalStop.{PrimalStop}
 use Rattle.bounded_primal.specs.declared.moves.PrimalStop.TheVariants.{Limit, Overflow, NoMemory}
 use Rattle.parametric_run.specs.Calls.{part_of, end_of, IsReported, RunEnds, RunStops}
-use Rattle.parametric_run.specs.Complete.{IsReportOf, RunEndsUnhindered, IsRunOrMemory}
+use Rattle.parametric_run.specs.Complete.{IsReportOf, RunEndsOverflowFree, IsRunOrMemory}
 
 module _ (family : ℚ → LinearProgram) (Face : ℚ → List Status → FaceTurn → Type 0) (from max : ℚ) (s : List Status) where
   -- the answer in the words of runs
-  record IsTold (answer : ParaReport) (bases : List (List Status)) : Type 0 where
+  record HasReported (answer : ParaReport) (bases : List (List Status)) : Type 0 where
     report : RunReport
     is_report : IsReport family Face from max s report bases
     is_answer : IsReportOf report (counted_steps (length bases)) answer
 
-  told : (answer : ParaReport) (bases : List (List Status)) → IsReported family Face from max s answer bases → IsTold answer bases
-  told (Opening outcome) bases is = record { report = FailedOpening is.ending; is_report = is.opens; is_answer = ap Opening is.is_outcome }
-  told (Run run) bases is = record { report = Chain (map part_of run.parts) (end_of run.end); is_report = is; is_answer = (run, refl, refl, refl) }
+  reported : (answer : ParaReport) (bases : List (List Status)) → IsReported family Face from max s answer bases → HasReported answer bases
+  reported (Opening outcome) bases is = record { report = FailedOpening is.ending; is_report = is.opens; is_answer = ap Opening is.is_outcome }
+  reported (Run run) bases is = record { report = Chain (map part_of run.parts) (end_of run.end); is_report = is; is_answer = (run, refl, refl, refl) }
 
   module _ (p : LinearProgram) (one : HasOneFace p family Face) (at : IsNonsingularBasis p s) (limit : ℕ) (Overflows : List Status → List Basics → Evidence → Type 0) where
     pub run_answers : (a : Matrix) (now : List Status) (before after : List Basics) (result : Result ParaReport PrimalStop) →
         IfOk result (RunEnds family Face from max s now limit a before after) → IfErr result (RunStops family Face from max s now limit (Overflows now after)) →
-        (report : RunReport) (path : List (List Status)) → RunEndsUnhindered family Face from max s limit Overflows report path → IsRunOrMemory s report path now result
+        (report : RunReport) (path : List (List Status)) → RunEndsOverflowFree family Face from max s limit Overflows report path → IsRunOrMemory s report path now result
     run_answers a now before after (Ok answer) ends stops report path goes =
-        let given = told answer ends.bases ends.is_report in
+        let given = reported answer ends.bases ends.is_report in
         let same : SameReports report given.report path ends.bases = one_report p family Face one from max s report given.report path ends.bases at goes.ends given.is_report in
         inl (
           answer,

@@ -10,7 +10,7 @@ use Rattle.lp_model.specs.RatesCalls.{IfOverflow}
 use Rattle.lp_model.specs.declared.Stop.{Stop}
 use Rattle.lp_model.specs.declared.Stop.TheVariants as stop
 use Rattle.simplex_definitions.specs.Path.{Move, after}
-use Rattle.simplex_definitions.specs.Chain.{FaceMoves, IsFaceStep, AtBreak}
+use Rattle.simplex_definitions.specs.Chain.{FaceMoves, IsFaceStep, AtBreakpoint}
 use Rattle.bounded_primal.specs.Moves.{StepRefused}
 use Rattle.bounded_primal.specs.Stops.{primal_stop_of}
 use Rattle.bounded_primal.specs.declared.moves.PrimalStop.{PrimalStop}
@@ -50,13 +50,13 @@ module _ (m : ParametricProgram) (theta : ℚ) (s : List Status) (begun : ℕ) w
   module _ (ways : List Basics) (now : List Status) (more : List Basics) (left : ℕ) (any : AnyRun m theta s now ways more begun left) where
     pub any_later : (last : List Basics) → KeepsWaypoints m.program.matrix (basics_of now) more (basics_of now) last → AnyRun m theta s now ways last begun left
     any_later last keeps from max start before ends steps later counted h =
-        run_later m.family m.face from max m.program.matrix start before (AtBreak theta now) ends now more later (any from max start before ends steps later counted h) refl last keeps
+        run_later m.family m.face from max m.program.matrix start before (AtBreakpoint theta now) ends now more later (any from max start before ends steps later counted h) refl last keeps
 
     pub any_more : (next : List Status) (last : List Basics) (move : Move) → FacesReach m theta s now begun left → m.face theta now (FaceMoves move) → 1 ≤ left → next ≡ after now move →
         KeepsWaypoints m.program.matrix (basics_of now) more (basics_of next) last → AnyRun m theta s next ways last begun (left - 1)
     any_more next last move reach moves is_left is keeps from max start before ends steps later counted h =
         let taken = reach.taken in
-        subst (λ (n : ℕ). HasRun m.family m.face from max m.program.matrix start before (AtBreak theta next) ends last n) (omega (arith, taken, counted, is_left))
+        subst (λ (n : ℕ). HasRun m.family m.face from max m.program.matrix start before (AtBreakpoint theta next) ends last n) (omega (arith, taken, counted, is_left))
         (run_more m.family m.face from max m.program.matrix start before theta ends now more (later - 1) (any from max start before ends steps (later - 1) (omega (arith, taken, counted, is_left)) h) next last
         (move, moves, is) keeps)
 
@@ -72,5 +72,5 @@ module _ (m : ParametricProgram) (theta : ℚ) (s : List Status) (begun : ℕ) w
       pub any_follows : FacesFollow m theta s now begun ways more
       any_follows span start before ends steps counted h =
           let taken = reach.taken in
-          follows m.family m.face span.from span.to m.program.matrix start before (AtBreak theta now) ends now more (steps + begun - left)
+          follows m.family m.face span.from span.to m.program.matrix start before (AtBreakpoint theta now) ends now more (steps + begun - left)
           (any span.from span.to start before ends steps (steps + begun - left) (omega (arith, taken)) h) refl span.limit (omega (arith, taken, counted))

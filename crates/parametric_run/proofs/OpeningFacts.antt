@@ -24,7 +24,7 @@ use Rattle.bounded_primal.specs.declared.moves.PrimalStop.TheVariants.{Limit, Ov
 use Rattle.parametric_laws.proofs.NotBoth.{same_path}
 use Rattle.parametric_laws.proofs.Runs.{last_of-append}
 use Rattle.parametric_run.specs.Calls.{RunStops, RunOverflows, part_of, end_of}
-use Rattle.parametric_run.specs.Chains.{StandsAt, ChainEnds, OpensFrom, MethodEnds, MethodStops, MethodFollows, MethodUnhindered, Overflows}
+use Rattle.parametric_run.specs.Chains.{StandsAt, ChainEnds, OpensFrom, MethodEnds, MethodStops, MethodFollows, MethodOverflowFree, Overflows}
 use Rattle.parametric_run.specs.Complete.{IsRunOrMemory}
 use Rattle.parametric_run.specs.Programs.{ParametricProgram, IsParametric}
 use Rattle.parametric_run.specs.Standing.{IsPointAtSome}
@@ -57,7 +57,7 @@ module _ (m : ParametricProgram) (is_parametric : IsParametric m) (span : Span) 
   chain_stops NoMemory h = h
 
   pub method_answers : IsNonsingularBasis m.program s → (result : Result ParaReport PrimalStop) → IfOk result (MethodEnds m span s now before after) → IfErr result (MethodStops m span s now before after) →
-      (report : RunReport) (path : List (List Status)) → MethodUnhindered m span s before report path → IsRunOrMemory s report path now result
+      (report : RunReport) (path : List (List Status)) → MethodOverflowFree m span s before report path → IsRunOrMemory s report path now result
   method_answers at =
       run_answers m.family m.face span.from span.to s m.program is_parametric.one_face at span.limit (λ now after e. Overflows m span s now before after e) m.program.matrix now before after
 
@@ -103,11 +103,11 @@ module _ (m : ParametricProgram) (is_parametric : IsParametric m) (span : Span) 
       z : List ℚ
       y : List ℚ
       is_ending : ending ≡ EndsOptimal z y
-      is_told : counted_steps (length ends.bases) ≡ steps
+      is_reported : counted_steps (length ends.bases) ≡ steps
       is_point : z ≡ point
 
     optimal_by : (ending : PathEnding) → Optimal steps point prices ≡ outcome_of (counted_steps (length ends.bases)) ending → IsOptimalEnd ending
-    optimal_by (EndsOptimal z y) e = record { z = z; y = y; is_ending = refl; is_told = cc; is_point = cc }
+    optimal_by (EndsOptimal z y) e = record { z = z; y = y; is_ending = refl; is_reported = cc; is_point = cc }
     optimal_by (EndsCrossed k) e = cc
     optimal_by (EndsInfeasible w) e = cc
     optimal_by (EndsUnbounded z d) e = cc
@@ -117,7 +117,7 @@ module _ (m : ParametricProgram) (is_parametric : IsParametric m) (span : Span) 
 
     -- a count within the limit doesn't stand still
     is_steps : length ends.bases ≡ steps
-    is_steps = let told = at_end.is_told in let within = ends.within in omega (arith, told, within, small)
+    is_steps = let reported = at_end.is_reported in let within = ends.within in omega (arith, reported, within, small)
 
     pub opening_within : steps ≤ span.limit
     opening_within = let same = is_steps in let within = ends.within in omega (arith, same, within)

@@ -10,7 +10,7 @@ use Rattle.lp_definitions.specs.declared.Evidence.{Evidence}
 use Rattle.lp_definitions.specs.declared.Status.{Status}
 use Rattle.lp_laws.proofs.WaypointLaws.{within_itself, within_by}
 use Rattle.simplex_definitions.specs.Path.{IsPath, EndsAt, EndsOptimal, last_of}
-use Rattle.simplex_definitions.specs.Chain.{FaceTurn, FaceDone, ReachesTo, IsFaceStep, IsFacePath, RunPlace, InOpening, AtBreak, basis_of, break_of, Reaches, begins, path_step, first_break, face_step, next_break}
+use Rattle.simplex_definitions.specs.Chain.{FaceTurn, FaceDone, ReachesTo, IsFaceStep, IsFacePath, RunPlace, InOpening, AtBreakpoint, basis_of, breakpoint_of, Reaches, begins, path_step, first_breakpoint, face_step, next_breakpoint}
 use Rattle.simplex_definitions.specs.Statements.{SolvingStatement}
 use Rattle.simplex_definitions.specs.Evidence.{EvidenceHolds}
 use Rattle.basis_values.specs.Calls.{LieIn}
@@ -54,7 +54,7 @@ module _ (a : Matrix) where
       place w (inr (inr within)) = within_by a w (basics_of now) (map basics_of (xs ++ now ∷ [])) within (within_last xs now)
 
 module _ (family : ℚ → LinearProgram) (Face : ℚ → List Status → FaceTurn → Type 0) where
-  -- one more step at a break
+  -- one more step at a breakpoint
   pub face_path_more : (theta : ℚ) (s : List Status) (bases : List (List Status)) (next : List Status) → IsFacePath family Face theta s bases →
       IsFaceStep family Face theta (last_of s bases) next → IsFacePath family Face theta s (bases ++ next ∷ [])
   face_path_more theta s [] next path step = (step, tt)
@@ -65,9 +65,9 @@ module _ (family : ℚ → LinearProgram) (Face : ℚ → List Status → FaceTu
     reached_last : (place : RunPlace) (path : List (List Status)) (ends : List ℚ) → Reaches family Face from max s place path ends → last_of s path ≡ basis_of place
     reached_last _ _ _ begins = refl
     reached_last _ _ _ (path_step {now} {next} {path} so_far step) = last_more s path next
-    reached_last _ _ _ (first_break {now} {path} {to} point prices so_far ends reaches within) = reached_last (InOpening now) path [] so_far
+    reached_last _ _ _ (first_breakpoint {now} {path} {to} point prices so_far ends reaches within) = reached_last (InOpening now) path [] so_far
     reached_last _ _ _ (face_step {theta} {now} {next} {path} {ends} so_far step) = last_more s path next
-    reached_last _ _ _ (next_break {theta} {now} {path} {ends} {to} so_far done reaches within) = reached_last (AtBreak theta now) path ends so_far
+    reached_last _ _ _ (next_breakpoint {theta} {now} {path} {ends} {to} so_far done reaches within) = reached_last (AtBreakpoint theta now) path ends so_far
 
     module _ (place : RunPlace) (ends : List ℚ) (now : List Status) (ways : List Basics) (steps : ℕ) (h : HasRun family Face from max a s before place ends ways steps)
         (is_now : basis_of place ≡ now) where
@@ -111,30 +111,30 @@ module _ (family : ℚ → LinearProgram) (Face : ℚ → List Status → FaceTu
       follows limit within = record { place = place; path = h.path; ends = ends; reaches = h.reaches; is_now = is_now; lie = h.lie }
 
       -- evidence at the basis is evidence on the run
-      pub overflows : (statement : SolvingStatement) (limit : ℕ) (more : List Basics) (e : Evidence) → steps ≤ limit → EvidenceHere statement a (break_of place) (limit - steps) now ways more e →
+      pub overflows : (statement : SolvingStatement) (limit : ℕ) (more : List Basics) (e : Evidence) → steps ≤ limit → EvidenceHere statement a (breakpoint_of place) (limit - steps) now ways more e →
           RunOverflows family Face from max s now limit statement a before more e
       unfolding stands
       overflows statement limit more e within here = record {
         stands = stands limit within;
         is_way = here.is_way;
         shows = λ earlier lie.
-            subst (λ (n : ℕ). EvidenceHolds statement (break_of place) (limit - n) (earlier ++ s ∷ h.path) ends now (waypoint (basics_of now) more e.way) e) (sym h.taken)
-            (subst (λ (xs : List (List Status)). EvidenceHolds statement (break_of place) (limit - steps) xs ends now (waypoint (basics_of now) more e.way) e) (sym (whole earlier))
+            subst (λ (n : ℕ). EvidenceHolds statement (breakpoint_of place) (limit - n) (earlier ++ s ∷ h.path) ends now (waypoint (basics_of now) more e.way) e) (sym h.taken)
+            (subst (λ (xs : List (List Status)). EvidenceHolds statement (breakpoint_of place) (limit - steps) xs ends now (waypoint (basics_of now) more e.way) e) (sym (whole earlier))
             (here.shows ends (earlier ++ initial.0) (lie_now earlier lie)));
       }
 
-    -- ---- at a break
+    -- ---- at a breakpoint
 
-    module _ (theta : ℚ) (ends : List ℚ) (now : List Status) (ways : List Basics) (steps : ℕ) (h : HasRun family Face from max a s before (AtBreak theta now) ends ways steps) where
+    module _ (theta : ℚ) (ends : List ℚ) (now : List Status) (ways : List Basics) (steps : ℕ) (h : HasRun family Face from max a s before (AtBreakpoint theta now) ends ways steps) where
       pub run_more : (next : List Status) (more : List Basics) → IsFaceStep family Face theta now next → KeepsWaypoints a (basics_of now) ways (basics_of next) more →
-          HasRun family Face from max a s before (AtBreak theta next) ends more (steps + 1)
-      run_more next more step keeps = step_more (AtBreak theta now) ends now ways steps h refl next (AtBreak theta next) more keeps (face_step h.reaches step)
+          HasRun family Face from max a s before (AtBreakpoint theta next) ends more (steps + 1)
+      run_more next more step keeps = step_more (AtBreakpoint theta now) ends now ways steps h refl next (AtBreakpoint theta next) more keeps (face_step h.reaches step)
 
       pub run_stops : (statement : SolvingStatement) (limit : ℕ) (more : List Basics) (stop : PrimalStop) → steps ≤ limit → FaceStops family Face statement a theta now (limit - steps) ways more stop →
           RunStops family Face from max s now limit (RunOverflows family Face from max s now limit statement a before more) stop
       run_stops statement limit more Limit within t = record {
         goes_on = record {
-          place = AtBreak theta now;
+          place = AtBreakpoint theta now;
           path = h.path;
           ends = ends;
           reaches = h.reaches;
@@ -143,17 +143,17 @@ module _ (family : ℚ → LinearProgram) (Face : ℚ → List Status → FaceTu
         };
         is_now = refl;
       }
-      run_stops statement limit more (Overflow e) within t = overflows (AtBreak theta now) ends now ways steps h refl statement limit more e within t
-      run_stops statement limit more NoMemory within t = stands (AtBreak theta now) ends now ways steps h refl limit within
+      run_stops statement limit more (Overflow e) within t = overflows (AtBreakpoint theta now) ends now ways steps h refl statement limit more e within t
+      run_stops statement limit more NoMemory within t = stands (AtBreakpoint theta now) ends now ways steps h refl limit within
 
       -- where no face step is left, the next interval begins
       pub opens_next : Face theta now FaceDone → MayOpen family Face from max a s before theta now ways steps
       opens_next done = record {
-        place = AtBreak theta now;
+        place = AtBreakpoint theta now;
         ends = ends;
         run = h;
         is_now = refl;
-        breaks = λ to reaches within. next_break h.reaches done reaches within;
+        breaks = λ to reaches within. next_breakpoint h.reaches done reaches within;
       }
 
     -- ---- where an interval begins
@@ -169,8 +169,8 @@ module _ (family : ℚ → LinearProgram) (Face : ℚ → List Status → FaceTu
         breaks = h.breaks;
       }
 
-      -- the basis stays optimal to a break before max
-      pub run_breaks : (to : ℚ) → ReachesTo family now theta max to → to <ℚ max → HasRun family Face from max a s before (AtBreak to now) (to ∷ h.ends) ways steps
+      -- the basis stays optimal to a breakpoint before max
+      pub run_breaks : (to : ℚ) → ReachesTo family now theta max to → to <ℚ max → HasRun family Face from max a s before (AtBreakpoint to now) (to ∷ h.ends) ways steps
       run_breaks to reaches within = record { path = h.run.path; reaches = h.breaks to reaches within; taken = h.run.taken; lie = h.run.lie }
 
       pub opening_stands : (limit : ℕ) → steps ≤ limit → StandsThere family Face from max s now limit
@@ -182,7 +182,7 @@ module _ (family : ℚ → LinearProgram) (Face : ℚ → List Status → FaceTu
       pub interval_stops : (statement : SolvingStatement) (limit : ℕ) (more : List Basics) (stop : PrimalStop) → steps ≤ limit → IntervalStops statement a now (limit - steps) ways more stop →
           RunStops family Face from max s now limit (RunOverflows family Face from max s now limit statement a before more) stop
       interval_stops statement limit more Limit within t = absurd t
-      interval_stops statement limit more (Overflow e) within t = overflows h.place h.ends now ways steps h.run h.is_now statement limit more e within (t (break_of h.place))
+      interval_stops statement limit more (Overflow e) within t = overflows h.place h.ends now ways steps h.run h.is_now statement limit more e within (t (breakpoint_of h.place))
       interval_stops statement limit more NoMemory within t = opening_stands limit within
 
     -- ---- the opening path
@@ -211,5 +211,5 @@ module _ (family : ℚ → LinearProgram) (Face : ℚ → List Status → FaceTu
       ends = [];
       run = h;
       is_now = refl;
-      breaks = λ to reaches within. first_break point prices h.reaches ends reaches within;
+      breaks = λ to reaches within. first_breakpoint point prices h.reaches ends reaches within;
     }

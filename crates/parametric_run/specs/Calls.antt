@@ -22,7 +22,7 @@ use Rattle.lp_model.specs.declared.reports.ParaReport.{ParaReport}
 use Rattle.lp_model.specs.declared.reports.ParaReport.TheVariants.{Opening, Run}
 use Rattle.simplex_definitions.specs.Counts.{counted_steps}
 use Rattle.simplex_definitions.specs.Path.{PathEnding, last_of}
-use Rattle.simplex_definitions.specs.Chain.{Part, ChainEnd, AtMax, UnboundedPast, InfeasiblePast, FaceTurn, IsRun, IsFailedOpening, RunPlace, break_of, basis_of, Reaches, RunGoesOnFor}
+use Rattle.simplex_definitions.specs.Chain.{Part, ChainEnd, AtMax, UnboundedPast, InfeasiblePast, FaceTurn, IsRun, IsFailedOpening, RunPlace, breakpoint_of, basis_of, Reaches, RunGoesOnFor}
 use Rattle.simplex_definitions.specs.Statements.{SolvingStatement}
 use Rattle.simplex_definitions.specs.Evidence.{EvidenceHolds}
 use Rattle.basis_values.specs.Calls.{LieIn}
@@ -58,7 +58,7 @@ module _ (family : ℚ → LinearProgram) (Face : ℚ → List Status → FaceTu
   IsReported (Run run) bases = IsRun family Face from max s (map part_of run.parts) (end_of run.end) bases
 
   module _ (now : List Status) (limit : ℕ) where
-    -- the steps of the opening path and of all breaks count together; for every list of bases that ends with s, in which the waypoints
+    -- the steps of the opening path and of all breakpoints count together; for every list of bases that ends with s, in which the waypoints
     -- lay before, they lie after in that list followed by this run
     pub record RunEnds (a : Matrix) (before after : List Basics) (report : ParaReport) : Type 0 where
       pub bases : List (List Status)
@@ -93,7 +93,7 @@ module _ (family : ℚ → LinearProgram) (Face : ℚ → List Status → FaceTu
       pub stands : StandsThere
       pub is_way : e.way ≤ length after
       pub shows : (earlier : List (List Status)) → LieIn a before (earlier ++ s ∷ []) →
-          EvidenceHolds statement (break_of stands.place) (limit - length stands.path) (earlier ++ s ∷ stands.path)
+          EvidenceHolds statement (breakpoint_of stands.place) (limit - length stands.path) (earlier ++ s ∷ stands.path)
           stands.ends now (waypoint (basics_of now) after e.way) e
 
     -- Overflows is what the call says of an overflow

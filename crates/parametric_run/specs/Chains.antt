@@ -5,7 +5,7 @@
 --     ChainStops, ChainFollows     what holds of each such run after a call that has stopped; where the waypoints lie then
 --     Overflows e                  why a call stops by an overflow
 --     MethodEnds, MethodStops, MethodFollows     what the whole call promises
---     MethodUnhindered              the run that the whole call has to answer
+--     MethodOverflowFree              the run that the whole call has to answer
 use Rattle.std.specs.Prelude.{◌≡◌, ◌⊎◌, ℕ, ◌+◌, ◌≤◌, List, map, length}
 use Rattle.exact_values.specs.Rational.{ℚ}
 use Rattle.lp_definitions.specs.Basis.{Basics}
@@ -17,7 +17,7 @@ use Rattle.simplex_definitions.specs.Path.{last_of}
 use Rattle.simplex_definitions.specs.Chain.{RunReport, IsChain, RunPlace, basis_of}
 use Rattle.bounded_primal.specs.declared.moves.PrimalStop.{PrimalStop}
 use Rattle.parametric_run.specs.Calls.{part_of, end_of, RunEnds, StandsThere, WaypointsFollowRun, RunOverflows, RunStops}
-use Rattle.parametric_run.specs.Complete.{RunEndsUnhindered}
+use Rattle.parametric_run.specs.Complete.{RunEndsOverflowFree}
 use Rattle.parametric_run.specs.Programs.{ParametricProgram}
 use Rattle.parametric_run.specs.Walks.{HasRun, MayOpen}
 use Rattle.parametric_run.specs.declared.method.Span.{Span}
@@ -74,6 +74,6 @@ module _ (m : ParametricProgram) (span : Span) where
 
   -- the run from s ends within the limit, and wherever the call may be on it, no evidence of an overflow holds, nor any of a program
   -- that could not be made
-  abbrev pub MethodUnhindered : List Status → List Basics → RunReport → List (List Status) → Type 0
-  MethodUnhindered s before =
-      RunEndsUnhindered m.family m.face span.from span.to s span.limit (λ now after e. Overflows s now before after e)
+  abbrev pub MethodOverflowFree : List Status → List Basics → RunReport → List (List Status) → Type 0
+  MethodOverflowFree s before =
+      RunEndsOverflowFree m.family m.face span.from span.to s span.limit (λ now after e. Overflows s now before after e)

@@ -1,6 +1,6 @@
 -- When a call that makes a parametric run has to answer.
 --     IsReportOf report steps answer     the answer is this report of a run, after so many steps
---     RunEndsUnhindered report path      the run from s ends within the limit with this report, having gone over these bases, and
+--     RunEndsOverflowFree report path      the run from s ends within the limit with this report, having gone over these bases, and
 --                                        wherever a call may be on it, no evidence of an overflow holds
 --     IsRunOrMemory ..                   the answer is that report, at the basis where the run ends; or there is no memory
 use Rattle.std.specs.Prelude.{◌≡◌, ◌⊎◌, ℕ, ◌≤◌, List, length, map, Result, Ok, Err}
@@ -27,7 +27,7 @@ IsReportOf (Chain parts end) steps answer =
     (run : ParaRun) × (answer ≡ Run run) × (map part_of run.parts ≡ parts) × (end_of run.end ≡ end)
 
 -- Overflows now after e is what the call from s says of an overflow at the basis now, with the waypoints after
-pub record RunEndsUnhindered (family : ℚ → LinearProgram) (Face : ℚ → List Status → FaceTurn → Type 0) (from max : ℚ)
+pub record RunEndsOverflowFree (family : ℚ → LinearProgram) (Face : ℚ → List Status → FaceTurn → Type 0) (from max : ℚ)
     (s : List Status) (limit : ℕ) (Overflows : List Status → List Basics → Evidence → Type 0) (report : RunReport)
     (path : List (List Status)) : Type 0 where
   pub ends : IsReport family Face from max s report path

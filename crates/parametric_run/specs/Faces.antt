@@ -11,7 +11,7 @@ use Rattle.lp_definitions.specs.declared.Evidence.{Evidence}
 use Rattle.lp_definitions.specs.declared.Status.{Status}
 use Rattle.lp_model.specs.declared.reports.ParaEnd.{ParaEnd}
 use Rattle.simplex_definitions.specs.Path.{after, last_of}
-use Rattle.simplex_definitions.specs.Chain.{FaceMoves, FaceDone, FaceEnds, IsFacePath, AtBreak}
+use Rattle.simplex_definitions.specs.Chain.{FaceMoves, FaceDone, FaceEnds, IsFacePath, AtBreakpoint}
 use Rattle.bounded_primal.specs.Calls.{EvidenceHere}
 use Rattle.bounded_primal.specs.Moves.{StepRefused, move_by}
 use Rattle.bounded_primal.specs.declared.moves.PrimalStop.{PrimalStop}
@@ -53,8 +53,8 @@ module _ (m : ParametricProgram) where
   abbrev pub AnyRun : ℚ → List Status → List Status → List Basics → List Basics → ℕ → ℕ → Type 0
   AnyRun theta s now ways more begun left =
       (from max : ℚ) (start : List Status) (before : List Basics) (ends : List ℚ) (steps later : ℕ) → later + left ≡ steps + begun →
-      HasRun m.family m.face from max m.program.matrix start before (AtBreak theta s) ends ways steps →
-      HasRun m.family m.face from max m.program.matrix start before (AtBreak theta now) ends more later
+      HasRun m.family m.face from max m.program.matrix start before (AtBreakpoint theta s) ends ways steps →
+      HasRun m.family m.face from max m.program.matrix start before (AtBreakpoint theta now) ends more later
 
   -- no face step is left at now, which is optimal at the breakpoint
   pub record FacesDone (theta : ℚ) (s now : List Status) (begun left : ℕ) (w : Workspace) (ways more : List Basics) : Type 0 where
@@ -75,7 +75,7 @@ module _ (m : ParametricProgram) where
   abbrev pub FacesStop : ℚ → List Status → List Status → ℕ → List Basics → List Basics → PrimalStop → Type 0
   FacesStop theta s now begun ways more stop =
       (span : Span) (start : List Status) (before : List Basics) (ends : List ℚ) (steps : ℕ) → steps + begun ≡ span.limit →
-      HasRun m.family m.face span.from span.to m.program.matrix start before (AtBreak theta s) ends ways steps →
+      HasRun m.family m.face span.from span.to m.program.matrix start before (AtBreakpoint theta s) ends ways steps →
       RunStops m.family m.face span.from span.to start now span.limit
       (RunOverflows m.family m.face span.from span.to start now span.limit (m.statement span.from) m.program.matrix before more) stop
 
@@ -87,5 +87,5 @@ module _ (m : ParametricProgram) where
   abbrev pub FacesFollow : ℚ → List Status → List Status → ℕ → List Basics → List Basics → Type 0
   FacesFollow theta s now begun ways more =
       (span : Span) (start : List Status) (before : List Basics) (ends : List ℚ) (steps : ℕ) → steps + begun ≡ span.limit →
-      HasRun m.family m.face span.from span.to m.program.matrix start before (AtBreak theta s) ends ways steps →
+      HasRun m.family m.face span.from span.to m.program.matrix start before (AtBreakpoint theta s) ends ways steps →
       WaypointsFollowRun m.family m.face span.from span.to start now span.limit m.program.matrix before more

@@ -6,7 +6,7 @@ ghost use Rattle.lp_definitions.specs.declared.Status.{Status};
 ghost use Rattle.basis_values.specs.Calls.{HasRates};
 ghost use Rattle.simplex_definitions.specs.Chain.{RunReport};
 ghost use Rattle.simplex_definitions.specs.Counts.{last_count};
-ghost use Rattle.parametric_run.specs.Chains.{MethodEnds, MethodStops, MethodFollows, MethodUnhindered};
+ghost use Rattle.parametric_run.specs.Chains.{MethodEnds, MethodStops, MethodFollows, MethodOverflowFree};
 ghost use Rattle.parametric_run.specs.Complete.{IsRunOrMemory};
 ghost use Rattle.parametric_run.specs.Programs.{IsParametric};
 ghost use Rattle.parametric_run.specs.Truth.{IsTrueReported};
@@ -53,7 +53,7 @@ pub fn follow<M: Parametric, R: Rates>(
     ensures truth { IfOk result (IsTrueReported (M.problem method.now).family span.now.from
         span.now.to) }
     ensures complete { (report : RunReport) → (path : List (List Status)) →
-        MethodUnhindered (M.problem method.now) span.now basis.old (R.waypoints rates.old) report path →
+        MethodOverflowFree (M.problem method.now) span.now basis.old (R.waypoints rates.old) report path →
         IsRunOrMemory basis.old report path basis.new result }
 {
     let limit = limit_of(span);

@@ -10,7 +10,7 @@ use Rattle.lp_definitions.specs.Basis.{Basics, is_in, IsBasic, IsNonsingular, Ar
 use Rattle.lp_definitions.specs.RatesEvidence.{multiplier, sum_from}
 use Rattle.lp_laws.specs.Vectors.{functional}
 use Rattle.lp_laws.proofs.Values.{clash}
-use Rattle.lp_laws.proofs.Exchange.{enterer_in, leaver_out, others_stay}
+use Rattle.lp_laws.proofs.Exchange.{entering_in, leaver_out, others_stay}
 use Rattle.lp_laws.proofs.Combination.{multiplier_vanishes}
 use Rattle.lp_laws.proofs.Opening.{IsNonsingular-row_basics}
 use Rattle.lp_laws.proofs.Ordered.{carried_back}
@@ -111,7 +111,7 @@ module _ (f : Inverse) (passed : Passed f.matrix (row_basics f.matrix) f.etas) (
         known.each rate are i var (ap (λ b. is_in b i) next ∙ others_stay f.matrix w w_counted eta.p eta.q is.leaves is.enters i var other not_q ∙ inside)
 
     at_q : value_at xs eta.q ≡ y eta.q
-    at_q = known.each rate are eta.q is.enters.0 (ap (λ b. is_in b eta.q) next ∙ enterer_in f.matrix w w_counted eta.p eta.q is.leaves is.enters)
+    at_q = known.each rate are eta.q is.enters.0 (ap (λ b. is_in b eta.q) next ∙ entering_in f.matrix w w_counted eta.p eta.q is.leaves is.enters)
 
     vanishes : (x : Vector) → KeepsEquations f.matrix x → functional f.matrix y x ≡ zero_ℚ
     vanishes = multiplier_vanishes f.matrix f.basics rate are one r basic

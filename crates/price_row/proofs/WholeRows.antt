@@ -14,7 +14,7 @@ use Rattle.lp_definitions.specs.RatesEvidence.{sum_from}
 use Rattle.lp_definitions.specs.declared.Entry.{Entry}
 use Rattle.lp_laws.proofs.Idle.{over_once}
 use Rattle.lp_model.specs.RatesCalls.{IsRowOf}
-use Rattle.whole_vectors.specs.Quotients.{quotients, AreProducts, IsSameOver, StandFor}
+use Rattle.whole_vectors.specs.Quotients.{quotients, AreProducts, IsSameOver, Represent}
 use Rattle.whole_vectors.proofs.Over.{value_at-quotients, length-quotients, same_factor}
 use Rattle.eta_file.specs.declared.eta.EtaEntry.{EtaEntry}
 use Rattle.eta_file.specs.declared.eta.StoredEta.{StoredEta}
@@ -91,7 +91,7 @@ module _ (f : Inverse) (passed : Passed f.matrix (row_basics f.matrix) f.etas) (
       subst (λ (x : EtaEntry). IsEntryWithin n x) (sym (get_or-map (scaled s) entries i d d within))
       (entries_within f passed k below d0 p q entries lent n same i d within))
 
-  module _ (r : ℕ) (basic : IsBasic f.matrix f.basics r) (one : IsNonsingular f.matrix f.basics) (d : ℚ) (old : List ℚ) (counted : length old ≡ size f.matrix) (known : StandFor (IsKnown f (k + 1) r) d old)
+  module _ (r : ℕ) (basic : IsBasic f.matrix f.basics r) (one : IsNonsingular f.matrix f.basics) (d : ℚ) (old : List ℚ) (counted : length old ≡ size f.matrix) (known : Represent (IsKnown f (k + 1) r) d old)
       (first sum ratio : ℚ) (is_first : first ≡ value_at old q *ℚ s) (is_sum : sum ≡ sum_from first (weighted p old es)) (is_ratio : ratio ≡ sum /ℚ pivot) where
     abbrev total : ℚ
     total = sum_from (value_at (quotients d old) q) (weighted p (quotients d old) entries)
@@ -162,14 +162,14 @@ module _ (f : Inverse) (passed : Passed f.matrix (row_basics f.matrix) f.etas) (
               ap (λ x. x /ℚ e) (get_or-set_other low (p - 1) (i - 1) (neg_ℚ number) zero_ℚ other)
               ∙ low_over i ∙ sym (get_or-set_other (quotients d old) (p - 1) (i - 1) value zero_ℚ other)
 
-      pub known_whole : StandFor (IsKnown f k r) e new
+      pub known_whole : Represent (IsKnown f k r) e new
       known_whole = record {
         apart = e_apart;
         holds = record { each = λ rate are i var inside. new_is i var.0 ∙ before.each rate are i var inside };
       }
 
 -- what is left after a reduction
-pub known_reduced : (f : Inverse) (k r : ℕ) (d e : ℚ) (old new : List ℚ) → IsSameOver d old e new → StandFor (IsKnown f k r) d old → StandFor (IsKnown f k r) e new
+pub known_reduced : (f : Inverse) (k r : ℕ) (d e : ℚ) (old new : List ℚ) → IsSameOver d old e new → Represent (IsKnown f k r) d old → Represent (IsKnown f k r) e new
 known_reduced f k r d e old new same h = record {
   apart = same.apart;
   holds = record {
@@ -179,7 +179,7 @@ known_reduced f k r d e old new same h = record {
 
 -- ---- where it begins and ends
 
-pub begun_whole : (f : Inverse) (n r : ℕ) (d : ℚ) (xs : List ℚ) → f.basics ≡ after (row_basics f.matrix) f.etas → n ≡ length f.etas → d ≡ one_ℚ → IsUnit r xs → StandFor (IsKnown f n r) d xs
+pub begun_whole : (f : Inverse) (n r : ℕ) (d : ℚ) (xs : List ℚ) → f.basics ≡ after (row_basics f.matrix) f.etas → n ≡ length f.etas → d ≡ one_ℚ → IsUnit r xs → Represent (IsKnown f n r) d xs
 begun_whole f n r d xs are is_n once h = record {
   apart = λ none. one_apart (sym once ∙ none);
   holds = known_at_end f n r (quotients d xs) are is_n (record {
@@ -191,12 +191,12 @@ begun_whole f n r d xs are is_n once h = record {
     same : (k : ℕ) → value_at (quotients d xs) k ≡ value_at xs k
     same k = value_at-quotients d xs k ∙ sym (over_once (value_at xs k) d once)
 
-pub ended_whole : (f : Inverse) (n r : ℕ) (d : ℚ) (xs : List ℚ) → n ≡ 0 → StandFor (IsKnown f n r) d xs → StandFor (HasMultipliers f (size f.matrix) r) d xs
+pub ended_whole : (f : Inverse) (n r : ℕ) (d : ℚ) (xs : List ℚ) → n ≡ 0 → Represent (IsKnown f n r) d xs → Represent (HasMultipliers f (size f.matrix) r) d xs
 ended_whole f n r d xs none h = record { apart = h.apart; holds = (rows_known f r (quotients d xs) (subst (λ m. IsKnown f m r (quotients d xs)) none h.holds)).known }
 
 -- ---- a rate
 
-module _ (f : Inverse) (r place : ℕ) (d : ℚ) (xs : List ℚ) (within : place < size f.matrix) (known : StandFor (HasMultipliers f (size f.matrix) r) d xs) where
+module _ (f : Inverse) (r place : ℕ) (d : ℚ) (xs : List ℚ) (within : place < size f.matrix) (known : Represent (HasMultipliers f (size f.matrix) r) d xs) where
   up_to : HasMultipliers f (place + 1) r (quotients d xs)
   up_to = λ rate are k less in_rows. known.holds rate are k (omega (arith, less, within)) in_rows
 

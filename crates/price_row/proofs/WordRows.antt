@@ -5,7 +5,7 @@ use Rattle.std.proofs.lemmas.List.{get_or-set_same, get_or-set_other, get_or_def
 use Rattle.std.proofs.Math.ListN.{get_or-eq_default}
 use Rattle.exact_values.specs.Rational.{ℚ, whole, zero_ℚ, ◌/ℚ◌}
 use Rattle.lp_definitions.specs.LinearProgram.{value_at}
-use Rattle.whole_vectors.specs.Quotients.{quotients, StandFor}
+use Rattle.whole_vectors.specs.Quotients.{quotients, Represent}
 use Rattle.whole_vectors.specs.Words.{wholes}
 use Rattle.price_row.specs.Known.{IsUnit}
 
@@ -32,7 +32,7 @@ unit_in_words i n ns low high all nought = record {
     at k false e = let within : k < n = grind (arith, e) in nought k within
 
 -- a number that is of no account is made 0
-pub cleared_in_words : (P : List ℚ → Type 0) (d : ℚ) (ns : List ℤ) (i : ℕ) → ((xs : List ℚ) (v : ℚ) → P xs → P (set xs i v)) → StandFor P d (wholes ns) → StandFor P d (wholes (set ns i (pos 0)))
+pub cleared_in_words : (P : List ℚ → Type 0) (d : ℚ) (ns : List ℤ) (i : ℕ) → ((xs : List ℚ) (v : ℚ) → P xs → P (set xs i v)) → Represent P d (wholes ns) → Represent P d (wholes (set ns i (pos 0)))
 cleared_in_words P d ns i free h = record {
   apart = h.apart;
   holds = subst P (sym (ap (quotients d) (map-set whole ns i (pos 0)) ∙ map-set (λ x. x /ℚ d) (wholes ns) i zero_ℚ)) (free (quotients d (wholes ns)) (zero_ℚ /ℚ d) h.holds);

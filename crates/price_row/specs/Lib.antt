@@ -1,4 +1,4 @@
 pub mod Sums
 pub mod Known
-pub mod Room
+pub mod Workspace
 pub mod Places

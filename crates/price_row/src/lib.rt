@@ -28,7 +28,7 @@ use words::{first_by_words, row_by_words};
 pub struct PriceRow {
     words: Vec<i64>,
     multipliers: Vec<Frac>,
-    room: Vec<Frac>,
+    workspace: Vec<Frac>,
 }
 
 impl Model for PriceRow {
@@ -36,35 +36,35 @@ impl Model for PriceRow {
 
     ghost Value = { ℕ };
 
-    ghost use Rattle.price_row.specs.Room.{room_of, HasRoom};
+    ghost use Rattle.price_row.specs.Workspace.{workspace_of, HasWorkspace};
 
-    ghost view = { room_of };
+    ghost view = { workspace_of };
 
-    ghost invariant = { HasRoom };
+    ghost invariant = { HasWorkspace };
 }
 
 impl PriceRow {
     /// Room for rows of files of this matrix.
     pub fn new(alloc: Global, lp: &Lp) -> Result<PriceRow, NoMemory>
-        ensures { IfOk result (λ room. room ≡ size lp.now.matrix) }
+        ensures { IfOk result (λ workspace. workspace ≡ size lp.now.matrix) }
     {
         let size = lp.number_of_variables();
         Ok(PriceRow {
             words: vec![in alloc; 0; size as usize]?,
             multipliers: vec![in alloc; Frac::whole(0); size as usize]?,
-            room: vec![in alloc; Frac::whole(0); size as usize]?,
+            workspace: vec![in alloc; Frac::whole(0); size as usize]?,
         })
     }
 
     /// Fills `out`, which has a place for each variable, with the rates of the basic `i`: its rate at each nonbasic, and 0 at each
     /// basic. The row is carried backwards through the file, and multiplied with the columns of the deck: in whole numbers of one
     /// machine word over one denominator, or where one isn't such a number in numbers over one denominator, or where one of these
-    /// doesn't fit in fractions. Where an operation on fractions is refused on the way back, the multipliers of the rows are had by
-    /// their directions; where one is refused at a column, its rate is had by its direction. It takes no memory.
+    /// doesn't fit in fractions. Where an operation on fractions is refused on the way back, the multipliers of the rows are computed by
+    /// their directions; where one is refused at a column, its rate is computed by its direction. It takes no memory.
     pub fn row(&mut self, file: &EtaFile, i: u32, out: &mut [Frac]) -> Result<(), Stop>
         requires basic { IsBasic file.now.matrix file.now.basics i }
         requires places { length out.old ≡ size file.now.matrix }
-        requires room { self.old ≡ size file.now.matrix }
+        requires workspace { self.old ≡ size file.now.matrix }
         ensures rates { OnOk result (IsRowOf file.now.matrix file.now.basics i (value_at out.new)) }
         ensures overflow { RowOverflow result file.now.matrix file.now.basics (ways_of file.now)
             (ways_of file.now) }
@@ -78,8 +78,8 @@ impl PriceRow {
         if row_by_whole(file, i, &mut self.multipliers, out).is_some() {
             return Ok(());
         }
-        multipliers(file, i, out, &mut self.room)?;
-        fill(file, i, out, &mut self.room)
+        multipliers(file, i, out, &mut self.workspace)?;
+        fill(file, i, out, &mut self.workspace)
     }
 
     /// The least-numbered variable whose rate in the row of the basic `i`, or the opposite of it where `up` is false, is wanted there.
@@ -96,7 +96,7 @@ impl PriceRow {
         requires basic { IsBasic file.now.matrix file.now.basics i }
         requires wanted_places { length wanted.now ≡ size file.now.matrix }
         requires places { length out.old ≡ size file.now.matrix }
-        requires room { self.old ≡ size file.now.matrix }
+        requires workspace { self.old ≡ size file.now.matrix }
         ensures found { IfOk result (IsFirstWanted file.now.matrix file.now.basics i wanted.now up
             (value_at out.new)) }
         ensures overflow { RowOverflow result file.now.matrix file.now.basics (ways_of file.now)
@@ -113,8 +113,8 @@ impl PriceRow {
         if let Some(found) = quick {
             return Ok(found);
         }
-        multipliers(file, i, &mut self.multipliers, &mut self.room)?;
-        fill_to_wanted(file, i, &self.multipliers, wanted, up, out, &mut self.room)
+        multipliers(file, i, &mut self.multipliers, &mut self.workspace)?;
+        fill_to_wanted(file, i, &self.multipliers, wanted, up, out, &mut self.workspace)
     }
 }
 
@@ -184,10 +184,10 @@ fn carry_to_rows(file: &EtaFile, row: u32, out: &mut [Frac]) -> Result<(), Refus
 }
 
 /// The multiplier of row `k` in the row of the basic `i`, by the direction of k where it isn't basic, with room for it.
-fn multiplier_of(file: &EtaFile, i: u32, k: u32, room: &mut [Frac]) -> Result<Frac, Stop>
+fn multiplier_of(file: &EtaFile, i: u32, k: u32, workspace: &mut [Frac]) -> Result<Frac, Stop>
     requires basic { IsBasic file.now.matrix file.now.basics i }
     requires row { IsVariable file.now.matrix k }
-    requires places { length room.old ≡ size file.now.matrix }
+    requires places { length workspace.old ≡ size file.now.matrix }
     ensures value { IfOk result (IsMultiplierOf file.now i k) }
     ensures overflow { IfErr result (IsColumnStop file.now) }
     ensures never { IfErr result (λ stop. stop ≢ Stop.NoMemory) }
@@ -195,7 +195,7 @@ fn multiplier_of(file: &EtaFile, i: u32, k: u32, room: &mut [Frac]) -> Result<Fr
     if k == i {
         return Ok(Frac::whole(1));
     }
-    let rate = rate_by_column(file, i, k, room)?;
+    let rate = rate_by_column(file, i, k, workspace)?;
     Ok(rate.neg())
 }
 
@@ -204,34 +204,34 @@ fn multipliers_by_rows(
     file: &EtaFile,
     i: u32,
     out: &mut [Frac],
-    room: &mut [Frac],
+    workspace: &mut [Frac],
 ) -> Result<(), Stop>
     requires basic { IsBasic file.now.matrix file.now.basics i }
     requires places { length out.old ≡ size file.now.matrix }
-    requires room { length room.old ≡ size file.now.matrix }
+    requires workspace { length workspace.old ≡ size file.now.matrix }
     ensures known { OnOk result (IsFilledFrom file.now (size file.now.matrix) i out.new) }
     ensures overflow { IfErr result (IsColumnStop file.now) }
     ensures never { IfErr result (λ stop. stop ≢ Stop.NoMemory) }
 {
     let _size = file.size();
     for k in 0..file.rows() {
-        out[k as usize] = multiplier_of(file, i, k + 1, room)?;
+        out[k as usize] = multiplier_of(file, i, k + 1, workspace)?;
     }
     Ok(())
 }
 
 /// Fills the first places of `out` with the multipliers of the rows: carried back, or where that is refused by their directions.
-fn multipliers(file: &EtaFile, i: u32, out: &mut [Frac], room: &mut [Frac]) -> Result<(), Stop>
+fn multipliers(file: &EtaFile, i: u32, out: &mut [Frac], workspace: &mut [Frac]) -> Result<(), Stop>
     requires basic { IsBasic file.now.matrix file.now.basics i }
     requires places { length out.old ≡ size file.now.matrix }
-    requires room { length room.old ≡ size file.now.matrix }
+    requires workspace { length workspace.old ≡ size file.now.matrix }
     ensures known { OnOk result (IsFilledFrom file.now (size file.now.matrix) i out.new) }
     ensures overflow { IfErr result (IsColumnStop file.now) }
     ensures never { IfErr result (λ stop. stop ≢ Stop.NoMemory) }
 {
     match carry_to_rows(file, i, out) {
         Ok(()) => Ok(()),
-        Err(_refused) => multipliers_by_rows(file, i, out, room),
+        Err(_refused) => multipliers_by_rows(file, i, out, workspace),
     }
 }
 
@@ -261,12 +261,12 @@ fn rate_at(
     place: u32,
     row: u32,
     out: &[Frac],
-    room: &mut [Frac],
+    workspace: &mut [Frac],
 ) -> Result<Frac, Stop>
     requires within { place < size file.now.matrix }
     requires basic { IsBasic file.now.matrix file.now.basics row }
     requires places { length out.now ≡ size file.now.matrix }
-    requires room { length room.old ≡ size file.now.matrix }
+    requires workspace { length workspace.old ≡ size file.now.matrix }
     requires known { HasMultipliers file.now (place + 1) row out.now }
     ensures rate { IfOk result (IsRateOf file.now row (place + 1)) }
     ensures overflow { IfErr result (IsColumnStop file.now) }
@@ -275,15 +275,15 @@ fn rate_at(
     let _size = file.size();
     match rate_by_multipliers(file, place, row, out) {
         Ok(rate) => Ok(rate),
-        Err(_refused) => rate_by_column(file, row, place + 1, room),
+        Err(_refused) => rate_by_column(file, row, place + 1, workspace),
     }
 }
 
 /// Fills in the rates, the last variable's first, so that the multipliers of the rows stand as long as they are needed.
-fn fill(file: &EtaFile, row: u32, out: &mut [Frac], room: &mut [Frac]) -> Result<(), Stop>
+fn fill(file: &EtaFile, row: u32, out: &mut [Frac], workspace: &mut [Frac]) -> Result<(), Stop>
     requires basic { IsBasic file.now.matrix file.now.basics row }
     requires places { length out.old ≡ size file.now.matrix }
-    requires room { length room.old ≡ size file.now.matrix }
+    requires workspace { length workspace.old ≡ size file.now.matrix }
     requires known { IsFilledFrom file.now (size file.now.matrix) row out.old }
     ensures rates { OnOk result (IsRowOf file.now.matrix file.now.basics row (value_at out.new)) }
     ensures overflow { IfErr result (IsColumnStop file.now) }
@@ -292,7 +292,7 @@ fn fill(file: &EtaFile, row: u32, out: &mut [Frac], room: &mut [Frac]) -> Result
     let size = file.size();
     for back in 0..size {
         let place = size - 1 - back;
-        out[place as usize] = rate_at(file, place, row, out, room)?;
+        out[place as usize] = rate_at(file, place, row, out, workspace)?;
     }
     Ok(())
 }
@@ -314,13 +314,13 @@ fn fill_to_wanted(
     wanted: &[Wanted],
     up: bool,
     out: &mut [Frac],
-    room: &mut [Frac],
+    workspace: &mut [Frac],
 ) -> Result<Option<u32>, Stop>
     requires basic { IsBasic file.now.matrix file.now.basics row }
     requires multiplier_places { length multipliers.now ≡ size file.now.matrix }
     requires wanted_places { length wanted.now ≡ size file.now.matrix }
     requires places { length out.old ≡ size file.now.matrix }
-    requires room { length room.old ≡ size file.now.matrix }
+    requires workspace { length workspace.old ≡ size file.now.matrix }
     requires known { HasMultipliers file.now (size file.now.matrix) row multipliers.now }
     ensures found { IfOk result (IsFirstWanted file.now.matrix file.now.basics row wanted.now up
         (value_at out.new)) }
@@ -328,7 +328,7 @@ fn fill_to_wanted(
     ensures never { IfErr result (λ stop. stop ≢ Stop.NoMemory) }
 {
     for place in 0..file.size() {
-        let rate = rate_at(file, place, row, multipliers, room)?;
+        let rate = rate_at(file, place, row, multipliers, workspace)?;
         out[place as usize] = rate;
         if is_wanted_at(wanted, place, up, rate) {
             return Ok(Some(place + 1));

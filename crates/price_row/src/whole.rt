@@ -11,7 +11,7 @@ ghost use Rattle.lp_definitions.specs.LinearProgram.{size, value_at};
 ghost use Rattle.lp_definitions.specs.Basis.{IsBasic};
 ghost use Rattle.lp_model.specs.RatesCalls.{IsRowOf};
 ghost use Rattle.lp_model.specs.Wanted.{IsFirstWanted};
-ghost use Rattle.whole_vectors.specs.Quotients.{StandFor};
+ghost use Rattle.whole_vectors.specs.Quotients.{Represent};
 ghost use Rattle.price_row.specs.Known.{IsKnown, HasMultipliers, IsRateOf};
 
 use crate::{begin, is_wanted_at};
@@ -68,8 +68,8 @@ fn back_whole(
     requires within { place < length file.now.etas }
     requires basic { IsBasic file.now.matrix file.now.basics row }
     requires places { length out.old ≡ size file.now.matrix }
-    requires known { StandFor (IsKnown file.now (place + 1) row) denominator out.old }
-    ensures { IfSome result (λ d. StandFor (IsKnown file.now place row) d out.new) }
+    requires known { Represent (IsKnown file.now (place + 1) row) denominator out.old }
+    ensures { IfSome result (λ d. Represent (IsKnown file.now place row) d out.new) }
 {
     let _size = file.size();
     let _etas = file.etas();
@@ -95,7 +95,7 @@ fn back_whole(
 fn whole_multipliers(file: &EtaFile, row: u32, out: &mut [Frac]) -> Option<Frac>
     requires basic { IsBasic file.now.matrix file.now.basics row }
     requires places { length out.old ≡ size file.now.matrix }
-    ensures { IfSome result (λ d. StandFor (HasMultipliers file.now (size file.now.matrix) row)
+    ensures { IfSome result (λ d. Represent (HasMultipliers file.now (size file.now.matrix) row)
         d out.new) }
 {
     let _size = file.size();
@@ -114,7 +114,7 @@ fn rate_whole(file: &EtaFile, place: u32, row: u32, denominator: Frac, out: &[Fr
     requires within { place < size file.now.matrix }
     requires basic { IsBasic file.now.matrix file.now.basics row }
     requires places { length out.now ≡ size file.now.matrix }
-    requires known { StandFor (HasMultipliers file.now (size file.now.matrix) row)
+    requires known { Represent (HasMultipliers file.now (size file.now.matrix) row)
         denominator out.now }
     ensures { IfSome result (IsRateOf file.now row (place + 1)) }
 {
@@ -145,7 +145,7 @@ fn fill_whole(
     requires number_places { length numbers.now ≡ size file.now.matrix }
     requires wanted_places { length wanted.now ≡ size file.now.matrix }
     requires places { length out.old ≡ size file.now.matrix }
-    requires known { StandFor (HasMultipliers file.now (size file.now.matrix) row)
+    requires known { Represent (HasMultipliers file.now (size file.now.matrix) row)
         denominator numbers.now }
     ensures { IfSome result (IsFirstWanted file.now.matrix file.now.basics row wanted.now up
         (value_at out.new)) }
@@ -192,7 +192,7 @@ fn fill_row_whole(
     requires basic { IsBasic file.now.matrix file.now.basics row }
     requires number_places { length numbers.now ≡ size file.now.matrix }
     requires places { length out.old ≡ size file.now.matrix }
-    requires known { StandFor (HasMultipliers file.now (size file.now.matrix) row)
+    requires known { Represent (HasMultipliers file.now (size file.now.matrix) row)
         denominator numbers.now }
     ensures { IfSome result (λ _. IsRowOf file.now.matrix file.now.basics row (value_at out.new)) }
 {

@@ -1,5 +1,5 @@
 //! Rows that are carried back in whole numbers of one machine word over one denominator. Where a number isn't one, the answer is None,
-//! and the row has to be had in another way.
+//! and the row has to be computed in another way.
 
 ghost use Rattle.std.specs.Prelude.{◌≡◌, ℕ, ◌+◌, ◌≤◌, ◌<◌, length, All, IfSome};
 ghost use Rattle.exact_values.specs.Rational.{whole, zero_ℚ};
@@ -8,7 +8,7 @@ ghost use Rattle.lp_definitions.specs.Basis.{IsBasic};
 ghost use Rattle.lp_definitions.specs.RatesEvidence.{sum_from};
 ghost use Rattle.lp_model.specs.RatesCalls.{IsRowOf};
 ghost use Rattle.lp_model.specs.Wanted.{IsFirstWanted};
-ghost use Rattle.whole_vectors.specs.Quotients.{StandFor};
+ghost use Rattle.whole_vectors.specs.Quotients.{Represent};
 ghost use Rattle.whole_vectors.specs.Words.{wholes};
 ghost use Rattle.eta_file.specs.Entries.{IsEntryWithin};
 ghost use Rattle.price_row.specs.Sums.{weighted, products};
@@ -72,8 +72,8 @@ fn back_words(
     requires within { place < length file.now.etas }
     requires basic { IsBasic file.now.matrix file.now.basics row }
     requires places { length out.old ≡ size file.now.matrix }
-    requires known { StandFor (IsKnown file.now (place + 1) row) denominator (wholes out.old) }
-    ensures { IfSome result (λ d. StandFor (IsKnown file.now place row) d (wholes out.new)) }
+    requires known { Represent (IsKnown file.now (place + 1) row) denominator (wholes out.old) }
+    ensures { IfSome result (λ d. Represent (IsKnown file.now place row) d (wholes out.new)) }
 {
     let _size = file.size();
     let _etas = file.etas();
@@ -112,7 +112,7 @@ fn begin_words(i: u32, out: &mut [i64])
 fn word_multipliers(file: &EtaFile, row: u32, out: &mut [i64]) -> Option<Frac>
     requires basic { IsBasic file.now.matrix file.now.basics row }
     requires places { length out.old ≡ size file.now.matrix }
-    ensures { IfSome result (λ d. StandFor (HasMultipliers file.now (size file.now.matrix) row)
+    ensures { IfSome result (λ d. Represent (HasMultipliers file.now (size file.now.matrix) row)
         d (wholes out.new)) }
 {
     let _size = file.size();
@@ -137,7 +137,7 @@ fn rate_in_words(
     requires within { place < size file.now.matrix }
     requires basic { IsBasic file.now.matrix file.now.basics row }
     requires places { length out.now ≡ size file.now.matrix }
-    requires known { StandFor (HasMultipliers file.now (size file.now.matrix) row)
+    requires known { Represent (HasMultipliers file.now (size file.now.matrix) row)
         denominator (wholes out.now) }
     ensures { IfSome result (IsRateOf file.now row (place + 1)) }
 {
@@ -168,7 +168,7 @@ fn fill_by_words(
     requires number_places { length numbers.now ≡ size file.now.matrix }
     requires wanted_places { length wanted.now ≡ size file.now.matrix }
     requires places { length out.old ≡ size file.now.matrix }
-    requires known { StandFor (HasMultipliers file.now (size file.now.matrix) row)
+    requires known { Represent (HasMultipliers file.now (size file.now.matrix) row)
         denominator (wholes numbers.now) }
     ensures { IfSome result (IsFirstWanted file.now.matrix file.now.basics row wanted.now up
         (value_at out.new)) }
@@ -215,7 +215,7 @@ fn fill_row_by_words(
     requires basic { IsBasic file.now.matrix file.now.basics row }
     requires number_places { length numbers.now ≡ size file.now.matrix }
     requires places { length out.old ≡ size file.now.matrix }
-    requires known { StandFor (HasMultipliers file.now (size file.now.matrix) row)
+    requires known { Represent (HasMultipliers file.now (size file.now.matrix) row)
         denominator (wholes numbers.now) }
     ensures { IfSome result (λ _. IsRowOf file.now.matrix file.now.basics row (value_at out.new)) }
 {

@@ -1,6 +1,6 @@
 -- What a statement asks of linear programming, and the answers to it.
 --     Sheet                 a problem, which has the names, and the linear program that is selected from it
---     PathEnd, SweepEnd     where a path or a parametric run ends
+--     PathEnd, ParametricRunEnd     where a path or a parametric run ends
 --     InstallEnd            what comes of a basis that a deck gives
 --     Question, Answer      what a statement asks, and what an answer to it is
 use Rattle.std.specs.Prelude.{ℕ, List, Option}
@@ -31,12 +31,12 @@ abbrev pub changing_name : Changing → Name
 changing_name (Row name) = name
 changing_name (Set name) = name
 
-abbrev pub sweeper : Changing → Solver
-sweeper (Row name) = Paraobj
-sweeper (Set name) = Pararhs
+abbrev pub parametric_solver : Changing → Solver
+parametric_solver (Row name) = Paraobj
+parametric_solver (Set name) = Pararhs
 
 -- a parametric run, from the first value of the parameter to the last, in at most so many steps
-pub record Sweep : Type 0 where
+pub record ParametricRun : Type 0 where
   pub changing : Changing
   pub from : ℚ
   pub to : ℚ
@@ -51,10 +51,10 @@ pub data PathEnd : Type 0 where
 
 -- Where a parametric run ends: its opening path isn't optimal; or it went on, through all these bases, with these intervals; or it
 -- hasn't ended within its limit.
-pub data SweepEnd : Type 0 where
-  Opening : List Basis → PathVerdict → Check → SweepEnd
-  Chained : List Basis → List Interval → ChainEnd → SweepEnd
-  SweepLimit : SweepEnd
+pub data ParametricRunEnd : Type 0 where
+  Opening : List Basis → PathVerdict → Check → ParametricRunEnd
+  Chained : List Basis → List Interval → ChainEnd → ParametricRunEnd
+  ParametricRunLimit : ParametricRunEnd
 
 -- What comes of a basis that a deck gives: its inverse is there; or it is singular, and these lines show a dependency of its columns.
 pub data InstallEnd : Type 0 where
@@ -68,7 +68,7 @@ pub data Question : Type 0 where
   OfPath : Solver → Option ℕ → Question
   OfSolution : Mark → Question
   OfRanges : Question
-  OfSweep : Sweep → Question
+  OfParametricRun : ParametricRun → Question
   OfPunch : Question
   OfInstall : Basis → Question
 
@@ -76,6 +76,6 @@ abbrev pub Answer : Question → Type 0
 Answer (OfPath solver limit) = PathEnd
 Answer (OfSolution mark) = SolutionLines
 Answer OfRanges = RangeLines
-Answer (OfSweep sweep) = SweepEnd
+Answer (OfParametricRun parametric_run) = ParametricRunEnd
 Answer OfPunch = List (List ℕ)
 Answer (OfInstall basis) = InstallEnd

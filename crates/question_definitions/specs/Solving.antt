@@ -1,6 +1,6 @@
 -- What a run needs to know of linear programming: a record of relations, each of which has one answer at most.
 --
--- The real ones are those of the linear program alone: Solves and Sweeps follow the path and the chain of bases, Shows and Ranges
+-- The real ones are those of the linear program alone: Solves and Parametric runs follow the path and the chain of bases, Shows and Ranges
 -- read off the point, the prices and the intervals of a basis, Punches its deck, Installs says whether a set of columns is a basis, and
 -- Overflows is the evidence that holds.
 use Rattle.std.specs.Prelude.{ℕ, List, Option}
@@ -9,13 +9,13 @@ use Rattle.listing_definitions.specs.declared.Mark.{Mark}
 use Rattle.listing_definitions.specs.declared.Solver.{Solver}
 use Rattle.listing_definitions.specs.Report.{SolutionLines, RangeLines}
 use Rattle.listing_definitions.specs.Ending.{Place}
-use Rattle.question_definitions.specs.Answers.{Basis, Sheet, Sweep, Question, OfPath, OfSolution, OfRanges, OfSweep, OfPunch, OfInstall, Answer, PathEnd, SweepEnd, InstallEnd}
+use Rattle.question_definitions.specs.Answers.{Basis, Sheet, ParametricRun, Question, OfPath, OfSolution, OfRanges, OfParametricRun, OfPunch, OfInstall, Answer, PathEnd, ParametricRunEnd, InstallEnd}
 
 pub record Solving : Type 1 where
   -- the path of a solving verb from a basis ends so, where it may take so many steps, or any number of them
   pub Solves : Solver → Sheet → Basis → Option ℕ → PathEnd → Type 0
   -- the parametric run from a basis ends so
-  pub Sweeps : Sheet → Basis → Sweep → SweepEnd → Type 0
+  pub ParametricRuns : Sheet → Basis → ParametricRun → ParametricRunEnd → Type 0
   -- SOLUTION under this mark prints these lines of a basis
   pub Shows : Mark → Sheet → Basis → SolutionLines → Type 0
   -- RANGE prints these lines of a basis
@@ -32,6 +32,6 @@ abbrev pub IsRight : Solving → (question : Question) → Sheet → Basis → A
 IsRight S (OfPath solver limit) sheet s = S.Solves solver sheet s limit
 IsRight S (OfSolution mark) sheet s = S.Shows mark sheet s
 IsRight S OfRanges sheet s = S.Ranges sheet s
-IsRight S (OfSweep sweep) sheet s = S.Sweeps sheet s sweep
+IsRight S (OfParametricRun parametric_run) sheet s = S.ParametricRuns sheet s parametric_run
 IsRight S OfPunch sheet s = S.Punches sheet s
 IsRight S (OfInstall basis) sheet s = S.Installs sheet basis

@@ -36,7 +36,7 @@ use Rattle.ranging.specs.Tables.{IsBasicsEnd, AreLimitEnds, IsRowEnd, AreEndsOfR
 use Rattle.ranging.specs.Lists.{price_end, own_ends_of, RefusedAnywhere}
 use Rattle.ranging.proofs.RateBounds.{rising_bound, falling_bound, for_min_zero}
 use Rattle.ranging.proofs.Listed.{cost_exact}
-use Rattle.ranging.proofs.Shown.{sum_shown, nonbasic_shown, basic_shown}
+use Rattle.ranging.proofs.Views.{sum_view, nonbasic_view, basic_view}
 use Rattle.ranging.proofs.AtBasis.{tableau_with, is_tableau, present, price_is, nonbasic_at_limit, no_sides, still}
 
 -- ---- the ends of a price itself
@@ -103,7 +103,7 @@ module _ (p : LinearProgram) (s : List Status) (lawful : IsLinearProgram p) (no_
   pub basic_cost_refused : (k : ℕ) → IsBasic p.matrix (basics_of s) k → p.rows < k → (ends : Ends) → AreEndsOfRow p s k ends → (e : Evidence) → DifferenceRefused (cost p (k - p.rows)) ends k e → RefusedAnywhere p s e
   basic_cost_refused k basic past ends h e r before after =
       let f = one_of ends (IsRowEnd p s optimal.tableau.rate k) (h.made optimal.tableau.rate optimal.is_tableau.are_rates) r.end r.is_end in
-      basic_shown p s no_change optimal.nonsingular optimal.tableau optimal.is_tableau before after e k r.end.by basic past f.is_nonbasic f.moves
+      basic_view p s no_change optimal.nonsingular optimal.tableau optimal.is_tableau before after e k r.end.by basic past f.is_nonbasic f.moves
       (subst (λ v. IsRefusal 15 0 k r.end.by 0 Sub (cost p (k - p.rows)) v e) f.is_quotient r.refused)
 
   module _ (prices : Vector) (priced : ArePricesOf p s prices) (k : ℕ) (out : IsNonbasic p.matrix (basics_of s) k) (price : ℚ) (price_is_k : price ≡ prices k) where
@@ -161,7 +161,7 @@ module _ (p : LinearProgram) (s : List Status) (lawful : IsLinearProgram p) (no_
     pub nonbasic_cost_refused : p.rows < k → (e : Evidence) → DifferenceRefused (cost p (k - p.rows)) (own_ends_of p.sense (may_rise p s k) (may_fall p s k) price k) 0 e → RefusedAnywhere p s e
     nonbasic_cost_refused past e r before after =
         let f = one_of (own_ends_of p.sense (may_rise p s k) (may_fall p s k) price k) (λ e. (e.by ≡ k) × (e.value ≡ price)) (own_ends_each p.sense (may_rise p s k) (may_fall p s k) price k (λ e. (e.by ≡ k) × (e.value ≡ price)) (refl, refl)) r.end r.is_end in
-        nonbasic_shown p s no_change optimal.nonsingular optimal.tableau optimal.is_tableau before after e k out past
+        nonbasic_view p s no_change optimal.nonsingular optimal.tableau optimal.is_tableau before after e k out past
         (subst₂ (λ j v. IsRefusal 15 0 0 j 0 Sub (cost p (k - p.rows)) v e) f.0 (f.1 ∙ own_price optimal.tableau.rate optimal.is_tableau.are_rates) r.refused)
 
   -- ---- limits
@@ -185,6 +185,6 @@ module _ (p : LinearProgram) (s : List Status) (lawful : IsLinearProgram p) (no_
     pub limit_sum_refused : (v : ℚ) (e : Evidence) → v ≡ z k → SumRefused v ends k e → RefusedAnywhere p s e
     limit_sum_refused v e v_is r before after =
         let f = one_of ends (IsBasicsEnd p s z optimal.tableau.rate k) (met.made optimal.tableau.rate optimal.is_tableau.are_rates) r.end r.is_end in
-        sum_shown p s no_change optimal.nonsingular (tableau_with p s lawful no_change optimal z point optimal.tableau.rate) (is_tableau p s lawful no_change optimal z point optimal.tableau.rate optimal.is_tableau.are_rates) before after e
+        sum_view p s no_change optimal.nonsingular (tableau_with p s lawful no_change optimal z point optimal.tableau.rate) (is_tableau p s lawful no_change optimal z point optimal.tableau.rate optimal.is_tableau.are_rates) before after e
         r.end.by k r.end.which (z k) f.limit f.is_basic (nonbasic_at_limit p s lawful no_change optimal z point k is stands) (numbered_is p (status_of s k) k (z k) stands (point.placed k is)) f.is_limit f.moves
         (subst₂ (λ a b. IsRefusal 15 0 r.end.by k r.end.which Add a b e) v_is f.is_quotient r.refused)

@@ -2,7 +2,7 @@ pub mod Results
 pub mod RateBounds
 pub mod Distances
 pub mod Deviations
-pub mod Shown
+pub mod Views
 pub mod AtBasis
 pub mod Refused
 pub mod Listed

@@ -9,7 +9,7 @@ use Rattle.lp_definitions.specs.LinearProgram.{Matrix, Vector, size, IsVariable,
 use Rattle.lp_definitions.specs.Basis.{Basics, is_in, IsBasic, IsNonbasic, IsNonsingular, exchanged}
 use Rattle.lp_model.specs.RatesCalls.{HasPivot}
 use Rattle.rates_dense.specs.declared.line.Line.{Line}
-use Rattle.rates_dense.specs.Lines.{quotient_at, AreQuotients, IsTakenOver, entering_rate, staying_rate, LineByLine, SameRates, IsCommitted, enterer_line, changed_line, same_line, IsExchanged}
+use Rattle.rates_dense.specs.Lines.{quotient_at, AreQuotients, IsTakenOver, entering_rate, staying_rate, LineByLine, SameRates, IsCommitted, entering_line, changed_line, same_line, IsExchanged}
 use Rattle.rates_dense.specs.Placed.{IsPlaced}
 use Rattle.rates_dense.specs.Table.{IsLine, IsTableOf}
 use Rattle.rates_dense.proofs.Fills.{filled_at, taken_everywhere}
@@ -18,7 +18,7 @@ use Rattle.lp_laws.proofs.Values.{clash}
 use Rattle.lp_laws.specs.Rates.{exchanged_rate}
 use Rattle.lp_laws.proofs.Uniqueness.{one_direction}
 use Rattle.lp_laws.proofs.Exchange.{IsNonsingular-exchanged, AreRates-exchanged}
-use Rattle.rates_dense.proofs.NewLines.{line_entry, untouched_entry, unchanged_entry, unchanged_entering, basic_stays, enterer_basic, basic_before, staying_new, entering_new}
+use Rattle.rates_dense.proofs.NewLines.{line_entry, untouched_entry, unchanged_entry, unchanged_entering, basic_stays, entering_basic, basic_before, staying_new, entering_new}
 
 -- a line whose rates are the same
 pub line_kept : (a : Matrix) (b : Basics) (rate : ℕ → ℕ → ℚ) (old new : Line) → SameRates old new → IsLine a b rate old → IsLine a b rate new
@@ -35,7 +35,7 @@ pub basic_enters : (p q : ℕ) (quotients : List ℚ) (old new : Line) → IsExc
 basic_enters p q quotients old new is own = at is.committed
   where
     at : IsCommitted p q is.changed is.ready new → new.basic ≡ q
-    at (enterer_line same now takes) = now
+    at (entering_line same now takes) = now
     at (changed_line other apart now takes) = absurd (other (is.same.same_basic ∙ own))
     at (same_line other none now) = absurd (other (is.same.same_basic ∙ own))
 
@@ -43,7 +43,7 @@ pub basic_kept : (p q : ℕ) (quotients : List ℚ) (old new : Line) → IsExcha
 basic_kept p q quotients old new is other = at is.committed
   where
     at : IsCommitted p q is.changed is.ready new → new.basic ≡ old.basic
-    at (enterer_line same now takes) = absurd (other (sym is.same.same_basic ∙ same))
+    at (entering_line same now takes) = absurd (other (sym is.same.same_basic ∙ same))
     at (changed_line not_p apart now takes) = now ∙ is.same.same_basic
     at (same_line not_p none now) = ap (λ (line : Line). line.basic) now ∙ is.same.same_basic
 
@@ -85,11 +85,11 @@ module _ (a : Matrix) (b : Basics) (slots : List ℕ) (lines : List Line) (quoti
     leaver_entry d k var =
         (table.each_line slot d slot_within).entries k var ∙ ap (λ i. line_entry b table.rate i k) ((table.placed p leaves).own d)
 
-    pub leaver_at_enterer : (d : Line) → value_at (get_or lines slot d).rates.items q ≡ table.rate p q
-    leaver_at_enterer d = leaver_entry d q enters.0 ∙ ap (λ m. cond m zero_ℚ (table.rate p q)) enters.1
+    pub leaver_at_entering : (d : Line) → value_at (get_or lines slot d).rates.items q ≡ table.rate p q
+    leaver_at_entering d = leaver_entry d q enters.0 ∙ ap (λ m. cond m zero_ℚ (table.rate p q)) enters.1
 
     pub leaver_apart : HoldsAt (λ leaver. value_at leaver.rates.items q ≢ zero_ℚ) lines slot
-    leaver_apart d none = rate_apart (sym (leaver_at_enterer d) ∙ none)
+    leaver_apart d none = rate_apart (sym (leaver_at_entering d) ∙ none)
 
     pub nonsingular_then : IsNonsingular a (exchanged b p q)
     nonsingular_then =
@@ -129,21 +129,21 @@ module _ (a : Matrix) (b : Basics) (slots : List ℕ) (lines : List Line) (quoti
           not_both = elim (eqb_tells q p) [ inl same ↦ absurd (clash (sym leaves.1 ∙ ap (is_in b) (sym same.1) ∙ enters.1)) | inr other ↦ other.0 ]
 
           quotient_is : (k : ℕ) → IsVariable a k → eqb k p ≡ false → value_at used k ≡ leaver k /ℚ leaver q
-          quotient_is k var told = are_quotients old k var ∙ ap (λ m. cond m one_ℚ (leaver k) /ℚ leaver q) told
+          quotient_is k var reported = are_quotients old k var ∙ ap (λ m. cond m one_ℚ (leaver k) /ℚ leaver q) reported
 
-          enterer_apart : value_at used q ≢ zero_ℚ
-          enterer_apart none = pivot_apart (zero_from_quotient (leaver q) (leaver q) pivot_apart (sym (quotient_is q enters.0 not_both) ∙ none))
+          entering_apart : value_at used q ≢ zero_ℚ
+          entering_apart none = pivot_apart (zero_from_quotient (leaver q) (leaver q) pivot_apart (sym (quotient_is q enters.0 not_both) ∙ none))
 
           at : IsCommitted p q change.changed change.ready new → IsLine a (exchanged b p q) (exchanged_rate table.rate p q) new
-          at (enterer_line same now takes) = record {
-            is_basic = subst (λ k. IsBasic a (exchanged b p q) k) (sym now) (enterer_basic a b counted table.rate table.are_rates p q leaves enters);
+          at (entering_line same now takes) = record {
+            is_basic = subst (λ k. IsBasic a (exchanged b p q) k) (sym now) (entering_basic a b counted table.rate table.are_rates p q leaves enters);
             places = takes.same_places ∙ ready.places;
             room = takes.same_room ∙ ready.room;
             entries = λ k var.
                 let own : value_at change.ready.rates.items k ≡ leaver k = ready.entries k var ∙ ap (λ i. line_entry b table.rate i k) same ∙ sym (leaver_entry old k var) in
                 taken (entering_rate p q used) (takes.taken (entering_rate p q used) (change.is_ready.entering same)) k var
-                (λ none. own ∙ unchanged_entering p q (value_at used) leaver (leaver_entry old p leaves.0 ∙ at_leaver p) enterer_apart k
-                (λ told. zero_from_quotient (leaver k) (leaver q) pivot_apart (sym (quotient_is k var told) ∙ none)) none)
+                (λ none. own ∙ unchanged_entering p q (value_at used) leaver (leaver_entry old p leaves.0 ∙ at_leaver p) entering_apart k
+                (λ reported. zero_from_quotient (leaver k) (leaver q) pivot_apart (sym (quotient_is k var reported) ∙ none)) none)
                 ∙ entering_new a b counted table.rate table.are_rates p q leaves enters leaver (value_at used) (leaver_entry old) (are_quotients old) k var
                 ∙ ap (λ i. line_entry (exchanged b p q) (exchanged_rate table.rate p q) i k) (sym now);
           }
@@ -153,7 +153,7 @@ module _ (a : Matrix) (b : Basics) (slots : List ℕ) (lines : List Line) (quoti
             room = takes.same_room ∙ ready.room;
             entries = λ k var.
                 taken (staying_rate p q used change.ready.rates.items) (takes.taken (staying_rate p q used change.ready.rates.items) (change.is_ready.staying other apart)) k var
-                (unchanged_entry p q (value_at used) (value_at change.ready.rates.items) (ready.entries p leaves.0 ∙ at_leaver change.ready.basic) enterer_apart k)
+                (unchanged_entry p q (value_at used) (value_at change.ready.rates.items) (ready.entries p leaves.0 ∙ at_leaver change.ready.basic) entering_apart k)
                 ∙ staying_new a b counted table.rate table.are_rates p q leaves enters leaver (value_at used) (leaver_entry old) (are_quotients old) change.ready.basic (value_at change.ready.rates.items) ready.entries k var
                 ∙ ap (λ i. line_entry (exchanged b p q) (exchanged_rate table.rate p q) i k) (sym now);
           }

@@ -17,7 +17,7 @@ use Rattle.rates_dense.specs.Table.{IsLine, IsTableOf}
 use Rattle.rates_dense.specs.Refusals.{IsRefusal, QuotientRefused, of_rate, of_one, StayingRefused, of_product, of_difference, of_multiple, LinesRefused, at_leaver, at_another, IsOwn}
 use Rattle.rates_dense.proofs.LineSteps.{some_line}
 use Rattle.rates_dense.proofs.NewLines.{line_entry, quotient_at_basic, quotient_at_nonbasic, quotient_at_leaver}
-use Rattle.rates_dense.proofs.Exchanges.{slot, slot_within, rate_apart, leaver_entry, leaver_at_enterer, nonsingular_then, are_quotients}
+use Rattle.rates_dense.proofs.Exchanges.{slot, slot_within, rate_apart, leaver_entry, leaver_at_entering, nonsingular_then, are_quotients}
 use Rattle.lp_laws.proofs.Refusals.{refuses_at}
 
 -- an entry that is not 0 is no basic's
@@ -94,11 +94,11 @@ module _ (a : Matrix) (b : Basics) (slots : List ℕ) (lines : List Line) (room 
       let is_rate : value_at rates j ≡ table.rate p j = at_entry d j var ∙ ap (λ m. cond m zero_ℚ (table.rate p j)) out in
       refused_by 1 0 j Div (value_at rates j) (value_at rates q) h
       (f1 p q j h.names exchange (var, out)
-      (refuses_at e Div (value_at rates j) (value_at rates q) (table.rate p j) (table.rate p q) is_rate (leaver_at_enterer a b slots lines room table p q leaves enters pivot d) h.refuses))
+      (refuses_at e Div (value_at rates j) (value_at rates q) (table.rate p j) (table.rate p q) is_rate (leaver_at_entering a b slots lines room table p q leaves enters pivot d) h.refuses))
   leaver_refused d (of_one h) =
       let rates = (get_or lines place d).rates.items in
       refused_by 4 0 0 Div one_ℚ (value_at rates q) h
-      (f4 p q h.names exchange (refuses_at e Div one_ℚ (value_at rates q) one_ℚ (table.rate p q) refl (leaver_at_enterer a b slots lines room table p q leaves enters pivot d) h.refuses))
+      (f4 p q h.names exchange (refuses_at e Div one_ℚ (value_at rates q) one_ℚ (table.rate p q) refl (leaver_at_entering a b slots lines room table p q leaves enters pivot d) h.refuses))
 
   module _ (quotients : List ℚ) (counted_too : length quotients ≡ size a) (are : (d : Line) → AreQuotients p q (get_or lines place d).rates.items quotients) (line : Line) (is : IsLine a b table.rate line) (other : line.basic ≢ p) where
     abbrev leaver : Vector

@@ -22,8 +22,8 @@ less_zero x y z zero =
 
 -- ---- the factors 1 and -1
 
-pub same_told : (x y v : ℚ) (b : Bool) → b ≡ parts_equal x v → b ≡ true → v ≡ y → x ≡ y
-same_told x y v b is h e = same_from_compare ((Equal-is (compare_ℚ x v)).0 (sym (is ∙ compare_ties x v) ∙ h)) ∙ e
+pub same_reported : (x y v : ℚ) (b : Bool) → b ≡ parts_equal x v → b ≡ true → v ≡ y → x ≡ y
+same_reported x y v b is h e = same_from_compare ((Equal-is (compare_ℚ x v)).0 (sym (is ∙ compare_ties x v) ∙ h)) ∙ e
 
 minus_one_apart : whole (negsuc 0) ≢ zero_ℚ
 minus_one_apart e =

@@ -119,7 +119,7 @@ pub record Takes (js : List ℕ) (old new : Line) : Type 0 where
   pub taken : (f : ℕ → ℚ) → IsFilledAt js old.next.items f → IsTakenOver js old.rates.items new.rates.items f
 
 pub data IsCommitted (p q : ℕ) (js : List ℕ) (old new : Line) : Type 0 where
-  enterer_line : old.basic ≡ p → new.basic ≡ q → Takes js old new → IsCommitted p q js old new
+  entering_line : old.basic ≡ p → new.basic ≡ q → Takes js old new → IsCommitted p q js old new
   changed_line : old.basic ≢ p → value_at old.rates.items q ≢ zero_ℚ → new.basic ≡ old.basic → Takes js old new → IsCommitted p q js old new
   same_line : old.basic ≢ p → value_at old.rates.items q ≡ zero_ℚ → new ≡ old → IsCommitted p q js old new
 

@@ -245,7 +245,7 @@ impl Rates for Dense {
         ensures err { OnErr result (self.new ≡ self.old) }
         ensures overflow { ExchangeOverflow result self.old.matrix self.old.basics p q [] [] }
 
-        // an overflow by a formula of this exchange, at the present basics, and never want of memory
+        // an overflow by a formula of this exchange, at the present basics, and never running out of memory
         ensures own { IfErr result (IsOwnOverflow p q) }
     {
         let slot = self.slots[p as usize - 1];

@@ -33,7 +33,7 @@ fn by_unit(x: Frac, factor: Frac) -> Option<Frac>
     }
 }
 
-/// A rate without its part along the enterer's direction, where the quotient or the factor is 1 or -1 and nothing is refused.
+/// A rate without its part along the entering variable's direction, where the quotient or the factor is 1 or -1 and nothing is refused.
 fn rest_by_unit(rate: Frac, quotient: Frac, factor: Frac) -> Option<Frac>
     ensures { IfSome result (λ rest. rest ≡ rate -ℚ quotient *ℚ factor) }
 {
@@ -111,7 +111,7 @@ impl Cell {
         one.div(pivot).map_err(|refused| self.evidence(4, refused))
     }
 
-    /// The rate at the leaver: the quotient there, times the rate at the enterer.
+    /// The rate at the leaver: the quotient there, times the rate at the entering variable.
     fn multiple(self, quotient: Frac, factor: Frac) -> Result<Frac, Evidence>
         ensures value { IfOk result (λ rate. rate ≡ quotient *ℚ factor) }
         ensures refused { IfErr result (IsRefusal 5 self.p self.q self.i self.j Op.Mul
@@ -125,7 +125,7 @@ impl Cell {
             .map_err(|refused| self.evidence(5, refused))
     }
 
-    /// The quotient times the rate at the enterer.
+    /// The quotient times the rate at the entering variable.
     fn product(self, quotient: Frac, factor: Frac) -> Result<Frac, Evidence>
         ensures value { IfOk result (λ product. product ≡ quotient *ℚ factor) }
         ensures refused { IfErr result (IsRefusal 2 self.p self.q self.i self.j Op.Mul
@@ -152,7 +152,7 @@ impl Cell {
             .map_err(|refused| self.evidence(3, refused))
     }
 
-    /// A rate without its part along the enterer's direction, by the plain operations.
+    /// A rate without its part along the entering variable's direction, by the plain operations.
     fn plain_rest(self, rate: Frac, quotient: Frac, factor: Frac) -> Result<Frac, Evidence>
         ensures value { IfOk result (λ rest. rest ≡ rate -ℚ quotient *ℚ factor) }
         ensures refused { IfErr result (IsDifferenceRefused self.p self.q self.i self.j rate
@@ -223,7 +223,7 @@ pub fn fill_quotients(
     Ok(count)
 }
 
-/// The enterer's rates at the variables of the list, from the quotients.
+/// The entering variable's rates at the variables of the list, from the quotients.
 fn fill_entering(p: u32, q: u32, quotients: &[Frac], changed: &[u32], next: &mut [Frac])
     requires variables { AreNumbers (length quotients.now) changed.now }
     requires room { length changed.now ≤ length next.old }

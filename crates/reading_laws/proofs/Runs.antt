@@ -11,11 +11,11 @@ use Rattle.listing_definitions.specs.Numbers.{rational_text}
 use Rattle.listing_definitions.specs.Report.{Interval}
 use Rattle.listing_definitions.specs.Text.{solver_text, interval_text, chain_end_text, verdict_text, solution_text}
 use Rattle.listing_definitions.specs.Listing.{reports_text}
-use Rattle.question_definitions.specs.Answers.{Sheet, changing_name, sweeper, Sweep, OfPath, OfSolution, OfRanges, OfSweep, OfPunch, OfInstall, PathEnd, SweepEnd, Reached, Opening, Chained}
-use Rattle.answer_definitions.specs.Sweeps.{sheet_at}
+use Rattle.question_definitions.specs.Answers.{Sheet, changing_name, parametric_solver, ParametricRun, OfPath, OfSolution, OfRanges, OfParametricRun, OfPunch, OfInstall, PathEnd, ParametricRunEnd, Reached, Opening, Chained}
+use Rattle.answer_definitions.specs.ParametricRuns.{sheet_at}
 use Rattle.walk_definitions.specs.Words.{Parsed, left_after}
 use Rattle.walk_definitions.specs.Tests.{verdict_test, solution_test, making_steps, interval_test, close_test}
-use Rattle.walk_definitions.specs.Reading.{Judged, Right, Fails, Refuses, by_verdict, tested, judged_map, Claim, verdict_in, solution_in, interval_in, close_in, sweep_head, Run, onward, part_in, run_in, sweep_in}
+use Rattle.walk_definitions.specs.Reading.{Judged, Right, Fails, Refuses, by_verdict, tested, judged_map, Claim, verdict_in, solution_in, interval_in, close_in, parametric_run_head, Run, onward, part_in, run_in, parametric_run_in}
 use Rattle.walk_definitions.proofs.Texts.{is_text}
 use Rattle.reading_laws.specs.Laws.{reported, ReadingLaw}
 use Rattle.reading_laws.proofs.Pieces.{Tells}
@@ -33,14 +33,14 @@ tested_right {X} test (Some got) x after e = by (test got.0) e
     by (Unchecked refused) e = absurd (cc e)
 
 -- what is read tells its text, and so does what is made of it
-told_by : {X Y : Type 0} (rest : List ℕ) (f : X → Y) (text : X → List ℕ) (whole : Y → List ℕ) (j : Judged X) → ((x : X) (after : List ℕ) → j ≡ Right x after → rest ≡ text x ++ after) → ((x : X) → text x ≡ whole (f x)) →
+reported_by : {X Y : Type 0} (rest : List ℕ) (f : X → Y) (text : X → List ℕ) (whole : Y → List ℕ) (j : Judged X) → ((x : X) (after : List ℕ) → j ≡ Right x after → rest ≡ text x ++ after) → ((x : X) → text x ≡ whole (f x)) →
     (y : Y) (after : List ℕ) → judged_map f j ≡ Right y after → rest ≡ whole y ++ after
-told_by rest f text whole (Right x left) tells is y after e =
+reported_by rest f text whole (Right x left) tells is y after e =
     let y_is : f x ≡ y = cc e in
     let left_is : left ≡ after = cc e in
     tells x left refl ∙ ap (λ b. b ++ left) (is x ∙ ap whole y_is) ∙ ap (λ r. whole y ++ r) left_is
-told_by rest f text whole Fails tells is y after e = absurd (cc e)
-told_by rest f text whole Refuses tells is y after e = absurd (cc e)
+reported_by rest f text whole Fails tells is y after e = absurd (cc e)
+reported_by rest f text whole Refuses tells is y after e = absurd (cc e)
 
 tested_tells : {X : Type 0} (test : X → Verdict) (reads : List ℕ → Parsed X) (text : X → List ℕ) → Tells [] reads text → (rest : List ℕ) (x : X) (after : List ℕ) → tested test (reads rest) ≡ Right x after → rest ≡ text x ++ after
 tested_tells test reads text tells rest x after e = tells.of rest (x, after) (tested_right test (reads rest) x after e)
@@ -51,61 +51,61 @@ tested_tells test reads text tells rest x after e = tells.of rest (x, after) (te
 run_text : Solver → ℕ → Run → List ℕ
 run_text solver number run = flat_map interval_text (enumerate_from number run.0) ++ chain_end_text solver run.1
 
-module _ (sheet : Sheet) (sweep : Sweep) where
+module _ (sheet : Sheet) (parametric_run : ParametricRun) where
   abbrev solver : Solver
-  solver = sweeper sweep.changing
+  solver = parametric_solver parametric_run.changing
 
-  abbrev TellsRun : ℕ → (ℚ → List ℕ → Judged Run) → Type 0
-  TellsRun number go = (last : ℚ) (rest : List ℕ) (run : Run) (after : List ℕ) → go last rest ≡ Right run after → rest ≡ run_text solver number run ++ after
+  abbrev ReportsRun : ℕ → (ℚ → List ℕ → Judged Run) → Type 0
+  ReportsRun number go = (last : ℚ) (rest : List ℕ) (run : Run) (after : List ℕ) → go last rest ≡ Right run after → rest ≡ run_text solver number run ++ after
 
-  onward_tells : (go : ℚ → List ℕ → Judged Run) (number : ℕ) → TellsRun (number + 1) go → (rest : List ℕ) (j : Judged Interval) → ((x : Interval) (left : List ℕ) → j ≡ Right x left → rest ≡ interval_text (number, x) ++ left) →
-      (run : Run) (after : List ℕ) → onward sheet sweep go j ≡ Right run after → rest ≡ run_text solver number run ++ after
+  onward_tells : (go : ℚ → List ℕ → Judged Run) (number : ℕ) → ReportsRun (number + 1) go → (rest : List ℕ) (j : Judged Interval) → ((x : Interval) (left : List ℕ) → j ≡ Right x left → rest ≡ interval_text (number, x) ++ left) →
+      (run : Run) (after : List ℕ) → onward sheet parametric_run go j ≡ Right run after → rest ≡ run_text solver number run ++ after
   unfolding run_text
   onward_tells go number later rest (Right interval left) tells run after e =
       tells interval left refl
-      ∙ told_by (interval_text (number, interval) ++ left) (λ more. (interval ∷ more.0, more.1)) (λ more. interval_text (number, interval) ++ run_text solver (number + 1) more) (run_text solver number) (go interval.to left)
+      ∙ reported_by (interval_text (number, interval) ++ left) (λ more. (interval ∷ more.0, more.1)) (λ more. interval_text (number, interval) ++ run_text solver (number + 1) more) (run_text solver number) (go interval.to left)
       (λ more after e. ap (λ r. interval_text (number, interval) ++ r) (later interval.to left more after e) ∙ sym (append_assoc (interval_text (number, interval)) (run_text solver (number + 1) more) after))
       (λ more. sym (append_assoc (interval_text (number, interval)) (flat_map interval_text (enumerate_from (number + 1) more.0)) (chain_end_text solver more.1)))
       run after e
   onward_tells go number later rest Fails tells run after e = absurd (cc e)
   onward_tells go number later rest Refuses tells run after e = absurd (cc e)
 
-  part_tells : (go : ℚ → List ℕ → Judged Run) (number : ℕ) → TellsRun (number + 1) go → (last : ℚ) (rest : List ℕ) (o : Option (List ℕ)) (run : Run) (after : List ℕ) → part_in sheet sweep go number last rest o ≡ Right run after →
+  part_tells : (go : ℚ → List ℕ → Judged Run) (number : ℕ) → ReportsRun (number + 1) go → (last : ℚ) (rest : List ℕ) (o : Option (List ℕ)) (run : Run) (after : List ℕ) → part_in sheet parametric_run go number last rest o ≡ Right run after →
       rest ≡ run_text solver number run ++ after
   unfolding run_text
   part_tells go number later last rest (Some left) run after e =
-      onward_tells go number later rest (tested (interval_test sheet sweep.changing (nat_eq number 1) sweep.to) (interval_in sheet number last rest))
-      (tested_tells (interval_test sheet sweep.changing (nat_eq number 1) sweep.to) (interval_in sheet number last) (λ interval. interval_text (number, interval)) (interval_tells sheet number last) rest) run after e
+      onward_tells go number later rest (tested (interval_test sheet parametric_run.changing (nat_eq number 1) parametric_run.to) (interval_in sheet number last rest))
+      (tested_tells (interval_test sheet parametric_run.changing (nat_eq number 1) parametric_run.to) (interval_in sheet number last) (λ interval. interval_text (number, interval)) (interval_tells sheet number last) rest) run after e
   part_tells go number later last rest None run after e = by (nat_eq number 1) e
     where
-      by : (b : Bool) → (if b then Fails else judged_map (λ end. ([], end)) (tested (close_test sheet sweep.changing sweep.to last) (close_in sheet solver rest))) ≡ Right run after → rest ≡ run_text solver number run ++ after
+      by : (b : Bool) → (if b then Fails else judged_map (λ end. ([], end)) (tested (close_test sheet parametric_run.changing parametric_run.to last) (close_in sheet solver rest))) ≡ Right run after → rest ≡ run_text solver number run ++ after
       by true e = absurd (cc e)
       by false e =
-          told_by rest (λ end. ([], end)) (chain_end_text solver) (run_text solver number) (tested (close_test sheet sweep.changing sweep.to last) (close_in sheet solver rest))
-          (tested_tells (close_test sheet sweep.changing sweep.to last) (close_in sheet solver) (chain_end_text solver) (close_tells sheet solver) rest) (λ end. refl) run after e
+          reported_by rest (λ end. ([], end)) (chain_end_text solver) (run_text solver number) (tested (close_test sheet parametric_run.changing parametric_run.to last) (close_in sheet solver rest))
+          (tested_tells (close_test sheet parametric_run.changing parametric_run.to last) (close_in sheet solver) (chain_end_text solver) (close_tells sheet solver) rest) (λ end. refl) run after e
 
-  run_tells : (room : List ℕ) (number : ℕ) → TellsRun number (run_in sheet sweep room number)
+  run_tells : (room : List ℕ) (number : ℕ) → ReportsRun number (run_in sheet parametric_run room number)
   run_tells [] number last rest run after e = absurd (cc e)
   run_tells (byte ∷ room) number last rest run after e =
-      part_tells (run_in sheet sweep room (number + 1)) number (run_tells room (number + 1)) last rest (left_after (codes "INTERVAL ") rest) run after e
+      part_tells (run_in sheet parametric_run room (number + 1)) number (run_tells room (number + 1)) last rest (left_after (codes "INTERVAL ") rest) run after e
 
   as_chain : (who from start change name end intervals close : List ℕ) → (who ++ (from ++ (start ++ (change ++ (name ++ end))))) ++ (intervals ++ close) ≡
       (who ++ (from ++ (start ++ (change ++ (name ++ (end ++ (intervals ++ (close ++ [])))))))) ++ []
   as_chain who from start change name end intervals close = simp (append_assoc, append-nil)
 
-  abbrev sweep_text : SweepEnd → List ℕ
-  sweep_text end = reports_text (reported (OfSweep sweep) end)
+  abbrev parametric_run_text : ParametricRunEnd → List ℕ
+  parametric_run_text end = reports_text (reported (OfParametricRun parametric_run) end)
 
-  sweep_tells : (rest : List ℕ) (o : Option (List ℕ)) → left_after (sweep_head sweep) rest ≡ o → (end : SweepEnd) (after : List ℕ) → sweep_in sheet sweep rest o ≡ Right end after → rest ≡ sweep_text end ++ after
+  parametric_run_tells : (rest : List ℕ) (o : Option (List ℕ)) → left_after (parametric_run_head parametric_run) rest ≡ o → (end : ParametricRunEnd) (after : List ℕ) → parametric_run_in sheet parametric_run rest o ≡ Right end after → rest ≡ parametric_run_text end ++ after
   unfolding run_text
-  sweep_tells rest None head end after e =
-      let test = λ (claim : Claim). in_turn (verdict_of (making_steps sheet sweep.changing sweep.from) ∷ verdict_test (sheet_at sheet sweep.changing sweep.from) claim.0 claim.1 ∷ []) in
-      told_by rest (λ claim. Opening [] claim.0 claim.1) (λ claim. verdict_text solver claim.0 claim.1) sweep_text (tested test (verdict_in sheet solver rest))
+  parametric_run_tells rest None head end after e =
+      let test = λ (claim : Claim). in_turn (verdict_of (making_steps sheet parametric_run.changing parametric_run.from) ∷ verdict_test (sheet_at sheet parametric_run.changing parametric_run.from) claim.0 claim.1 ∷ []) in
+      reported_by rest (λ claim. Opening [] claim.0 claim.1) (λ claim. verdict_text solver claim.0 claim.1) parametric_run_text (tested test (verdict_in sheet solver rest))
       (tested_tells test (verdict_in sheet solver) (λ claim. verdict_text solver claim.0 claim.1) (verdict_tells sheet solver) rest) (λ claim. sym (append-nil (verdict_text solver claim.0 claim.1))) end after e
-  sweep_tells rest (Some left) head end after e =
-      told_by rest (λ run. Chained [] run.0 run.1) (λ run. sweep_head sweep ++ run_text solver 1 run) sweep_text (run_in sheet sweep left 1 sweep.from left)
-      (λ run after e. is_text (sweep_head sweep) rest left head ∙ ap (λ r. sweep_head sweep ++ r) (run_tells left 1 sweep.from left run after e) ∙ sym (append_assoc (sweep_head sweep) (run_text solver 1 run) after))
-      (λ run. as_chain (solver_text solver) (codes " FROM ") (rational_text sweep.from) (codes " CHANGE ") (changing_name sweep.changing) (codes "\n") (flat_map interval_text (enumerate_from 1 run.0)) (chain_end_text solver run.1))
+  parametric_run_tells rest (Some left) head end after e =
+      reported_by rest (λ run. Chained [] run.0 run.1) (λ run. parametric_run_head parametric_run ++ run_text solver 1 run) parametric_run_text (run_in sheet parametric_run left 1 parametric_run.from left)
+      (λ run after e. is_text (parametric_run_head parametric_run) rest left head ∙ ap (λ r. parametric_run_head parametric_run ++ r) (run_tells left 1 parametric_run.from left run after e) ∙ sym (append_assoc (parametric_run_head parametric_run) (run_text solver 1 run) after))
+      (λ run. as_chain (solver_text solver) (codes " FROM ") (rational_text parametric_run.from) (codes " CHANGE ") (changing_name parametric_run.changing) (codes "\n") (flat_map interval_text (enumerate_from 1 run.0)) (chain_end_text solver run.1))
       end after e
 
 -- ---- the law
@@ -113,11 +113,11 @@ module _ (sheet : Sheet) (sweep : Sweep) where
 pub reading_laws : ReadingLaw
 reading_laws (OfPath solver limit) sheet rest after answer e =
     let test = λ (claim : Claim). verdict_test sheet claim.0 claim.1 in
-    told_by rest (λ claim. Reached [] claim.0 claim.1) (λ claim. verdict_text solver claim.0 claim.1) (λ (end : PathEnd). reports_text (reported (OfPath solver limit) end)) (tested test (verdict_in sheet solver rest))
+    reported_by rest (λ claim. Reached [] claim.0 claim.1) (λ claim. verdict_text solver claim.0 claim.1) (λ (end : PathEnd). reports_text (reported (OfPath solver limit) end)) (tested test (verdict_in sheet solver rest))
     (tested_tells test (verdict_in sheet solver) (λ claim. verdict_text solver claim.0 claim.1) (verdict_tells sheet solver) rest) (λ claim. sym (append-nil (verdict_text solver claim.0 claim.1))) answer after e
 reading_laws (OfSolution mark) sheet rest after answer e =
     tested_tells (solution_test sheet mark) (solution_in sheet mark) (solution_text mark) (solution_tells sheet mark) rest answer after e ∙ ap (λ t. t ++ after) (sym (append-nil (solution_text mark answer)))
 reading_laws OfRanges sheet rest after answer e = absurd (cc e)
-reading_laws (OfSweep sweep) sheet rest after answer e = sweep_tells sheet sweep rest (left_after (sweep_head sweep) rest) refl answer after e
+reading_laws (OfParametricRun parametric_run) sheet rest after answer e = parametric_run_tells sheet parametric_run rest (left_after (parametric_run_head parametric_run) rest) refl answer after e
 reading_laws OfPunch sheet rest after answer e = absurd (cc e)
 reading_laws (OfInstall basis) sheet rest after answer e = absurd (cc e)

@@ -4,7 +4,7 @@
 use Rattle.std.specs.Prelude.{◌≡◌, ℕ, List, [], ◌∷◌, ◌++◌}
 use Rattle.listing_definitions.specs.Report.{Report, Solved, Solution, Ranges, Parametric}
 use Rattle.listing_definitions.specs.Listing.{reports_text}
-use Rattle.question_definitions.specs.Answers.{Sheet, changing_name, sweeper, Question, OfPath, OfSolution, OfRanges, OfSweep, OfPunch, OfInstall, Answer, Reached, Opening, Chained}
+use Rattle.question_definitions.specs.Answers.{Sheet, changing_name, parametric_solver, Question, OfPath, OfSolution, OfRanges, OfParametricRun, OfPunch, OfInstall, Answer, Reached, Opening, Chained}
 use Rattle.walk_definitions.specs.Reading.{Right, judged}
 
 abbrev pub reported : (question : Question) → Answer question → List Report
@@ -12,10 +12,10 @@ reported (OfPath solver limit) (Reached bases verdict check) = Solved solver ver
 reported (OfPath solver limit) _ = []
 reported (OfSolution mark) lines = Solution mark lines ∷ []
 reported OfRanges lines = Ranges lines ∷ []
-reported (OfSweep sweep) (Opening bases verdict check) = Solved (sweeper sweep.changing) verdict check ∷ []
-reported (OfSweep sweep) (Chained bases intervals end) =
-    Parametric (sweeper sweep.changing) (record { from = sweep.from; change = changing_name sweep.changing; intervals = intervals; end = end }) ∷ []
-reported (OfSweep sweep) _ = []
+reported (OfParametricRun parametric_run) (Opening bases verdict check) = Solved (parametric_solver parametric_run.changing) verdict check ∷ []
+reported (OfParametricRun parametric_run) (Chained bases intervals end) =
+    Parametric (parametric_solver parametric_run.changing) (record { from = parametric_run.from; change = changing_name parametric_run.changing; intervals = intervals; end = end }) ∷ []
+reported (OfParametricRun parametric_run) _ = []
 reported OfPunch cards = []
 reported (OfInstall basis) end = []
 

@@ -10,7 +10,7 @@ use Rattle.lp_definitions.specs.LinearProgram.{Matrix, size, IsRow, IsColumn, Is
 use Rattle.lp_definitions.specs.Basis.{Basics, is_in, IsBasic, IsNonbasic, IsNonsingular, IsDirectionOf, exchanged, row_basics}
 use Rattle.lp_definitions.specs.Waypoints.{HasColumnsWithin}
 use Rattle.lp_laws.proofs.Values.{clash}
-use Rattle.lp_laws.proofs.Exchange.{marked_is, enterer_in, others_stay}
+use Rattle.lp_laws.proofs.Exchange.{marked_is, entering_in, others_stay}
 use Rattle.lp_laws.proofs.Opening.{is_in-row_basics}
 use Rattle.eta_file.specs.Prefixes.{prefixes, after, basic_columns}
 use Rattle.eta_file.specs.Inverse.{Inverse, ways_of, IsAppended}
@@ -77,14 +77,14 @@ module _ (a : Matrix) (b : Basics) (c : ℕ) (g f : Inverse) (p : ℕ) (column :
   leaver : IsBasic a g.basics p
   leaver = ((row.0, omega (arith, row.1)), leaves)
 
-  enterer : IsNonbasic a g.basics (a.rows + c)
-  enterer = (variable, enters_out)
+  entering_variable : IsNonbasic a g.basics (a.rows + c)
+  entering_variable = (variable, enters_out)
 
   stays : (j : ℕ) → IsVariable a j → j ≢ p → j ≢ a.rows + c → is_in f.basics j ≡ is_in g.basics j
-  stays j is other_p other_k = ap (λ m. is_in m j) more.is_exchanged ∙ others_stay a g.basics counted_g p (a.rows + c) leaver enterer j is other_p other_k
+  stays j is other_p other_k = ap (λ m. is_in m j) more.is_exchanged ∙ others_stay a g.basics counted_g p (a.rows + c) leaver entering_variable j is other_p other_k
 
   pub entered : is_in f.basics (a.rows + c) ≡ true
-  entered = ap (λ m. is_in m (a.rows + c)) more.is_exchanged ∙ enterer_in a g.basics counted_g p (a.rows + c) leaver enterer
+  entered = ap (λ m. is_in m (a.rows + c)) more.is_exchanged ∙ entering_in a g.basics counted_g p (a.rows + c) leaver entering_variable
 
   within_then : HasColumnsWithin a g.basics b → HasColumnsWithin a f.basics b
   within_then within j proper inside = at (eqb_tells j (a.rows + c))

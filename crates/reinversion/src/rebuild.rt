@@ -76,16 +76,16 @@ fn enter(
     new: &mut EtaFile,
     c: u32,
     wish: u32,
-    room: &mut SparseVector,
+    workspace: &mut SparseVector,
 ) -> Result<(), Stop>
     requires column { IsColumn old.now.matrix c }
-    requires places { length room.old ≡ size old.now.matrix }
+    requires places { length workspace.old ≡ size old.now.matrix }
     requires rebuilt { IsRebuilt old.now.matrix old.now.basics 0 new.old }
     ensures keeps { OnOk result ((n : ℕ) → IsRebuilt old.now.matrix old.now.basics n new.old →
         IsRebuilt old.now.matrix old.now.basics n new.new) }
     ensures entered { OnOk result (is_in old.now.basics (old.now.matrix.rows + c) ≡ true →
         is_in new.new.basics (old.now.matrix.rows + c) ≡ true) }
-    ensures places { OnOk result (length room.new ≡ size old.now.matrix) }
+    ensures places { OnOk result (length workspace.new ≡ size old.now.matrix) }
     ensures refused { IfErr result
         (λ stop. IfOverflow stop (KeptRefused old.now.matrix old.now.basics)) }
 {
@@ -98,11 +98,11 @@ fn enter(
     if new.is_basic(k) {
         return Ok(());
     }
-    if let Err(stop) = new.direction(k, room) {
+    if let Err(stop) = new.direction(k, workspace) {
         return Err(kept(stop));
     }
-    let p = leaver(old, new, room.values(), wish);
-    new.append_along(p, k, room)?;
+    let p = leaver(old, new, workspace.values(), wish);
+    new.append_along(p, k, workspace)?;
     Ok(())
 }
 
@@ -111,19 +111,19 @@ fn enter_in_order(
     old: &EtaFile,
     new: &mut EtaFile,
     order: &[Entering],
-    room: &mut SparseVector,
+    workspace: &mut SparseVector,
 ) -> Result<(), Stop>
-    requires places { length room.old ≡ size old.now.matrix }
+    requires places { length workspace.old ≡ size old.now.matrix }
     requires rebuilt { IsRebuilt old.now.matrix old.now.basics 0 new.old }
     ensures rebuilt { OnOk result (IsRebuilt old.now.matrix old.now.basics 0 new.new) }
-    ensures places { OnOk result (length room.new ≡ size old.now.matrix) }
+    ensures places { OnOk result (length workspace.new ≡ size old.now.matrix) }
     ensures refused { IfErr result
         (λ stop. IfOverflow stop (KeptRefused old.now.matrix old.now.basics)) }
 {
     let cols = old.size() - old.rows();
     for entering in order {
         if entering.column >= 1 && entering.column <= cols {
-            enter(old, new, entering.column, entering.row, room)?;
+            enter(old, new, entering.column, entering.row, workspace)?;
         }
     }
     Ok(())
@@ -139,10 +139,10 @@ pub fn rebuild(old: &EtaFile) -> Result<EtaFile, Stop>
     let rows = old.rows();
     let mut new = old.at_rows()?;
     let order = entering_order(old)?;
-    let mut room = SparseVector::zeros(old.alloc(), size as usize)?;
-    enter_in_order(old, &mut new, &order, &mut room)?;
+    let mut workspace = SparseVector::zeros(old.alloc(), size as usize)?;
+    enter_in_order(old, &mut new, &order, &mut workspace)?;
     for c in 0..size - rows {
-        enter(old, &mut new, c + 1, 0, &mut room)?;
+        enter(old, &mut new, c + 1, 0, &mut workspace)?;
     }
     let _new_size = new.size();
     Ok(new)

@@ -10,7 +10,7 @@ use Rattle.listing_definitions.specs.Text.{refused_text}
 use Rattle.lp_definitions.specs.declared.Evidence.{Evidence}
 use Rattle.listing_definitions.specs.Ending as endings
 use Rattle.std.specs.Prelude.{Option}
-use Rattle.report_text.specs.Shown.{letters_of, evidence_tail, place_text}
+use Rattle.report_text.specs.Views.{letters_of, evidence_tail, place_text}
 
 -- one letter for each
 pub letters_mapped : {X : Type 0} (letter : X → ℕ) (items : List X) → flat_map (letters_of letter) items ≡ map letter items

@@ -16,8 +16,8 @@ use Rattle.listing_definitions.specs.Text.{solver_text, line_text, table_text, i
 use Rattle.listing_tables.specs.declared.sheet.Sheet.{Sheet}
 use Rattle.listing_tables.specs.declared.table.Table.TheVariants.{Parts}
 use Rattle.listing_tables.specs.Lines.{line_of, part_values}
-use Rattle.listing_tables.specs.Tables.{line_shown}
-use Rattle.report_text.specs.Parametric.{interval_shown}
+use Rattle.listing_tables.specs.Tables.{line_view}
+use Rattle.report_text.specs.Parametric.{interval_view}
 
 pub chain_parts : (by : Solver) (chain : Chain) → concat (solver_text by ∷ codes " FROM " ∷ rational_text chain.from ∷ codes " CHANGE " ∷ chain.change ∷ codes "\n" ∷ []) ++ (flat_map interval_text (enumerate_from 1 chain.intervals) ++ chain_end_text by chain.end) ≡ chain_text by chain
 chain_parts by chain = simp (append_assoc, append-nil)
@@ -33,10 +33,10 @@ pub infeasible_parts : (by : Solver) (past : ℚ) (lines : List Line) → concat
 infeasible_parts by past lines = simp (append_assoc, append-nil)
 
 -- a line for each variable
-pub part_table : (sheet : Sheet) (last : ℕ) → last ≡ size sheet.lp.now.matrix → (part : Bor ParaPart) → flat_map (line_shown sheet (Parts part)) (numbers_from 1 (last - 0)) ≡ table_text (interval_shown sheet part.now).lines
+pub part_table : (sheet : Sheet) (last : ℕ) → last ≡ size sheet.lp.now.matrix → (part : Bor ParaPart) → flat_map (line_view sheet (Parts part)) (numbers_from 1 (last - 0)) ≡ table_text (interval_view sheet part.now).lines
 part_table sheet last counted part =
     let count : last - 0 ≡ size sheet.lp.now.matrix = omega arith in
-    ap (λ n. flat_map (line_shown sheet (Parts part)) (numbers_from 1 n)) count
+    ap (λ n. flat_map (line_view sheet (Parts part)) (numbers_from 1 n)) count
     ∙ sym (flat_map-map line_text (line_of sheet.problem.now (part_values sheet.lp.now part.now)) (variables sheet.lp.now.matrix))
 
 -- Items that are numbered from 1.

@@ -12,8 +12,8 @@ use Rattle.listing_tables.specs.declared.table.Standing.{Standing}
 use Rattle.listing_tables.specs.declared.table.Table.TheVariants.{Rows, Columns}
 use Rattle.listing_tables.specs.Lines.{line_of, row_values, column_values}
 use Rattle.listing_tables.specs.Sheets.{IsSheet}
-use Rattle.listing_tables.specs.Tables.{HasLine, IsStanding, line_shown}
-use Rattle.report_text.specs.Solutions.{lines_shown, rows_heading, columns_heading}
+use Rattle.listing_tables.specs.Tables.{HasLine, IsStanding, line_view}
+use Rattle.report_text.specs.Solutions.{lines_view, rows_heading, columns_heading}
 
 pub solution_parts : (mark : Mark) (lines : SolutionLines) → concat (codes "SOLUTION " ∷ mark_text mark ∷ codes "\n" ∷ []) ++ ((rows_heading ++ table_text lines.rows) ++ (columns_heading ++ table_text lines.columns)) ≡ solution_text mark lines
 solution_parts mark lines = simp (append_assoc, append-nil)
@@ -26,15 +26,15 @@ module _ (sheet : Sheet) (standing : Standing) where
   pub column_lines : IsSheet sheet → IsStanding sheet standing → (k : ℕ) → sheet.lp.now.matrix.rows < k → k ≤ size sheet.lp.now.matrix → HasLine sheet (Columns standing) k
   column_lines is_sheet is_standing k low high = record { is_sheet = is_sheet; is_variable = (omega arith, high); listed = is_standing; lined = low }
 
-  pub row_table : (last : ℕ) → last ≡ sheet.lp.now.matrix.rows → flat_map (line_shown sheet (Rows standing)) (numbers_from 1 (last - 0)) ≡ table_text (lines_shown sheet standing).rows
+  pub row_table : (last : ℕ) → last ≡ sheet.lp.now.matrix.rows → flat_map (line_view sheet (Rows standing)) (numbers_from 1 (last - 0)) ≡ table_text (lines_view sheet standing).rows
   row_table last counted =
       let count : last - 0 ≡ sheet.lp.now.matrix.rows = omega arith in
-      ap (λ n. flat_map (line_shown sheet (Rows standing)) (numbers_from 1 n)) count
+      ap (λ n. flat_map (line_view sheet (Rows standing)) (numbers_from 1 n)) count
       ∙ sym (flat_map-map line_text (line_of sheet.problem.now (row_values sheet.lp.now standing.basis.now standing.point.now standing.slack.now standing.prices.now)) (numbers_from 1 sheet.lp.now.matrix.rows))
 
-  pub column_table : (first last : ℕ) → first ≡ sheet.lp.now.matrix.rows → last ≡ size sheet.lp.now.matrix → flat_map (line_shown sheet (Columns standing)) (numbers_from (first + 1) (last - first)) ≡ table_text (lines_shown sheet standing).columns
+  pub column_table : (first last : ℕ) → first ≡ sheet.lp.now.matrix.rows → last ≡ size sheet.lp.now.matrix → flat_map (line_view sheet (Columns standing)) (numbers_from (first + 1) (last - first)) ≡ table_text (lines_view sheet standing).columns
   column_table first last after counted =
       let count : last - first ≡ sheet.lp.now.matrix.cols = omega arith in
-      ap (λ n. flat_map (line_shown sheet (Columns standing)) (numbers_from (first + 1) n)) count
-      ∙ ap (λ n. flat_map (line_shown sheet (Columns standing)) (numbers_from (n + 1) sheet.lp.now.matrix.cols)) after
+      ap (λ n. flat_map (line_view sheet (Columns standing)) (numbers_from (first + 1) n)) count
+      ∙ ap (λ n. flat_map (line_view sheet (Columns standing)) (numbers_from (n + 1) sheet.lp.now.matrix.cols)) after
       ∙ sym (flat_map-map line_text (line_of sheet.problem.now (column_values sheet.lp.now standing.basis.now standing.point.now standing.prices.now)) (numbers_from (sheet.lp.now.matrix.rows + 1) sheet.lp.now.matrix.cols))

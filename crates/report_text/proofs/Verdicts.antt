@@ -14,7 +14,7 @@ use Rattle.listing_definitions.specs.Text.{solver_text, check_text, verdict_head
 use Rattle.listing_tables.specs.declared.sheet.Sheet.{Sheet}
 use Rattle.listing_tables.specs.declared.table.Table.TheVariants.{Multipliers, Pairs}
 use Rattle.listing_tables.specs.Lines.{line_of, multiplier_values, pair_values, ray_lines, pair_lines}
-use Rattle.listing_tables.specs.Tables.{line_shown}
+use Rattle.listing_tables.specs.Tables.{line_view}
 use Rattle.listing_tables.proofs.Tables.{lines_filtered}
 
 -- equal objectives are written alike
@@ -32,12 +32,12 @@ module _ (sheet : Sheet) (last : ℕ) (counted : last ≡ size sheet.lp.now.matr
   all_of_them : last - 0 ≡ size sheet.lp.now.matrix
   all_of_them = omega arith
 
-  pub ray_table : (ray : Bor (List ℚ)) → flat_map (line_shown sheet (Multipliers ray)) (numbers_from 1 (last - 0)) ≡ table_text (ray_lines sheet.problem.now sheet.lp.now ray.now)
+  pub ray_table : (ray : Bor (List ℚ)) → flat_map (line_view sheet (Multipliers ray)) (numbers_from 1 (last - 0)) ≡ table_text (ray_lines sheet.problem.now sheet.lp.now ray.now)
   ray_table ray =
-      ap (λ n. flat_map (line_shown sheet (Multipliers ray)) (numbers_from 1 n)) all_of_them
+      ap (λ n. flat_map (line_view sheet (Multipliers ray)) (numbers_from 1 n)) all_of_them
       ∙ lines_filtered (λ k. eq_ℚ (value_at ray.now k) zero_ℚ) (line_of sheet.problem.now (multiplier_values ray.now)) line_text (variables sheet.lp.now.matrix)
 
-  pub pair_table : (first second : Bor (List ℚ)) → flat_map (line_shown sheet (Pairs first second)) (numbers_from 1 (last - 0)) ≡ table_text (pair_lines sheet.problem.now sheet.lp.now first.now second.now)
+  pub pair_table : (first second : Bor (List ℚ)) → flat_map (line_view sheet (Pairs first second)) (numbers_from 1 (last - 0)) ≡ table_text (pair_lines sheet.problem.now sheet.lp.now first.now second.now)
   pair_table first second =
-      ap (λ n. flat_map (line_shown sheet (Pairs first second)) (numbers_from 1 n)) all_of_them
+      ap (λ n. flat_map (line_view sheet (Pairs first second)) (numbers_from 1 n)) all_of_them
       ∙ sym (flat_map-map line_text (line_of sheet.problem.now (pair_values first.now second.now)) (variables sheet.lp.now.matrix))

@@ -1,5 +1,5 @@
 pub mod Parametric
 pub mod Ranges
-pub mod Shown
+pub mod Views
 pub mod Solutions
 pub mod Verdicts

@@ -1,8 +1,8 @@
 -- What the borrowed data of a parametric run prints.
 --     IsParametric sheet run                  the run can be printed
---     interval_shown sheet part               an interval, with a line for each variable
---     end_shown sheet to end                  how the run ends
---     chain_shown sheet change from to run    all of it
+--     interval_view sheet part               an interval, with a line for each variable
+--     end_view sheet to end                  how the run ends
+--     chain_view sheet change from to run    all of it
 use Rattle.std.specs.Prelude.{map}
 use Rattle.std.specs.List.{All}
 use Rattle.exact_values.specs.Rational.{ℚ}
@@ -37,8 +37,8 @@ pub record IsParametric (sheet : Sheet) (run : ParaRun) : Type 0 where
   pub end : AreEndLists sheet run.end
 
 -- from one value to another, with a line for each row, and then for each column
-abbrev pub interval_shown : Sheet → ParaPart → Interval
-interval_shown sheet part = record {
+abbrev pub interval_view : Sheet → ParaPart → Interval
+interval_view sheet part = record {
   from = part.from;
   to = part.to;
   lines = lines_of sheet.problem.now (part_values sheet.lp.now part) (variables sheet.lp.now.matrix);
@@ -46,16 +46,16 @@ interval_shown sheet part = record {
 
 -- At the greatest value asked for, where the run has come so far. Past a value where all is unbounded, with the point and the
 -- direction of each variable; or past one where all is infeasible, with each multiplier that isn't 0.
-abbrev pub end_shown : Sheet → ℚ → ParaEnd → ChainEnd
-end_shown sheet to AtMax = EndsAt to
-end_shown sheet to (Unbounded past point direction) = UnboundedPast past (pair_lines sheet.problem.now sheet.lp.now point direction)
-end_shown sheet to (Infeasible past ray) = InfeasiblePast past (ray_lines sheet.problem.now sheet.lp.now ray)
+abbrev pub end_view : Sheet → ℚ → ParaEnd → ChainEnd
+end_view sheet to AtMax = EndsAt to
+end_view sheet to (Unbounded past point direction) = UnboundedPast past (pair_lines sheet.problem.now sheet.lp.now point direction)
+end_view sheet to (Infeasible past ray) = InfeasiblePast past (ray_lines sheet.problem.now sheet.lp.now ray)
 
 -- the run from its first value, of the row or set that changes
-abbrev pub chain_shown : Sheet → Name → ℚ → ℚ → ParaRun → Chain
-chain_shown sheet change from to run = record {
+abbrev pub chain_view : Sheet → Name → ℚ → ℚ → ParaRun → Chain
+chain_view sheet change from to run = record {
   from = from;
   change = change;
-  intervals = map (interval_shown sheet) run.parts;
-  end = end_shown sheet to run.end;
+  intervals = map (interval_view sheet) run.parts;
+  end = end_view sheet to run.end;
 }

@@ -11,8 +11,8 @@ pub record AreRanges (sheet : Sheet) (ranging : Ranging) : Type 0 where
   pub is_sheet : IsSheet sheet
   pub is_ranging : IsRanging sheet ranging
 
-abbrev pub ranges_shown : Sheet → Ranging → RangeLines
-ranges_shown sheet ranging = range_lines sheet.lp.now ranging.basis.now ranging.point.now ranging.report.now sheet.problem.now
+abbrev pub ranges_view : Sheet → Ranging → RangeLines
+ranges_view sheet ranging = range_lines sheet.lp.now ranging.basis.now ranging.point.now ranging.report.now sheet.problem.now
 
 -- the heads of the four sections
 abbrev pub limit_rows_heading : List ℕ

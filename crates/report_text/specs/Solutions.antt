@@ -11,8 +11,8 @@ pub record IsSolution (sheet : Sheet) (standing : Standing) : Type 0 where
   pub is_sheet : IsSheet sheet
   pub is_standing : IsStanding sheet standing
 
-abbrev pub lines_shown : Sheet → Standing → SolutionLines
-lines_shown sheet standing = solution_lines sheet.problem.now sheet.lp.now standing.basis.now standing.point.now standing.prices.now standing.slack.now
+abbrev pub lines_view : Sheet → Standing → SolutionLines
+lines_view sheet standing = solution_lines sheet.problem.now sheet.lp.now standing.basis.now standing.point.now standing.prices.now standing.slack.now
 
 -- the heads of the two sections
 abbrev pub rows_heading : List ℕ

@@ -26,13 +26,13 @@ pub record IsOutcome (sheet : Sheet) (outcome : Outcome) : Type 0 where
   pub full : AreFull sheet outcome
 
 -- the objective is the activity of the objective row
-abbrev pub verdict_shown : Sheet → Outcome → PathVerdict
-verdict_shown sheet (Optimal steps point prices) = OptimalAt steps (value_at point sheet.lp.now.objective)
-verdict_shown sheet (Crossed k) = CrossedAt k
-verdict_shown sheet (Infeasible steps ray) = InfeasibleBy steps (ray_lines sheet.problem.now sheet.lp.now ray)
-verdict_shown sheet (Unbounded steps point direction) = UnboundedBy steps (value_at point sheet.lp.now.objective) (pair_lines sheet.problem.now sheet.lp.now point direction)
+abbrev pub verdict_view : Sheet → Outcome → PathVerdict
+verdict_view sheet (Optimal steps point prices) = OptimalAt steps (value_at point sheet.lp.now.objective)
+verdict_view sheet (Crossed k) = CrossedAt k
+verdict_view sheet (Infeasible steps ray) = InfeasibleBy steps (ray_lines sheet.problem.now sheet.lp.now ray)
+verdict_view sheet (Unbounded steps point direction) = UnboundedBy steps (value_at point sheet.lp.now.objective) (pair_lines sheet.problem.now sheet.lp.now point direction)
 
 -- a check that was refused nothing is made
-abbrev pub check_shown : Option Refused → Check
-check_shown None = Checked
-check_shown (Some refused) = Unchecked refused
+abbrev pub check_view : Option Refused → Check
+check_view None = Checked
+check_view (Some refused) = Unchecked refused

@@ -9,7 +9,7 @@ ghost use Rattle.listing_definitions.specs.Listing.{ending_text, fault_text, lab
 ghost use Rattle.listing_tables.specs.Lines.{ray_lines};
 ghost use Rattle.listing_tables.specs.Sheets.{IsSheet};
 ghost use Rattle.report_text.specs.Verdicts.{IsFull};
-ghost use Rattle.report_text.specs.Shown.{IsEnding, ending_shown};
+ghost use Rattle.report_text.specs.Views.{IsEnding, ending_view};
 
 use crate::overflow::put_overflow;
 use crate::report::Ending;
@@ -254,7 +254,7 @@ fn put_limit<P: Sink>(
 pub fn put_ending<P: Sink>(print: &mut P, ending: Ending<'_>) -> Result<(), WriteStop>
     requires { IsEnding ending }
     ensures { Writes P.written P.stopped_at P.faults P.refusals print.old print.new result
-        (ending_text (ending_shown ending.entry)) }
+        (ending_text (ending_view ending.entry)) }
 {
     match ending {
         Ending::Code(code) => put_code(print, code),

@@ -5,7 +5,7 @@ ghost use Rattle.listing_definitions.specs.Numbers.{digits, rational_text};
 ghost use Rattle.job_devices.specs.Text.{Writes};
 ghost use Rattle.listing_definitions.specs.Listing.{status_letter, basic_letter, overflow_text};
 ghost use Rattle.listing_definitions.specs.Text.{refused_text};
-ghost use Rattle.report_text.specs.Shown.{place_shown, place_text, evidence_tail, letters_of, letter_line};
+ghost use Rattle.report_text.specs.Views.{place_view, place_text, evidence_tail, letters_of, letter_line};
 
 use itoa::Buffer;
 use job_devices::{Sink, WriteStop, put_all, put_each};
@@ -140,7 +140,7 @@ fn put_letters<T: Lettered, P: Sink>(print: &mut P, items: &[T]) -> Result<(), W
 {
     let mut rest = items;
     while !rest.is_empty() {
-        let (piece, after) = rest.split_at(rest.len().min(TextBuffer::ROOM));
+        let (piece, after) = rest.split_at(rest.len().min(TextBuffer::CAPACITY));
         put_piece(print, piece)?;
         rest = after;
     }
@@ -178,7 +178,7 @@ fn put_letter_lines<P: Sink>(
 // The same lines, where there is a basis.
 fn put_place<P: Sink>(print: &mut P, basis: Option<&Basis>, way: &[bool]) -> Result<(), WriteStop>
     ensures { Writes P.written P.stopped_at P.faults P.refusals print.old print.new result
-        (place_text (place_shown basis.entry way.now)) }
+        (place_text (place_view basis.entry way.now)) }
 {
     match basis {
         Some(basis) => put_letter_lines(print, basis.statuses(), way),
@@ -197,7 +197,7 @@ pub fn put_overflow<P: Sink>(
     ensures { Writes P.written P.stopped_at P.faults P.refusals print.old print.new result
         (overflow_text (record {
           evidence = evidence.now;
-          place = place_shown basis.entry way.now;
+          place = place_view basis.entry way.now;
           card = card;
         })) }
 {

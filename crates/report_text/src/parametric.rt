@@ -9,7 +9,7 @@ ghost use Rattle.listing_tables.specs.Lines.{pair_lines, ray_lines};
 ghost use Rattle.listing_tables.specs.Sheets.{IsSheet};
 ghost use Rattle.listing_tables.specs.Tables.{IsPart};
 ghost use Rattle.report_text.specs.Verdicts.{IsFull};
-ghost use Rattle.report_text.specs.Parametric.{IsRunEnd, IsParametric, interval_shown, end_shown, chain_shown};
+ghost use Rattle.report_text.specs.Parametric.{IsRunEnd, IsParametric, interval_view, end_view, chain_view};
 
 use frac128::Frac;
 use itoa::Buffer;
@@ -90,7 +90,7 @@ fn put_interval<P: Sink>(
     requires is_sheet { IsSheet sheet }
     requires is_part { IsPart sheet part.now }
     ensures { Writes P.written P.stopped_at P.faults P.refusals print.old print.new result
-        (interval_text (number, interval_shown sheet.entry part.now)) }
+        (interval_text (number, interval_view sheet.entry part.now)) }
 {
     put_interval_head(print, number, part.from, part.to)?;
     let last = sheet.lp.number_of_variables();
@@ -106,7 +106,7 @@ fn put_intervals<P: Sink>(
     requires is_sheet { IsSheet sheet }
     requires are_parts { All (IsPart sheet) parts.now }
     ensures { Writes P.written P.stopped_at P.faults P.refusals print.old print.new result
-        (flat_map interval_text (enumerate_from 1 (map (interval_shown sheet.entry) parts.now))) }
+        (flat_map interval_text (enumerate_from 1 (map (interval_view sheet.entry) parts.now))) }
 {
     for (index, part) in parts.iter().enumerate() {
         put_interval(print, sheet, index + 1, part)?;
@@ -181,7 +181,7 @@ fn put_run_end<P: Sink>(
 ) -> Result<(), WriteStop>
     requires { IsRunEnd sheet end.now }
     ensures { Writes P.written P.stopped_at P.faults P.refusals print.old print.new result
-        (chain_end_text by (end_shown sheet.entry to end.now)) }
+        (chain_end_text by (end_view sheet.entry to end.now)) }
 {
     match end {
         ParaEnd::AtMax => put_end_head(print, by, b" ENDS AT ", to),
@@ -208,7 +208,7 @@ pub fn put_parametric<P: Sink>(
 ) -> Result<(), WriteStop>
     requires { IsParametric sheet run.now }
     ensures { Writes P.written P.stopped_at P.faults P.refusals print.old print.new result
-        (report_text (reports.Parametric by (chain_shown sheet.entry change from to run.now))) }
+        (report_text (reports.Parametric by (chain_view sheet.entry change from to run.now))) }
 {
     put_parametric_head(print, by, from, change)?;
     put_intervals(print, sheet, run.parts.items())?;

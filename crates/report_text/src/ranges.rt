@@ -5,7 +5,7 @@ ghost use Rattle.job_devices.specs.Text.{Writes};
 ghost use Rattle.lp_definitions.specs.LinearProgram.{numbers_from};
 ghost use Rattle.listing_definitions.specs.Report as reports;
 ghost use Rattle.listing_definitions.specs.Text.{table_text, report_text};
-ghost use Rattle.report_text.specs.Ranges.{AreRanges, ranges_shown, limit_rows_heading, limit_columns_heading, between_rows_heading, between_columns_heading};
+ghost use Rattle.report_text.specs.Ranges.{AreRanges, ranges_view, limit_rows_heading, limit_columns_heading, between_rows_heading, between_columns_heading};
 
 use job_devices::{Sink, WriteStop, put_all};
 use listing_tables::{Ranging, Sheet, Table, put_table, row_count};
@@ -18,7 +18,7 @@ fn put_limit_rows<P: Sink>(
 ) -> Result<(), WriteStop>
     requires { AreRanges sheet ranging }
     ensures { Writes P.written P.stopped_at P.faults P.refusals print.old print.new result (limit_rows_heading ++
-        table_text (ranges_shown sheet.entry ranging.entry).rows_at_limit) }
+        table_text (ranges_view sheet.entry ranging.entry).rows_at_limit) }
 {
     put_all(print, b"SECTION 1 - ROWS AT LIMIT LEVEL\n")?;
     put_table(
@@ -38,7 +38,7 @@ fn put_limit_columns<P: Sink>(
 ) -> Result<(), WriteStop>
     requires { AreRanges sheet ranging }
     ensures { Writes P.written P.stopped_at P.faults P.refusals print.old print.new result (limit_columns_heading
-        ++ table_text (ranges_shown sheet.entry ranging.entry).columns_at_limit) }
+        ++ table_text (ranges_view sheet.entry ranging.entry).columns_at_limit) }
 {
     put_all(print, b"SECTION 2 - COLUMNS AT LIMIT LEVEL\n")?;
     let first = row_count(sheet.lp);
@@ -54,7 +54,7 @@ fn put_between_rows<P: Sink>(
 ) -> Result<(), WriteStop>
     requires { AreRanges sheet ranging }
     ensures { Writes P.written P.stopped_at P.faults P.refusals print.old print.new result (between_rows_heading
-        ++ table_text (ranges_shown sheet.entry ranging.entry).rows_between) }
+        ++ table_text (ranges_view sheet.entry ranging.entry).rows_between) }
 {
     put_all(print, b"SECTION 3 - ROWS AT INTERMEDIATE LEVEL\n")?;
     put_table(
@@ -74,7 +74,7 @@ fn put_between_columns<P: Sink>(
 ) -> Result<(), WriteStop>
     requires { AreRanges sheet ranging }
     ensures { Writes P.written P.stopped_at P.faults P.refusals print.old print.new result
-        (between_columns_heading ++ table_text (ranges_shown sheet.entry
+        (between_columns_heading ++ table_text (ranges_view sheet.entry
         ranging.entry).columns_between) }
 {
     put_all(print, b"SECTION 4 - COLUMNS AT INTERMEDIATE LEVEL\n")?;
@@ -91,7 +91,7 @@ pub fn put_ranges<P: Sink>(
 ) -> Result<(), WriteStop>
     requires { AreRanges sheet ranging }
     ensures { Writes P.written P.stopped_at P.faults P.refusals print.old print.new result (report_text
-        (reports.Ranges (ranges_shown sheet.entry ranging.entry))) }
+        (reports.Ranges (ranges_view sheet.entry ranging.entry))) }
 {
     put_all(print, b"RANGE\n")?;
     put_limit_rows(print, sheet, ranging)?;

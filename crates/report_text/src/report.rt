@@ -1,6 +1,6 @@
 // The reports of a run, and their texts.
 ghost use Rattle.job_devices.specs.Text.{Writes};
-ghost use Rattle.report_text.specs.Shown.{IsReport, text_shown};
+ghost use Rattle.report_text.specs.Views.{IsReport, text_view};
 
 use crate::ending::put_ending;
 use crate::parametric::put_parametric;
@@ -160,7 +160,7 @@ pub enum Ending<'a> {
 pub fn text_of<P: Sink>(report: &Report<'_>, print: &mut P) -> Result<(), WriteStop>
     requires { IsReport report.now }
     ensures { Writes P.written P.stopped_at P.faults P.refusals print.old print.new result
-        (text_shown report.now) }
+        (text_view report.now) }
 {
     match *report {
         Report::Title { text } => put_title(print, text),

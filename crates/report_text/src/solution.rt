@@ -5,7 +5,7 @@ ghost use Rattle.job_devices.specs.Text.{Writes};
 ghost use Rattle.lp_definitions.specs.LinearProgram.{numbers_from};
 ghost use Rattle.listing_definitions.specs.Report as reports;
 ghost use Rattle.listing_definitions.specs.Text.{mark_text, table_text, report_text};
-ghost use Rattle.report_text.specs.Solutions.{IsSolution, lines_shown, rows_heading, columns_heading};
+ghost use Rattle.report_text.specs.Solutions.{IsSolution, lines_view, rows_heading, columns_heading};
 
 use job_devices::{Sink, WriteStop, put_all, put_each};
 use listing_definitions::Mark;
@@ -37,7 +37,7 @@ fn put_rows<P: Sink>(
 ) -> Result<(), WriteStop>
     requires { IsSolution sheet standing }
     ensures { Writes P.written P.stopped_at P.faults P.refusals print.old print.new result
-        (rows_heading ++ table_text (lines_shown sheet.entry standing.entry).rows) }
+        (rows_heading ++ table_text (lines_view sheet.entry standing.entry).rows) }
 {
     put_all(
         print,
@@ -54,7 +54,7 @@ fn put_columns<P: Sink>(
 ) -> Result<(), WriteStop>
     requires { IsSolution sheet standing }
     ensures { Writes P.written P.stopped_at P.faults P.refusals print.old print.new result
-        (columns_heading ++ table_text (lines_shown sheet.entry standing.entry).columns) }
+        (columns_heading ++ table_text (lines_view sheet.entry standing.entry).columns) }
 {
     put_all(
         print,
@@ -74,7 +74,7 @@ pub fn put_solution<P: Sink>(
 ) -> Result<(), WriteStop>
     requires { IsSolution sheet standing }
     ensures { Writes P.written P.stopped_at P.faults P.refusals print.old print.new result
-        (report_text (reports.Solution mark (lines_shown sheet.entry standing.entry))) }
+        (report_text (reports.Solution mark (lines_view sheet.entry standing.entry))) }
 {
     put_mark(print, mark)?;
     put_rows(print, sheet, standing)?;

@@ -5,7 +5,7 @@ ghost use Rattle.listing_definitions.specs.Numbers.{digits, rational_text};
 ghost use Rattle.job_devices.specs.Text.{Writes};
 ghost use Rattle.listing_definitions.specs.Report as reports;
 ghost use Rattle.listing_definitions.specs.Text.{solver_text, check_text, refused_text, verdict_head, verdict_lines, table_text, report_text};
-ghost use Rattle.report_text.specs.Verdicts.{IsOutcome, verdict_shown, check_shown};
+ghost use Rattle.report_text.specs.Verdicts.{IsOutcome, verdict_view, check_view};
 
 use frac128::{Frac, Refused};
 use itoa::Buffer;
@@ -77,7 +77,7 @@ fn put_verdict_head<P: Sink>(
 ) -> Result<(), WriteStop>
     requires { IsOutcome sheet outcome.now }
     ensures { Writes P.written P.stopped_at P.faults P.refusals print.old print.new result
-        (concat (solver_text by ∷ codes " " ∷ verdict_head (verdict_shown sheet.entry
+        (concat (solver_text by ∷ codes " " ∷ verdict_head (verdict_view sheet.entry
         outcome.now) ∷ [])) }
 {
     match outcome {
@@ -99,7 +99,7 @@ fn put_verdict_head<P: Sink>(
 // The check, or the operation that it was refused.
 fn put_check<P: Sink>(print: &mut P, refused: Option<Refused>) -> Result<(), WriteStop>
     ensures { Writes P.written P.stopped_at P.faults P.refusals print.old print.new result
-        (concat (codes " " ∷ check_text (check_shown refused) ∷ codes "\n" ∷ [])) }
+        (concat (codes " " ∷ check_text (check_view refused) ∷ codes "\n" ∷ [])) }
 {
     match refused {
         None => put_all(print, b" CHECKED\n"),
@@ -140,7 +140,7 @@ fn put_verdict_lines<P: Sink>(
 ) -> Result<(), WriteStop>
     requires { IsOutcome sheet outcome.now }
     ensures { Writes P.written P.stopped_at P.faults P.refusals print.old print.new result
-        (table_text (verdict_lines (verdict_shown sheet.entry outcome.now))) }
+        (table_text (verdict_lines (verdict_view sheet.entry outcome.now))) }
 {
     let last = sheet.lp.number_of_variables();
     match outcome {
@@ -169,8 +169,8 @@ pub fn put_verdict<P: Sink>(
 ) -> Result<(), WriteStop>
     requires { IsOutcome sheet outcome.now }
     ensures { Writes P.written P.stopped_at P.faults P.refusals print.old print.new result
-        (report_text (reports.Solved by (verdict_shown sheet.entry outcome.now)
-        (check_shown refused))) }
+        (report_text (reports.Solved by (verdict_view sheet.entry outcome.now)
+        (check_view refused))) }
 {
     put_verdict_head(print, by, sheet, outcome)?;
     put_check(print, refused)?;

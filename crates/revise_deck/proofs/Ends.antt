@@ -53,9 +53,9 @@ is_problem old deck own problem lawful named printable fine is =
     (renamed own (revised (by_names old) (live deck)) (revised-lawful (by_names old) (live deck) (named-lawful old lawful) (printable_live deck printable) (cards_fine old deck None fine))))
 
 -- and the revision gives it
-pub gives : (old : Problem ℕ) (deck : List Card) (name : Option Name) (own : Name) (shown : Problem Name) (problem : Problem ℕ) → fault_by (revise_card_fault (by_names old)) deck ≡ None
-    → shown ≡ revised (by_names old) (live deck) → own ≡ unwrap_or name (deck_name (live deck)) → problem ≡ numbered (record shown { name = own }) → revision old deck name ≡ Ok problem
-gives old deck name own shown problem fine is own_is problem_is =
+pub gives : (old : Problem ℕ) (deck : List Card) (name : Option Name) (own : Name) (viewed : Problem Name) (problem : Problem ℕ) → fault_by (revise_card_fault (by_names old)) deck ≡ None
+    → viewed ≡ revised (by_names old) (live deck) → own ≡ unwrap_or name (deck_name (live deck)) → problem ≡ numbered (record viewed { name = own }) → revision old deck name ≡ Ok problem
+gives old deck name own viewed problem fine is own_is problem_is =
     whole old deck name fine
     ∙ ap (λ (p : Problem ℕ). Ok p) (ap (λ n. numbered (record (revised (by_names old) (live deck)) { name = n })) (sym own_is) ∙ ap (λ (p : Problem Name). numbered (record p { name = own })) (sym is) ∙ sym problem_is)
 

@@ -41,17 +41,17 @@ impl ReviseDraft {
     ghost use Rattle.deck_definitions.specs.DataCards.{style_begun};
     ghost use Rattle.deck_definitions.specs.Conversion.{section_card_fault};
     ghost use Rattle.revise_definitions.specs.Revision.{may_come_after};
-    ghost use Rattle.deck_cards.specs.Told.{TellsDeckFault};
-    ghost use Rattle.deck_cards.specs.Shown.{shown};
+    ghost use Rattle.deck_cards.specs.Reported.{ReportsDeckFault};
+    ghost use Rattle.deck_cards.specs.Views.{viewed};
     ghost use Rattle.revise_definitions.specs.Actions.{action_on, anchor_on};
     ghost use Rattle.revise_definitions.specs.Tests.{action_fault};
     ghost use Rattle.revise_parts.specs.Summary.{under_of, with_card_under, edit_test, edited_by};
     ghost use Rattle.revise_deck.specs.State.{read_at, data_fault, standing_fault, inner_fault, inner_with, problem_with, fault_at, state_with};
-    ghost use Rattle.revise_deck.specs.Draft_shown.{state_shown};
+    ghost use Rattle.revise_deck.specs.Draft_view.{state_view};
 
     /// A draft after no card, of this problem.
     pub fn new(alloc: Global, problem: NamedProblem) -> ReviseDraft
-        ensures { state_shown result ≡ record {
+        ensures { state_view result ≡ record {
           style = FixedFields;
           section = None;
           action = None;
@@ -87,15 +87,15 @@ impl ReviseDraft {
         card: &DataCard<'_>,
     ) -> Result<(), CardStop>
         ensures no_fault { OnOk result (edit_test self.old.problem section action self.old.under
-            (shown card.now) ≡ None) }
-        ensures step { OnOk result (state_shown self.new ≡ record (state_shown self.old) {
-          under = with_card_under self.old.under (shown card.now);
+            (viewed card.now) ≡ None) }
+        ensures step { OnOk result (state_view self.new ≡ record (state_view self.old) {
+          under = with_card_under self.old.under (viewed card.now);
           problem = edited_by section
-              action self.old.under (shown card.now) self.old.problem;
+              action self.old.under (viewed card.now) self.old.problem;
         }) }
         ensures stop { IfErr result
-            (TellsDeckFault (edit_test self.old.problem section action self.old.under
-            (shown card.now))) }
+            (ReportsDeckFault (edit_test self.old.problem section action self.old.under
+            (viewed card.now))) }
     {
         if let Some(kind) = edit_fault_of(&self.problem, section, action, &self.under, card) {
             return Err(CardStop::Refused(kind));
@@ -114,15 +114,15 @@ impl ReviseDraft {
     // Takes a data card of this section.
     fn take_data(&mut self, section: Section, card: Card<'_>) -> Result<(), CardStop>
         requires { self.old.section ≡ Some section }
-        ensures no_fault { OnOk result (data_fault (state_shown self.old) section
+        ensures no_fault { OnOk result (data_fault (state_view self.old) section
             (card_bytes card.entry) ≡ None) }
-        ensures step { OnOk result (state_shown self.new ≡ record (state_shown self.old) {
-          under = with_card_under self.old.under (read_at (state_shown self.old)
+        ensures step { OnOk result (state_view self.new ≡ record (state_view self.old) {
+          under = with_card_under self.old.under (read_at (state_view self.old)
               (card_bytes card.entry));
-          problem = problem_with (state_shown self.old) (read_at (state_shown self.old)
+          problem = problem_with (state_view self.old) (read_at (state_view self.old)
               (card_bytes card.entry));
         }) }
-        ensures stop { IfErr result (TellsDeckFault (data_fault (state_shown self.old) section
+        ensures stop { IfErr result (ReportsDeckFault (data_fault (state_view self.old) section
             (card_bytes card.entry))) }
     {
         let Some(action) = self.action else {
@@ -139,12 +139,12 @@ impl ReviseDraft {
         ensures no_fault { OnOk result
             (action_fault self.old.problem section (action_on self.old.style (card_bytes card.entry))
             (anchor_on self.old.style (card_bytes card.entry)) ≡ None) }
-        ensures step { OnOk result (state_shown self.new ≡ record (state_shown self.old) {
+        ensures step { OnOk result (state_view self.new ≡ record (state_view self.old) {
           action = action_on self.old.style (card_bytes card.entry);
           under = under_of
               (unwrap_or (anchor_on self.old.style (card_bytes card.entry)) []) [];
         }) }
-        ensures stop { IfErr result (TellsDeckFault
+        ensures stop { IfErr result (ReportsDeckFault
             (action_fault self.old.problem section (action_on self.old.style (card_bytes card.entry))
             (anchor_on self.old.style (card_bytes card.entry)))) }
     {
@@ -165,11 +165,11 @@ impl ReviseDraft {
     // Takes an action card or a data card of this section.
     fn take_standing(&mut self, section: Section, card: Card<'_>) -> Result<(), CardStop>
         requires { self.old.section ≡ Some section }
-        ensures no_fault { OnOk result (standing_fault (state_shown self.old) section
+        ensures no_fault { OnOk result (standing_fault (state_view self.old) section
             (card_bytes card.entry) ≡ None) }
-        ensures step { OnOk result (state_shown self.new ≡ inner_with (state_shown self.old)
+        ensures step { OnOk result (state_view self.new ≡ inner_with (state_view self.old)
             (card_bytes card.entry)) }
-        ensures stop { IfErr result (TellsDeckFault (standing_fault (state_shown self.old) section
+        ensures stop { IfErr result (ReportsDeckFault (standing_fault (state_view self.old) section
             (card_bytes card.entry))) }
     {
         if is_action(card, self.style) {
@@ -180,11 +180,11 @@ impl ReviseDraft {
 
     // Takes an action card or a data card.
     fn take_inner(&mut self, card: Card<'_>) -> Result<(), CardStop>
-        ensures no_fault { OnOk result (inner_fault (state_shown self.old)
+        ensures no_fault { OnOk result (inner_fault (state_view self.old)
             (card_bytes card.entry) ≡ None) }
-        ensures step { OnOk result (state_shown self.new ≡ inner_with (state_shown self.old)
+        ensures step { OnOk result (state_view self.new ≡ inner_with (state_view self.old)
             (card_bytes card.entry)) }
-        ensures stop { IfErr result (TellsDeckFault (inner_fault (state_shown self.old)
+        ensures stop { IfErr result (ReportsDeckFault (inner_fault (state_view self.old)
             (card_bytes card.entry))) }
     {
         let Some(section) = self.section else {
@@ -200,7 +200,7 @@ impl ReviseDraft {
     fn take_section(&mut self, card: Card<'_>) -> Result<(), CardStop>
         ensures no_fault { OnOk result (section_card_fault may_come_after self.old.section
             (card_bytes card.entry) ≡ None) }
-        ensures step { OnOk result (state_shown self.new ≡ record (state_shown self.old) {
+        ensures step { OnOk result (state_view self.new ≡ record (state_view self.old) {
           style = unwrap_or (style_begun (card_bytes card.entry)) self.old.style;
           section = option_or (named section_words (section_word (card_bytes card.entry)))
               self.old.section;
@@ -208,7 +208,7 @@ impl ReviseDraft {
           under = under_of [] [];
         }) }
         ensures stop { IfErr result
-            (TellsDeckFault (section_card_fault may_come_after self.old.section
+            (ReportsDeckFault (section_card_fault may_come_after self.old.section
             (card_bytes card.entry))) }
     {
         let section = next_section::<ReviseDraft>(self.section, card.bytes())?;
@@ -221,12 +221,12 @@ impl ReviseDraft {
 
     // Takes a card.
     fn take_card(&mut self, card: Card<'_>) -> Result<(), CardStop>
-        ensures no_fault { OnOk result (fault_at (state_shown self.old)
+        ensures no_fault { OnOk result (fault_at (state_view self.old)
             (card_bytes card.entry) ≡ None) }
-        ensures step { OnOk result (state_shown self.new ≡ state_with (state_shown self.old)
+        ensures step { OnOk result (state_view self.new ≡ state_with (state_view self.old)
             (card_bytes card.entry)) }
         ensures stop { IfErr result
-            (TellsDeckFault (fault_at (state_shown self.old) (card_bytes card.entry))) }
+            (ReportsDeckFault (fault_at (state_view self.old) (card_bytes card.entry))) }
     {
         if begins_section(card.bytes()) {
             return self.take_section(card);
@@ -249,11 +249,11 @@ impl Draft for ReviseDraft {
     ghost use Rattle.std.specs.Prelude.{◌≡◌};
     ghost use Rattle.revise_definitions.specs.Revision.{revise_card_fault};
     ghost use Rattle.revise_deck.specs.State.{state_of};
-    ghost use Rattle.revise_deck.specs.Draft_shown.{state_shown};
+    ghost use Rattle.revise_deck.specs.Draft_view.{state_view};
 
     ghost test = { λ start. revise_card_fault start.problem };
 
-    ghost is_made_of = { λ start draft seen. state_shown draft ≡ state_of start.problem seen };
+    ghost is_made_of = { λ start draft seen. state_view draft ≡ state_of start.problem seen };
 
     fn is_ended(&self) -> bool {
         match self.section {

@@ -6,7 +6,7 @@ ghost use Rattle.deck_definitions.specs.Conversion.{fault_by};
 ghost use Rattle.deck_definitions.proofs.Converted.{ArePrintable};
 ghost use Rattle.revise_definitions.specs.Revision.{revise_card_fault, revision};
 ghost use Rattle.revise_deck.specs.State.{state_of};
-ghost use Rattle.revise_deck.specs.Draft_shown.{state_shown};
+ghost use Rattle.revise_deck.specs.Draft_view.{state_view};
 ghost use Rattle.revise_deck.specs.Revision.{Refuses};
 
 use crate::draft::ReviseDraft;
@@ -31,7 +31,7 @@ fn problem_of(
     requires from_one { 1 ≤ first }
     requires ordered { first ≤ last }
     requires within { last ≤ length cards.now }
-    requires state { state_shown draft.now ≡ state_of (by_names old.now)
+    requires state { state_view draft.now ≡ state_of (by_names old.now)
         (live (cards_between first last cards.now)) }
     requires no_fault { fault_by (revise_card_fault (by_names old.now))
         (cards_between first last cards.now) ≡ None }

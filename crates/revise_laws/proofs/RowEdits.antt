@@ -281,14 +281,14 @@ module _ (name : Name) (p : Problem Name) (lawful : IsLawful p) where
 pub goes_on_row-combines : (under : List Reading) (card : Reading) → goes_on_row under card ≡ true → is_some (named combination_kinds card.kind) ≡ true
 goes_on_row-combines under card goes = last (last_or None under) goes
   where
-    told : (kind : RowKind) → is_some (named combination_kinds (combination_text kind)) ≡ true
-    told N = refl
-    told G = refl
-    told L = refl
-    told E = refl
+    reported : (kind : RowKind) → is_some (named combination_kinds (combination_text kind)) ≡ true
+    reported N = refl
+    reported G = refl
+    reported L = refl
+    reported E = refl
 
     typed : (kind : RowKind) (name : Name) (b : Bool) → same (combination_text kind) card.kind ≡ b → (b && same name card.name1) ≡ true → is_some (named combination_kinds card.kind) ≡ true
-    typed kind name true e h = subst (λ word. is_some (named combination_kinds word) ≡ true) (same_eq (combination_text kind) card.kind e) (told kind)
+    typed kind name true e h = subst (λ word. is_some (named combination_kinds word) ≡ true) (same_eq (combination_text kind) card.kind e) (reported kind)
     typed kind name false e h = absurd (cc h)
 
     by : (before : Reading) (o : Option RowKind) → unwrap_or (option_map (λ kind. is_card_of kind before.name1 card) o) false ≡ true → is_some (named combination_kinds card.kind) ≡ true

@@ -9,8 +9,8 @@ use Rattle.card_definitions.specs.Words.{is_empty}
 use Rattle.problem_definitions.specs.Names.{Name, same}
 use Rattle.problem_definitions.specs.Problem.{Group}
 use Rattle.problem_definitions.specs.Groups.{filled}
-use Rattle.deck_parts.specs.Shown.{group_at}
-use Rattle.revise_lists.specs.Shown.{AreShort}
+use Rattle.deck_parts.specs.Views.{group_at}
+use Rattle.revise_lists.specs.Views.{AreShort}
 use Rattle.revise_lists.proofs.NamedValues.{lookup-own}
 
 -- the sets without items have none to count

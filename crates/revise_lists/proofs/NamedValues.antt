@@ -13,7 +13,7 @@ use Rattle.problem_definitions.proofs.Names.{same_eq, same_refl}
 use Rattle.problem_definitions.proofs.Groups.{map_agree, map-id}
 use Rattle.deck_parts.proofs.Keyed.{there}
 use Rattle.revise_definitions.specs.Edits.{put_entry}
-use Rattle.revise_lists.specs.Shown.{entry_on}
+use Rattle.revise_lists.specs.Views.{entry_on}
 
 -- ---- a new value
 

@@ -7,7 +7,7 @@ use Rattle.problem_definitions.specs.Problem.{Entry, Group}
 use Rattle.problem_definitions.specs.Parts.{with_parts}
 use Rattle.problem_definitions.specs.Groups.{in_all, filled}
 use Rattle.problem_definitions.proofs.Groups.{map-map}
-use Rattle.deck_parts.specs.Shown.{group_at}
+use Rattle.deck_parts.specs.Views.{group_at}
 use Rattle.revise_lists.specs.declared.rows.RowBody.{RowBody}
 use Rattle.revise_lists.specs.Bodies.{row_at, body_with}
 

@@ -18,7 +18,7 @@ use Rattle.deck_parts.proofs.Touched.{met_at_ends}
 use Rattle.revise_definitions.specs.Edits.{without_column}
 use Rattle.revise_lists.specs.declared.ends.End.{End}
 use Rattle.revise_lists.specs.declared.ends.End.TheVariants.{Upper, Lower}
-use Rattle.revise_lists.specs.Shown.{held, touches_end, is_at_end, is_at_end_there, AreNoted, AreEmptied, noted}
+use Rattle.revise_lists.specs.Views.{held, touches_end, is_at_end, is_at_end_there, AreNoted, AreEmptied, noted}
 use Rattle.revise_lists.proofs.NamedValues.{lookup-own, lookup-other}
 
 abbrev Slots : Type 0

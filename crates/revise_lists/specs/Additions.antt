@@ -5,7 +5,7 @@ use Rattle.problem_definitions.specs.Names.{Name}
 use Rattle.problem_definitions.specs.Problem.{Entry, has_entry}
 use Rattle.deck_definitions.specs.DataCards.{Pair, pairs_of, entry_of}
 use Rattle.deck_definitions.specs.Tests.{value_fault}
-use Rattle.deck_parts.specs.Shown.{bound_end_fault}
+use Rattle.deck_parts.specs.Views.{bound_end_fault}
 use Rattle.revise_lists.specs.declared.changes.EntryChange.{EntryChange}
 use Rattle.revise_lists.specs.declared.changes.EntryChange.TheVariants.{Put, Append, Without}
 use Rattle.revise_lists.specs.declared.changes.BoundChange.{BoundChange}

@@ -1,4 +1,4 @@
 pub mod Additions
 pub mod Bodies
 pub mod Changes
-pub mod Shown
+pub mod Views

@@ -5,8 +5,8 @@ ghost use Rattle.problem_definitions.specs.Groups.{in_group, in_set, in_all, wit
 ghost use Rattle.problem_definitions.specs.Names.{same, number_in};
 ghost use Rattle.problem_definitions.specs.Numbering.{bound_by, group_by};
 ghost use Rattle.problem_definitions.specs.Problem.{has_group, has_bound, group_names};
-ghost use Rattle.deck_parts.specs.Shown.{group_at};
-ghost use Rattle.deck_cards.specs.Shown.{shown};
+ghost use Rattle.deck_parts.specs.Views.{group_at};
+ghost use Rattle.deck_cards.specs.Views.{viewed};
 ghost use Rattle.revise_definitions.specs.Edits.{without_column, delete_items};
 ghost use Rattle.revise_lists.specs.Additions.{CanChangeBounds};
 ghost use Rattle.revise_lists.specs.Changes.{bounds_changed};
@@ -35,7 +35,7 @@ impl Model for BoundSets {
     ghost use Rattle.std.specs.Map.{keys_of};
     ghost use Rattle.problem_definitions.specs.Names.{Name as Text, same};
     ghost use Rattle.problem_definitions.specs.Problem.{Bound, Group};
-    ghost use Rattle.deck_parts.specs.Shown.{group_at};
+    ghost use Rattle.deck_parts.specs.Views.{group_at};
 
     ghost Value = { List (Group (Bound Text)) };
 
@@ -51,9 +51,9 @@ fn change_under(
     card: &DataCard<'_>,
     sets: &mut IndexMap<Name, Bounds>,
 ) -> Result<(), AllocError>
-    requires { CanChangeBounds change (shown card.now) }
+    requires { CanChangeBounds change (viewed card.now) }
     ensures { OnOk result (map group_at sets.new.entries ≡ in_set card.now.name1
-        (bounds_changed change (shown card.now)) (map group_at sets.old.entries)) }
+        (bounds_changed change (viewed card.now)) (map group_at sets.old.entries)) }
 {
     let bounds = sets.entry(card.name1)?.or_insert(Bounds::new(alloc));
     bounds.change(alloc, change, card)
@@ -111,9 +111,9 @@ impl BoundSets {
         change: BoundChange,
         card: &DataCard<'_>,
     ) -> Result<(), AllocError>
-        requires { CanChangeBounds change (shown card.now) }
+        requires { CanChangeBounds change (viewed card.now) }
         ensures { OnOk result (self.new ≡ in_set card.now.name1
-            (bounds_changed change (shown card.now)) self.old) }
+            (bounds_changed change (viewed card.now)) self.old) }
     {
         let changed = change_under(alloc, change, card, &mut self.sets);
         let _names = self.sets.len();
@@ -127,9 +127,9 @@ impl BoundSets {
         change: BoundChange,
         card: &DataCard<'_>,
     ) -> Result<(), AllocError>
-        requires { CanChangeBounds change (shown card.now) }
+        requires { CanChangeBounds change (viewed card.now) }
         ensures { OnOk result (self.new ≡ in_group card.now.name1
-            (bounds_changed change (shown card.now)) self.old) }
+            (bounds_changed change (viewed card.now)) self.old) }
     {
         if !self.has(&card.name1) {
             return Ok(());
@@ -172,7 +172,7 @@ impl BoundSets {
 
     /// Takes out the set in field 2 of a card where field 3 is blank, and else its bounds on the column in field 3.
     pub fn delete(&mut self, alloc: Global, card: &DataCard<'_>) -> Result<(), AllocError>
-        ensures { OnOk result (self.new ≡ delete_items without_column (shown card.now) self.old) }
+        ensures { OnOk result (self.new ≡ delete_items without_column (viewed card.now) self.old) }
     {
         if is_blank(card.name2.bytes()) {
             self.remove(&card.name1);

@@ -8,12 +8,12 @@ ghost use Rattle.problem_definitions.specs.Numbering.{bound_by};
 ghost use Rattle.problem_definitions.specs.Problem.{has_bound, group_names};
 ghost use Rattle.deck_definitions.specs.DataCards.{bound_of};
 ghost use Rattle.deck_definitions.specs.Tests.{is_bound_already};
-ghost use Rattle.deck_cards.specs.Shown.{shown};
-ghost use Rattle.deck_parts.specs.Shown.{bound_end_fault};
+ghost use Rattle.deck_cards.specs.Views.{viewed};
+ghost use Rattle.deck_parts.specs.Views.{bound_end_fault};
 ghost use Rattle.revise_definitions.specs.Edits.{put_bound, without_column};
 ghost use Rattle.revise_lists.specs.Additions.{CanChangeBounds};
 ghost use Rattle.revise_lists.specs.Changes.{bounds_changed};
-ghost use Rattle.revise_lists.specs.Shown.{held, is_at_end, is_at_end_there, AreNoted, AreEmptied, noted};
+ghost use Rattle.revise_lists.specs.Views.{held, is_at_end, is_at_end_there, AreNoted, AreEmptied, noted};
 
 use crate::changes::BoundChange;
 use crate::ends::{End, touches};
@@ -43,7 +43,7 @@ impl Model for Bounds {
     ghost use Rattle.problem_definitions.specs.Names.{Name as Text};
     ghost use Rattle.problem_definitions.specs.Problem.{Bound};
     ghost use Rattle.revise_lists.specs.declared.ends.End.TheVariants.{Upper, Lower};
-    ghost use Rattle.revise_lists.specs.Shown.{held, AreNoted};
+    ghost use Rattle.revise_lists.specs.Views.{held, AreNoted};
 
     ghost Value = { List (Bound Text) };
 
@@ -150,8 +150,8 @@ fn add_slot(
 
 // The bound of this type on a card in which no fault was found.
 fn bound_from(kind: BoundKind, card: &DataCard<'_>) -> NamedBound
-    requires { bound_end_fault (shown card.now) kind ≡ None }
-    ensures { result ≡ bound_of (shown card.now) kind }
+    requires { bound_end_fault (viewed card.now) kind ≡ None }
+    ensures { result ≡ bound_of (viewed card.now) kind }
 {
     match bound_value(kind, card) {
         Ok(value) => NamedBound {
@@ -292,8 +292,8 @@ impl Bounds {
 
     // Puts the bound of this type on a card at the end of those that touch none of its ends.
     fn put(&mut self, alloc: Global, kind: BoundKind, card: &DataCard<'_>) -> Result<(), AllocError>
-        requires { bound_end_fault (shown card.now) kind ≡ None }
-        ensures { OnOk result (self.new ≡ put_bound (bound_of (shown card.now) kind) self.old) }
+        requires { bound_end_fault (viewed card.now) kind ≡ None }
+        ensures { OnOk result (self.new ≡ put_bound (bound_of (viewed card.now) kind) self.old) }
     {
         let bound = bound_from(kind, card);
         self.remove_met(&card.name2, kind);
@@ -308,8 +308,8 @@ impl Bounds {
         change: BoundChange,
         card: &DataCard<'_>,
     ) -> Result<(), AllocError>
-        requires { CanChangeBounds change (shown card.now) }
-        ensures { OnOk result (self.new ≡ bounds_changed change (shown card.now) self.old) }
+        requires { CanChangeBounds change (viewed card.now) }
+        ensures { OnOk result (self.new ≡ bounds_changed change (viewed card.now) self.old) }
     {
         match change {
             BoundChange::Put(kind) => self.put(alloc, kind, card),

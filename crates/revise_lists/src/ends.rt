@@ -1,6 +1,6 @@
 // The ends of a column.
 ghost use Rattle.std.specs.Prelude.{◌≡◌};
-ghost use Rattle.revise_lists.specs.Shown.{touches_end};
+ghost use Rattle.revise_lists.specs.Views.{touches_end};
 
 use deck_parts::{touches_bottom, touches_top};
 use problem_definitions::BoundKind;

@@ -7,11 +7,11 @@ ghost use Rattle.problem_definitions.specs.Numbering.{entry_by};
 ghost use Rattle.problem_definitions.specs.Problem.{has_entry};
 ghost use Rattle.deck_definitions.specs.DataCards.{entry_of, entries_of, parts_on, pairs_of, part_pairs_of};
 ghost use Rattle.deck_definitions.specs.Tests.{value_fault};
-ghost use Rattle.deck_cards.specs.Shown.{shown, pair_shown};
+ghost use Rattle.deck_cards.specs.Views.{viewed, pair_view};
 ghost use Rattle.revise_definitions.specs.Edits.{put_entry, put_entries, without_row};
 ghost use Rattle.revise_lists.specs.Additions.{AreNumbers, AreNew, CanChange};
 ghost use Rattle.revise_lists.specs.Changes.{entries_changed};
-ghost use Rattle.revise_lists.specs.Shown.{entry_on};
+ghost use Rattle.revise_lists.specs.Views.{entry_on};
 
 use crate::changes::EntryChange;
 use crate::named::insert_new;
@@ -39,7 +39,7 @@ impl Model for Entries {
     ghost use Rattle.std.specs.Map.{keys_of};
     ghost use Rattle.problem_definitions.specs.Names.{Name as Text, same};
     ghost use Rattle.problem_definitions.specs.Problem.{Entry};
-    ghost use Rattle.revise_lists.specs.Shown.{entry_on};
+    ghost use Rattle.revise_lists.specs.Views.{entry_on};
 
     ghost Value = { List (Entry Text) };
 
@@ -51,7 +51,7 @@ impl Model for Entries {
 // The entry of a pair whose number has no fault.
 fn entry_from(pair: &PairText<'_>) -> NamedEntry
     requires { value_fault pair.now.column pair.now.value.now ≡ None }
-    ensures { result ≡ entry_of (pair_shown pair.now) }
+    ensures { result ≡ entry_of (pair_view pair.now) }
 {
     match number_in(pair.column, pair.value) {
         Ok(value) => NamedEntry {
@@ -127,9 +127,9 @@ impl Entries {
 
     // Puts the entry of a pair in, if there is one.
     fn put_if(&mut self, pair: &Option<PairText<'_>>) -> Result<(), AllocError>
-        requires { AreNumbers (option_to_list (option_map pair_shown pair.now)) }
+        requires { AreNumbers (option_to_list (option_map pair_view pair.now)) }
         ensures { OnOk result (self.new ≡ put_entries
-            (map entry_of (option_to_list (option_map pair_shown pair.now))) self.old) }
+            (map entry_of (option_to_list (option_map pair_view pair.now))) self.old) }
     {
         match pair {
             Some(pair) => self.put(entry_from(pair)),
@@ -139,9 +139,9 @@ impl Entries {
 
     // Adds the entry of a pair at the end, if there is one.
     fn add_if(&mut self, pair: &Option<PairText<'_>>) -> Result<(), AllocError>
-        requires { AreNew self.old (option_to_list (option_map pair_shown pair.now)) }
+        requires { AreNew self.old (option_to_list (option_map pair_view pair.now)) }
         ensures { OnOk result (self.new ≡ self.old ++ map entry_of
-            (option_to_list (option_map pair_shown pair.now))) }
+            (option_to_list (option_map pair_view pair.now))) }
     {
         match pair {
             Some(pair) => self.add(entry_from(pair)),
@@ -151,8 +151,8 @@ impl Entries {
 
     // Puts the entries of a card in, one after another.
     fn put_all(&mut self, card: &DataCard<'_>) -> Result<(), AllocError>
-        requires { AreNumbers (pairs_of (shown card.now)) }
-        ensures { OnOk result (self.new ≡ put_entries (entries_of (shown card.now)) self.old) }
+        requires { AreNumbers (pairs_of (viewed card.now)) }
+        ensures { OnOk result (self.new ≡ put_entries (entries_of (viewed card.now)) self.old) }
     {
         self.put(entry_from(&first_pair(card)))?;
         self.put_if(&second_pair(card))
@@ -160,8 +160,8 @@ impl Entries {
 
     /// Adds the entries of a card at the end.
     pub fn append_all(&mut self, card: &DataCard<'_>) -> Result<(), AllocError>
-        requires { AreNew self.old (pairs_of (shown card.now)) }
-        ensures { OnOk result (self.new ≡ self.old ++ entries_of (shown card.now)) }
+        requires { AreNew self.old (pairs_of (viewed card.now)) }
+        ensures { OnOk result (self.new ≡ self.old ++ entries_of (viewed card.now)) }
     {
         self.add(entry_from(&first_pair(card)))?;
         self.add_if(&second_pair(card))
@@ -169,8 +169,8 @@ impl Entries {
 
     /// Puts the parts on a card in, one after another.
     pub fn put_parts(&mut self, card: &DataCard<'_>) -> Result<(), AllocError>
-        requires { AreNumbers (part_pairs_of (shown card.now)) }
-        ensures { OnOk result (self.new ≡ put_entries (parts_on (shown card.now)) self.old) }
+        requires { AreNumbers (part_pairs_of (viewed card.now)) }
+        ensures { OnOk result (self.new ≡ put_entries (parts_on (viewed card.now)) self.old) }
     {
         self.put_if(&first_part(card))?;
         self.put_if(&second_pair(card))
@@ -178,8 +178,8 @@ impl Entries {
 
     /// Adds the parts on a card at the end.
     pub fn append_parts(&mut self, card: &DataCard<'_>) -> Result<(), AllocError>
-        requires { AreNew self.old (part_pairs_of (shown card.now)) }
-        ensures { OnOk result (self.new ≡ self.old ++ parts_on (shown card.now)) }
+        requires { AreNew self.old (part_pairs_of (viewed card.now)) }
+        ensures { OnOk result (self.new ≡ self.old ++ parts_on (viewed card.now)) }
     {
         self.add_if(&first_part(card))?;
         self.add_if(&second_pair(card))
@@ -187,8 +187,8 @@ impl Entries {
 
     /// Changes the entries as a card says.
     pub fn change(&mut self, change: EntryChange, card: &DataCard<'_>) -> Result<(), AllocError>
-        requires { CanChange change (shown card.now) self.old }
-        ensures { OnOk result (self.new ≡ entries_changed change (shown card.now) self.old) }
+        requires { CanChange change (viewed card.now) self.old }
+        ensures { OnOk result (self.new ≡ entries_changed change (viewed card.now) self.old) }
     {
         match change {
             EntryChange::Put => self.put_all(card),

@@ -9,12 +9,12 @@ ghost use Rattle.problem_definitions.specs.Groups.{in_group, in_set, in_all, wit
 ghost use Rattle.problem_definitions.specs.Names.{same, number_in};
 ghost use Rattle.problem_definitions.specs.Numbering.{entry_by, group_by};
 ghost use Rattle.problem_definitions.specs.Problem.{has_group, has_entry, group_names};
-ghost use Rattle.deck_parts.specs.Shown.{group_at};
-ghost use Rattle.deck_cards.specs.Shown.{shown};
+ghost use Rattle.deck_parts.specs.Views.{group_at};
+ghost use Rattle.deck_cards.specs.Views.{viewed};
 ghost use Rattle.revise_definitions.specs.Edits.{without_row, delete_items};
 ghost use Rattle.revise_lists.specs.Additions.{CanChange};
 ghost use Rattle.revise_lists.specs.Changes.{entries_changed};
-ghost use Rattle.revise_lists.specs.Shown.{AreShort};
+ghost use Rattle.revise_lists.specs.Views.{AreShort};
 
 use crate::changes::EntryChange;
 use crate::entries::Entries;
@@ -42,8 +42,8 @@ impl Model for Groups {
     ghost use Rattle.std.specs.Map.{keys_of};
     ghost use Rattle.problem_definitions.specs.Names.{Name as Text, same};
     ghost use Rattle.problem_definitions.specs.Problem.{Entry, Group};
-    ghost use Rattle.deck_parts.specs.Shown.{group_at};
-    ghost use Rattle.revise_lists.specs.Shown.{AreShort};
+    ghost use Rattle.deck_parts.specs.Views.{group_at};
+    ghost use Rattle.revise_lists.specs.Views.{AreShort};
 
     ghost Value = { List (Group (Entry Text)) };
 
@@ -97,10 +97,10 @@ fn change_under(
     card: &DataCard<'_>,
     groups: &mut IndexMap<Name, Entries>,
 ) -> Result<(), AllocError>
-    requires { CanChange change (shown card.now)
+    requires { CanChange change (viewed card.now)
         (unwrap_or (lookup (same card.now.name1) groups.old.entries) []) }
     ensures { OnOk result (groups.new.entries ≡ insert_entry same groups.old.entries
-        card.now.name1 (entries_changed change (shown card.now)
+        card.now.name1 (entries_changed change (viewed card.now)
         (unwrap_or (lookup (same card.now.name1) groups.old.entries) []))) }
 {
     let items = groups.entry(card.name1)?.or_insert(Entries::new(alloc));
@@ -115,12 +115,12 @@ fn change_counted(
     groups: &mut IndexMap<Name, Entries>,
     count: u128,
 ) -> Result<u128, AllocError>
-    requires can_change { CanChange change (shown card.now)
+    requires can_change { CanChange change (viewed card.now)
         (items_of card.now.name1 (map group_at groups.old.entries)) }
     requires count { count ≡ sum_by (λ group. length group.items) (map group_at groups.old.entries) }
     requires short { AreShort (map group_at groups.old.entries) }
     ensures step { OnOk result (map group_at groups.new.entries ≡ in_set card.now.name1
-        (entries_changed change (shown card.now)) (map group_at groups.old.entries)) }
+        (entries_changed change (viewed card.now)) (map group_at groups.old.entries)) }
     ensures count { IfOk result (λ count. count ≡ sum_by (λ group. length group.items)
         (map group_at groups.new.entries)) }
     ensures distinct { OnOk result (IsDistinct same (keys_of groups.new.entries)) }
@@ -274,9 +274,9 @@ impl Groups {
         change: EntryChange,
         card: &DataCard<'_>,
     ) -> Result<(), AllocError>
-        requires { CanChange change (shown card.now) (items_of card.now.name1 self.old) }
+        requires { CanChange change (viewed card.now) (items_of card.now.name1 self.old) }
         ensures { OnOk result (self.new ≡ in_set card.now.name1
-            (entries_changed change (shown card.now)) self.old) }
+            (entries_changed change (viewed card.now)) self.old) }
     {
         match change_counted(alloc, change, card, &mut self.groups, self.count) {
             Ok(count) => {
@@ -298,9 +298,9 @@ impl Groups {
         change: EntryChange,
         card: &DataCard<'_>,
     ) -> Result<(), AllocError>
-        requires { CanChange change (shown card.now) (items_of card.now.name1 self.old) }
+        requires { CanChange change (viewed card.now) (items_of card.now.name1 self.old) }
         ensures { OnOk result (self.new ≡ in_group card.now.name1
-            (entries_changed change (shown card.now)) self.old) }
+            (entries_changed change (viewed card.now)) self.old) }
     {
         if !self.has(&card.name1) {
             return Ok(());
@@ -334,7 +334,7 @@ impl Groups {
 
     /// Takes out the group in field 2 of a card where field 3 is blank, and else its item on the row in field 3.
     pub fn delete(&mut self, alloc: Global, card: &DataCard<'_>) -> Result<(), AllocError>
-        ensures { OnOk result (self.new ≡ delete_items without_row (shown card.now) self.old) }
+        ensures { OnOk result (self.new ≡ delete_items without_row (viewed card.now) self.old) }
     {
         if is_blank(card.name2.bytes()) {
             self.remove(&card.name1);

@@ -8,7 +8,7 @@ ghost use Rattle.problem_definitions.specs.Problem.{has_row, has_free_row, has_c
 ghost use Rattle.problem_definitions.specs.Parts.{parts_of, with_parts, in_row};
 ghost use Rattle.problem_definitions.specs.Numbering.{entry_by, row_by};
 ghost use Rattle.deck_definitions.specs.DataCards.{parts_on, part_pairs_of};
-ghost use Rattle.deck_cards.specs.Shown.{shown};
+ghost use Rattle.deck_cards.specs.Views.{viewed};
 ghost use Rattle.revise_definitions.specs.Edits.{modify_row, without_row};
 ghost use Rattle.revise_lists.specs.Additions.{AreNumbers, AreNew};
 ghost use Rattle.revise_lists.specs.Bodies.{row_at, body_with, body_retyped};
@@ -35,8 +35,8 @@ pub struct RowBody {
 impl RowBody {
     // Adds the parts on a card at the end, where the row is a combination.
     fn append(&mut self, card: &DataCard<'_>) -> Result<(), AllocError>
-        requires { AreNew (unwrap_or self.old.parts []) (part_pairs_of (shown card.now)) }
-        ensures { OnOk result (self.new ≡ body_with (λ parts. parts ++ parts_on (shown card.now))
+        requires { AreNew (unwrap_or self.old.parts []) (part_pairs_of (viewed card.now)) }
+        ensures { OnOk result (self.new ≡ body_with (λ parts. parts ++ parts_on (viewed card.now))
             self.old) }
     {
         match &mut self.parts {
@@ -47,8 +47,8 @@ impl RowBody {
 
     // Gives the row the type on a card, if there is such a type, and puts the parts on the card in, where the row is a combination.
     fn modify(&mut self, card: &DataCard<'_>) -> Result<(), AllocError>
-        requires { is_some self.old.parts ≡ true → AreNumbers (part_pairs_of (shown card.now)) }
-        ensures { OnOk result (self.new ≡ body_retyped (shown card.now) self.old) }
+        requires { is_some self.old.parts ≡ true → AreNumbers (part_pairs_of (viewed card.now)) }
+        ensures { OnOk result (self.new ≡ body_retyped (viewed card.now) self.old) }
     {
         self.kind = kind_on(card).unwrap_or(self.kind);
         match &mut self.parts {
@@ -211,9 +211,9 @@ impl Rows {
 
     /// Adds the parts on a card to the combination that the card names.
     pub fn append_parts(&mut self, card: &DataCard<'_>) -> Result<(), AllocError>
-        requires { AreNew (parts_of card.now.name1 self.old) (part_pairs_of (shown card.now)) }
+        requires { AreNew (parts_of card.now.name1 self.old) (part_pairs_of (viewed card.now)) }
         ensures { OnOk result (self.new ≡ in_row card.now.name1
-            (λ parts. parts ++ parts_on (shown card.now)) self.old) }
+            (λ parts. parts ++ parts_on (viewed card.now)) self.old) }
     {
         let appended = append_under(&mut self.rows, card);
         let _names = self.rows.len();
@@ -223,8 +223,8 @@ impl Rows {
     /// Gives the row that a card names the type in its field 1, if there is such a type, and a combination the parts on the card.
     pub fn modify(&mut self, card: &DataCard<'_>) -> Result<(), AllocError>
         requires { has_combination self.old card.now.name1 ≡ true → AreNumbers
-            (part_pairs_of (shown card.now)) }
-        ensures { OnOk result (self.new ≡ modify_row (shown card.now) self.old) }
+            (part_pairs_of (viewed card.now)) }
+        ensures { OnOk result (self.new ≡ modify_row (viewed card.now) self.old) }
     {
         let modified = modify_under(&mut self.rows, card);
         let _names = self.rows.len();
@@ -251,9 +251,9 @@ fn is_below(place: usize, one: usize, other: usize) -> bool
 // Adds the parts on a card to the row in its field 2, if it is a combination that is there.
 fn append_under(rows: &mut IndexMap<Name, RowBody>, card: &DataCard<'_>) -> Result<(), AllocError>
     requires { AreNew (parts_of card.now.name1 (map row_at rows.old.entries))
-        (part_pairs_of (shown card.now)) }
+        (part_pairs_of (viewed card.now)) }
     ensures { OnOk result (map row_at rows.new.entries ≡ in_row card.now.name1
-        (λ parts. parts ++ parts_on (shown card.now)) (map row_at rows.old.entries)) }
+        (λ parts. parts ++ parts_on (viewed card.now)) (map row_at rows.old.entries)) }
 {
     let Some(body) = rows.get_mut(&card.name1) else {
         return Ok(());
@@ -264,8 +264,8 @@ fn append_under(rows: &mut IndexMap<Name, RowBody>, card: &DataCard<'_>) -> Resu
 // Gives the row in field 2 of a card what the card says, if it is there.
 fn modify_under(rows: &mut IndexMap<Name, RowBody>, card: &DataCard<'_>) -> Result<(), AllocError>
     requires { has_combination (map row_at rows.old.entries) card.now.name1 ≡ true → AreNumbers
-        (part_pairs_of (shown card.now)) }
-    ensures { OnOk result (map row_at rows.new.entries ≡ modify_row (shown card.now)
+        (part_pairs_of (viewed card.now)) }
+    ensures { OnOk result (map row_at rows.new.entries ≡ modify_row (viewed card.now)
         (map row_at rows.old.entries)) }
 {
     let Some(body) = rows.get_mut(&card.name1) else {

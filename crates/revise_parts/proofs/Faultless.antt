@@ -17,7 +17,7 @@ use Rattle.deck_definitions.specs.declared.Section.TheVariants.{Rows, Columns, R
 use Rattle.deck_definitions.specs.DataCards.{Pair, pair_if, pairs_of, part_pairs_of, entry_of, kind_on, bound_kinds, combination_kinds}
 use Rattle.deck_definitions.specs.Tests.{kind_filled, marks, pairs_fault, pair_fault, filled_from_3, row_fields_fault, rows_fault, of_bound_type}
 use Rattle.deck_definitions.proofs.Pairs.{pairs_fault-cons}
-use Rattle.deck_parts.specs.Shown.{rows_alone, bound_end_fault}
+use Rattle.deck_parts.specs.Views.{rows_alone, bound_end_fault}
 use Rattle.revise_definitions.specs.declared.Action.{Action}
 use Rattle.revise_definitions.specs.declared.Action.TheVariants.{Modify, Delete, Before, After}
 use Rattle.revise_definitions.specs.Edits.{put_entry}

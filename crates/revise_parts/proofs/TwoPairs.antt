@@ -12,7 +12,7 @@ use Rattle.deck_definitions.specs.declared.Section.TheVariants.{Rows}
 use Rattle.deck_definitions.specs.DataCards.{Pair, entry_of}
 use Rattle.deck_definitions.specs.Tests.{pairs_fault}
 use Rattle.deck_definitions.proofs.Pairs.{pairs_fault-cons}
-use Rattle.deck_parts.specs.Shown.{rows_alone}
+use Rattle.deck_parts.specs.Views.{rows_alone}
 use Rattle.revise_definitions.specs.Edits.{put_entry}
 use Rattle.revise_definitions.specs.Tests.{puts_fault}
 use Rattle.revise_definitions.proofs.Pairs.{puts_fault-cons}

@@ -8,7 +8,7 @@ use Rattle.problem_definitions.specs.Problem.{Row, Entry, Group, has_row, has_co
 use Rattle.problem_definitions.specs.Parts.{parts_of}
 use Rattle.problem_definitions.specs.Groups.{items_of}
 use Rattle.deck_definitions.specs.DataCards.{pairs_of, part_pairs_of, bound_kinds}
-use Rattle.deck_parts.specs.Shown.{bound_end_fault}
+use Rattle.deck_parts.specs.Views.{bound_end_fault}
 use Rattle.revise_definitions.specs.declared.Action.{Action}
 use Rattle.revise_definitions.specs.declared.Action.TheVariants.{Modify, Delete, Before, After}
 use Rattle.revise_lists.specs.Additions.{AreNumbers, AreNew}

@@ -3,7 +3,7 @@ ghost use Rattle.std.specs.Prelude.{◌≡◌, [], OnOk, IfOk, insert, None, fal
 ghost use Rattle.problem_definitions.specs.Problem.{has_row, has_group};
 ghost use Rattle.problem_definitions.specs.Groups.{in_all, filled};
 ghost use Rattle.deck_definitions.specs.DataCards.{entries_of, pairs_of, parts_on, part_pairs_of, row_of};
-ghost use Rattle.deck_cards.specs.Shown.{shown};
+ghost use Rattle.deck_cards.specs.Views.{viewed};
 ghost use Rattle.revise_definitions.specs.Edits.{without_row, without_column, delete_row, delete_column, edit_sets, edit_bounds};
 ghost use Rattle.revise_lists.specs.Additions.{AreNew};
 ghost use Rattle.revise_parts.specs.Needs.{IsNewRow, IsNewColumn, HasBound, CanEditRows, CanEditColumns, CanEditSets, CanEditBounds};
@@ -54,8 +54,8 @@ fn remove_column(name: Name, problem: &mut NamedProblem)
 
 // The parts on a card that begins a combination.
 fn parts_of(alloc: Global, card: &DataCard<'_>) -> Result<Entries, AllocError>
-    requires { AreNew [] (part_pairs_of (shown card.now)) }
-    ensures { IfOk result (λ parts. parts ≡ parts_on (shown card.now)) }
+    requires { AreNew [] (part_pairs_of (viewed card.now)) }
+    ensures { IfOk result (λ parts. parts ≡ parts_on (viewed card.now)) }
 {
     let mut parts = Entries::new(alloc);
     parts.append_parts(card)?;
@@ -70,9 +70,9 @@ fn insert_row_at(
     card: &DataCard<'_>,
 ) -> Result<(), AllocError>
     requires is_new { has_row rows.old card.now.name1 ≡ false }
-    requires parts { AreNew [] (part_pairs_of (shown card.now)) }
+    requires parts { AreNew [] (part_pairs_of (viewed card.now)) }
     ensures { OnOk result (rows.new ≡ unwrap_or (option_map (insert rows.old place)
-        (row_of (shown card.now))) rows.old) }
+        (row_of (viewed card.now))) rows.old) }
 {
     if let Some(kind) = row_kind(card.kind) {
         return rows.insert(place, kind, card.name1, None);
@@ -94,8 +94,8 @@ fn insert_row_of(
     card: &DataCard<'_>,
     rows: &mut Rows,
 ) -> Result<(), AllocError>
-    requires { IsNewRow under.now (shown card.now) rows.old }
-    ensures { OnOk result (rows.new ≡ row_inserted action under.now (shown card.now) rows.old) }
+    requires { IsNewRow under.now (viewed card.now) rows.old }
+    ensures { OnOk result (rows.new ≡ row_inserted action under.now (viewed card.now) rows.old) }
 {
     if under.goes_on_row(card) {
         return rows.append_parts(card);
@@ -112,9 +112,9 @@ fn insert_new_column(
     columns: &mut Groups,
 ) -> Result<(), AllocError>
     requires is_new { has_group columns.old card.now.name1 ≡ false }
-    requires entries { AreNew [] (pairs_of (shown card.now)) }
+    requires entries { AreNew [] (pairs_of (viewed card.now)) }
     ensures { OnOk result (columns.new ≡ insert columns.old place
-        (record { name = card.now.name1; items = entries_of (shown card.now) })) }
+        (record { name = card.now.name1; items = entries_of (viewed card.now) })) }
 {
     let mut items = Entries::new(alloc);
     items.append_all(card)?;
@@ -129,8 +129,8 @@ fn insert_column_of(
     card: &DataCard<'_>,
     columns: &mut Groups,
 ) -> Result<(), AllocError>
-    requires { IsNewColumn under.now (shown card.now) columns.old }
-    ensures { OnOk result (columns.new ≡ column_inserted action under.now (shown card.now)
+    requires { IsNewColumn under.now (viewed card.now) columns.old }
+    ensures { OnOk result (columns.new ≡ column_inserted action under.now (viewed card.now)
         columns.old) }
 {
     if under.goes_on(card) {
@@ -148,8 +148,8 @@ fn edit_rows_of(
     card: &DataCard<'_>,
     problem: &mut NamedProblem,
 ) -> Result<(), AllocError>
-    requires { CanEditRows action under.now (shown card.now) problem.old.rows }
-    ensures { OnOk result (problem.new ≡ rows_edited action under.now (shown card.now)
+    requires { CanEditRows action under.now (viewed card.now) problem.old.rows }
+    ensures { OnOk result (problem.new ≡ rows_edited action under.now (viewed card.now)
         problem.old) }
 {
     match action {
@@ -170,7 +170,7 @@ fn delete_column_of(
     problem: &mut NamedProblem,
 ) -> Result<(), AllocError>
     ensures { OnOk result (problem.new ≡ columns_edited Action.Delete
-        (record { anchor = []; there = 0; names = []; last = None; combination = None }) (shown card.now) problem.old) }
+        (record { anchor = []; there = 0; names = []; last = None; combination = None }) (viewed card.now) problem.old) }
 {
     if is_blank(card.name2.bytes()) {
         remove_column(card.name1, problem);
@@ -187,8 +187,8 @@ fn edit_columns_of(
     card: &DataCard<'_>,
     problem: &mut NamedProblem,
 ) -> Result<(), AllocError>
-    requires { CanEditColumns action under.now (shown card.now) problem.old.columns }
-    ensures { OnOk result (problem.new ≡ columns_edited action under.now (shown card.now)
+    requires { CanEditColumns action under.now (viewed card.now) problem.old.columns }
+    ensures { OnOk result (problem.new ≡ columns_edited action under.now (viewed card.now)
         problem.old) }
 {
     match action {
@@ -208,8 +208,8 @@ fn edit_sets_of(
     card: &DataCard<'_>,
     sets: &mut Groups,
 ) -> Result<(), AllocError>
-    requires { CanEditSets action (shown card.now) }
-    ensures { OnOk result (sets.new ≡ edit_sets action (shown card.now) sets.old) }
+    requires { CanEditSets action (viewed card.now) }
+    ensures { OnOk result (sets.new ≡ edit_sets action (viewed card.now) sets.old) }
 {
     match action {
         Action::Delete => sets.delete(alloc, card),
@@ -219,8 +219,8 @@ fn edit_sets_of(
 
 // Puts the bound of a card into its set, if its type is known.
 fn put_bound_of(alloc: Global, card: &DataCard<'_>, sets: &mut BoundSets) -> Result<(), AllocError>
-    requires { HasBound (shown card.now) }
-    ensures { OnOk result (sets.new ≡ edit_bounds Action.Modify (shown card.now) sets.old) }
+    requires { HasBound (viewed card.now) }
+    ensures { OnOk result (sets.new ≡ edit_bounds Action.Modify (viewed card.now) sets.old) }
 {
     match bound_kind(card.kind) {
         Some(kind) => sets.change_or_add(alloc, BoundChange::Put(kind), card),
@@ -235,8 +235,8 @@ fn edit_bounds_of(
     card: &DataCard<'_>,
     sets: &mut BoundSets,
 ) -> Result<(), AllocError>
-    requires { CanEditBounds action (shown card.now) }
-    ensures { OnOk result (sets.new ≡ edit_bounds action (shown card.now) sets.old) }
+    requires { CanEditBounds action (viewed card.now) }
+    ensures { OnOk result (sets.new ≡ edit_bounds action (viewed card.now) sets.old) }
 {
     match action {
         Action::Delete => sets.delete(alloc, card),
@@ -253,8 +253,8 @@ pub fn edit(
     card: &DataCard<'_>,
     problem: &mut NamedProblem,
 ) -> Result<(), AllocError>
-    requires { edit_test problem.old section action under.now (shown card.now) ≡ None }
-    ensures { OnOk result (problem.new ≡ edited_by section action under.now (shown card.now)
+    requires { edit_test problem.old section action under.now (viewed card.now) ≡ None }
+    ensures { OnOk result (problem.new ≡ edited_by section action under.now (viewed card.now)
         problem.old) }
 {
     match section {

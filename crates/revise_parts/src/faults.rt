@@ -6,8 +6,8 @@ ghost use Rattle.problem_definitions.specs.Groups.{items_of};
 ghost use Rattle.deck_definitions.specs.DataCards.{pairs_of};
 ghost use Rattle.deck_definitions.specs.declared.Section.TheVariants.{Columns};
 ghost use Rattle.deck_definitions.specs.Tests.{kind_filled, marks, filled_from_3, filled_from_4, row_fields_fault, rows_fault, pairs_fault, of_bound_type};
-ghost use Rattle.deck_cards.specs.Shown.{shown};
-ghost use Rattle.deck_parts.specs.Shown.{rows_alone};
+ghost use Rattle.deck_cards.specs.Views.{viewed};
+ghost use Rattle.deck_parts.specs.Views.{rows_alone};
 ghost use Rattle.revise_definitions.specs.Tests.{has_range, has_type_for, frees, modified_fields_fault, puts_fault, modify_rows_fault, delete_rows_fault, modify_columns_fault, modify_sets_fault, delete_entry_fault, delete_columns_fault, delete_sets_fault, modify_bound_fault, delete_bounds_fault};
 ghost use Rattle.revise_parts.specs.Summary.{insert_columns_test};
 
@@ -27,7 +27,7 @@ fn has_range_on(seen: &NamedProblem, row: &Name) -> bool
 
 // The fault of a card on which the fields from field 4 on are to be blank.
 fn rest_fault(card: &DataCard<'_>) -> Option<DeckFaultKind>
-    ensures { result ≡ filled_from_4 (shown card.now) }
+    ensures { result ≡ filled_from_4 (viewed card.now) }
 {
     if is_blank(card.value1) && is_blank(card.name3.bytes()) && is_blank(card.value2) {
         return None;
@@ -37,7 +37,7 @@ fn rest_fault(card: &DataCard<'_>) -> Option<DeckFaultKind>
 
 // Whether the type on a card is one for a combination, or one for a plain row.
 fn has_type_for(combines: bool, card: &DataCard<'_>) -> bool
-    ensures { result ≡ has_type_for combines (shown card.now) }
+    ensures { result ≡ has_type_for combines (viewed card.now) }
 {
     if combines {
         combination_kind(card.kind).is_some()
@@ -48,7 +48,7 @@ fn has_type_for(combines: bool, card: &DataCard<'_>) -> bool
 
 // Whether the type on a card is that of a free row.
 fn frees(card: &DataCard<'_>) -> bool
-    ensures { result ≡ frees (shown card.now) }
+    ensures { result ≡ frees (viewed card.now) }
 {
     match kind_on(card) {
         Some(kind) => is_free(kind),
@@ -58,7 +58,7 @@ fn frees(card: &DataCard<'_>) -> bool
 
 // The fault of a card on which the fields from field 3 on are to be blank.
 fn fields_fault(card: &DataCard<'_>) -> Option<DeckFaultKind>
-    ensures { result ≡ filled_from_3 (shown card.now) }
+    ensures { result ≡ filled_from_3 (viewed card.now) }
 {
     if has_more(card) {
         return Some(DeckFaultKind::ExtraField);
@@ -68,14 +68,14 @@ fn fields_fault(card: &DataCard<'_>) -> Option<DeckFaultKind>
 
 // Whether a card would free a row that has a range.
 fn frees_ranged(seen: &NamedProblem, card: &DataCard<'_>) -> bool
-    ensures { result ≡ (frees (shown card.now) && has_range seen.now card.now.name1) }
+    ensures { result ≡ (frees (viewed card.now) && has_range seen.now card.now.name1) }
 {
     frees(card) && has_range_on(seen, &card.name1)
 }
 
 // The fault of the fields after the name of a card that modifies one of these rows.
 fn changed_fields_fault(rows: &Rows, card: &DataCard<'_>) -> Option<DeckFaultKind>
-    ensures { result ≡ modified_fields_fault (rows_alone rows.now) (shown card.now) }
+    ensures { result ≡ modified_fields_fault (rows_alone rows.now) (viewed card.now) }
 {
     if rows.has_combination(&card.name1) {
         return put_parts_fault_of(rows, rows.place_of(&card.name1), card);
@@ -85,7 +85,7 @@ fn changed_fields_fault(rows: &Rows, card: &DataCard<'_>) -> Option<DeckFaultKin
 
 /// The fault of a card of ROWS under MODIFY.
 pub fn modified_row_fault(seen: &NamedProblem, card: &DataCard<'_>) -> Option<DeckFaultKind>
-    ensures { result ≡ modify_rows_fault seen.now (shown card.now) }
+    ensures { result ≡ modify_rows_fault seen.now (viewed card.now) }
 {
     if is_blank(card.name1.bytes()) {
         return Some(DeckFaultKind::EmptyName);
@@ -104,7 +104,7 @@ pub fn modified_row_fault(seen: &NamedProblem, card: &DataCard<'_>) -> Option<De
 
 /// The fault of a card of ROWS under DELETE.
 pub fn deleted_row_fault(seen: &NamedProblem, card: &DataCard<'_>) -> Option<DeckFaultKind>
-    ensures { result ≡ delete_rows_fault seen.now (shown card.now) }
+    ensures { result ≡ delete_rows_fault seen.now (viewed card.now) }
 {
     if is_blank(card.name1.bytes()) {
         return Some(DeckFaultKind::EmptyName);
@@ -136,7 +136,7 @@ fn new_row_fault(rows: &Rows, goes_on: bool, name: &Name) -> Option<DeckFaultKin
 // The fault of the fields after the name of a card of ROWS, where the first rows, up to a limit, are the earlier ones.
 fn row_fields_fault_of(rows: &Rows, limit: usize, card: &DataCard<'_>) -> Option<DeckFaultKind>
     ensures { result ≡ row_fields_fault (rows_alone rows.now) (take limit rows.now)
-        (shown card.now) }
+        (viewed card.now) }
 {
     if combination_kind(card.kind).is_some() {
         return parts_fault_of(rows, limit, rows.parts(&card.name1), card);
@@ -154,7 +154,7 @@ fn row_rest_fault(
     ensures { result ≡ first_fault
         ((not goes_on && has_row rows.now card.now.name1 ⟹ DeckFaultKind.DuplicateRow) ∷
         (not goes_on && nat_le MAX_ROWS (length rows.now) ⟹ DeckFaultKind.TooManyRows) ∷
-        row_fields_fault (rows_alone rows.now) (take limit rows.now) (shown card.now) ∷ []) }
+        row_fields_fault (rows_alone rows.now) (take limit rows.now) (viewed card.now) ∷ []) }
 {
     first_of(
         new_row_fault(rows, goes_on, &card.name1),
@@ -171,7 +171,7 @@ pub fn inserted_row_fault(
     card: &DataCard<'_>,
 ) -> Option<DeckFaultKind>
     ensures { result ≡ rows_fault (rows_alone rows.now) goes_on (take limit rows.now)
-        (shown card.now) }
+        (viewed card.now) }
 {
     if kind_on(card).is_none() {
         return Some(DeckFaultKind::BadRowType);
@@ -184,7 +184,7 @@ pub fn inserted_row_fault(
 
 // The fault of a card of COLUMNS before those of its column: field 1, a marker, or no name.
 fn column_head_fault(card: &DataCard<'_>) -> Option<DeckFaultKind>
-    ensures { result ≡ first_fault (kind_filled (shown card.now) ∷ marks (shown card.now) ∷
+    ensures { result ≡ first_fault (kind_filled (viewed card.now) ∷ marks (viewed card.now) ∷
         (is_empty card.now.name1 ⟹ DeckFaultKind.EmptyName) ∷ []) }
 {
     if !is_blank(card.kind) {
@@ -206,7 +206,7 @@ fn put_pairs_fault(
     card: &DataCard<'_>,
 ) -> Option<DeckFaultKind>
     ensures { result ≡ puts_fault seen.now Columns (items_of card.now.name1 columns.now)
-        (sum_by (λ column. length column.items) columns.now) (pairs_of (shown card.now)) }
+        (sum_by (λ column. length column.items) columns.now) (pairs_of (viewed card.now)) }
 {
     let count = columns.item_count();
     puts_fault_of(
@@ -227,7 +227,7 @@ fn put_column_fault(
     ensures { result ≡ first_fault
         ((not (has_group columns.now card.now.name1) ⟹ DeckFaultKind.ModifyMissing) ∷ puts_fault
         seen.now Columns (items_of card.now.name1 columns.now)
-        (sum_by (λ column. length column.items) columns.now) (pairs_of (shown card.now)) ∷ []) }
+        (sum_by (λ column. length column.items) columns.now) (pairs_of (viewed card.now)) ∷ []) }
 {
     if !columns.has(&card.name1) {
         return Some(DeckFaultKind::ModifyMissing);
@@ -237,7 +237,7 @@ fn put_column_fault(
 
 /// The fault of a card of COLUMNS under MODIFY.
 pub fn modified_column_fault(seen: &NamedProblem, card: &DataCard<'_>) -> Option<DeckFaultKind>
-    ensures { result ≡ modify_columns_fault seen.now (shown card.now) }
+    ensures { result ≡ modify_columns_fault seen.now (viewed card.now) }
 {
     let head = column_head_fault(card);
     let rest = put_column_fault(seen, &seen.columns, card);
@@ -250,7 +250,7 @@ pub fn modified_set_fault(
     section: Section,
     card: &DataCard<'_>,
 ) -> Option<DeckFaultKind>
-    ensures { result ≡ modify_sets_fault seen.now section (shown card.now) }
+    ensures { result ≡ modify_sets_fault seen.now section (viewed card.now) }
 {
     if !is_blank(card.kind) {
         return Some(DeckFaultKind::ExtraField);
@@ -264,7 +264,7 @@ fn deleted_entry_fault(
     groups: &Groups,
     card: &DataCard<'_>,
 ) -> Option<DeckFaultKind>
-    ensures { result ≡ delete_entry_fault seen.now groups.now (shown card.now) }
+    ensures { result ≡ delete_entry_fault seen.now groups.now (viewed card.now) }
 {
     if !groups.has(&card.name1) {
         return Some(DeckFaultKind::DeleteMissing);
@@ -283,7 +283,7 @@ fn deleted_entry_fault(
 
 /// The fault of a card of COLUMNS under DELETE.
 pub fn deleted_column_fault(seen: &NamedProblem, card: &DataCard<'_>) -> Option<DeckFaultKind>
-    ensures { result ≡ delete_columns_fault seen.now (shown card.now) }
+    ensures { result ≡ delete_columns_fault seen.now (viewed card.now) }
 {
     if !is_blank(card.kind) {
         return Some(DeckFaultKind::ExtraField);
@@ -300,7 +300,7 @@ pub fn deleted_set_fault(
     sets: &Groups,
     card: &DataCard<'_>,
 ) -> Option<DeckFaultKind>
-    ensures { result ≡ delete_sets_fault seen.now sets.now (shown card.now) }
+    ensures { result ≡ delete_sets_fault seen.now sets.now (viewed card.now) }
 {
     if !is_blank(card.kind) {
         return Some(DeckFaultKind::ExtraField);
@@ -332,7 +332,7 @@ fn added_pairs_fault(
     card: &DataCard<'_>,
 ) -> Option<DeckFaultKind>
     ensures { result ≡ pairs_fault seen.now Columns (items_of card.now.name1 columns.now)
-        (sum_by (λ column. length column.items) columns.now) (pairs_of (shown card.now)) }
+        (sum_by (λ column. length column.items) columns.now) (pairs_of (viewed card.now)) }
 {
     let count = columns.item_count();
     pairs_fault_of(seen, columns.items(&card.name1), count, card)
@@ -350,7 +350,7 @@ fn insert_column_fault(
         (not (has_group columns.now card.now.name1) && nat_le MAX_COLUMNS (length columns.now) ⟹
         DeckFaultKind.TooManyColumns) ∷ pairs_fault seen.now Columns
         (items_of card.now.name1 columns.now) (sum_by (λ column. length column.items) columns.now)
-        (pairs_of (shown card.now)) ∷ []) }
+        (pairs_of (viewed card.now)) ∷ []) }
 {
     first_of(
         new_column_fault(columns, goes_on, &card.name1),
@@ -364,7 +364,7 @@ pub fn inserted_column_fault(
     goes_on: bool,
     card: &DataCard<'_>,
 ) -> Option<DeckFaultKind>
-    ensures { result ≡ insert_columns_test seen.now goes_on (shown card.now) }
+    ensures { result ≡ insert_columns_test seen.now goes_on (viewed card.now) }
 {
     let head = column_head_fault(card);
     let rest = insert_column_fault(seen, &seen.columns, goes_on, card);
@@ -377,7 +377,7 @@ fn modified_bound_fault(
     kind: BoundKind,
     card: &DataCard<'_>,
 ) -> Option<DeckFaultKind>
-    ensures { result ≡ modify_bound_fault seen.now (shown card.now) kind }
+    ensures { result ≡ modify_bound_fault seen.now (viewed card.now) kind }
 {
     if is_blank(card.name2.bytes()) {
         return Some(DeckFaultKind::EmptyName);
@@ -393,8 +393,8 @@ fn modified_bound_fault(
 
 /// The fault of a card of BOUNDS under MODIFY.
 pub fn modified_bounds_fault(seen: &NamedProblem, card: &DataCard<'_>) -> Option<DeckFaultKind>
-    ensures { result ≡ of_bound_type (shown card.now) (modify_bound_fault seen.now
-        (shown card.now)) }
+    ensures { result ≡ of_bound_type (viewed card.now) (modify_bound_fault seen.now
+        (viewed card.now)) }
 {
     match bound_kind(card.kind) {
         Some(kind) => modified_bound_fault(seen, kind, card),
@@ -404,7 +404,7 @@ pub fn modified_bounds_fault(seen: &NamedProblem, card: &DataCard<'_>) -> Option
 
 /// The fault of a card of BOUNDS under DELETE.
 pub fn deleted_bounds_fault(seen: &NamedProblem, card: &DataCard<'_>) -> Option<DeckFaultKind>
-    ensures { result ≡ delete_bounds_fault seen.now (shown card.now) }
+    ensures { result ≡ delete_bounds_fault seen.now (viewed card.now) }
 {
     if !seen.bounds.has(&card.name1) {
         return Some(DeckFaultKind::DeleteMissing);

@@ -6,8 +6,8 @@ ghost use Rattle.problem_definitions.specs.Problem.{has_entry};
 ghost use Rattle.deck_definitions.specs.declared.Section.TheVariants.{Columns};
 ghost use Rattle.deck_definitions.specs.DataCards.{pairs_of, part_pairs_of};
 ghost use Rattle.deck_definitions.specs.Tests.{value_fault, pair_row_fault, pairs_fault};
-ghost use Rattle.deck_cards.specs.Shown.{shown, pair_shown};
-ghost use Rattle.deck_parts.specs.Shown.{rows_alone};
+ghost use Rattle.deck_cards.specs.Views.{viewed, pair_view};
+ghost use Rattle.deck_parts.specs.Views.{rows_alone};
 ghost use Rattle.revise_definitions.specs.Tests.{puts_fault};
 ghost use Rattle.revise_parts.specs.Summary.{put_test, pair_test, part_test};
 
@@ -40,7 +40,7 @@ fn row_fault(seen: &NamedProblem, section: Section, row: &Name) -> Option<DeckFa
 
 // The fault of the number in a pair.
 fn number_fault(pair: &PairText<'_>) -> Option<DeckFaultKind>
-    ensures { result ≡ value_fault (pair_shown pair.now).column (pair_shown pair.now).value }
+    ensures { result ≡ value_fault (pair_view pair.now).column (pair_view pair.now).value }
 {
     match number_in(pair.column, pair.value) {
         Ok(_) => None,
@@ -56,7 +56,7 @@ fn put_fault_at(
     count: u128,
     pair: &PairText<'_>,
 ) -> Option<DeckFaultKind>
-    ensures { result ≡ put_test seen.now section is_there count (pair_shown pair.now) }
+    ensures { result ≡ put_test seen.now section is_there count (pair_view pair.now) }
 {
     if let Some(kind) = row_fault(seen, section, &pair.row) {
         return Some(kind);
@@ -77,7 +77,7 @@ fn pair_fault_at(
     count: u128,
     pair: &PairText<'_>,
 ) -> Option<DeckFaultKind>
-    ensures { result ≡ pair_test seen.now Columns is_taken count (pair_shown pair.now) }
+    ensures { result ≡ pair_test seen.now Columns is_taken count (pair_view pair.now) }
 {
     if let Some(kind) = row_fault(seen, Section::Columns, &pair.row) {
         return Some(kind);
@@ -101,7 +101,7 @@ fn part_fault_at(
     is_taken: bool,
     part: &PairText<'_>,
 ) -> Option<DeckFaultKind>
-    ensures { result ≡ part_test (take limit rows.now) is_taken (pair_shown part.now) }
+    ensures { result ≡ part_test (take limit rows.now) is_taken (pair_view part.now) }
 {
     if is_blank(part.row.bytes()) {
         return Some(DeckFaultKind::EmptyName);
@@ -167,7 +167,7 @@ pub fn puts_fault_of(
 ) -> Option<DeckFaultKind>
     requires { count + 1 < 2 ^ 128 }
     ensures { result ≡ puts_fault seen.now section (unwrap_or (option_copied items.entry) []) count
-        (pairs_of (shown card.now)) }
+        (pairs_of (viewed card.now)) }
 {
     let first = first_pair(card);
     let is_first = stands_on(items, &first.row);
@@ -192,7 +192,7 @@ pub fn pairs_fault_of(
 ) -> Option<DeckFaultKind>
     requires { count + 1 < 2 ^ 128 }
     ensures { result ≡ pairs_fault seen.now Columns (unwrap_or (option_copied items.entry) []) count
-        (pairs_of (shown card.now)) }
+        (pairs_of (viewed card.now)) }
 {
     let first = first_pair(card);
     let is_first = stands_on(items, &first.row);
@@ -216,7 +216,7 @@ fn part_fault_if(
 ) -> Option<DeckFaultKind>
     ensures { result ≡ pairs_fault (rows_alone (take limit rows.now)) Section.Rows
         (unwrap_or (option_copied parts.entry) []) 0
-        (option_to_list (option_map pair_shown part.now)) }
+        (option_to_list (option_map pair_view part.now)) }
 {
     match part {
         Some(part) => part_fault_at(rows, limit, stands_on(parts, &part.row), part),
@@ -232,7 +232,7 @@ pub fn parts_fault_of(
     card: &DataCard<'_>,
 ) -> Option<DeckFaultKind>
     ensures { result ≡ pairs_fault (rows_alone (take limit rows.now)) Section.Rows
-        (unwrap_or (option_copied parts.entry) []) 0 (part_pairs_of (shown card.now)) }
+        (unwrap_or (option_copied parts.entry) []) 0 (part_pairs_of (viewed card.now)) }
 {
     let Some(first) = first_part(card) else {
         return part_fault_if(rows, limit, parts, &second_pair(card));
@@ -256,7 +256,7 @@ fn put_part_fault_if(
     part: &Option<PairText<'_>>,
 ) -> Option<DeckFaultKind>
     ensures { result ≡ puts_fault (rows_alone (take limit rows.now)) Section.Rows [] 0
-        (option_to_list (option_map pair_shown part.now)) }
+        (option_to_list (option_map pair_view part.now)) }
 {
     match part {
         Some(part) => part_fault_at(rows, limit, false, part),
@@ -267,7 +267,7 @@ fn put_part_fault_if(
 /// The fault of the parts on a card that replace some or are added, where each is to stand on one of the first rows, up to a limit.
 pub fn put_parts_fault_of(rows: &Rows, limit: usize, card: &DataCard<'_>) -> Option<DeckFaultKind>
     ensures { result ≡ puts_fault (rows_alone (take limit rows.now)) Section.Rows [] 0
-        (part_pairs_of (shown card.now)) }
+        (part_pairs_of (viewed card.now)) }
 {
     first_of(
         put_part_fault_if(rows, limit, &first_part(card)),

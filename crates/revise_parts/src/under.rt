@@ -1,7 +1,7 @@
 // The data cards under an action.
 ghost use Rattle.std.specs.Prelude.{◌≡◌, ◌+◌, ◌-◌, ◌&&◌, [], None, Some, OnOk, IfSome, min, length, IfErr, if◌then◌else◌};
 ghost use Rattle.card_definitions.specs.Words.{is_empty};
-ghost use Rattle.deck_cards.specs.Shown.{shown};
+ghost use Rattle.deck_cards.specs.Views.{viewed};
 ghost use Rattle.revise_parts.specs.Summary.{combination_on, goes_on_from, goes_on_row_from, with_card_under, place_at};
 
 use deck_cards::{DataCard, combination_kind, is_blank, is_card_of};
@@ -34,7 +34,7 @@ impl Model for UnderAction {
 
 // The type and the name on a card of ROWS, if it makes a combination or goes on with one.
 fn combination_on(card: &DataCard<'_>) -> Option<(RowKind, Name)>
-    ensures { result ≡ combination_on (shown card.now) }
+    ensures { result ≡ combination_on (viewed card.now) }
 {
     match combination_kind(card.kind) {
         Some(kind) => Some((kind, card.name1)),
@@ -91,7 +91,7 @@ impl UnderAction {
 
     /// Whether a card has the name of the last in field 2.
     pub fn goes_on(&self, card: &DataCard<'_>) -> bool
-        ensures { result ≡ goes_on_from self.now (shown card.now) }
+        ensures { result ≡ goes_on_from self.now (viewed card.now) }
     {
         match self.last {
             Some(last) => card.name1 == last,
@@ -101,7 +101,7 @@ impl UnderAction {
 
     /// Whether a card of ROWS goes on with the combination on the last.
     pub fn goes_on_row(&self, card: &DataCard<'_>) -> bool
-        ensures { result ≡ goes_on_row_from self.now (shown card.now) }
+        ensures { result ≡ goes_on_row_from self.now (viewed card.now) }
     {
         match self.combination {
             Some(made) => is_card_of(made.0, &made.1, card),
@@ -111,7 +111,7 @@ impl UnderAction {
 
     /// One more data card.
     pub fn add(&mut self, card: &DataCard<'_>) -> Result<(), CardStop>
-        ensures added { OnOk result (self.new ≡ with_card_under self.old (shown card.now)) }
+        ensures added { OnOk result (self.new ≡ with_card_under self.old (viewed card.now)) }
         ensures stop { IfErr result (λ stop. stop ≡ CardStop.NoMemory) }
     {
         let Some(there) = more_begun(self.there, self.goes_on_row(card)) else {

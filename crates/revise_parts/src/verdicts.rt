@@ -2,8 +2,8 @@
 ghost use Rattle.std.specs.Prelude.{◌≡◌, take};
 ghost use Rattle.deck_definitions.specs.declared.Section.TheVariants.{Columns, Rhs, Ranges, Bounds};
 ghost use Rattle.deck_definitions.specs.Tests.{rows_fault};
-ghost use Rattle.deck_cards.specs.Shown.{shown};
-ghost use Rattle.deck_parts.specs.Shown.{rows_alone};
+ghost use Rattle.deck_cards.specs.Views.{viewed};
+ghost use Rattle.deck_parts.specs.Views.{rows_alone};
 ghost use Rattle.revise_parts.specs.Summary.{goes_on_row_from, earlier_among, edit_test};
 
 use crate::faults::{
@@ -26,8 +26,8 @@ fn earlier_count(
     goes_on: bool,
     card: &DataCard<'_>,
 ) -> usize
-    requires { goes_on ≡ goes_on_row_from under.now (shown card.now) }
-    ensures { take result rows.now ≡ earlier_among action under.now (shown card.now) rows.now }
+    requires { goes_on ≡ goes_on_row_from under.now (viewed card.now) }
+    ensures { take result rows.now ≡ earlier_among action under.now (viewed card.now) rows.now }
 {
     if goes_on {
         return rows.place_of(&card.name1);
@@ -42,8 +42,8 @@ fn added_row_fault(
     under: &UnderAction,
     card: &DataCard<'_>,
 ) -> Option<DeckFaultKind>
-    ensures { result ≡ rows_fault (rows_alone rows.now) (goes_on_row_from under.now (shown card.now))
-        (earlier_among action under.now (shown card.now) rows.now) (shown card.now) }
+    ensures { result ≡ rows_fault (rows_alone rows.now) (goes_on_row_from under.now (viewed card.now))
+        (earlier_among action under.now (viewed card.now) rows.now) (viewed card.now) }
 {
     let goes_on = under.goes_on_row(card);
     let limit = earlier_count(rows, action, under, goes_on, card);
@@ -57,7 +57,7 @@ fn rows_fault_of(
     under: &UnderAction,
     card: &DataCard<'_>,
 ) -> Option<DeckFaultKind>
-    ensures { result ≡ edit_test seen.now Section.Rows action under.now (shown card.now) }
+    ensures { result ≡ edit_test seen.now Section.Rows action under.now (viewed card.now) }
 {
     match action {
         Action::Modify => modified_row_fault(seen, card),
@@ -74,7 +74,7 @@ fn columns_fault_of(
     under: &UnderAction,
     card: &DataCard<'_>,
 ) -> Option<DeckFaultKind>
-    ensures { result ≡ edit_test seen.now Columns action under.now (shown card.now) }
+    ensures { result ≡ edit_test seen.now Columns action under.now (viewed card.now) }
 {
     match action {
         Action::Modify => modified_column_fault(seen, card),
@@ -90,7 +90,7 @@ fn rhs_fault_of(
     under: &UnderAction,
     card: &DataCard<'_>,
 ) -> Option<DeckFaultKind>
-    ensures { result ≡ edit_test seen.now Rhs action under.now (shown card.now) }
+    ensures { result ≡ edit_test seen.now Rhs action under.now (viewed card.now) }
 {
     match action {
         Action::Delete => deleted_set_fault(seen, &seen.rhs, card),
@@ -105,7 +105,7 @@ fn ranges_fault_of(
     under: &UnderAction,
     card: &DataCard<'_>,
 ) -> Option<DeckFaultKind>
-    ensures { result ≡ edit_test seen.now Ranges action under.now (shown card.now) }
+    ensures { result ≡ edit_test seen.now Ranges action under.now (viewed card.now) }
 {
     match action {
         Action::Delete => deleted_set_fault(seen, &seen.ranges, card),
@@ -120,7 +120,7 @@ fn bounds_fault_of(
     under: &UnderAction,
     card: &DataCard<'_>,
 ) -> Option<DeckFaultKind>
-    ensures { result ≡ edit_test seen.now Bounds action under.now (shown card.now) }
+    ensures { result ≡ edit_test seen.now Bounds action under.now (viewed card.now) }
 {
     match action {
         Action::Delete => deleted_bounds_fault(seen, card),
@@ -136,7 +136,7 @@ pub fn edit_fault_of(
     under: &UnderAction,
     card: &DataCard<'_>,
 ) -> Option<DeckFaultKind>
-    ensures { result ≡ edit_test seen.now section action under.now (shown card.now) }
+    ensures { result ≡ edit_test seen.now section action under.now (viewed card.now) }
 {
     match section {
         Section::Rows => rows_fault_of(seen, action, under, card),

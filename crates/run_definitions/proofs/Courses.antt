@@ -20,7 +20,7 @@ use Rattle.run_definitions.specs.Answer.{job_decks, IsJobRun, card_fault, contro
 abbrev pub silent : Solving
 silent = record {
   Solves = λ solver sheet basis limit end. ⊥;
-  Sweeps = λ sheet basis sweep end. ⊥;
+  ParametricRuns = λ sheet basis parametric_run end. ⊥;
   Shows = λ mark sheet basis lines. ⊥;
   Ranges = λ sheet basis lines. ⊥;
   Punches = λ sheet basis cards. ⊥;

@@ -39,7 +39,7 @@ pub record Answer : Type 0 where
   pub printed : List ℕ
   pub punched : List ℕ
 
--- what has failed in a call: a read of the job, a write to the print, a write to the punch; or the print has wanted memory
+-- what has failed in a call: a read of the job, a write to the print, a write to the punch; or the print has ran out of memory
 pub record Failures : Type 1 where
   pub read : Type 0
   pub print : Type 0
@@ -108,7 +108,7 @@ module _ (S : Solving) where
         IsPrefix part (ending_text ending) → answer.printed ≡ reports_text reports ++ part → Gains ending answer.punched (card_text cards) → IsCutShort job failures answer
 
   -- What a job may be answered: the status of an end, with the whole listing, and with all that is punched by then, or a prefix of it
-  -- where the deck in hand isn't whole; or the print has failed, or wanted memory itself, and all is cut short.
+  -- where the deck in hand isn't whole; or the print has failed, or ran out of memory itself, and all is cut short.
   pub data IsAnswer (job : Job) (failures : Failures) (answer : Answer) : Type 0 where
     whole : {reports : List Report} {cards : List (List ℕ)} (ending : Ending) → MayEnd job failures reports cards ending →
         answer.status ≡ status_of ending → answer.printed ≡ listing reports ending → Gains ending answer.punched (card_text cards) → IsAnswer job failures answer

@@ -32,7 +32,7 @@ use Rattle.listing_definitions.specs.declared.VerbFault.{VerbFault}
 use Rattle.listing_definitions.specs.declared.VerbFault.TheVariants.{DeckNotFound, NoProblem, NoSetup, NotSolved, NotOptimal, NoChangeRow, NoChangeSet, NoParmax, ParmaxBelow, NoObjective, ObjectiveNotFree, NoRhsSet, NoRangeSet, NoBoundSet}
 use Rattle.listing_definitions.specs.Report.{SolutionLines, RangeLines, PathVerdict, OptimalAt, CrossedAt, InfeasibleBy, UnboundedBy, Report, Titled, Filed, Converted, Revised, SetUp, BcdOut, BasisOut, Inserted, Solved, Solution, Ranges, Parametric, ChainEnd, EndsAt, UnboundedPast, InfeasiblePast}
 use Rattle.listing_definitions.specs.Ending.{Place, Ending, Ended, VerbStop, SingularStop, PriceStop, DeckStop, LimitStop}
-use Rattle.question_definitions.specs.Answers.{Basis, Sheet, Changing, Row, Set, changing_name, sweeper, Sweep, Question, Answer, OfPath, OfSolution, OfRanges, OfSweep, OfPunch, OfInstall, PathEnd, Reached, PathLimit, PricesWrong, SweepEnd, Opening, Chained, SweepLimit, InstallEnd, Installed, DependsBy}
+use Rattle.question_definitions.specs.Answers.{Basis, Sheet, Changing, Row, Set, changing_name, parametric_solver, ParametricRun, Question, Answer, OfPath, OfSolution, OfRanges, OfParametricRun, OfPunch, OfInstall, PathEnd, Reached, PathLimit, PricesWrong, ParametricRunEnd, Opening, Chained, ParametricRunLimit, InstallEnd, Installed, DependsBy}
 use Rattle.control_definitions.specs.Cells.{default_cells, move_name, move_number, move_limit, steps_allowed, set_demand}
 use Rattle.run_definitions.specs.State.{Present, present_basis, path_of, gone_through, State, problem_of, choice_of}
 use Rattle.run_definitions.specs.Moves.{Nothing, Prints, Punches, Outcome, Ends, next, jump, stops, InSelection, InAnswer, Move, Does, MayStop, Asks, or_fault}
@@ -251,25 +251,25 @@ ranges card state =
 
 -- A run along the parameter leaves XPARAM at its last end, and one whose opening isn't optimal leaves it where it was and goes on as
 -- PRIMAL does. The basis reached last becomes the present one, and neither leaves a mark.
-abbrev pub after_sweep : ℕ → Sweep → Present → State → SweepEnd → Outcome
-after_sweep card sweep present state (Opening bases verdict check) =
-    by_verdict (mark_of verdict) (Solved (sweeper sweep.changing) verdict check) (record state { setup = Some (gone_through bases present); mark = None })
-after_sweep card sweep present state (Chained bases intervals end) =
-    next (Prints (Parametric (sweeper sweep.changing) (record { from = sweep.from; change = changing_name sweep.changing; intervals = intervals; end = end })))
+abbrev pub after_parametric_run : ℕ → ParametricRun → Present → State → ParametricRunEnd → Outcome
+after_parametric_run card parametric_run present state (Opening bases verdict check) =
+    by_verdict (mark_of verdict) (Solved (parametric_solver parametric_run.changing) verdict check) (record state { setup = Some (gone_through bases present); mark = None })
+after_parametric_run card parametric_run present state (Chained bases intervals end) =
+    next (Prints (Parametric (parametric_solver parametric_run.changing) (record { from = parametric_run.from; change = changing_name parametric_run.changing; intervals = intervals; end = end })))
     (record state { setup = Some (gone_through bases present); mark = None; cells = record (state.cells) { xparam = last_value end } })
-after_sweep card sweep present state SweepLimit = limit_stop card state
+after_parametric_run card parametric_run present state ParametricRunLimit = limit_stop card state
 
 -- PARAOBJ and PARARHS need a setup; they select; and they need what changes, a last value, and one that isn't less than the first.
-abbrev pub sweeps : ℕ → VerbFault → (Problem ℕ → Name → Option Changing) → Option Name → State → Move
-sweeps card fault change moved state =
+abbrev pub parametric_runs : ℕ → VerbFault → (Problem ℕ → Name → Option Changing) → Option Name → State → Move
+parametric_runs card fault change moved state =
     or_fault card NoSetup state.setup (λ present.
     selects_present card state present (λ lp.
     or_fault card fault (option_and_then (change present.problem) moved) (λ changing.
     or_fault card NoParmax state.cells.xparmax (λ last.
     or_fault card ParmaxBelow (not_less state.cells.xparam last) (λ to.
     let sheet : Sheet = record { problem = present.problem; lp = lp } in
-    let sweep : Sweep = record { changing = changing; from = state.cells.xparam; to = to; limit = steps_allowed state.cells } in
-    asks (OfSweep sweep) sheet present (after_sweep card sweep present state))))))
+    let parametric_run : ParametricRun = record { changing = changing; from = state.cells.xparam; to = to; limit = steps_allowed state.cells } in
+    asks (OfParametricRun parametric_run) sheet present (after_parametric_run card parametric_run present state))))))
 
 -- ---- bases that go out and come in
 
@@ -317,8 +317,8 @@ verb_move Primal card state = solves ByPrimal state.cells.xiterlim card state
 verb_move Dual card state = solves ByDual (Some (steps_allowed state.cells)) card state
 verb_move SolutionVerb card state = shows card state
 verb_move Ranging card state = ranges card state
-verb_move Paraobj card state = sweeps card NoChangeRow change_row state.cells.xchrow state
-verb_move Pararhs card state = sweeps card NoChangeSet change_set state.cells.xchcol state
+verb_move Paraobj card state = parametric_runs card NoChangeRow change_row state.cells.xchrow state
+verb_move Pararhs card state = parametric_runs card NoChangeSet change_set state.cells.xchcol state
 verb_move Bcdout card state = punches card state
 verb_move Punch card state = punches_basis card state
 verb_move Insert card state = inserts card state

@@ -14,13 +14,13 @@ use Rattle.run_definitions.specs.Verbs.{mark_after, verb_move}
 use Rattle.run_machine.specs.declared.act.Act.TheVariants.{Next, Jump, Ends}
 use Rattle.run_machine.specs.declared.end.End.TheVariants.{Done}
 use Rattle.run_machine.specs.declared.machine.Machine.{Machine}
-use Rattle.run_machine.specs.Standing.{Stands}
+use Rattle.run_machine.specs.Standing.{Represents}
 use Rattle.run_machine.specs.Statements.{Decides}
 
 module _ {K : Type 0} (Shows : Filed → K → Present → Type 0) where
   -- cells and mark change in the state as they do in the machine
-  pub stands_changed : {cards : List (List ℕ)} {old : Machine K} {position executed : ℕ} {state : State} → Stands Shows cards old position executed state →
-      (v w : Cells) (m n : Option Mark) → v ≡ w → m ≡ n → Stands Shows cards (record old { cells = w; mark = n }) position executed (record state { cells = v; mark = m })
+  pub stands_changed : {cards : List (List ℕ)} {old : Machine K} {position executed : ℕ} {state : State} → Represents Shows cards old position executed state →
+      (v w : Cells) (m n : Option Mark) → v ≡ w → m ≡ n → Represents Shows cards (record old { cells = w; mark = n }) position executed (record state { cells = v; mark = m })
   stands_changed s v w m n e f = record { is_position = s.is_position; is_executed = s.is_executed; cells = e; file = s.file; decks = s.decks; setup = s.setup; mark = f }
 
   pub initialz_decides : (card : ℕ) (old : Machine K) (cells : Cells) → cells ≡ default_cells → Decides Shows Settles Initialz card old (record old { cells = cells; mark = None }) Next

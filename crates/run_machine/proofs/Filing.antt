@@ -30,7 +30,7 @@ use Rattle.run_machine.specs.declared.taking.DeckVerb.TheVariants.{Convert}
 use Rattle.run_machine.specs.declared.taking.Described.TheVariants as described
 use Rattle.run_machine.specs.declared.end.End.TheVariants.{Verb}
 use Rattle.run_machine.specs.declared.machine.Machine.{Machine}
-use Rattle.run_machine.specs.Standing.{filed, Stands}
+use Rattle.run_machine.specs.Standing.{filed, Represents}
 use Rattle.run_machine.specs.Statements.{Comes, Executes}
 use Rattle.run_machine.specs.Describing.{verb_of, report_of, decks_from, with_problem, IsDescribed, Describes, described_as}
 use Rattle.run_machine.proofs.Giving.{settles_fault, settles_found, loudly, cut_off}
@@ -64,29 +64,29 @@ takes card gives report state =
     or_fault card DeckNotFound (deck_taken state.cells.xdata state.decks) (λ taken. or_deck_fault (gives taken.0) (files report taken.1 state))
 
 module _ {K : Type 0} (Shows : Filed → K → Present → Type 0) (card : ℕ) (cards : List (List ℕ)) (machine : Machine K) (wanted : Option Name) (same_name : wanted ≡ machine.cells.xdata) {position executed : ℕ} {state : State}
-    (s : Stands Shows cards machine position executed state) (gives : List Card → Result (Problem ℕ) DeckFault) (report : reports.Filed → reports.Report) where
+    (s : Represents Shows cards machine position executed state) (gives : List Card → Result (Problem ℕ) DeckFault) (report : reports.Filed → reports.Report) where
   -- the deck that the machine takes is the one that the state gives
-  deck_shown : deck_taken state.cells.xdata state.decks ≡ deck_taken wanted (decks_from machine.decks_from cards)
-  deck_shown =
+  deck_view : deck_taken state.cells.xdata state.decks ≡ deck_taken wanted (decks_from machine.decks_from cards)
+  deck_view =
       ap (λ (c : Cells). deck_taken c.xdata state.decks) s.cells ∙ ap (deck_taken machine.cells.xdata) s.decks ∙
       ap (λ (w : Option Name). deck_taken w (decks_from machine.decks_from cards)) (sym same_name)
 
   pub takes_nothing : deck_taken wanted (decks_from machine.decks_from cards) ≡ None → Settles card (takes card gives report state) (stops (VerbStop (record { fault = DeckNotFound; card = card })))
-  takes_nothing none = settles_fault card DeckNotFound (deck_taken state.cells.xdata state.decks) _ (deck_shown ∙ none)
+  takes_nothing none = settles_fault card DeckNotFound (deck_taken state.cells.xdata state.decks) _ (deck_view ∙ none)
 
   pub takes_refused : (deck : List Card) (rest : List (List Card)) (fault : DeckFault) → deck_taken wanted (decks_from machine.decks_from cards) ≡ Some (deck, rest) →
       gives deck ≡ Err fault → Settles card (takes card gives report state) (stops (deck_stop fault))
   takes_refused deck rest fault taken err =
-      settles_found card DeckNotFound (deck_taken state.cells.xdata state.decks) _ (deck, rest) _ (deck_shown ∙ taken) (settles_deck_fault card (gives deck) _ fault err)
+      settles_found card DeckNotFound (deck_taken state.cells.xdata state.decks) _ (deck, rest) _ (deck_view ∙ taken) (settles_deck_fault card (gives deck) _ fault err)
 
   pub takes_problem : (deck : List Card) (rest : List (List Card)) (problem : Problem ℕ) → deck_taken wanted (decks_from machine.decks_from cards) ≡ Some (deck, rest) →
       gives deck ≡ Ok problem → Settles card (takes card gives report state) (next (Prints (report (size_of problem))) (with_problem problem rest state))
   takes_problem deck rest problem taken ok =
-      settles_found card DeckNotFound (deck_taken state.cells.xdata state.decks) _ (deck, rest) _ (deck_shown ∙ taken) (settles_problem card (gives deck) _ problem _ ok refl)
+      settles_found card DeckNotFound (deck_taken state.cells.xdata state.decks) _ (deck, rest) _ (deck_view ∙ taken) (settles_problem card (gives deck) _ problem _ ok refl)
 
 -- the decks after a card are those from the next card on
 pub filed_after : {K : Type 0} (Shows : Filed → K → Present → Type 0) (verb : DeckVerb) (card : ℕ) (cards : List (List ℕ)) (machine : Machine K) (problem : Problem ℕ) (last from_card : ℕ) → last ≤ length cards → from_card ≡ last + 1 →
-    ((position executed : ℕ) (state : State) → Stands Shows cards machine position executed state →
+    ((position executed : ℕ) (state : State) → Represents Shows cards machine position executed state →
     Settles card (verb_move (verb_of verb) card state) (next (Prints (report_of verb (size_of problem))) (with_problem problem (decks_of (drop last (numbered_cards cards))) state))) →
     IsDescribed Shows verb card cards machine problem from_card
 filed_after Shows verb card cards machine problem last from_card within is given =
@@ -126,7 +126,7 @@ module _ {K : Type 0} (Shows : Filed → K → Present → Type 0) (card : ℕ) 
 module _ {K : Type 0} (Shows : Filed → K → Present → Type 0) {P : Type 0} (written stopped_at : P → Option (List ℕ)) (faults refusals : P → ℕ) (verb : DeckVerb) (card : ℕ) (cards : List (List ℕ)) (machine : Machine K) where
   module _ (problem : Problem ℕ) (from_card : ℕ) (file : Filed) (described : IsDescribed Shows verb card cards machine problem from_card)
       (put : (name : Name) → filed_under name file ≡ (if same problem.name name then Some problem else filed_under name machine.file)) (last : file.last ≡ Some problem.name) where
-    comes_filed : (position executed : ℕ) (state : State) → Stands Shows cards machine position executed state →
+    comes_filed : (position executed : ℕ) (state : State) → Represents Shows cards machine position executed state →
         Comes Shows Settles (verb_of verb) card cards position executed state (record machine { file = file; decks_from = from_card; setup = None; mark = None }) (Prints (report_of verb (size_of problem))) Next
     comes_filed position executed state s = (
       with_problem problem (decks_from from_card cards) state,

@@ -24,10 +24,10 @@ use Rattle.run_machine.specs.declared.act.Halt.{Halt}
 use Rattle.run_machine.specs.declared.act.Halt.TheVariants as halt
 use Rattle.run_machine.specs.declared.end.End.TheVariants as ends
 use Rattle.run_machine.specs.declared.machine.Machine.{Machine}
-use Rattle.run_machine.specs.Standing.{filed, Stands}
+use Rattle.run_machine.specs.Standing.{filed, Represents}
 use Rattle.run_machine.specs.Statements.{Executes}
 use Rattle.run_machine.specs.Punching.{gain_cards, Performs}
-use Rattle.run_machine.proofs.Giving.{problem_shown, settles_fault, settles_found, quietly}
+use Rattle.run_machine.proofs.Giving.{problem_view, settles_fault, settles_found, quietly}
 
 module _ {U : Type 0} (punch_written punch_stopped_at : U → Option (List ℕ)) (punch_faults punch_refusals : U → ℕ) (punch : U) where
   -- no card is punched
@@ -96,11 +96,11 @@ module _ {K : Type 0} (Shows : Filed → K → Present → Type 0) (card : ℕ) 
   no_problem_punched print punch none =
       punches_nothing punch_written punch_stopped_at punch_faults punch_refusals punch Shows Settles Bcdout card written stopped_at faults refusals print print cards machine machine (Ok (Ends (ends.Verb NoProblem card)))
       (quietly Shows Settles Bcdout card written stopped_at faults refusals cards machine print
-      (λ position executed state s. settles_fault card NoProblem (problem_of state.cells.xpbname state.file) _ (problem_shown s (λ (c : Cells). c.xpbname) None none)))
+      (λ position executed state s. settles_fault card NoProblem (problem_of state.cells.xpbname state.file) _ (problem_view s (λ (c : Cells). c.xpbname) None none)))
 
   module _ (problem : Problem ℕ) (on_file : filed machine.cells.xpbname machine.file ≡ Some problem) where
-    gives_at : {position executed : ℕ} {state : State} → Stands Shows cards machine position executed state → Settles card (verb_move Bcdout card state) (punches_it state problem)
-    gives_at {state = state} s = punch_gives card state problem (problem_shown s (λ (c : Cells). c.xpbname) (Some problem) on_file)
+    gives_at : {position executed : ℕ} {state : State} → Represents Shows cards machine position executed state → Settles card (verb_move Bcdout card state) (punches_it state problem)
+    gives_at {state = state} s = punch_gives card state problem (problem_view s (λ (c : Cells). c.xpbname) (Some problem) on_file)
 
     -- the punch stops in the deck
     pub deck_cut : (print : P) {punch_old punch_new : U} {T : Type 0} (stop : WriteStop) → Writes {T = T} punch_written punch_stopped_at punch_faults punch_refusals punch_old punch_new (Err stop) (card_text (cards_of problem)) →

@@ -20,23 +20,23 @@ use Rattle.run_machine.specs.declared.taking.DeckVerb.TheVariants.{Revise}
 use Rattle.run_machine.specs.declared.taking.Described.TheVariants as described
 use Rattle.run_machine.specs.declared.end.End.TheVariants.{Verb}
 use Rattle.run_machine.specs.declared.machine.Machine.{Machine}
-use Rattle.run_machine.specs.Standing.{filed, Stands}
+use Rattle.run_machine.specs.Standing.{filed, Represents}
 use Rattle.run_machine.specs.Describing.{decks_from, Describes, described_as}
-use Rattle.run_machine.proofs.Giving.{problem_shown, settles_fault, settles_found}
+use Rattle.run_machine.proofs.Giving.{problem_view, settles_fault, settles_found}
 use Rattle.run_machine.proofs.Filing.{takes, takes_nothing, takes_refused, takes_problem, filed_after}
 
 module _ {K : Type 0} (Shows : Filed → K → Present → Type 0) (card : ℕ) (cards : List (List ℕ)) (machine : Machine K) where
   pub finds_no_problem : filed machine.cells.xoldname machine.file ≡ None → Describes Shows Revise card cards machine (Ok (described.Ends (Verb NoProblem card)))
   unfolding verb_move
-  finds_no_problem none = λ position executed state s. settles_fault card NoProblem (problem_of state.cells.xoldname state.file) _ (problem_shown s (λ (c : Cells). c.xoldname) None none)
+  finds_no_problem none = λ position executed state s. settles_fault card NoProblem (problem_of state.cells.xoldname state.file) _ (problem_view s (λ (c : Cells). c.xoldname) None none)
 
   module _ (old : Problem ℕ) (on_file : filed machine.cells.xoldname machine.file ≡ Some old) (wanted : Option Name) (same_name : wanted ≡ machine.cells.xdata) where
     -- what follows where the old problem is on file
-    gives_revised : {position executed : ℕ} {state : State} → Stands Shows cards machine position executed state → (outcome : Outcome) →
+    gives_revised : {position executed : ℕ} {state : State} → Represents Shows cards machine position executed state → (outcome : Outcome) →
         Settles card (takes card (λ deck. revision old deck state.cells.xpbname) reports.Revised state) outcome → Settles card (revises card state) outcome
     gives_revised {state = state} s outcome given =
         settles_found card NoProblem (problem_of state.cells.xoldname state.file) (λ old. takes card (λ deck. revision old deck state.cells.xpbname) reports.Revised state) old outcome
-        (problem_shown s (λ (c : Cells). c.xoldname) (Some old) on_file) given
+        (problem_view s (λ (c : Cells). c.xoldname) (Some old) on_file) given
 
     pub finds_no_revision : deck_taken wanted (decks_from machine.decks_from cards) ≡ None → Describes Shows Revise card cards machine (Ok (described.Ends (Verb DeckNotFound card)))
     unfolding verb_move

@@ -55,7 +55,7 @@ pub record HasSelectionOverflow (problem : Problem ℕ) (choice : Choice) (e : E
   pub is_selected : selected problem choice ≡ Ok lp
   pub is_refusal : IsSelectionRefusal problem choice e
 
--- want of memory may come at any time
+-- memory may run out at any time
 abbrev pub IsUnselected : Problem ℕ → Choice → Refusal → Type 0
 IsUnselected problem choice (Fault fault) = HasSelectionFault problem choice fault
 IsUnselected problem choice (Overflow e) = HasSelectionOverflow problem choice e

@@ -1,6 +1,6 @@
 -- What the verbs that ask of linear programming find, and what follows.
 --     refused_finding refusal      what a refusal comes to
---     TellsFinding result          what is found is told, with its report printed; or it is cut off
+--     ReportsFinding result          what is found is reported, with its report printed; or it is cut off
 --     act_of cells card finding    what follows
 --     mark_left finding            the mark that it leaves
 use Rattle.std.specs.Prelude.{◌≡◌, ℕ, List, Option, Some, None, Result, Ok, Err}
@@ -17,7 +17,7 @@ use Rattle.run_machine.specs.declared.act.Halt.TheVariants as halt
 use Rattle.run_machine.specs.declared.end.End.{End}
 use Rattle.run_machine.specs.declared.end.End.TheVariants as end
 use Rattle.run_machine.specs.declared.finding.Finding.{Finding}
-use Rattle.run_machine.specs.declared.finding.Finding.TheVariants.{Refused, Overflow, WrongPrices, Limit, Ended, Shown, Swept}
+use Rattle.run_machine.specs.declared.finding.Finding.TheVariants.{Refused, Overflow, WrongPrices, Limit, Ended, Views, RanThrough}
 use Rattle.run_machine.specs.declared.selecting.Refusal.{Refusal}
 use Rattle.run_machine.specs.declared.selecting.Refusal.TheVariants.{Fault, NoMemory}
 use Rattle.run_machine.specs.declared.selecting.Refusal.TheVariants as refusals
@@ -34,24 +34,24 @@ refused_finding NoMemory = Err halt.NoMemory
 
 module _ (Holds : Gain → Finding → Type 0) {P : Type 0} (written stopped_at : P → Option (List ℕ)) (faults refusals : P → ℕ) (print_old print_new : P) where
   -- this is found, with some gain, which is printed
-  pub record IsTold (finding : Finding) : Type 0 where
+  pub record HasReported (finding : Finding) : Type 0 where
     pub gain : Gain
     pub holds : Holds gain finding
     pub writes : Writes {T = Unit {0}} written stopped_at faults refusals print_old print_new (Ok tt) (gain_text gain)
 
   -- something is found, and the print stops before all that it gains is printed
-  pub record IsTellingCut (stop : WriteStop) : Type 0 where
+  pub record IsReportingCut (stop : WriteStop) : Type 0 where
     pub gain : Gain
     pub finding : Finding
     pub holds : Holds gain finding
     pub writes : Writes {T = Unit {0}} written stopped_at faults refusals print_old print_new (Err stop) (gain_text gain)
 
   -- where there is no memory, nothing is printed
-  abbrev pub TellsFinding : Result Finding Halt → Type 0
-  TellsFinding (Ok finding) = IsTold finding
-  TellsFinding (Err (halt.Print stop)) = IsTellingCut stop
-  TellsFinding (Err (halt.Punch stop)) = ⊥
-  TellsFinding (Err halt.NoMemory) = print_new ≡ print_old
+  abbrev pub ReportsFinding : Result Finding Halt → Type 0
+  ReportsFinding (Ok finding) = HasReported finding
+  ReportsFinding (Err (halt.Print stop)) = IsReportingCut stop
+  ReportsFinding (Err (halt.Punch stop)) = ⊥
+  ReportsFinding (Err halt.NoMemory) = print_new ≡ print_old
 
 -- ---- what follows
 
@@ -70,8 +70,8 @@ act_of cells card Limit = Ends (end.Limit (steps_allowed cells) card)
 act_of cells card (Ended Optimal) = Next
 act_of cells card (Ended Infeasible) = demanded_act cells.xdonfs end.Infeasible
 act_of cells card (Ended Unbounded) = demanded_act cells.xdounb end.Unbounded
-act_of cells card Shown = Next
-act_of cells card (Swept value) = Next
+act_of cells card Views = Next
+act_of cells card (RanThrough value) = Next
 
 -- a verdict leaves its mark, and what ends the run leaves none
 abbrev pub mark_left : Finding → Option Mark

@@ -1,6 +1,6 @@
 -- What a singular basis prints.
 --     IsSheetOf found p            the problem that is found has the rows and columns of the linear program
---     lines_shown found p d        the lines of a dependency
+--     lines_view found p d        the lines of a dependency
 use Rattle.std.specs.Prelude.{◌≡◌, ℕ, List, [], Option, Some, None, length}
 use Rattle.std.specs.Coded.{Coded-set, coded_ℕ, ×_prop}
 use Rattle.exact_values.specs.Rational.{ℚ}
@@ -19,6 +19,6 @@ IsSheetOf-prop None p = λ x y. absurd x
 IsSheetOf-prop (Some problem) p = ×_prop (Coded-set coded_ℕ (length problem.rows) p.matrix.rows) (Coded-set coded_ℕ (length problem.columns) p.matrix.cols)
 
 -- the coefficients that aren't 0, with the problem's names
-abbrev pub lines_shown : Option (Problem ℕ) → LinearProgram → List ℚ → List Line
-lines_shown None p d = []
-lines_shown (Some problem) p d = ray_lines problem p d
+abbrev pub lines_view : Option (Problem ℕ) → LinearProgram → List ℚ → List Line
+lines_view None p d = []
+lines_view (Some problem) p d = ray_lines problem p d

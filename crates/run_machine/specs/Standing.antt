@@ -4,8 +4,8 @@
 --     AreDemands cells             the demands that are set are numbers of statements
 --     IsSound cards machine        its numbers are those of cards and of statements, and its setup is ready
 --     named, filed wanted file     the name that is wanted and its problem on file, or those put last
---     ShowsSetup file kept shown   the state's setup is the one that the machine's shows
---     Stands cards machine ..      the machine shows this state of a run over these cards
+--     ShowsSetup file kept viewed   the state's setup is the one that the machine's shows
+--     Represents cards machine ..      the machine shows this state of a run over these cards
 use Rattle.std.specs.Prelude.{◌≡◌, ℕ, ◌+◌, ◌-◌, ◌≤◌, List, Option, Some, None, IfSome, length, drop, option_and_then}
 use Rattle.card_definitions.specs.Cards.{numbered_cards}
 use Rattle.deck_definitions.specs.Decks.{decks_of}
@@ -47,11 +47,11 @@ filed wanted file = option_and_then (λ name. filed_under name file) (named want
 module _ {K : Type 0} (Shows : Filed → K → Present → Type 0) where
   -- the state has a setup where the machine has one, and it is one that the machine's shows
   abbrev pub ShowsSetup : Filed → Option K → Option Present → Type 0
-  ShowsSetup file None shown = shown ≡ None
-  ShowsSetup file (Some setup) shown = (present : Present) × (shown ≡ Some present) × Shows file setup present
+  ShowsSetup file None viewed = viewed ≡ None
+  ShowsSetup file (Some setup) viewed = (present : Present) × (viewed ≡ Some present) × Shows file setup present
 
   -- The state of the run has the machine's cells, decks and mark, the problems that it has on file, and its setup.
-  pub record Stands (cards : List (List ℕ)) (machine : Machine K) (position executed : ℕ) (state : State) : Type 0 where
+  pub record Represents (cards : List (List ℕ)) (machine : Machine K) (position executed : ℕ) (state : State) : Type 0 where
     pub is_position : state.position ≡ position
     pub is_executed : state.executed ≡ executed
     pub cells : state.cells ≡ machine.cells

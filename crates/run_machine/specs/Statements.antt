@@ -17,8 +17,8 @@ use Rattle.run_machine.specs.declared.act.Act.TheVariants as act
 use Rattle.run_machine.specs.declared.act.Halt.{Halt}
 use Rattle.run_machine.specs.declared.act.Halt.TheVariants as halt
 use Rattle.run_machine.specs.declared.machine.Machine.{Machine}
-use Rattle.run_machine.specs.Ends.{end_shown}
-use Rattle.run_machine.specs.Standing.{Stands}
+use Rattle.run_machine.specs.Ends.{end_view}
+use Rattle.run_machine.specs.Standing.{Represents}
 
 -- positions count from 1, and a verb may be allowed MAX_STEPS steps
 abbrev pub IsSoundVerb : Verb ℕ → Type 0
@@ -30,9 +30,9 @@ IsSoundVerb _ = Unit {0}
 module _ {K : Type 0} (Shows : Filed → K → Present → Type 0) (Given : ℕ → Move → Outcome → Type 0) where
   -- the run goes on with a state that the machine shows, or it ends
   abbrev pub Follows : ℕ → Move → List (List ℕ) → Machine K → ℕ → ℕ → Gain → Act → Type 0
-  Follows card move cards new position executed gain act.Next = (after : State) × Given card move (next gain after) × Stands Shows cards new position executed after
-  Follows card move cards new position executed gain (act.Jump to) = (after : State) × Given card move (jump gain to after) × Stands Shows cards new position executed after × (1 ≤ to)
-  Follows card move cards new position executed gain (act.Ends end) = Given card move (Ends gain (end_shown end))
+  Follows card move cards new position executed gain act.Next = (after : State) × Given card move (next gain after) × Represents Shows cards new position executed after
+  Follows card move cards new position executed gain (act.Jump to) = (after : State) × Given card move (jump gain to after) × Represents Shows cards new position executed after × (1 ≤ to)
+  Follows card move cards new position executed gain (act.Ends end) = Given card move (Ends gain (end_view end))
 
   module _ (verb : Verb ℕ) (card : ℕ) where
     abbrev pub Comes : List (List ℕ) → ℕ → ℕ → State → Machine K → Gain → Act → Type 0
@@ -41,7 +41,7 @@ module _ {K : Type 0} (Shows : Filed → K → Present → Type 0) (Given : ℕ 
     -- from each state that the machine showed, the statement comes to this act, and prints nothing
     abbrev pub Decides : Machine K → Machine K → Act → Type 0
     Decides old new act =
-        (cards : List (List ℕ)) (position executed : ℕ) (state : State) → Stands Shows cards old position executed state → Comes cards position executed state new Nothing act
+        (cards : List (List ℕ)) (position executed : ℕ) (state : State) → Represents Shows cards old position executed state → Comes cards position executed state new Nothing act
 
     module _ {P : Type 0} (written stopped_at : P → Option (List ℕ)) (faults refusals : P → ℕ) (print_old print_new : P) where
       -- with some gain, which is printed, the statement comes to this act
@@ -61,7 +61,7 @@ module _ {K : Type 0} (Shows : Filed → K → Present → Type 0) (Given : ℕ 
       -- What a statement that punches nothing does from each state that the machine showed. Where it finds no memory, nothing is
       -- printed.
       abbrev pub Executes : List (List ℕ) → Machine K → Machine K → Result Act Halt → Type 0
-      Executes cards old new (Ok act) = (position executed : ℕ) (state : State) → Stands Shows cards old position executed state → Acts cards position executed state new act
-      Executes cards old new (Err (halt.Print stop)) = (position executed : ℕ) (state : State) → Stands Shows cards old position executed state → IsCutOff state stop
+      Executes cards old new (Ok act) = (position executed : ℕ) (state : State) → Represents Shows cards old position executed state → Acts cards position executed state new act
+      Executes cards old new (Err (halt.Print stop)) = (position executed : ℕ) (state : State) → Represents Shows cards old position executed state → IsCutOff state stop
       Executes cards old new (Err (halt.Punch stop)) = ⊥
       Executes cards old new (Err halt.NoMemory) = print_new ≡ print_old

@@ -1,9 +1,9 @@
 // What is printed of an end of a run.
 ghost use Rattle.std.specs.Prelude.{◌≡◌};
-ghost use Rattle.report_text.specs.Shown.{IsEnding, ending_shown};
+ghost use Rattle.report_text.specs.Views.{IsEnding, ending_view};
 ghost use Rattle.run_definitions.specs.Verbs.{deck_fault_number, number_fault_of, column_of};
 ghost use Rattle.run_machine.specs.declared.end.End.TheVariants as ends;
-ghost use Rattle.run_machine.specs.Ends.{end_shown};
+ghost use Rattle.run_machine.specs.Ends.{end_view};
 
 use crate::end::{End, Place, SingularBasis};
 use card_definitions::NumberFault;
@@ -75,7 +75,7 @@ fn column_of(kind: DeckFaultKind) -> Option<u8>
 
 // What is printed where an operation is refused.
 fn overflow_of<'a>(evidence: &'a Evidence, place: &'a Option<Place>, card: u32) -> Ending<'a>
-    ensures shown { ending_shown result ≡ end_shown (ends.Overflow evidence.now place.now card) }
+    ensures viewed { ending_view result ≡ end_view (ends.Overflow evidence.now place.now card) }
     ensures lawful { IsEnding result }
 {
     match place {
@@ -96,7 +96,7 @@ fn overflow_of<'a>(evidence: &'a Evidence, place: &'a Option<Place>, card: u32) 
 
 // What is printed of a singular basis.
 fn singular_of(card: u32, basis: &SingularBasis) -> Ending<'_>
-    ensures shown { ending_shown result ≡ end_shown (ends.Singular card basis.now) }
+    ensures viewed { ending_view result ≡ end_view (ends.Singular card basis.now) }
     ensures lawful { IsEnding result }
 {
     match basis.file.get(&basis.name) {
@@ -114,7 +114,7 @@ fn singular_of(card: u32, basis: &SingularBasis) -> Ending<'_>
 
 /// What is printed of an end.
 pub fn ending_of(end: &End) -> Ending<'_>
-    ensures shown { ending_shown result ≡ end_shown end.now }
+    ensures viewed { ending_view result ≡ end_view end.now }
     ensures lawful { IsEnding result }
 {
     match end {

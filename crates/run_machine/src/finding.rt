@@ -28,9 +28,9 @@ pub enum Finding {
     /// The path has ended, and its verdict leaves this mark.
     Ended(Mark),
     /// The lines of the basis are printed.
-    Shown,
+    Views,
     /// The parametric run has gone on to this value.
-    Swept(Frac),
+    RanThrough(Frac),
 }
 
 /// What a refusal comes to.
@@ -73,7 +73,7 @@ pub fn act_of(cells: &Cells, card: u32, finding: Finding) -> Act
             limit: cells.steps_allowed(),
             card,
         }),
-        Finding::Ended(Mark::Optimal) | Finding::Shown | Finding::Swept(_) => Act::Next,
+        Finding::Ended(Mark::Optimal) | Finding::Views | Finding::RanThrough(_) => Act::Next,
         Finding::Ended(Mark::Infeasible) => {
             demanded(cells.demand(Demand::Xdonfs), End::Infeasible)
         }
@@ -91,7 +91,7 @@ pub fn mark_left(finding: &Finding) -> Option<Mark>
         | Finding::Overflow { .. }
         | Finding::WrongPrices(_)
         | Finding::Limit
-        | Finding::Shown
-        | Finding::Swept(_) => None,
+        | Finding::Views
+        | Finding::RanThrough(_) => None,
     }
 }

@@ -6,7 +6,7 @@ ghost use Rattle.card_definitions.specs.Cards.{numbered_cards};
 ghost use Rattle.deck_definitions.specs.Decks.{decks_of};
 ghost use Rattle.control_definitions.specs.Cells.{name_in};
 ghost use Rattle.run_definitions.specs.State.{start};
-ghost use Rattle.run_machine.specs.Standing.{IsSound, Stands, named, filed};
+ghost use Rattle.run_machine.specs.Standing.{IsSound, Represents, named, filed};
 
 use crate::kept::Kept;
 use control_definitions::NameCell;
@@ -40,7 +40,7 @@ pub fn wanted_name(moved: Option<Name>, file: &ProblemFile) -> Option<Name>
 impl<S: Kept> Machine<S> {
     /// A machine at the start of a run, whose decks begin with the card of this number.
     pub fn new(alloc: Global, decks_from: u32) -> Machine<S>
-        ensures start { (cards : List (List ℕ)) → Stands S.shows cards result 1 0
+        ensures start { (cards : List (List ℕ)) → Represents S.shows cards result 1 0
             (start (decks_of (drop (decks_from - 1) (numbered_cards cards)))) }
         ensures sound { (cards : List (List ℕ)) → 1 ≤ decks_from → decks_from ≤ length cards + 1 →
             IsSound S.ready S.solved cards result }

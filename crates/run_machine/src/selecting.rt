@@ -2,7 +2,7 @@
 ghost use Rattle.std.specs.Prelude.{◌≡◌, Ok, IfOk, IfErr};
 ghost use Rattle.selection_definitions.specs.Selection.{selected};
 ghost use Rattle.lp_setup.specs.Stops.{fault_of, IsOverflowOf};
-ghost use Rattle.control_verbs.specs.Shown.{options_shown};
+ghost use Rattle.control_verbs.specs.Views.{options_view};
 ghost use Rattle.run_definitions.specs.State.{choice_of};
 ghost use Rattle.run_machine.specs.Choosing.{refusal_of, IsUnselected};
 
@@ -65,7 +65,7 @@ fn refusal_of(stop: SelectStop) -> Refusal
 
 /// The options that stand on a card.
 pub fn setup_choice(options: &SetupOptions) -> SetupChoice
-    ensures { result ≡ options_shown options.now }
+    ensures { result ≡ options_view options.now }
 {
     SetupChoice {
         bound: options.bound,

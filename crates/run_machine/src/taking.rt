@@ -2,7 +2,7 @@
 ghost use Rattle.std.specs.Prelude.{◌≡◌, ◌+◌, ◌≤◌, ℕ, List, Option, sum_by, length, Ok};
 ghost use Rattle.problem_definitions.specs.Problem.{entry_count};
 ghost use Rattle.listing_definitions.specs.Text.{report_text};
-ghost use Rattle.report_text.specs.Shown.{IsReport, text_shown};
+ghost use Rattle.report_text.specs.Views.{IsReport, text_view};
 ghost use Rattle.run_definitions.specs.Verbs.{size_of};
 ghost use Rattle.run_definitions.specs.Moves.{Settles};
 ghost use Rattle.run_machine.specs.Standing.{IsSound};
@@ -48,7 +48,7 @@ fn entry_count(problem: &Problem) -> u32
 
 // What is printed of a problem that is filed.
 fn filed_report(verb: DeckVerb, problem: &Problem) -> Report<'static>
-    ensures text { text_shown result ≡ report_text (report_of verb (size_of problem.now)) }
+    ensures text { text_view result ≡ report_text (report_of verb (size_of problem.now)) }
     ensures lawful { IsReport result }
 {
     let name = problem.name();

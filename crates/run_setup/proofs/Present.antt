@@ -29,10 +29,10 @@ before_last s (next ∷ bases) = let rest = before_last next bases in (s ∷ res
 abbrev pub present_with : Problem ℕ → SetupOptions → Basis → List Basis → Present
 present_with problem options opening steps = record { problem = problem; options = options; opening = opening; steps = steps }
 
-pub record IsPresentOf (problem : Problem ℕ) (setup : Setup) (shown : Option Present) : Type 0 where
+pub record IsPresentOf (problem : Problem ℕ) (setup : Setup) (viewed : Option Present) : Type 0 where
   pub opening : Basis
   pub steps : List Basis
-  pub is_shown : shown ≡ Some (present_with problem setup.options opening steps)
+  pub is_viewed : viewed ≡ Some (present_with problem setup.options opening steps)
   pub reached : last_of opening steps ≡ setup.basis
   pub lie : LieIn (matrix_of problem) setup.engine.waypoints (opening ∷ steps)
   pub initial : List Basis
@@ -41,8 +41,8 @@ pub record IsPresentOf (problem : Problem ℕ) (setup : Setup) (shown : Option P
 pub one_problem : (file : Filed) (setup : Setup) (a b : Problem ℕ) → filed_under setup.name file ≡ Some a → filed_under setup.name file ≡ Some b → a ≡ b
 one_problem file setup a b first second = same_Some a b (sym first ∙ second)
 
-pub present_at : (file : Filed) (setup : Setup) (shown : Option Present) (problem : Problem ℕ) → filed_under setup.name file ≡ Some problem → ShowsSetup file (Some setup) shown → IsPresentOf problem setup shown
-present_at file setup shown problem on_file there =
+pub present_at : (file : Filed) (setup : Setup) (viewed : Option Present) (problem : Problem ℕ) → filed_under setup.name file ≡ Some problem → ShowsSetup file (Some setup) viewed → IsPresentOf problem setup viewed
+present_at file setup viewed problem on_file there =
     let present = there.0 in
     let p = there.2 in
     let same : present.problem ≡ problem = one_problem file setup present.problem problem p.on_file on_file in
@@ -50,7 +50,7 @@ present_at file setup shown problem on_file there =
     record {
       opening = present.opening;
       steps = present.steps;
-      is_shown = there.1 ∙ ap (λ (q : Problem ℕ). Some (present_with q present.options present.opening present.steps)) same
+      is_viewed = there.1 ∙ ap (λ (q : Problem ℕ). Some (present_with q present.options present.opening present.steps)) same
           ∙ ap (λ (o : SetupOptions). Some (present_with problem o present.opening present.steps)) p.has_options;
       reached = p.reached;
       lie = subst (λ (q : Problem ℕ). LieIn (matrix_of q) setup.engine.waypoints (present.opening ∷ present.steps)) same p.lie;
@@ -58,7 +58,7 @@ present_at file setup shown problem on_file there =
       ends = b.1 ∙ ap (λ s. b.0 ++ s ∷ []) p.reached;
     }
 
-module _ (problem : Problem ℕ) (setup : Setup) (shown : Option Present) (p : IsPresentOf problem setup shown) (lp : LinearProgram) (same : matrix_of problem ≡ lp.matrix) where
+module _ (problem : Problem ℕ) (setup : Setup) (viewed : Option Present) (p : IsPresentOf problem setup viewed) (lp : LinearProgram) (same : matrix_of problem ≡ lp.matrix) where
   -- the waypoints lie in a list that ends with the basis
   pub lie_up_to : LieIn lp.matrix setup.engine.waypoints (p.initial ++ setup.basis ∷ [])
   lie_up_to = subst (λ (a : Matrix). LieIn a setup.engine.waypoints (p.initial ++ setup.basis ∷ [])) same (subst (λ (bs : List Basis). LieIn (matrix_of problem) setup.engine.waypoints bs) p.ends p.lie)

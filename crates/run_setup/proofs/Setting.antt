@@ -29,8 +29,8 @@ use Rattle.run_setup.specs.Machines.{Machine, Opened}
 use Rattle.answer_definitions.specs.Real.{linear_programming}
 use Rattle.run_machine.specs.Standing.{named, filed}
 use Rattle.run_machine.specs.Choosing.{refused_act, HasSelectionFault, HasSelectionOverflow, IsUnselected}
-use Rattle.run_machine.proofs.Giving.{problem_shown, quietly, loudly, cut_off}
-use Rattle.run_setup.specs.Standing.{IsPresent, Stands}
+use Rattle.run_machine.proofs.Giving.{problem_view, quietly, loudly, cut_off}
+use Rattle.run_setup.specs.Standing.{IsPresent, Represents}
 use Rattle.run_setup.specs.Statements.{Executes}
 use Rattle.run_setup.specs.Opening.{IsOpened, IsSetupFault, no_problem, not_selected, IsNotOpened}
 use Rattle.run_setup.proofs.Selected.{same_matrix}
@@ -91,21 +91,21 @@ module _ (card : ℕ) (options : SetupOptions) (state : State) where
       (gives_selected card (selected problem (choice_of state.cells options)) (go_selected problem) lp (outcome_of problem options (opening_statuses lp) state) s (inl refl))
 
 module _ (card : ℕ) {P : Type 0} (written stopped_at : P → Option (List ℕ)) (faults refusals : P → ℕ) (cards : List (List ℕ)) (machine : Machine) (options : SetupOptions) where
-  fault_by : (fault : VerbFault) → IsSetupFault machine.cells machine.file options (Fault fault) → {position executed : ℕ} {state : State} → Stands cards machine position executed state →
+  fault_by : (fault : VerbFault) → IsSetupFault machine.cells machine.file options (Fault fault) → {position executed : ℕ} {state : State} → Represents cards machine position executed state →
       Gives linear_programming card (verb_move (SetupVerb options) card state) (stops (VerbStop (record { fault = fault; card = card })))
   fault_by fault (no_problem is none) {state = state} s =
       let same : fault ≡ verb_fault.NoProblem = cc in
       subst (λ (f : VerbFault). Gives linear_programming card (verb_move (SetupVerb options) card state) (stops (VerbStop (record { fault = f; card = card })))) (sym same)
-      (gives_no_problem card options state (problem_shown s (λ (c : Cells). c.xpbname) None none))
+      (gives_no_problem card options state (problem_view s (λ (c : Cells). c.xpbname) None none))
   fault_by fault (not_selected problem some h) {state = state} s =
-      gives_refused card options state problem fault (problem_shown s (λ (c : Cells). c.xpbname) (Some problem) some)
+      gives_refused card options state problem fault (problem_view s (λ (c : Cells). c.xpbname) (Some problem) some)
       (subst (λ (c : Cells). HasSelectionFault problem (choice_of c options) fault) (sym s.cells) h)
 
-  overflow_by : (e : Evidence) → IsSetupFault machine.cells machine.file options (Overflow e) → {position executed : ℕ} {state : State} → Stands cards machine position executed state →
+  overflow_by : (e : Evidence) → IsSetupFault machine.cells machine.file options (Overflow e) → {position executed : ℕ} {state : State} → Represents cards machine position executed state →
       Gives linear_programming card (verb_move (SetupVerb options) card state) (stops (OverflowStop (record { evidence = e; place = None; card = card })))
   overflow_by e (no_problem is none) {state = state} s = cc
   overflow_by e (not_selected problem some h) {state = state} s =
-      gives_overflow card options state problem e (problem_shown s (λ (c : Cells). c.xpbname) (Some problem) some)
+      gives_overflow card options state problem e (problem_view s (λ (c : Cells). c.xpbname) (Some problem) some)
       (subst (λ (c : Cells). HasSelectionOverflow problem (choice_of c options) e) (sym s.cells) h)
 
   pub setup_refused : (print : P) (refusal : Refusal) → IsNotOpened machine.cells machine.file options refusal →
@@ -115,14 +115,14 @@ module _ (card : ℕ) {P : Type 0} (written stopped_at : P → Option (List ℕ)
   setup_refused print NoMemory h = refl
 
   module _ (opened : Opened) (o : IsOpened machine.cells machine.file options opened) where
-    gives_opened : {position executed : ℕ} {state : State} → Stands cards machine position executed state →
+    gives_opened : {position executed : ℕ} {state : State} → Represents cards machine position executed state →
         Gives linear_programming card (verb_move (SetupVerb options) card state) (outcome_of o.problem options (opening_statuses opened.setup.lp) state)
     gives_opened {state = state} s =
-        gives_set_up card options state o.problem opened.setup.lp (problem_shown s (λ (c : Cells). c.xpbname) (Some o.problem) (filed_by machine.cells.xpbname machine.file opened.setup.name (Some o.problem) o.is_named o.is_filed))
+        gives_set_up card options state o.problem opened.setup.lp (problem_view s (λ (c : Cells). c.xpbname) (Some o.problem) (filed_by machine.cells.xpbname machine.file opened.setup.name (Some o.problem) o.is_named o.is_filed))
         (ap (λ (c : Cells). selected o.problem (choice_of c options)) s.cells ∙ o.is_selected)
 
-    stands_set_up : {position executed : ℕ} {state : State} → Stands cards machine position executed state →
-        Stands cards (record machine { setup = Some opened.setup; mark = None }) position executed (after_setup o.problem options (opening_statuses opened.setup.lp) state)
+    stands_set_up : {position executed : ℕ} {state : State} → Represents cards machine position executed state →
+        Represents cards (record machine { setup = Some opened.setup; mark = None }) position executed (after_setup o.problem options (opening_statuses opened.setup.lp) state)
     stands_set_up s = record {
       is_position = s.is_position;
       is_executed = s.is_executed;

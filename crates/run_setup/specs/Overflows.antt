@@ -9,11 +9,11 @@ use Rattle.run_machine.specs.declared.act.Halt.TheVariants as halt
 use Rattle.run_machine.specs.declared.end.Place.{Place as OwnPlace}
 use Rattle.run_machine.specs.declared.finding.Finding.{Finding}
 use Rattle.run_machine.specs.declared.finding.Finding.TheVariants.{Overflow}
-use Rattle.run_machine.specs.Ends.{place_shown}
+use Rattle.run_machine.specs.Ends.{place_view}
 
 -- an operation is refused, at this basis and this waypoint; or there is no memory
 pub data IsOverflowAt (s : Basis) (after : List Basics) (e : Evidence) : Result Finding Halt → Type 0 where
-  told : (place : OwnPlace) →
-      place_shown place ≡ record { basis = s; way = waypoint (basics_of s) after e.way } →
+  reported : (place : OwnPlace) →
+      place_view place ≡ record { basis = s; way = waypoint (basics_of s) after e.way } →
       IsOverflowAt s after e (Ok (Overflow e (Some place)))
   no_memory : IsOverflowAt s after e (Err halt.NoMemory)

@@ -2,7 +2,7 @@
 --     IsReady file setup           the setup's basis and rates are those of a selection of its problem
 --     IsSolved mark .. setup       these names select the setup's linear program, and with the mark OPTIMAL its basis is optimal in it
 --     IsPresent file setup present the setup is at the last of these bases
---     IsSound, ShowsSetup, Stands  what holds of a machine, and which state it shows, with such a setup
+--     IsSound, ShowsSetup, Represents  what holds of a machine, and which state it shows, with such a setup
 use Rattle.std.specs.Prelude.{◌≡◌, ℕ, List, ◌∷◌, Option, Some, Ok}
 use Rattle.lp_definitions.specs.Basis.{IsOptimalBasis}
 use Rattle.problem_definitions.specs.Names.{Name}
@@ -47,5 +47,5 @@ IsSound = machines.IsSound IsReady IsSolved
 abbrev pub ShowsSetup : Filed → Option Setup → Option Present → Type 0
 ShowsSetup = machines.ShowsSetup IsPresent
 
-abbrev pub Stands : List (List ℕ) → Machine → ℕ → ℕ → State → Type 0
-Stands = machines.Stands IsPresent
+abbrev pub Represents : List (List ℕ) → Machine → ℕ → ℕ → State → Type 0
+Represents = machines.Represents IsPresent

@@ -2,7 +2,7 @@
 ghost use Rattle.std.specs.Prelude.{◌≡◌, ◌≤◌, length, IfOk};
 ghost use Rattle.lp_definitions.specs.Waypoints.{waypoint};
 ghost use Rattle.basis_values.specs.Calls.{HasRates};
-ghost use Rattle.run_machine.specs.Ends.{place_shown};
+ghost use Rattle.run_machine.specs.Ends.{place_view};
 ghost use Rattle.run_setup.specs.Overflows.{IsOverflowAt};
 
 use lp_definitions::Evidence;
@@ -20,7 +20,7 @@ pub fn place_at<R: Rates>(
 ) -> Result<Place, NoMemory>
     requires matrix { R.matrix rates.now ≡ lp.now.matrix }
     requires way { way ≤ length (R.waypoints rates.now) }
-    ensures { IfOk result (λ place. place_shown place ≡
+    ensures { IfOk result (λ place. place_view place ≡
         record {
           basis = basis.now;
           way = waypoint (R.basics rates.now)

@@ -1,7 +1,7 @@
 // SETUP.
 ghost use Rattle.std.specs.Prelude.{◌≡◌, ℕ, List, IfOk, IfErr};
 ghost use Rattle.control_definitions.specs.Program as program;
-ghost use Rattle.control_verbs.specs.Shown.{options_shown};
+ghost use Rattle.control_verbs.specs.Views.{options_view};
 ghost use Rattle.answer_definitions.specs.Real.{linear_programming};
 ghost use Rattle.run_setup.specs.Standing.{IsSound};
 ghost use Rattle.run_setup.specs.Statements.{Executes};
@@ -78,7 +78,7 @@ pub fn set_up<E: Engine, P: Sink>(
     options: &SetupOptions,
 ) -> Result<Act, Halt>
     ensures acts { (cards : List (List ℕ)) →
-        Executes linear_programming (program.Setup (options_shown options.now)) card P.written
+        Executes linear_programming (program.Setup (options_view options.now)) card P.written
         P.stopped_at P.faults P.refusals print.old print.new cards machine.old machine.new result }
     ensures sound { (cards : List (List ℕ)) → IsSound cards machine.old →
         IsSound cards machine.new }

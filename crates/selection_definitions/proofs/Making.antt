@@ -68,7 +68,7 @@ make_first op x y steps made rest = ap (λ b. if b then Unchecked (record { op =
 
 -- an operation that evidence shows to be refused isn't made
 not_both : (e : Evidence) (op : Op) (x y : ℚ) → refuses op x y ≡ false → Refuses e op x y → ⊥
-not_both e op x y made shown = let refused = shown.refused in cc
+not_both e op x y made viewed = let refused = viewed.refused in cc
 
 -- what isn't refused by any evidence is made
 made_if_unshown : (op : Op) (x y : ℚ) → (IsTrue (refuses op x y) → ⊥) → refuses op x y ≡ false
@@ -138,48 +138,48 @@ module _ (problem : Problem ℕ) (choice : Choice) where
   -- ---- where it is made, nothing is shown to be refused
 
   no_range : verdict_of (row_steps problem choice) ≡ Checked → (e : Evidence) → IsRangeRefusal problem choice e → ⊥
-  no_range made e shown =
-      not_both e shown.op (rhs_of problem choice (shown.place + 1)) (magnitude shown.range)
-      (made_first shown.op (rhs_of problem choice (shown.place + 1)) (magnitude shown.range) [] one).0 shown.refuses
+  no_range made e viewed =
+      not_both e viewed.op (rhs_of problem choice (viewed.place + 1)) (magnitude viewed.range)
+      (made_first viewed.op (rhs_of problem choice (viewed.place + 1)) (magnitude viewed.range) [] one).0 viewed.refuses
     where
-      at_row : verdict_of (range_steps shown.row.kind (rhs_of problem choice (1 + shown.place)) (range_of problem choice (1 + shown.place))) ≡ Checked
-      at_row = each_of row_part (enumerate_from 1 problem.rows) made shown.place (1 + shown.place, shown.row) (numbered 1 problem.rows shown.place shown.row shown.is_row)
+      at_row : verdict_of (range_steps viewed.row.kind (rhs_of problem choice (1 + viewed.place)) (range_of problem choice (1 + viewed.place))) ≡ Checked
+      at_row = each_of row_part (enumerate_from 1 problem.rows) made viewed.place (1 + viewed.place, viewed.row) (numbered 1 problem.rows viewed.place viewed.row viewed.is_row)
 
-      swap : 1 + shown.place ≡ shown.place + 1
+      swap : 1 + viewed.place ≡ viewed.place + 1
       swap = omega arith
 
-      one : verdict_of (operation shown.op (rhs_of problem choice (shown.place + 1)) (magnitude shown.range) ∷ []) ≡ Checked
+      one : verdict_of (operation viewed.op (rhs_of problem choice (viewed.place + 1)) (magnitude viewed.range) ∷ []) ≡ Checked
       one =
-          subst (λ o. verdict_of (sum_with o (rhs_of problem choice (shown.place + 1)) shown.range) ≡ Checked) shown.is_op
-          (subst (λ o. verdict_of (range_steps shown.row.kind (rhs_of problem choice (shown.place + 1)) o) ≡ Checked) shown.has_range
-          (subst (λ n. verdict_of (range_steps shown.row.kind (rhs_of problem choice n) (range_of problem choice n)) ≡ Checked) swap at_row))
+          subst (λ o. verdict_of (sum_with o (rhs_of problem choice (viewed.place + 1)) viewed.range) ≡ Checked) viewed.is_op
+          (subst (λ o. verdict_of (range_steps viewed.row.kind (rhs_of problem choice (viewed.place + 1)) o) ≡ Checked) viewed.has_range
+          (subst (λ n. verdict_of (range_steps viewed.row.kind (rhs_of problem choice n) (range_of problem choice n)) ≡ Checked) swap at_row))
 
   no_combination : verdict_of (flat_map (column_steps problem) problem.columns) ≡ Checked → (e : Evidence) → IsCombinationRefusal problem e → ⊥
-  no_combination made e shown = by shown.refuses
+  no_combination made e viewed = by viewed.refuses
     where
-      at_column : verdict_of (column_steps problem shown.column) ≡ Checked
-      at_column = each_of (column_steps problem) problem.columns made shown.column_place shown.column shown.is_column
+      at_column : verdict_of (column_steps problem viewed.column) ≡ Checked
+      at_column = each_of (column_steps problem) problem.columns made viewed.column_place viewed.column viewed.is_column
 
-      at_row : verdict_of (column_part shown.column (0 + shown.place, shown.row)) ≡ Checked
-      at_row = each_of (column_part shown.column) (enumerate_from 0 problem.rows) at_column shown.place (0 + shown.place, shown.row) (numbered 0 problem.rows shown.place shown.row shown.is_row)
+      at_row : verdict_of (column_part viewed.column (0 + viewed.place, viewed.row)) ≡ Checked
+      at_row = each_of (column_part viewed.column) (enumerate_from 0 problem.rows) at_column viewed.place (0 + viewed.place, viewed.row) (numbered 0 problem.rows viewed.place viewed.row viewed.is_row)
 
-      zero_first : 0 + shown.place ≡ shown.place
+      zero_first : 0 + viewed.place ≡ viewed.place
       zero_first = omega arith
 
-      sum : verdict_of (sum_steps zero_ℚ shown.products) ≡ Checked
+      sum : verdict_of (sum_steps zero_ℚ viewed.products) ≡ Checked
       sum =
-          subst (λ ts. verdict_of (sum_steps zero_ℚ ts) ≡ Checked) (sym shown.are_products)
-          (subst (λ o. verdict_of (combination_steps (take shown.place problem.rows) shown.column.items o) ≡ Checked) shown.is_combination
-          (subst (λ n. verdict_of (combination_steps (take n problem.rows) shown.column.items shown.row.parts) ≡ Checked) zero_first at_row))
+          subst (λ ts. verdict_of (sum_steps zero_ℚ ts) ≡ Checked) (sym viewed.are_products)
+          (subst (λ o. verdict_of (combination_steps (take viewed.place problem.rows) viewed.column.items o) ≡ Checked) viewed.is_combination
+          (subst (λ n. verdict_of (combination_steps (take n problem.rows) viewed.column.items viewed.row.parts) ≡ Checked) zero_first at_row))
 
-      by : Refuses e Mul shown.product.left shown.product.right ⊎ Refuses e Add (sum_of zero_ℚ (take shown.term shown.products)) (product_of shown.product) → ⊥
-      by (inl refused) = not_both e Mul shown.product.left shown.product.right (sum_made zero_ℚ shown.products sum shown.term shown.product shown.is_product).0 refused
+      by : Refuses e Mul viewed.product.left viewed.product.right ⊎ Refuses e Add (sum_of zero_ℚ (take viewed.term viewed.products)) (product_of viewed.product) → ⊥
+      by (inl refused) = not_both e Mul viewed.product.left viewed.product.right (sum_made zero_ℚ viewed.products sum viewed.term viewed.product viewed.is_product).0 refused
       by (inr refused) =
-          not_both e Add (sum_of zero_ℚ (take shown.term shown.products)) (product_of shown.product) (sum_made zero_ℚ shown.products sum shown.term shown.product shown.is_product).1 refused
+          not_both e Add (sum_of zero_ℚ (take viewed.term viewed.products)) (product_of viewed.product) (sum_made zero_ℚ viewed.products sum viewed.term viewed.product viewed.is_product).1 refused
 
   to : is_made problem choice ≡ true → (e : Evidence) → IsSelectionRefusal problem choice e → ⊥
   unfolding is_made
-  to made e shown = by shown
+  to made e viewed = by viewed
     where
       both : (verdict_of (row_steps problem choice) ≡ Checked) × (verdict_of (flat_map (column_steps problem) problem.columns) ≡ Checked)
       both = checked-append (row_steps problem choice) (flat_map (column_steps problem) problem.columns) (checked_if (verdict_of (selection_steps problem choice)) made)

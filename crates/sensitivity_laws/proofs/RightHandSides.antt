@@ -17,7 +17,7 @@ use Rattle.simplex_laws.specs.Laws.{IsNonsingularBasis}
 use Rattle.simplex_definitions.specs.RhsRun.{shift_of, rhs_family, IsSlope}
 use Rattle.sensitivity_laws.specs.Changes.{HasRows, IsRightTableau, SidesHold, shift_sides, ValuesStay}
 use Rattle.sensitivity_laws.specs.Laws.{IsDualFeasibleBasis}
-use Rattle.simplex_laws.proofs.Booleans.{betters}
+use Rattle.simplex_laws.proofs.Booleans.{improves}
 use Rattle.sensitivity_laws.proofs.Tableaus.{by_tableau}
 use Rattle.sensitivity_laws.proofs.Limits.{IsWithin, sides_of_value}
 use Rattle.sensitivity_laws.proofs.MovedLimits.{moved, lower_is, upper_is, basis_to, fixed_same, free_unshifted}
@@ -88,9 +88,9 @@ module _ (p : LinearProgram) (shift : List ℚ) (x : ℚ) (s : List Status) (row
   rows_there : HasRows (rhs_family p shift x)
   rows_there = record { objective = rows.objective; change = rows.change }
 
-  -- what betters the objective at one value does so at every other
+  -- what improves the objective at one value does so at every other
   lowers_same : (f : Vector) (k : ℕ) → IsVariable p.matrix k → lowers (rhs_family p shift x) s f k ≡ lowers p s f k
-  lowers_same f k is = ap (λ (fixed : _). betters (f k) (rises_from (status_of s k) && not fixed) (falls_from (status_of s k) && not fixed)) (fixed_same p shift x k is)
+  lowers_same f k is = ap (λ (fixed : _). improves (f k) (rises_from (status_of s k) && not fixed) (falls_from (status_of s k) && not fixed)) (fixed_same p shift x k is)
 
   pub dual_feasible : (t : Tableau) → IsBasis p s → IsNonsingular p.matrix (basics_of s) → IsTableau p s t → IsOptimalBasis (rhs_family p shift x) s → IsDualFeasibleBasis p s t
   dual_feasible t basis one tab optimal = record {

@@ -12,7 +12,7 @@ use Rattle.simplex_definitions.specs.Moves.{is_fixed}
 use Rattle.simplex_definitions.specs.Path.{worth_rate}
 use Rattle.simplex_laws.proofs.Ends.{right, IsFeasible-same}
 use Rattle.sensitivity_laws.specs.Changes.{ChangeIsRow, HasRows, IsRightTableau}
-use Rattle.simplex_laws.proofs.Booleans.{right_betters_not}
+use Rattle.simplex_laws.proofs.Booleans.{right_improves_not}
 
 -- a row is a variable
 pub row_variable : (a : Matrix) (i : ℕ) → IsRow a i → IsVariable a i
@@ -55,7 +55,7 @@ module _ (p : LinearProgram) (s : List Status) (basis : IsBasis p s) (one : IsNo
       to optimal = record {
         feasible = IsFeasible-same p optimal.tableau.point t.point
             (one_point p s optimal.tableau.point t.point basis.counted one optimal.is_tableau.is_point tab.is_point) optimal.feasible;
-        right = λ k is. right_betters_not (status_of s k) (lower_of p k) (upper_of p k) (worth_rate p s t k) (right_same optimal.tableau t optimal.is_tableau tab k is (optimal.right k is));
+        right = λ k is. right_improves_not (status_of s k) (lower_of p k) (upper_of p k) (worth_rate p s t k) (right_same optimal.tableau t optimal.is_tableau tab k is (optimal.right k is));
       }
 
       back : IsRightTableau p s t → IsOptimalBasis p s

@@ -93,8 +93,8 @@ torn = record {
 }
 
 -- the least -x
-abbrev pub endless : LinearProgram
-endless = record {
+abbrev pub unbounded_end : LinearProgram
+unbounded_end = record {
   matrix = record { rows = 1; cols = 1; columns = (on 1 (minus 1) ∷ []) ∷ [] };
   lower = None ∷ Some zero_ℚ ∷ [];
   upper = None ∷ None ∷ [];

@@ -15,26 +15,26 @@ use Rattle.simplex_definitions.specs.Chain.{ChainEnd, AtMax, UnboundedPast, Infe
 use Rattle.simplex_definitions.specs.ObjectiveRun.{objective_family, objective_face}
 use Rattle.simplex_definitions.specs.RhsRun.{rhs_family, rhs_face, shift_of}
 
--- what is done at a break, with the parts of its values
-data Shown : Type 0 where
-  Moves : Move → Shown
-  Done : Shown
-  Unbounded : List (ℤ × ℕ) → List (ℤ × ℕ) → Shown
-  Infeasible : List (ℤ × ℕ) → Shown
+-- what is done at a breakpoint, with the parts of its values
+data Views : Type 0 where
+  Moves : Move → Views
+  Done : Views
+  Unbounded : List (ℤ × ℕ) → List (ℤ × ℕ) → Views
+  Infeasible : List (ℤ × ℕ) → Views
 
-abbrev end_shown : ChainEnd → Shown
-end_shown AtMax = Done
-end_shown (UnboundedPast theta z d) = Unbounded (parts (theta ∷ z)) (parts d)
-end_shown (InfeasiblePast theta w) = Infeasible (parts (theta ∷ w))
+abbrev end_view : ChainEnd → Views
+end_view AtMax = Done
+end_view (UnboundedPast theta z d) = Unbounded (parts (theta ∷ z)) (parts d)
+end_view (InfeasiblePast theta w) = Infeasible (parts (theta ∷ w))
 
-abbrev shown : FaceTurn → Shown
-shown (FaceMoves m) = Moves m
-shown FaceDone = Done
-shown (FaceEnds end) = end_shown end
+abbrev viewed : FaceTurn → Views
+viewed (FaceMoves m) = Moves m
+viewed FaceDone = Done
+viewed (FaceEnds end) = end_view end
 
 -- what is done at theta, where h is added to the objective
-abbrev objective_at : LinearProgram → ℕ → ℚ → List Status → Shown
-objective_at p h theta s = let q = objective_family p h theta in shown (objective_face q h theta s (tableau_for q s))
+abbrev objective_at : LinearProgram → ℕ → ℚ → List Status → Views
+objective_at p h theta s = let q = objective_family p h theta in viewed (objective_face q h theta s (tableau_for q s))
 
 -- the slope of a basis by its rates, and what is done at theta where the shift is added to the limits
 abbrev slope_by : LinearProgram → List Status → List ℚ → Tableau → ℕ → ℚ
@@ -43,11 +43,11 @@ slope_by p s shift t k =
     (sum_up_to (size p.matrix) (λ j. cond (is_basic (status_of s j)) zero_ℚ (t.rate k j *ℚ shift_of p.matrix shift j)))
     (shift_of p.matrix shift k)
 
-abbrev rhs_at : LinearProgram → List ℚ → ℚ → List Status → Shown
+abbrev rhs_at : LinearProgram → List ℚ → ℚ → List Status → Views
 rhs_at p shift theta s =
     let q = rhs_family p shift theta in
     let t = tableau_for q s in
-    shown (rhs_face q shift theta s t (slope_by q s shift t))
+    viewed (rhs_face q shift theta s t (slope_by q s shift t))
 
 -- the basis is optimal at each of these values
 abbrev optimal_at : (ℚ → LinearProgram) → List Status → List ℚ → List Bool

@@ -2,7 +2,7 @@
 --     tableau_for p s              the point and the rates of a basis
 --     solved p s                   the steps, the ending and the last basis of the path from s
 --     is_optimal p s               the basis is optimal, as a test
---     parts vs, shown              values and endings by the parts of their fractions, which compute
+--     parts vs, viewed              values and endings by the parts of their fractions, which compute
 use Rattle.std.proofs.Common.{ℕ, zero, suc, ◌-◌, List, [], ◌∷◌, map, cond, Bool, get_or, ℤ}
 use Rattle.std.specs.Prelude.{filter, nat_eq, nat_lt, nat_le, ◌&&◌, not, Option, Some, None, unwrap_or, find, ◌||◌, true}
 use Rattle.std.specs.List.{list_all}
@@ -120,18 +120,18 @@ abbrev pub parts : List ℚ → List (ℤ × ℕ)
 parts vs = map (λ v. (v.numerator, v.denominator)) vs
 
 -- an ending by its kind: the parts of its vectors, or the crossed variable
-pub data Shown : Type 0 where
-  Optimal : List (ℤ × ℕ) → List (ℤ × ℕ) → Shown
-  Crossed : ℕ → Shown
-  Infeasible : List (ℤ × ℕ) → Shown
-  Unbounded : List (ℤ × ℕ) → List (ℤ × ℕ) → Shown
+pub data Views : Type 0 where
+  Optimal : List (ℤ × ℕ) → List (ℤ × ℕ) → Views
+  Crossed : ℕ → Views
+  Infeasible : List (ℤ × ℕ) → Views
+  Unbounded : List (ℤ × ℕ) → List (ℤ × ℕ) → Views
 
-abbrev pub ending_shown : PathEnding → Shown
-ending_shown (EndsOptimal z y) = Optimal (parts z) (parts y)
-ending_shown (EndsCrossed k) = Crossed k
-ending_shown (EndsInfeasible w) = Infeasible (parts w)
-ending_shown (EndsUnbounded z d) = Unbounded (parts z) (parts d)
+abbrev pub ending_view : PathEnding → Views
+ending_view (EndsOptimal z y) = Optimal (parts z) (parts y)
+ending_view (EndsCrossed k) = Crossed k
+ending_view (EndsInfeasible w) = Infeasible (parts w)
+ending_view (EndsUnbounded z d) = Unbounded (parts z) (parts d)
 
-abbrev pub shown : Option (ℕ × PathEnding × List Status) → Option (ℕ × Shown × List Status)
-shown None = None
-shown (Some found) = Some (found.0, ending_shown found.1, found.2)
+abbrev pub viewed : Option (ℕ × PathEnding × List Status) → Option (ℕ × Views × List Status)
+viewed None = None
+viewed (Some found) = Some (found.0, ending_view found.1, found.2)

@@ -1,8 +1,8 @@
 -- The intervals of a parametric run, over a family of linear programs, one for each value of the parameter.
 --     Part, ChainEnd, RunReport    an interval; how a chain of them ends; a whole run
 --     ReachesTo s from max to      s is optimal from the one value to the other, which is the greatest such value
---     FaceTurn                     what is done at a break: a move, an end, or nothing more
---     IsFacePath theta s bases     the bases after s, each by one face step at the break
+--     FaceTurn                     what is done at a breakpoint: a move, an end, or nothing more
+--     IsFacePath theta s bases     the bases after s, each by one face step at the breakpoint
 --     IsPart from max s part       the interval that begins at from with the basis s
 --     IsChain max from s parts end path     the intervals from there on, their end, and the bases of all face steps
 --     IsReport from max s report path       the run from the basis s, with the bases of all its steps
@@ -26,7 +26,7 @@ pub record Part : Type 0 where
   pub price : List ℚ
   pub price_rate : List ℚ
 
--- at the last value, or at a break past which all is unbounded, with a point and a direction, or infeasible, with a ray
+-- at the last value, or at a breakpoint past which all is unbounded, with a point and a direction, or infeasible, with a ray
 pub data ChainEnd : Type 0 where
   AtMax : ChainEnd
   UnboundedPast : ℚ → List ℚ → List ℚ → ChainEnd
@@ -83,18 +83,18 @@ module _ (family : ℚ → LinearProgram) (Face : ℚ → List Status → FaceTu
   IsFacePath theta s [] = Unit {0}
   IsFacePath theta s (next ∷ bases) = IsFaceStep theta s next × IsFacePath theta next bases
 
-  -- at a break before max: the face steps there, and what is done after them
+  -- at a breakpoint before max: the face steps there, and what is done after them
   pub record FacesTo (max theta : ℚ) (s : List Status) (bases : List (List Status)) (turn : FaceTurn) : Type 0 where
     pub before_max : theta <ℚ max
     pub face_path : IsFacePath theta s bases
     pub last : Face theta (last_of s bases) turn
 
-  -- an interval that goes to max ends the chain; at a break the face steps end it, or the next interval begins there with the
+  -- an interval that goes to max ends the chain; at a breakpoint the face steps end it, or the next interval begins there with the
   -- basis that they reached
   pub data IsChain (max : ℚ) : ℚ → List Status → List Part → ChainEnd → List (List Status) → Type 0 where
     at_max : {from : ℚ} {s : List Status} {part : Part} →
         IsPart family from max s part → part.to ≡ max → IsChain max from s (part ∷ []) AtMax []
-    past_break : {from : ℚ} {s : List Status} {part : Part} {end : ChainEnd} {path : List (List Status)} →
+    past_breakpoint : {from : ℚ} {s : List Status} {part : Part} {end : ChainEnd} {path : List (List Status)} →
         IsPart family from max s part → FacesTo max part.to s path (FaceEnds end) → IsChain max from s (part ∷ []) end path
     goes_on : {from : ℚ} {s : List Status} {part : Part} {parts : List Part} {end : ChainEnd} {bases later : List (List Status)} →
         IsPart family from max s part → FacesTo max part.to s bases FaceDone →
@@ -118,40 +118,40 @@ module _ (family : ℚ → LinearProgram) (Face : ℚ → List Status → FaceTu
   IsReport from max s (FailedOpening ending) path = IsFailedOpening from s ending path
   IsReport from max s (Chain parts end) path = IsRun from max s parts end path
 
--- a basis of the opening path, or one at a break
+-- a basis of the opening path, or one at a breakpoint
 pub data RunPlace : Type 0 where
   InOpening : List Status → RunPlace
-  AtBreak : ℚ → List Status → RunPlace
+  AtBreakpoint : ℚ → List Status → RunPlace
 
--- the break at which a run stands, if it is at one, and the basis
-abbrev pub break_of : RunPlace → Option ℚ
-break_of (InOpening now) = None
-break_of (AtBreak theta now) = Some theta
+-- the breakpoint at which a run stands, if it is at one, and the basis
+abbrev pub breakpoint_of : RunPlace → Option ℚ
+breakpoint_of (InOpening now) = None
+breakpoint_of (AtBreakpoint theta now) = Some theta
 
 abbrev pub basis_of : RunPlace → List Status
 basis_of (InOpening now) = now
-basis_of (AtBreak theta now) = now
+basis_of (AtBreakpoint theta now) = now
 
 module _ (family : ℚ → LinearProgram) (Face : ℚ → List Status → FaceTurn → Type 0) (from max : ℚ) (s : List Status) where
-  -- the run begins in the opening path, which takes its steps; where that ends optimal, the first interval goes to its break;
-  -- there the face steps are taken; and where none is left, the next interval goes to its break
+  -- the run begins in the opening path, which takes its steps; where that ends optimal, the first interval goes to its breakpoint;
+  -- there the face steps are taken; and where none is left, the next interval goes to its breakpoint
   pub data Reaches : RunPlace → List (List Status) → List ℚ → Type 0 where
     begins : Reaches (InOpening s) [] []
     path_step : {now next : List Status} {path : List (List Status)} →
         Reaches (InOpening now) path [] → IsStep (family from) now next → Reaches (InOpening next) (path ++ next ∷ []) []
-    first_break : {now : List Status} {path : List (List Status)} {to : ℚ} (point prices : List ℚ) →
+    first_breakpoint : {now : List Status} {path : List (List Status)} {to : ℚ} (point prices : List ℚ) →
         Reaches (InOpening now) path [] → EndsAt (family from) now (EndsOptimal point prices) →
-        ReachesTo family now from max to → to <ℚ max → Reaches (AtBreak to now) path (to ∷ [])
+        ReachesTo family now from max to → to <ℚ max → Reaches (AtBreakpoint to now) path (to ∷ [])
     face_step : {theta : ℚ} {now next : List Status} {path : List (List Status)} {ends : List ℚ} →
-        Reaches (AtBreak theta now) path ends → IsFaceStep family Face theta now next → Reaches (AtBreak theta next) (path ++ next ∷ []) ends
-    next_break : {theta : ℚ} {now : List Status} {path : List (List Status)} {ends : List ℚ} {to : ℚ} →
-        Reaches (AtBreak theta now) path ends → Face theta now FaceDone →
-        ReachesTo family now theta max to → to <ℚ max → Reaches (AtBreak to now) path (to ∷ ends)
+        Reaches (AtBreakpoint theta now) path ends → IsFaceStep family Face theta now next → Reaches (AtBreakpoint theta next) (path ++ next ∷ []) ends
+    next_breakpoint : {theta : ℚ} {now : List Status} {path : List (List Status)} {ends : List ℚ} {to : ℚ} →
+        Reaches (AtBreakpoint theta now) path ends → Face theta now FaceDone →
+        ReachesTo family now theta max to → to <ℚ max → Reaches (AtBreakpoint to now) path (to ∷ ends)
 
   -- one more step can be taken
   abbrev pub GoesOn : RunPlace → Type 0
   GoesOn (InOpening now) = (next : List Status) × IsStep (family from) now next
-  GoesOn (AtBreak theta now) = (next : List Status) × IsFaceStep family Face theta now next
+  GoesOn (AtBreakpoint theta now) = (next : List Status) × IsFaceStep family Face theta now next
 
   pub record RunGoesOnFor (steps : ℕ) : Type 0 where
     pub place : RunPlace

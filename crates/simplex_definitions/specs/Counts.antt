@@ -1,4 +1,4 @@
--- How a number of steps is told.
+-- How a number of steps is reported.
 --     counted_steps n        n as a count of 32 bits, which stands still at its last value
 use Rattle.std.specs.Prelude.{ℕ, min}
 

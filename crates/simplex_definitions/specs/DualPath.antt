@@ -9,7 +9,7 @@ use Rattle.lp_definitions.specs.LinearProgram.{LinearProgram}
 use Rattle.lp_definitions.specs.Basis.{Tableau, IsTableau}
 use Rattle.lp_definitions.specs.declared.Status.{Status}
 use Rattle.simplex_definitions.specs.Moves.{is_below}
-use Rattle.simplex_definitions.specs.Path.{PathEnding, EndsCrossed, Turn, Ends, crossed, outside, mover, bring_back, better, RuleStep, RuleEnd, RulePath, RulePathEnds, RuleGoesOn}
+use Rattle.simplex_definitions.specs.Path.{PathEnding, EndsCrossed, Turn, Ends, crossed, outside, entering_variable, restore_feasibility, improve, RuleStep, RuleEnd, RulePath, RulePathEnds, RuleGoesOn}
 use Rattle.simplex_definitions.specs.DualRatio.{cheapest}
 
 module _ (p : LinearProgram) (s : List Status) (t : Tableau) where
@@ -17,8 +17,8 @@ module _ (p : LinearProgram) (s : List Status) (t : Tableau) where
   -- back; else the path ends at the point, with the prices
   abbrev pub dual_for : Option ℕ → Option ℕ → Turn
   dual_for (Some k) out = Ends (EndsCrossed k)
-  dual_for None (Some r) = bring_back p s t r (cheapest p s t r (is_below p t.point r))
-  dual_for None None = better p s t None
+  dual_for None (Some r) = restore_feasibility p s t r (cheapest p s t r (is_below p t.point r))
+  dual_for None None = improve p s t None
 
   unfoldable pub dual_turn : Turn
   dual_turn = dual_for (crossed p s t) (outside p s t)
@@ -27,12 +27,12 @@ module _ (p : LinearProgram) (s : List Status) (t : Tableau) where
 pub record HasRightPrices (p : LinearProgram) (s : List Status) : Type 0 where
   pub tableau : Tableau
   pub is_tableau : IsTableau p s tableau
-  pub right : mover p s tableau None ≡ None
+  pub right : entering_variable p s tableau None ≡ None
 
 pub record IsWrongAt (p : LinearProgram) (s : List Status) (j : ℕ) : Type 0 where
   pub tableau : Tableau
   pub is_tableau : IsTableau p s tableau
-  pub wrong : mover p s tableau None ≡ Some j
+  pub wrong : entering_variable p s tableau None ≡ Some j
 
 abbrev pub IsDualStep : LinearProgram → List Status → List Status → Type 0
 IsDualStep = RuleStep dual_turn

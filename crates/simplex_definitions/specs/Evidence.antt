@@ -50,35 +50,35 @@ pub record ShowsRefusal (statement : SolvingStatement) (Goes : Status → Type 0
   pub no_way : IsTrue (not (names_waypoint e.formula)) → (e.way ≡ 0) × (w ≡ basics_of s)
 
 -- the move that is made has the numbers p and q of the evidence, and p goes to the limit of this status
-pub record IsLeaver (statement : SolvingStatement) (break : Option ℚ) (s : List Status) (e : Evidence) (to : Status) : Type 0 where
+pub record IsLeaver (statement : SolvingStatement) (breakpoint : Option ℚ) (s : List Status) (e : Evidence) (to : Status) : Type 0 where
   pub move : Move
-  pub moves : MovesAt statement break s move
+  pub moves : MovesAt statement breakpoint s move
   pub enters : move.enters ≡ e.q
   pub leaves : move.leaves ≡ e.p
   pub goes_to : move.to ≡ to
 
 -- a report of intervals may ask of any limit
 abbrev pub GoesTo : SolvingStatement → Option ℚ → List Status → Evidence → Status → Type 0
-GoesTo (Range p) break s e to = Unit {0}
-GoesTo statement break s e to = IsLeaver statement break s e to
+GoesTo (Range p) breakpoint s e to = Unit {0}
+GoesTo statement breakpoint s e to = IsLeaver statement breakpoint s e to
 
 -- PRIMAL takes a step at s
 abbrev pub TakesStep : SolvingStatement → Option ℚ → List Status → Type 0
-TakesStep (Primal p) break s = (m : Move) × MovesAt (Primal p) break s m
-TakesStep (Dual p) break s = (m : Move) × MovesAt (Dual p) break s m
-TakesStep _ break s = Unit {0}
+TakesStep (Primal p) breakpoint s = (m : Move) × MovesAt (Primal p) breakpoint s m
+TakesStep (Dual p) breakpoint s = (m : Move) × MovesAt (Dual p) breakpoint s m
+TakesStep _ breakpoint s = Unit {0}
 
 -- in formulas 7 to 9, q is what is moved at s; in 14, i is what is brought back, and j may bring it; and 6 belongs to a basis at
 -- which PRIMAL takes a step
-pub record IsOfMove (statement : SolvingStatement) (break : Option ℚ) (s : List Status) (e : Evidence) : Type 0 where
-  pub enters : IsTrue (is_between 7 9 e.formula) → EntersAt statement break s e.q
-  pub brings : IsTrue (nat_eq e.formula 14) → BringsAt statement break s e.i e.j
-  pub steps : IsTrue (nat_eq e.formula 6) → TakesStep statement break s
+pub record IsOfMove (statement : SolvingStatement) (breakpoint : Option ℚ) (s : List Status) (e : Evidence) : Type 0 where
+  pub enters : IsTrue (is_between 7 9 e.formula) → EntersAt statement breakpoint s e.q
+  pub brings : IsTrue (nat_eq e.formula 14) → BringsAt statement breakpoint s e.i e.j
+  pub steps : IsTrue (nat_eq e.formula 6) → TakesStep statement breakpoint s
 
 -- the basis that a step in hand is to reach, where one is made and so many steps are left
 abbrev pub IsAhead : SolvingStatement → Option ℚ → ℕ → List Status → Option (List Status) → Type 0
-IsAhead statement break left s None = Unit {0}
-IsAhead statement break left s (Some next) = (1 ≤ left) × ((m : Move) × MovesAt statement break s m × (next ≡ after s m))
+IsAhead statement breakpoint left s None = Unit {0}
+IsAhead statement breakpoint left s (Some next) = (1 ≤ left) × ((m : Move) × MovesAt statement breakpoint s m × (next ≡ after s m))
 
 abbrev pub with_ahead : List (List Status) → Option (List Status) → List (List Status)
 with_ahead bases None = bases
@@ -87,14 +87,14 @@ with_ahead bases (Some next) = bases ++ next ∷ []
 -- s is the last of the bases of the path in hand, which has so many steps left; waypoints lie in these bases and the one that
 -- the step in hand is to reach; break is the value at which a parametric run takes face steps, if it is at one, and ends are the
 -- ends of its intervals so far
-pub record EvidenceHolds (statement : SolvingStatement) (break : Option ℚ) (left : ℕ) (bases : List (List Status)) (ends : List ℚ) (s : List Status) (w : Basics) (e : Evidence) : Type 0 where
+pub record EvidenceHolds (statement : SolvingStatement) (breakpoint : Option ℚ) (left : ℕ) (bases : List (List Status)) (ends : List ℚ) (s : List Status) (w : Basics) (e : Evidence) : Type 0 where
   pub before : List (List Status)
   pub reached : bases ≡ before ++ s ∷ []
   pub ahead : Option (List Status)
-  pub is_ahead : IsAhead statement break left s ahead
-  pub shows : ShowsRefusal statement (GoesTo statement break s e) (map basics_of (with_ahead bases ahead)) s w e
+  pub is_ahead : IsAhead statement breakpoint left s ahead
+  pub shows : ShowsRefusal statement (GoesTo statement breakpoint s e) (map basics_of (with_ahead bases ahead)) s w e
   pub is_theta : Contains (thetas_of statement ends) e.theta
-  pub of_move : IsOfMove statement break s e
+  pub of_move : IsOfMove statement breakpoint s e
   pub of_statement : IsTrue (belongs statement e)
 
 pub record ShiftHolds (statement : SolvingStatement) (ends : List ℚ) (e : Evidence) : Type 0 where

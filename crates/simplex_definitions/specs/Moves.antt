@@ -3,7 +3,7 @@
 --     is_below p z k, is_above p z k       k lies below its lower limit, or above its upper one; is_outside: one of the two
 --     may_rise p s k, may_fall p s k       a nonbasic that is not fixed may leave the place at which it stands, upward or downward
 --     entering p s f                       the least-numbered nonbasic that may move so as to lower a quantity; f has its rates
---     room p z v k                         how long it is until k, which moves at the speed v k, reaches the limit ahead of it
+--     step_length p z v k                         how long it is until k, which moves at the speed v k, reaches the limit ahead of it
 --     stopper p z v                        the least-numbered of the variables that reach a limit first
 use Rattle.std.specs.Prelude.{ℕ, Bool, true, false, not, ◌&&◌, ◌||◌, List, Option, Some, None, if◌then◌else◌, find, option_map}
 use Rattle.std.specs.List.{list_all}
@@ -69,8 +69,8 @@ entering p s f = least p (lowers p s f)
 abbrev pub limit_ahead : LinearProgram → Vector → ℕ → Option ℚ
 limit_ahead p v k = if lt_ℚ zero_ℚ (v k) then upper_of p k else (if lt_ℚ (v k) zero_ℚ then lower_of p k else None)
 
-abbrev pub room : LinearProgram → Vector → Vector → ℕ → Option ℚ
-room p z v k = option_map (λ l. (l -ℚ z k) /ℚ v k) (limit_ahead p v k)
+abbrev pub step_length : LinearProgram → Vector → Vector → ℕ → Option ℚ
+step_length p z v k = option_map (λ l. (l -ℚ z k) /ℚ v k) (limit_ahead p v k)
 
 -- the one reaches a limit, and the other reaches none sooner
 abbrev pub is_no_later : Option ℚ → Option ℚ → Bool
@@ -79,7 +79,7 @@ is_no_later (Some a) None = true
 is_no_later (Some a) (Some b) = le_ℚ a b
 
 abbrev pub reaches_first : LinearProgram → Vector → Vector → ℕ → Bool
-reaches_first p z v k = list_all (λ i. is_no_later (room p z v k) (room p z v i)) (variables p.matrix)
+reaches_first p z v k = list_all (λ i. is_no_later (step_length p z v k) (step_length p z v i)) (variables p.matrix)
 
 abbrev pub stopper : LinearProgram → Vector → Vector → Option ℕ
 stopper p z v = least p (reaches_first p z v)

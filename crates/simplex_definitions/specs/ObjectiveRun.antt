@@ -1,6 +1,6 @@
 -- A parametric run of the objective: theta times a change row is added to it.
 --     objective_family p h         the linear program at each theta
---     objective_face               what is done at a break
+--     objective_face               what is done at a breakpoint
 --     IsObjectiveFace              the same as a relation, by the tableau of the basis
 use Rattle.std.specs.Prelude.{◌≡◌, ℕ, ◌&&◌, List, Option, Some, None}
 use Rattle.exact_values.specs.Rational.{ℚ, zero_ℚ}
@@ -22,8 +22,8 @@ module _ (p : LinearProgram) (h : ℕ) (theta : ℚ) (s : List Status) (t : Tabl
   change_rate q = for_min p.sense (t.rate h q)
 
   -- the least-numbered nonbasic whose combined rate is 0 and which may move so as to better the change row's activity
-  abbrev pub face_mover : Option ℕ
-  face_mover = least p (λ q. eq_ℚ (objective_rate p t.rate q) zero_ℚ && lowers p s change_rate q)
+  abbrev pub face_entering_variable : Option ℕ
+  face_entering_variable = least p (λ q. eq_ℚ (objective_rate p t.rate q) zero_ℚ && lowers p s change_rate q)
 
   -- it moves as on a path until a variable stops it
   abbrev pub face_until : ℕ → Vector → Option ℕ → FaceTurn
@@ -38,7 +38,7 @@ module _ (p : LinearProgram) (h : ℕ) (theta : ℚ) (s : List Status) (t : Tabl
   face_by None = FaceDone
 
   unfoldable pub objective_face : FaceTurn
-  objective_face = face_by face_mover
+  objective_face = face_by face_entering_variable
 
 abbrev pub IsObjectiveFace : LinearProgram → ℕ → ℚ → List Status → FaceTurn → Type 0
 IsObjectiveFace p h theta s turn =

@@ -70,15 +70,15 @@ module _ (p : LinearProgram) (s : List Status) (t : Tableau) where
   abbrev pub worth_rate : Vector
   worth_rate q = for_min p.sense (objective_rate p t.rate q)
 
-  -- the variable that is moved: it brings the basic r back, or else betters the objective
-  abbrev pub mover : Option ℕ → Option ℕ
-  mover (Some r) = entering p s (excess_rate t.rate r (is_below p t.point r))
-  mover None = entering p s worth_rate
+  -- the variable that is moved: it brings the basic r back, or else improves the objective
+  abbrev pub entering_variable : Option ℕ → Option ℕ
+  entering_variable (Some r) = entering p s (excess_rate t.rate r (is_below p t.point r))
+  entering_variable None = entering p s worth_rate
 
   -- first phase: q brings the basic r back to the limit that it broke
-  abbrev pub bring_back : ℕ → Option ℕ → Turn
-  bring_back r (Some q) = Moves (record { enters = q; leaves = r; to = if is_below p t.point r then Ll else Ul })
-  bring_back r None = Ends (EndsInfeasible (listed p.matrix (ray_of (basics_of s) t.rate r (is_below p t.point r))))
+  abbrev pub restore_feasibility : ℕ → Option ℕ → Turn
+  restore_feasibility r (Some q) = Moves (record { enters = q; leaves = r; to = if is_below p t.point r then Ll else Ul })
+  restore_feasibility r None = Ends (EndsInfeasible (listed p.matrix (ray_of (basics_of s) t.rate r (is_below p t.point r))))
 
   -- q moves at these speeds until a variable stops it
   abbrev pub run_until : ℕ → Vector → Option ℕ → Turn
@@ -88,16 +88,16 @@ module _ (p : LinearProgram) (s : List Status) (t : Tableau) where
   abbrev pub run_at : ℕ → Vector → Turn
   run_at q v = run_until q v (stopper p t.point v)
 
-  -- second phase: q betters the objective
-  abbrev pub better : Option ℕ → Turn
-  better (Some q) = run_at q (speeds t.rate (goes_up worth_rate q) q)
-  better None = Ends (EndsOptimal (listed p.matrix t.point) (listed p.matrix (price_at p (basics_of s) t.rate)))
+  -- second phase: q improves the objective
+  abbrev pub improve : Option ℕ → Turn
+  improve (Some q) = run_at q (speeds t.rate (goes_up worth_rate q) q)
+  improve None = Ends (EndsOptimal (listed p.matrix t.point) (listed p.matrix (price_at p (basics_of s) t.rate)))
 
   -- a crossed variable ends the path; else a basic outside its limits is brought back; else the objective is bettered
   abbrev pub turn_for : Option ℕ → Option ℕ → Turn
   turn_for (Some k) out = Ends (EndsCrossed k)
-  turn_for None (Some r) = bring_back r (mover (Some r))
-  turn_for None None = better (mover None)
+  turn_for None (Some r) = restore_feasibility r (entering_variable (Some r))
+  turn_for None None = improve (entering_variable None)
 
   unfoldable pub turn : Turn
   turn = turn_for crossed outside

@@ -1,7 +1,7 @@
 -- A parametric run of the right-hand side: theta times its shift is added to every limit of a row.
 --     rhs_family p shift           the linear program at each theta
 --     IsSlope p s shift v          how fast the basis's point moves with theta
---     rhs_face                     what is done at a break
+--     rhs_face                     what is done at a breakpoint
 --     IsRhsFace                    the same as a relation, by the tableau and the slope of the basis
 use Rattle.std.specs.Prelude.{◌≡◌, ℕ, Bool, ◌&&◌, ◌||◌, List, map, Option, Some, None, if◌then◌else◌, nat_le, option_map}
 use Rattle.exact_values.specs.Rational.{ℚ, zero_ℚ, ◌+ℚ◌, ◌*ℚ◌}

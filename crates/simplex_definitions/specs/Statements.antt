@@ -2,9 +2,9 @@
 --     SolvingStatement                    a statement with its linear program, and the change and the first value of a parametric run
 --     belongs statement e          which formulas it may stop by
 --     program_at, change_row, shift_at, thetas_of      the linear program at a value of the parameter; what changes; the lawful values
---     MovesAt statement break s m  what the path, or at a break the face steps, do at the basis s
---     EntersAt statement break s q       the variable that is moved there, be it stopped or not
---     BringsAt statement break s i j     the basic i that a face step of the right-hand side brings back, and a j that may bring it
+--     MovesAt statement breakpoint s m  what the path, or at a breakpoint the face steps, do at the basis s
+--     EntersAt statement breakpoint s q       the variable that is moved there, be it stopped or not
+--     BringsAt statement breakpoint s i j     the basic i that a face step of the right-hand side brings back, and a j that may bring it
 use Rattle.std.specs.Prelude.{◌≡◌, ℕ, Bool, not, ◌&&◌, ◌||◌, List, [], ◌∷◌, Option, Some, None, IsTrue, nat_eq, nat_le}
 use Rattle.exact_values.specs.Rational.{ℚ, zero_ℚ}
 use Rattle.lp_definitions.specs.LinearProgram.{LinearProgram, Vector}
@@ -12,11 +12,11 @@ use Rattle.lp_definitions.specs.Basis.{Tableau, IsTableau}
 use Rattle.lp_definitions.specs.declared.Evidence.{Evidence}
 use Rattle.lp_definitions.specs.declared.Status.{Status}
 use Rattle.simplex_definitions.specs.Moves.{is_below}
-use Rattle.simplex_definitions.specs.Path.{Move, Moves, Rule, turn, crossed, outside, mover}
+use Rattle.simplex_definitions.specs.Path.{Move, Moves, Rule, turn, crossed, outside, entering_variable}
 use Rattle.simplex_definitions.specs.DualPath.{dual_turn}
 use Rattle.simplex_definitions.specs.Chain.{FaceMoves}
-use Rattle.simplex_definitions.specs.ObjectiveRun.{objective_family, face_mover, IsObjectiveFace}
-use Rattle.simplex_definitions.specs.DualRatio.{brings_back}
+use Rattle.simplex_definitions.specs.ObjectiveRun.{objective_family, face_entering_variable, IsObjectiveFace}
+use Rattle.simplex_definitions.specs.DualRatio.{restores_feasibility}
 use Rattle.simplex_definitions.specs.RhsRun.{rhs_family, shift_of, IsRhsFace, IsSlope, leaving, leaves_below}
 
 pub data SolvingStatement : Type 0 where
@@ -81,37 +81,37 @@ PathMoves = RuleMoves turn
 
 -- the path moves q at s, be it stopped or not; where a variable is crossed, nothing is moved
 abbrev pub PathEnters : LinearProgram → List Status → ℕ → Type 0
-PathEnters p s q = (t : Tableau) × IsTableau p s t × (crossed p s t ≡ None) × (mover p s t (outside p s t) ≡ Some q)
+PathEnters p s q = (t : Tableau) × IsTableau p s t × (crossed p s t ≡ None) × (entering_variable p s t (outside p s t) ≡ Some q)
 
 -- break is the value at which a parametric run takes face steps, if it is at one
 abbrev pub MovesAt : SolvingStatement → Option ℚ → List Status → Move → Type 0
-MovesAt (Primal p) break s m = PathMoves p s m
-MovesAt (Dual p) break s m = RuleMoves dual_turn p s m
+MovesAt (Primal p) breakpoint s m = PathMoves p s m
+MovesAt (Dual p) breakpoint s m = RuleMoves dual_turn p s m
 MovesAt (Paraobj p h from) None s m = PathMoves (objective_family p h from) s m
 MovesAt (Paraobj p h from) (Some theta) s m = IsObjectiveFace p h theta s (FaceMoves m)
 MovesAt (Pararhs p shift from) None s m = PathMoves (rhs_family p shift from) s m
 MovesAt (Pararhs p shift from) (Some theta) s m = IsRhsFace p shift theta s (FaceMoves m)
-MovesAt _ break s m = ⊥
+MovesAt _ breakpoint s m = ⊥
 
 -- a report of intervals asks for every variable
 abbrev pub EntersAt : SolvingStatement → Option ℚ → List Status → ℕ → Type 0
-EntersAt (Primal p) break s q = PathEnters p s q
-EntersAt (Dual p) break s q = (m : Move) × RuleMoves dual_turn p s m × (m.enters ≡ q)
-EntersAt (Range p) break s q = Unit {0}
+EntersAt (Primal p) breakpoint s q = PathEnters p s q
+EntersAt (Dual p) breakpoint s q = (m : Move) × RuleMoves dual_turn p s m × (m.enters ≡ q)
+EntersAt (Range p) breakpoint s q = Unit {0}
 EntersAt (Paraobj p h from) None s q = PathEnters (objective_family p h from) s q
 EntersAt (Paraobj p h from) (Some theta) s q =
     let at_theta : LinearProgram = objective_family p h theta in
-    (t : Tableau) × IsTableau at_theta s t × (face_mover at_theta h theta s t ≡ Some q)
+    (t : Tableau) × IsTableau at_theta s t × (face_entering_variable at_theta h theta s t ≡ Some q)
 EntersAt (Pararhs p shift from) None s q = PathEnters (rhs_family p shift from) s q
 EntersAt (Pararhs p shift from) (Some theta) s q = (m : Move) × IsRhsFace p shift theta s (FaceMoves m) × (m.enters ≡ q)
-EntersAt (Solution p) break s q = ⊥
+EntersAt (Solution p) breakpoint s q = ⊥
 
 abbrev pub BringsAt : SolvingStatement → Option ℚ → List Status → ℕ → ℕ → Type 0
-BringsAt (Range p) break s i j = Unit {0}
-BringsAt (Dual p) break s i j =
-    (t : Tableau) × IsTableau p s t × (crossed p s t ≡ None) × (outside p s t ≡ Some i) × IsTrue (brings_back p s t i (is_below p t.point i) j)
+BringsAt (Range p) breakpoint s i j = Unit {0}
+BringsAt (Dual p) breakpoint s i j =
+    (t : Tableau) × IsTableau p s t × (crossed p s t ≡ None) × (outside p s t ≡ Some i) × IsTrue (restores_feasibility p s t i (is_below p t.point i) j)
 BringsAt (Pararhs p shift from) (Some theta) s i j =
     let at_theta : LinearProgram = rhs_family p shift theta in
     (t : Tableau) × (v : Vector) × IsTableau at_theta s t × IsSlope at_theta s shift v × (leaving at_theta shift theta s t v ≡ Some i)
-    × IsTrue (brings_back at_theta s t i (leaves_below at_theta shift theta s t v i) j)
-BringsAt _ break s i j = ⊥
+    × IsTrue (restores_feasibility at_theta s t i (leaves_below at_theta shift theta s t v i) j)
+BringsAt _ breakpoint s i j = ⊥

@@ -8,7 +8,7 @@ use Rattle.exact_values.specs.Tests.{lt_ℚ, eq_ℚ}
 use Rattle.exact_values.proofs.Order.{le_refl, le_antisymm}
 use Rattle.exact_values.proofs.Tests_laws.{le_from_lt_fails, same_from_test}
 use Rattle.lp_definitions.specs.LinearProgram.{Matrix, LinearProgram, Vector, value_at, size, IsVariable, IsLinearProgram, lower_of, upper_of, for_min}
-use Rattle.lp_definitions.specs.Solutions.{IsWithinLimits, IsFeasible, AreProvingPrices}
+use Rattle.lp_definitions.specs.Solutions.{IsWithinLimits, IsFeasible, IsDualCertificate}
 use Rattle.lp_definitions.specs.Basis.{is_in, basics_of, status_of, is_basic, IsBasis, IsAllowed, StandsAt, IsPointOf, Tableau, IsTableau, IsFixed, IsRightAt, price_at, objective_rate}
 use Rattle.lp_definitions.specs.declared.Status.{Status}
 use Rattle.lp_definitions.specs.declared.Status.TheVariants.{Bs, Ll, Ul, Fr}
@@ -17,7 +17,7 @@ use Rattle.lp_laws.proofs.Uniqueness.{is_in-basics_of}
 use Rattle.lp_laws.proofs.Optimal.{prices_prove}
 use Rattle.lp_laws.proofs.Duality.{best_by_prices}
 use Rattle.simplex_definitions.specs.Moves.{on_limit, on_limits, is_crossed, is_outside, is_fixed, rises_from, falls_from, lowers}
-use Rattle.simplex_definitions.specs.Path.{EndsOptimal, Ends, EndsAt, listed, worth_rate, mover}
+use Rattle.simplex_definitions.specs.Path.{EndsOptimal, Ends, EndsAt, listed, worth_rate, entering_variable}
 use Rattle.simplex_laws.specs.Laws.{IsNonsingularBasis, ProvedOptimal}
 use Rattle.simplex_laws.proofs.Numbered.{find_none, get_or-listed}
 use Rattle.simplex_laws.proofs.Turns.{IsSecondPhase, IsOptimalTurn, rule_of, optimal_turn}
@@ -103,8 +103,8 @@ module _ (p : LinearProgram) (s : List Status) (t : Tableau) (basis : IsBasis p 
       within : IsWithinLimits p t.point
       within k is = inside (status_of s k) (lower_of p k) (upper_of p k) (t.point k) (basis.allowed k is) (tab.is_point.placed k is) (uncrossed k is) (unbroken k is)
 
-  -- where no variable betters the objective, its rates are right
-  pub rates_right : mover p s t None ≡ None → (k : ℕ) → IsVariable p.matrix k → IsFixed p k ⊎ IsRightAt (status_of s k) (for_min p.sense (objective_rate p t.rate k))
+  -- where no variable improves the objective, its rates are right
+  pub rates_right : entering_variable p s t None ≡ None → (k : ℕ) → IsVariable p.matrix k → IsFixed p k ⊎ IsRightAt (status_of s k) (for_min p.sense (objective_rate p t.rate k))
   rates_right none k is =
       right (status_of s k) (lower_of p k) (upper_of p k) (worth_rate p s t k) (is_fixed p k) refl
       (find_none (lowers p s (worth_rate p s t)) (size p.matrix) 1 none k is.0 (omega (arith, is.1)))
@@ -139,8 +139,8 @@ optimal_end p s z y lawful at ends = record {
   };
   point = at_z;
   prices = record { rate = ends.tableau.rate; are_rates = ends.is_tableau.are_rates; prices = at_prices };
-  proving = proving;
-  best = best_by_prices p lawful (value_at z) (value_at y) (IsFeasible-same p ends.tableau.point (value_at z) (λ k is. sym (at_point k is)) at_feasible) proving;
+  certificate = certificate;
+  best = best_by_prices p lawful (value_at z) (value_at y) (IsFeasible-same p ends.tableau.point (value_at z) (λ k is. sym (at_point k is)) at_feasible) certificate;
 }
   where
     optimal : IsOptimalTurn p s ends.tableau (Ends (EndsOptimal z y))
@@ -167,5 +167,5 @@ optimal_end p s z y lawful at ends = record {
     at_z : IsPointOf p s (value_at z)
     at_z = is_point_same p s ends.tableau at.is_basis ends.is_tableau (value_at z) at_point
 
-    proving : AreProvingPrices p (value_at z) (value_at y)
-    proving = prices_prove p lawful s at.is_basis at.nonsingular ends.tableau.rate ends.is_tableau.are_rates (value_at z) (value_at y) at_z at_prices at_right
+    certificate : IsDualCertificate p (value_at z) (value_at y)
+    certificate = prices_prove p lawful s at.is_basis at.nonsingular ends.tableau.rate ends.is_tableau.are_rates (value_at z) (value_at y) at_z at_prices at_right

@@ -4,7 +4,7 @@ pub mod Motions
 pub mod Turns
 pub mod Ends
 pub mod Booleans
-pub mod Endless
+pub mod UnboundedEnds
 pub mod OneTurn
 pub mod Rays
 pub mod Steps

@@ -17,7 +17,7 @@ use Rattle.lp_definitions.specs.declared.Status.TheVariants.{Bs, Ll, Ul}
 use Rattle.lp_laws.specs.Vectors.{along}
 use Rattle.lp_laws.proofs.Equations.{KeepsEquations-along}
 use Rattle.lp_laws.proofs.Points.{IsPointOf-replaced}
-use Rattle.simplex_definitions.specs.Moves.{is_no_later, signed, room, reached, stopper}
+use Rattle.simplex_definitions.specs.Moves.{is_no_later, signed, step_length, reached, stopper}
 use Rattle.simplex_definitions.specs.Path.{speeds}
 use Rattle.simplex_laws.specs.Laws.{IsNonsingularBasis}
 use Rattle.simplex_laws.proofs.Stoppers.{stopper_some, reaches_limit}
@@ -134,8 +134,8 @@ module _ (p : LinearProgram) (t : Tableau) (q k : ℕ) (up : Bool) (stops : stop
   pub stopped_is : IsVariable p.matrix k
   stopped_is = (stopper_some p t.point (speeds t.rate up q) k stops).0
 
-  pub length_of : (x : ℚ) × (room p t.point (speeds t.rate up q) k ≡ Some x)
-  length_of = reaches_limit (room p t.point (speeds t.rate up q) k) (room p t.point (speeds t.rate up q) k) ((stopper_some p t.point (speeds t.rate up q) k stops).1 k stopped_is)
+  pub length_of : (x : ℚ) × (step_length p t.point (speeds t.rate up q) k ≡ Some x)
+  length_of = reaches_limit (step_length p t.point (speeds t.rate up q) k) (step_length p t.point (speeds t.rate up q) k) ((stopper_some p t.point (speeds t.rate up q) k stops).1 k stopped_is)
 
   module _ (feasible : IsFeasible p t.point) where
     pub comes : ComesTo (lower_of p k) (upper_of p k) (t.point k) (speeds t.rate up q k) length_of.0
@@ -150,7 +150,7 @@ module _ (p : LinearProgram) (t : Tableau) (q k : ℕ) (up : Bool) (stops : stop
         keeps = subst (KeepsEquations p.matrix) as_direction
             (KeepsEquations-along p.matrix t.point (signed up length_of.0) (λ i. t.rate i q) tab.is_point.keeps (tab.are_rates q enters).keeps);
         within = λ i is. moved_within (t.point i) (speeds t.rate up q i) length_of.0 comes.forward (lower_of p i) (upper_of p i) (feasible.within i is)
-            (subst (λ o. is_no_later o (room p t.point (speeds t.rate up q) i) ≡ true) length_of.1 ((stopper_some p t.point (speeds t.rate up q) k stops).1 i is));
+            (subst (λ o. is_no_later o (step_length p t.point (speeds t.rate up q) i) ≡ true) length_of.1 ((stopper_some p t.point (speeds t.rate up q) k stops).1 i is));
       }
 
       stands : StandsAt (reached (speeds t.rate up q) k) (lower_of p k) (upper_of p k) (along t.point length_of.0 (speeds t.rate up q) k)

@@ -8,10 +8,10 @@ use Rattle.lp_definitions.specs.Basis.{is_in, basics_of, status_of, is_basic, Is
 use Rattle.lp_definitions.specs.declared.Status.{Status}
 use Rattle.lp_definitions.specs.declared.Status.TheVariants.{Bs, Ll, Ul, Fr}
 use Rattle.lp_laws.proofs.Uniqueness.{is_in-basics_of}
-use Rattle.simplex_definitions.specs.Moves.{is_below, is_outside, is_fixed, rises_from, falls_from, lowers, entering, signed, goes_up, room, is_no_later, reaches_first, stopper, on_limit}
-use Rattle.simplex_definitions.specs.Path.{Moves, Ends, EndsOptimal, EndsInfeasible, EndsUnbounded, listed, ray_of, excess_rate, speeds, crossed, outside, worth_rate, mover, bring_back, run_until, better, turn_for, turn}
+use Rattle.simplex_definitions.specs.Moves.{is_below, is_outside, is_fixed, rises_from, falls_from, lowers, entering, signed, goes_up, step_length, is_no_later, reaches_first, stopper, on_limit}
+use Rattle.simplex_definitions.specs.Path.{Moves, Ends, EndsOptimal, EndsInfeasible, EndsUnbounded, listed, ray_of, excess_rate, speeds, crossed, outside, worth_rate, entering_variable, restore_feasibility, run_until, improve, turn_for, turn}
 use Rattle.simplex_laws.proofs.Numbered.{find_same, find_some, list_all_same, map_same}
-use Rattle.simplex_laws.proofs.Endless.{enters, objective_value-same}
+use Rattle.simplex_laws.proofs.UnboundedEnds.{enters, objective_value-same}
 
 -- two tableaus have the same values at the variables, and the same rates at the nonbasics
 pub record SameTableau (p : LinearProgram) (s : List Status) (t u : Tableau) : Type 0 where
@@ -53,21 +53,21 @@ pub listed_same : (a : Matrix) (v w : Vector) → ((k : ℕ) → IsVariable a k 
 listed_same a v w h = map_same v w (size a) 1 (λ k low high. h k (low, omega (arith, high)))
 
 -- the variable that stops a motion, from the values and the speeds at the variables
-room_at : LinearProgram → ℕ → ℚ → ℚ → Option ℚ
-room_at p k z v = option_map (λ l. (l -ℚ z) /ℚ v) (if lt_ℚ zero_ℚ v then upper_of p k else (if lt_ℚ v zero_ℚ then lower_of p k else None))
+step_length_at : LinearProgram → ℕ → ℚ → ℚ → Option ℚ
+step_length_at p k z v = option_map (λ l. (l -ℚ z) /ℚ v) (if lt_ℚ zero_ℚ v then upper_of p k else (if lt_ℚ v zero_ℚ then lower_of p k else None))
 
-room_same : (p : LinearProgram) (z y v w : Vector) (k : ℕ) → z k ≡ y k → v k ≡ w k → room p z v k ≡ room p y w k
-unfolding room_at
-room_same p z y v w k first second = ap₂ (room_at p k) first second
+step_length_same : (p : LinearProgram) (z y v w : Vector) (k : ℕ) → z k ≡ y k → v k ≡ w k → step_length p z v k ≡ step_length p y w k
+unfolding step_length_at
+step_length_same p z y v w k first second = ap₂ (step_length_at p k) first second
 
 pub stopper_same : (p : LinearProgram) (z y v w : Vector) → ((k : ℕ) → IsVariable p.matrix k → z k ≡ y k) → ((k : ℕ) → IsVariable p.matrix k → v k ≡ w k) → stopper p z v ≡ stopper p y w
 stopper_same p z y v w first second =
     find_same (reaches_first p z v) (reaches_first p y w) (size p.matrix) 1 (λ k low high.
-    list_all_same (λ i. is_no_later (room p z v k) (room p z v i)) (λ i. is_no_later (room p y w k) (room p y w i)) (size p.matrix) 1 (λ i from to.
-    ap₂ is_no_later (rooms k (low, omega (arith, high))) (rooms i (from, omega (arith, to)))))
+    list_all_same (λ i. is_no_later (step_length p z v k) (step_length p z v i)) (λ i. is_no_later (step_length p y w k) (step_length p y w i)) (size p.matrix) 1 (λ i from to.
+    ap₂ is_no_later (step_lengths k (low, omega (arith, high))) (step_lengths i (from, omega (arith, to)))))
   where
-    rooms : (k : ℕ) → IsVariable p.matrix k → room p z v k ≡ room p y w k
-    rooms k is = room_same p z y v w k (first k is) (second k is)
+    step_lengths : (k : ℕ) → IsVariable p.matrix k → step_length p z v k ≡ step_length p y w k
+    step_lengths k is = step_length_same p z y v w k (first k is) (second k is)
 
 module _ (p : LinearProgram) (s : List Status) (t u : Tableau) (lawful : IsLinearProgram p) (basis : IsBasis p s) (same : SameTableau p s t u) where
   pub outside_same : outside p s t ≡ outside p s u
@@ -97,7 +97,7 @@ module _ (p : LinearProgram) (s : List Status) (t u : Tableau) (lawful : IsLinea
       at false true e = refl
       at false false e = ap (signed below) (same.rates r k found (is, e))
 
-  pub back_same : (r : ℕ) → IsVariable p.matrix r → (o : Option ℕ) → bring_back p s t r o ≡ bring_back p s u r o
+  pub back_same : (r : ℕ) → IsVariable p.matrix r → (o : Option ℕ) → restore_feasibility p s t r o ≡ restore_feasibility p s u r o
   back_same r is (Some q) = ap (λ b. Moves (record { enters = q; leaves = r; to = if b then Ll else Ul })) (below_same r is)
   back_same r is None =
       ap (λ b. Ends (EndsInfeasible (listed p.matrix (ray_of (basics_of s) t.rate r b)))) (below_same r is)
@@ -110,12 +110,12 @@ module _ (p : LinearProgram) (s : List Status) (t u : Tableau) (lawful : IsLinea
   speeds_same : (q : ℕ) → IsNonbasic p.matrix (basics_of s) q → (k : ℕ) → IsVariable p.matrix k → speeds t.rate (goes_up (worth_rate p s t) q) q k ≡ speeds u.rate (goes_up (worth_rate p s u) q) q k
   speeds_same q out k is = ap₂ (λ r v. signed (lt_ℚ r zero_ℚ) v) (worth_same q out) (same.rates k q is out)
 
-  pub better_same : (o : Option ℕ) → ((q : ℕ) → o ≡ Some q → IsNonbasic p.matrix (basics_of s) q) → better p s t o ≡ better p s u o
-  better_same (Some q) out =
+  pub improve_same : (o : Option ℕ) → ((q : ℕ) → o ≡ Some q → IsNonbasic p.matrix (basics_of s) q) → improve p s t o ≡ improve p s u o
+  improve_same (Some q) out =
       let h = speeds_same q (out q refl) in
       ap (run_until p s t q (speeds t.rate (goes_up (worth_rate p s t) q) q)) (stopper_same p t.point u.point _ _ same.points h)
       ∙ run_same q _ _ h (stopper p u.point (speeds u.rate (goes_up (worth_rate p s u) q) q)) (λ k e. let f = find_some _ (size p.matrix) 1 k e in (f.low, omega (arith, f.high)))
-  better_same None out = ap₂ (λ xs ys. Ends (EndsOptimal xs ys)) (listed_same p.matrix t.point u.point same.points) (listed_same p.matrix _ _ prices_same)
+  improve_same None out = ap₂ (λ xs ys. Ends (EndsOptimal xs ys)) (listed_same p.matrix t.point u.point same.points) (listed_same p.matrix _ _ prices_same)
 
   pub excess_same : (r : ℕ) → IsVariable p.matrix r → (q : ℕ) → IsNonbasic p.matrix (basics_of s) q → excess_rate t.rate r (is_below p t.point r) q ≡ excess_rate u.rate r (is_below p u.point r) q
   excess_same r is q out = ap₂ (λ b v. signed (not b) v) (below_same r is) (same.rates r q is out)
@@ -123,11 +123,11 @@ module _ (p : LinearProgram) (s : List Status) (t u : Tableau) (lawful : IsLinea
   turns_same : (c o : Option ℕ) → ((r : ℕ) → o ≡ Some r → IsVariable p.matrix r) → turn_for p s t c o ≡ turn_for p s u c o
   turns_same (Some k) o found = refl
   turns_same None (Some r) found =
-      back_same r (found r refl) (mover p s t (Some r))
-      ∙ ap (bring_back p s u r) (entering_same p s basis _ _ (excess_same r (found r refl)))
+      back_same r (found r refl) (entering_variable p s t (Some r))
+      ∙ ap (restore_feasibility p s u r) (entering_same p s basis _ _ (excess_same r (found r refl)))
   turns_same None None found =
-      better_same (mover p s t None) (λ q e. (enters p s (worth_rate p s t) q basis e).nonbasic)
-      ∙ ap (better p s u) (entering_same p s basis _ _ worth_same)
+      improve_same (entering_variable p s t None) (λ q e. (enters p s (worth_rate p s t) q basis e).nonbasic)
+      ∙ ap (improve p s u) (entering_same p s basis _ _ worth_same)
 
   pub turn_same : turn p s t ≡ turn p s u
   unfolding turn

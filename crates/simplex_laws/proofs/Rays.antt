@@ -25,9 +25,9 @@ use Rattle.lp_laws.proofs.Uniqueness.{is_in-basics_of}
 use Rattle.lp_laws.proofs.Combination.{multiplier_vanishes}
 use Rattle.lp_laws.proofs.Rays.{ray_above, ray_below}
 use Rattle.simplex_definitions.specs.Moves.{is_below, is_outside, is_fixed, lowers, signed, on_limit}
-use Rattle.simplex_definitions.specs.Path.{EndsInfeasible, Ends, EndsAt, listed, ray_of, excess_rate, mover}
+use Rattle.simplex_definitions.specs.Path.{EndsInfeasible, Ends, EndsAt, listed, ray_of, excess_rate, entering_variable}
 use Rattle.simplex_laws.proofs.Numbered.{find_some, find_none, IsFound}
-use Rattle.simplex_laws.proofs.Turns.{IsFirstPhase, IsStuckTurn, rule_of, stuck_turn}
+use Rattle.simplex_laws.proofs.Turns.{IsFirstPhase, IsInfeasibleTurn, rule_of, infeasible_turn}
 use Rattle.simplex_laws.proofs.Ends.{right, value_at-listed}
 
 -- ---- multipliers that meet limits
@@ -186,21 +186,21 @@ IsRay-same p w v same h = record {
 }
 
 -- in a first phase that is stuck
-stuck_ray : (p : LinearProgram) (s : List Status) (t : Tableau) → IsBasis p s → IsNonsingular p.matrix (basics_of s) → IsTableau p s t → (r : ℕ) → IsFirstPhase p s t r →
-    mover p s t (Some r) ≡ None → IsRay p (ray_of (basics_of s) t.rate r (is_below p t.point r))
-stuck_ray p s t basis one tab r phase stuck = ray_is p s t basis one tab r (is_below p t.point r) (broken_basic p s t r phase) (broken_limit p s t r phase) idle
+infeasible_ray : (p : LinearProgram) (s : List Status) (t : Tableau) → IsBasis p s → IsNonsingular p.matrix (basics_of s) → IsTableau p s t → (r : ℕ) → IsFirstPhase p s t r →
+    entering_variable p s t (Some r) ≡ None → IsRay p (ray_of (basics_of s) t.rate r (is_below p t.point r))
+infeasible_ray p s t basis one tab r phase infeasible_ending = ray_is p s t basis one tab r (is_below p t.point r) (broken_basic p s t r phase) (broken_limit p s t r phase) idle
   where
     idle : (k : ℕ) → IsVariable p.matrix k → IsFixed p k ⊎ IsRightAt (status_of s k) (excess_rate t.rate r (is_below p t.point r) k)
     idle k is =
         right (status_of s k) (lower_of p k) (upper_of p k) (excess_rate t.rate r (is_below p t.point r) k) (is_fixed p k) refl
-        (find_none (lowers p s (excess_rate t.rate r (is_below p t.point r))) (size p.matrix) 1 stuck k is.0 (omega (arith, is.1)))
+        (find_none (lowers p s (excess_rate t.rate r (is_below p t.point r))) (size p.matrix) 1 infeasible_ending k is.0 (omega (arith, is.1)))
 
 -- an infeasible end: its ray is a proof
 pub infeasible_end : (p : LinearProgram) (s : List Status) (w : List ℚ) → IsBasis p s → IsNonsingular p.matrix (basics_of s) → EndsAt p s (EndsInfeasible w) → IsRay p (value_at w)
-infeasible_end p s w basis one ends = IsRay-same p ray_at (value_at w) at (stuck_ray p s ends.tableau basis one ends.is_tableau turn.0 turn.1.phase turn.1.moves)
+infeasible_end p s w basis one ends = IsRay-same p ray_at (value_at w) at (infeasible_ray p s ends.tableau basis one ends.is_tableau turn.0 turn.1.phase turn.1.moves)
   where
-    turn : (r : ℕ) × IsStuckTurn p s ends.tableau (Ends (EndsInfeasible w)) r
-    turn = stuck_turn p s ends.tableau w (rule_of p s ends.tableau (Ends (EndsInfeasible w)) ends.turns)
+    turn : (r : ℕ) × IsInfeasibleTurn p s ends.tableau (Ends (EndsInfeasible w)) r
+    turn = infeasible_turn p s ends.tableau w (rule_of p s ends.tableau (Ends (EndsInfeasible w)) ends.turns)
 
     ray_at : Vector
     ray_at = ray_of (basics_of s) ends.tableau.rate turn.0 (is_below p ends.tableau.point turn.0)

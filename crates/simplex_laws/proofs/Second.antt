@@ -14,9 +14,9 @@ use Rattle.simplex_definitions.specs.Moves.{is_below, goes_up, reached}
 use Rattle.simplex_definitions.specs.Path.{Move, Moves, after, IsStep, IsPath, last_of, worth_rate}
 use Rattle.simplex_laws.specs.Laws.{IsNonsingularBasis, IsNoWorse}
 use Rattle.simplex_laws.proofs.Motions.{length_of, comes, moved_feasible, moved_point}
-use Rattle.simplex_laws.proofs.Turns.{IsStoppedTurn, MovingRule, brings, stops, bettering, moving_turn, rule_of}
+use Rattle.simplex_laws.proofs.Turns.{IsStoppedTurn, MovingRule, brings, stops, improving, moving_turn, rule_of}
 use Rattle.simplex_laws.proofs.Ends.{feasible, low_of, high_of, IsFeasible-same}
-use Rattle.simplex_laws.proofs.Endless.{IsEntering, enters, bettering_betters, objective_value-same}
+use Rattle.simplex_laws.proofs.UnboundedEnds.{IsEntering, enters, improving_improves, objective_value-same}
 use Rattle.simplex_laws.proofs.Steps.{step_leads}
 use Rattle.simplex_laws.proofs.Rays.{Breaks, breaks_lower, breaks_upper, broken_basic, broken_limit}
 
@@ -41,18 +41,18 @@ module _ (p : LinearProgram) (s : List Status) (t : Tableau) (at : IsNonsingular
   length = (length_of p t q k (goes_up (worth_rate p s t) q) turn.stops).0
 
   abbrev moved : Vector
-  moved = along t.point length (bettering p s t q)
+  moved = along t.point length (improving p s t q)
 
   no_worse : for_min p.sense (objective_value p moved) ≤ℚ for_min p.sense (objective_value p t.point)
   no_worse =
-      subst (λ y. y ≤ℚ for_min p.sense (objective_value p t.point)) (sym (for_min-along p t.point length (bettering p s t q)))
-      (le_by_product (comes p t q k up turn.stops from_feasible).forward (le_of_lt (bettering_betters p s t at.is_basis tab q entered))
-      (by_ring3 (for_min p.sense (objective_value p t.point)) length (for_min p.sense (objective_value p (bettering p s t q))) (λ z x d. z ≐ (z ⊕ x ⊗ d) ⊕ (x ⊖ number (pos 0)) ⊗ (number (pos 0) ⊖ d)) refl))
+      subst (λ y. y ≤ℚ for_min p.sense (objective_value p t.point)) (sym (for_min-along p t.point length (improving p s t q)))
+      (le_by_product (comes p t q k up turn.stops from_feasible).forward (le_of_lt (improving_improves p s t at.is_basis tab q entered))
+      (by_ring3 (for_min p.sense (objective_value p t.point)) length (for_min p.sense (objective_value p (improving p s t q))) (λ z x d. z ≐ (z ⊕ x ⊗ d) ⊕ (x ⊖ number (pos 0)) ⊗ (number (pos 0) ⊖ d)) refl))
 
   stopped_step : IsLinearProgram p → (z : Vector) → ((i : ℕ) → IsVariable p.matrix i → t.point i ≡ z i) → (w : Vector) × IsNoWorse p (after s m) z w
   stopped_step lawful z same =
       let e = turn.gives in
-      let is : m ≡ record { enters = q; leaves = k; to = reached (bettering p s t q) k } = cc in (
+      let is : m ≡ record { enters = q; leaves = k; to = reached (improving p s t q) k } = cc in (
         moved,
         record {
           point = subst (λ n. IsPointOf p (after s n) moved) (sym is) (moved_point p t q k up turn.stops from_feasible s at tab entered.nonbasic);

@@ -17,12 +17,12 @@ use Rattle.lp_laws.proofs.Values.{clash}
 use Rattle.lp_laws.proofs.Exchange.{IsNonsingular-exchanged, AreRates-exchanged}
 use Rattle.lp_laws.proofs.Statuses.{basics_of-replaced, basics_of-flipped, status_of_basic, status_of_nonbasic, IsBasis-replaced, IsBasis-flipped, IsBasis-opening, basics_of-opening}
 use Rattle.lp_laws.proofs.Opening.{IsNonsingular-row_basics}
-use Rattle.simplex_definitions.specs.Moves.{is_below, signed, goes_up, limit_ahead, room, reached, stopper}
+use Rattle.simplex_definitions.specs.Moves.{is_below, signed, goes_up, limit_ahead, step_length, reached, stopper}
 use Rattle.simplex_definitions.specs.Path.{Move, Moves, after, speeds, IsStep, excess_rate, worth_rate}
 use Rattle.simplex_laws.specs.Laws.{IsNonsingularBasis}
 use Rattle.simplex_laws.proofs.Stoppers.{stopper_some, reaches_limit}
-use Rattle.simplex_laws.proofs.Turns.{IsFirstPhase, IsBroughtTurn, IsStoppedTurn, MovingRule, brings, stops, moving_turn, bettering, rule_of}
-use Rattle.simplex_laws.proofs.Endless.{IsEntering, enters}
+use Rattle.simplex_laws.proofs.Turns.{IsFirstPhase, IsBroughtTurn, IsStoppedTurn, MovingRule, brings, stops, moving_turn, improving, rule_of}
+use Rattle.simplex_laws.proofs.UnboundedEnds.{IsEntering, enters}
 use Rattle.simplex_laws.proofs.Rays.{Breaks, breaks_lower, breaks_upper, broken_basic, broken_limit}
 
 -- the variable may stand at that limit, which it has
@@ -112,7 +112,7 @@ ahead_some (Some l) z v x e = (l, refl)
 stopper_ahead : (p : LinearProgram) (z v : Vector) (k : ℕ) → stopper p z v ≡ Some k → IsAhead (lower_of p k) (upper_of p k) (v k) (reached v k)
 stopper_ahead p z v k e =
     let first = stopper_some p z v k e in
-    let reach = reaches_limit (room p z v k) (room p z v k) (first.1 k first.0) in
+    let reach = reaches_limit (step_length p z v k) (step_length p z v k) (first.1 k first.0) in
     let limit = ahead_some (limit_ahead p v k) (z k) (v k) reach.0 reach.1 in
     is_ahead (lower_of p k) (upper_of p k) (v k) limit.0 (lt_ℚ zero_ℚ (v k)) (lt_ℚ (v k) zero_ℚ) refl refl limit.1
 
@@ -173,7 +173,7 @@ module _ (p : LinearProgram) (s : List Status) (t : Tableau) (basis : IsBasis p 
   stopped_leads : (m : Move) (q k : ℕ) → IsStoppedTurn p s t (Moves m) q k → LeadsTo p (after s m)
   stopped_leads m q k h =
       let e = h.gives in
-      let is : m ≡ record { enters = q; leaves = k; to = reached (bettering p s t q) k } = cc in
+      let is : m ≡ record { enters = q; leaves = k; to = reached (improving p s t q) k } = cc in
       subst (λ m. LeadsTo p (after s m)) (sym is)
       (motion_leads p s t basis one tab q k (goes_up (worth_rate p s t) q) (enters p s (worth_rate p s t) q basis h.moves).nonbasic h.stops)
 

@@ -6,7 +6,7 @@ use Rattle.exact_values.proofs.Order.{le_refl, le_trans, le_total}
 use Rattle.exact_values.proofs.Tests_laws.{le_from_test, test_from_le}
 use Rattle.lp_definitions.specs.LinearProgram.{LinearProgram, Vector, IsVariable, size}
 use Rattle.lp_laws.proofs.Values.{clash}
-use Rattle.simplex_definitions.specs.Moves.{is_no_later, reaches_first, room, stopper}
+use Rattle.simplex_definitions.specs.Moves.{is_no_later, reaches_first, step_length, stopper}
 use Rattle.simplex_laws.proofs.Numbered.{find_none, find_some, list_all_from, list_all_true, from_first}
 
 no_later-trans : (a b c : Option ℚ) → is_no_later a b ≡ true → is_no_later b c ≡ true → is_no_later a c ≡ true
@@ -76,21 +76,21 @@ module _ (f : ℕ → Option ℚ) where
       by_first (Some a) is (inr one) = by_second a is one.0 one.1 (value_of one.0 one.1)
 
 -- where nothing stops a motion, no variable has a limit ahead
-pub stopper_none : (p : LinearProgram) (z v : Vector) → stopper p z v ≡ None → (k : ℕ) → IsVariable p.matrix k → room p z v k ≡ None
+pub stopper_none : (p : LinearProgram) (z v : Vector) → stopper p z v ≡ None → (k : ℕ) → IsVariable p.matrix k → step_length p z v k ≡ None
 unfolding NoneReaches
-stopper_none p z v none k is = by_least (least_of (room p z v) (size p.matrix) 1)
+stopper_none p z v none k is = by_least (least_of (step_length p z v) (size p.matrix) 1)
   where
-    by_least : ((NoneReaches (room p z v) (size p.matrix) 1) ⊎ ((k : ℕ) × IsLeastOf (room p z v) (size p.matrix) 1 k)) → room p z v k ≡ None
+    by_least : ((NoneReaches (step_length p z v) (size p.matrix) 1) ⊎ ((k : ℕ) × IsLeastOf (step_length p z v) (size p.matrix) 1 k)) → step_length p z v k ≡ None
     by_least (inl all_none) = all_none k is.0 (omega (arith, is.1))
     by_least (inr one) =
-        let passes : reaches_first p z v one.0 ≡ true = list_all_from (λ i. is_no_later (room p z v one.0) (room p z v i)) (size p.matrix) 1 one.1.no_later in
+        let passes : reaches_first p z v one.0 ≡ true = list_all_from (λ i. is_no_later (step_length p z v one.0) (step_length p z v i)) (size p.matrix) 1 one.1.no_later in
         let fails : reaches_first p z v one.0 ≡ false = find_none (reaches_first p z v) (size p.matrix) 1 none one.0 one.1.low one.1.high in
         absurd (clash (sym passes ∙ fails))
 
 -- what stops a motion reaches its limit, and no variable reaches one sooner
-pub stopper_some : (p : LinearProgram) (z v : Vector) (k : ℕ) → stopper p z v ≡ Some k → IsVariable p.matrix k × ((i : ℕ) → IsVariable p.matrix i → is_no_later (room p z v k) (room p z v i) ≡ true)
+pub stopper_some : (p : LinearProgram) (z v : Vector) (k : ℕ) → stopper p z v ≡ Some k → IsVariable p.matrix k × ((i : ℕ) → IsVariable p.matrix i → is_no_later (step_length p z v k) (step_length p z v i) ≡ true)
 stopper_some p z v k e =
     let found = find_some (reaches_first p z v) (size p.matrix) 1 k e in (
       (found.low, omega (arith, found.high)),
-      λ i is. list_all_true (λ i. is_no_later (room p z v k) (room p z v i)) (size p.matrix) 1 found.passes i is.0 (omega (arith, is.1)),
+      λ i is. list_all_true (λ i. is_no_later (step_length p z v k) (step_length p z v i)) (size p.matrix) 1 found.passes i is.0 (omega (arith, is.1)),
     )

@@ -7,10 +7,10 @@
 use Rattle.std.specs.Prelude.{◌≡◌, ℕ, ◌≤◌, ◌<◌, ◌⊎◌, Bool, true, false, Some, None, List, length}
 use Rattle.exact_values.specs.Rational.{ℚ, ◌≤ℚ◌}
 use Rattle.lp_definitions.specs.LinearProgram.{LinearProgram, Vector, value_at, for_min, objective_value, IsVariable, IsLinearProgram}
-use Rattle.lp_definitions.specs.Solutions.{IsFeasible, IsBest, AreProvingPrices, IsCrossed, IsRay, ProvesUnbounded}
+use Rattle.lp_definitions.specs.Solutions.{IsFeasible, IsBest, IsDualCertificate, IsCrossed, IsRay, ProvesUnbounded}
 use Rattle.lp_definitions.specs.Basis.{basics_of, IsBasis, IsNonsingular, IsOptimalBasis, IsPointOf, ArePricesOf, Tableau, IsTableau, opening_statuses}
 use Rattle.lp_definitions.specs.declared.Status.{Status}
-use Rattle.simplex_definitions.specs.Moves.{least, is_no_later, room, stopper}
+use Rattle.simplex_definitions.specs.Moves.{least, is_no_later, step_length, stopper}
 use Rattle.simplex_definitions.specs.Path.{PathEnding, EndsOptimal, EndsCrossed, EndsInfeasible, EndsUnbounded, turn, Rule, RulePathEnds, IsStep, EndsAt, IsPath, last_of, PathEnds, GoesOnFor}
 
 pub record IsNonsingularBasis (p : LinearProgram) (s : List Status) : Type 0 where
@@ -22,7 +22,7 @@ pub record ProvedOptimal (p : LinearProgram) (s : List Status) (z y : List ℚ) 
   pub optimal : IsOptimalBasis p s
   pub point : IsPointOf p s (value_at z)
   pub prices : ArePricesOf p s (value_at y)
-  pub proving : AreProvingPrices p (value_at z) (value_at y)
+  pub certificate : IsDualCertificate p (value_at z) (value_at y)
   pub best : IsBest p (value_at z)
 
 pub record EndLaws : Type 0 where
@@ -87,8 +87,8 @@ pub record SearchLaws : Type 0 where
   pub least_none : (p : LinearProgram) (test : ℕ → Bool) → ((k : ℕ) → IsVariable p.matrix k → test k ≡ false) → least p test ≡ None
   pub none_passes : (p : LinearProgram) (test : ℕ → Bool) → least p test ≡ None → (k : ℕ) → IsVariable p.matrix k → test k ≡ false
   pub found_passes : (p : LinearProgram) (test : ℕ → Bool) (k : ℕ) → least p test ≡ Some k → IsVariable p.matrix k × (test k ≡ true)
-  pub stopper_is : (p : LinearProgram) (z v : Vector) (k : ℕ) → IsVariable p.matrix k → ((i : ℕ) → IsVariable p.matrix i → is_no_later (room p z v k) (room p z v i) ≡ true) →
-      ((j : ℕ) → 1 ≤ j → j < k → is_no_later (room p z v j) (room p z v k) ≡ false) → stopper p z v ≡ Some k
-  pub stopper_nothing : (p : LinearProgram) (z v : Vector) → ((k : ℕ) → IsVariable p.matrix k → room p z v k ≡ None) → stopper p z v ≡ None
-  pub stopper_none : (p : LinearProgram) (z v : Vector) → stopper p z v ≡ None → (k : ℕ) → IsVariable p.matrix k → room p z v k ≡ None
-  pub stopper_some : (p : LinearProgram) (z v : Vector) (k : ℕ) → stopper p z v ≡ Some k → IsVariable p.matrix k × ((i : ℕ) → IsVariable p.matrix i → is_no_later (room p z v k) (room p z v i) ≡ true)
+  pub stopper_is : (p : LinearProgram) (z v : Vector) (k : ℕ) → IsVariable p.matrix k → ((i : ℕ) → IsVariable p.matrix i → is_no_later (step_length p z v k) (step_length p z v i) ≡ true) →
+      ((j : ℕ) → 1 ≤ j → j < k → is_no_later (step_length p z v j) (step_length p z v k) ≡ false) → stopper p z v ≡ Some k
+  pub stopper_nothing : (p : LinearProgram) (z v : Vector) → ((k : ℕ) → IsVariable p.matrix k → step_length p z v k ≡ None) → stopper p z v ≡ None
+  pub stopper_none : (p : LinearProgram) (z v : Vector) → stopper p z v ≡ None → (k : ℕ) → IsVariable p.matrix k → step_length p z v k ≡ None
+  pub stopper_some : (p : LinearProgram) (z v : Vector) (k : ℕ) → stopper p z v ≡ Some k → IsVariable p.matrix k × ((i : ℕ) → IsVariable p.matrix i → is_no_later (step_length p z v k) (step_length p z v i) ≡ true)

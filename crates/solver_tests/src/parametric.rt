@@ -154,7 +154,7 @@ const TWO_INTERVALS: &[u8] =
 const FREE_COLUMN: &[u8] =
     b"NAME          T         FREE\nROWS\n N COST\n N CHANGE\n G R3\nCOLUMNS\n X CHANGE 1 R3 1\n Y COST 0\n Z COST 0\nRHS\n B R3 -3\nBOUNDS\n FR S X\n FX S Y 0\n FX S Z 0\nENDATA\n";
 
-/// The least (1 - theta) (x + y + z), where x <= 1, y <= 2, z <= 3 and r3 = x + y + z <= 5. All three move at the break 1: x rises to
+/// The least (1 - theta) (x + y + z), where x <= 1, y <= 2, z <= 3 and r3 = x + y + z <= 5. All three move at the breakpoint 1: x rises to
 /// 1, y to 2, and z until r3 is 5. Then the objective is (1 - theta) r3.
 const THREE_MOVERS: &[u8] =
     b"NAME          T         FREE\nROWS\n N COST\n N CHANGE\n L R3\nCOLUMNS\n X COST 1 CHANGE -1\n X R3 1\n Y COST 1 CHANGE -1\n Y R3 1\n Z COST 1 CHANGE -1\n Z R3 1\nRHS\n B R3 5\nBOUNDS\n UP S X 1\n UP S Y 2\n UP S Z 3\nENDATA\n";
@@ -164,11 +164,11 @@ const GREATEST: &[u8] =
     b"NAME          T         FREE\nROWS\n N COST\n N CHANGE\n N R3\nCOLUMNS\n X COST -1 CHANGE 1\n Y COST 0\n Z COST 0\nBOUNDS\n UP S X 3\n FX S Y 0\n FX S Z 0\nENDATA\n";
 
 /// The least (1 - theta) x, where x >= 0: past theta = 1 there is no bound, as x rises from 0.
-const ENDLESS: &[u8] =
+const UNBOUNDED: &[u8] =
     b"NAME          T         FREE\nROWS\n N COST\n N CHANGE\n N R3\nCOLUMNS\n X COST 1 CHANGE -1\n Y COST 0\n Z COST 0\nBOUNDS\n FX S Y 0\n FX S Z 0\nENDATA\n";
 
 /// The least -x, where x >= 0, has no bound at theta = 0 already.
-const ENDLESS_AT_ONCE: &[u8] =
+const UNBOUNDED_AT_ONCE: &[u8] =
     b"NAME          T         FREE\nROWS\n N COST\n N CHANGE\n N R3\nCOLUMNS\n X COST -1\n Y COST 0\n Z COST 0\nBOUNDS\n FX S Y 0\n FX S Z 0\nENDATA\n";
 
 // In those of the right-hand side COST and the second row, r2, have the numbers 1 and 2, and X and Y 3 and 4.
@@ -196,7 +196,7 @@ const AT_LEAST_FIVE: &[u8] =
     b"NAME          T         FREE\nROWS\n N COST\n G R2\nCOLUMNS\n X COST 1 R2 1\n Y COST 0\nRHS\n B R2 5\nBOUNDS\n UP S X 3\n FX S Y 0\nENDATA\n";
 
 /// The least -x, where x >= 0, has no bound.
-const ENDLESS_COLUMN: &[u8] =
+const UNBOUNDED_COLUMN: &[u8] =
     b"NAME          T         FREE\nROWS\n N COST\n N R2\nCOLUMNS\n X COST -1\n Y COST 0\nBOUNDS\n FX S Y 0\nENDATA\n";
 
 /// A run that may take so many steps while theta goes from one value to another, and what it comes to.
@@ -300,7 +300,7 @@ const RUNS: [Run; 20] = [
     },
     Run {
         name: "a run that ends without bound",
-        deck: ENDLESS,
+        deck: UNBOUNDED,
         sense: Sense::Min,
         change: Change::Objective,
         from: 0,
@@ -310,7 +310,7 @@ const RUNS: [Run; 20] = [
     },
     Run {
         name: "an objective without bound",
-        deck: ENDLESS_AT_ONCE,
+        deck: UNBOUNDED_AT_ONCE,
         sense: Sense::Min,
         change: Change::Objective,
         from: 0,
@@ -410,7 +410,7 @@ const RUNS: [Run; 20] = [
     },
     Run {
         name: "an opening without bound",
-        deck: ENDLESS_COLUMN,
+        deck: UNBOUNDED_COLUMN,
         sense: Sense::Min,
         change: Change::Limits,
         from: 0,

@@ -18,19 +18,19 @@ use std::test::Fail;
 #[derive(Drop)]
 enum End {
     Found(Outcome),
-    Told(String),
+    Reported(String),
 }
 
 /// What a path that isn't ended says.
-fn told(alloc: Global, text: &str) -> Result<End, Fail> {
-    Ok(End::Told(String::from_str(alloc, text)?))
+fn reported(alloc: Global, text: &str) -> Result<End, Fail> {
+    Ok(End::Reported(String::from_str(alloc, text)?))
 }
 
 fn primal_end(alloc: Global, answer: Result<Outcome, PrimalStop>) -> Result<End, Fail> {
     match answer {
         Ok(outcome) => Ok(End::Found(outcome)),
-        Err(PrimalStop::Limit) => told(alloc, "LIMIT"),
-        Err(PrimalStop::Overflow(evidence)) => Ok(End::Told(evidence_text(alloc, &evidence)?)),
+        Err(PrimalStop::Limit) => reported(alloc, "LIMIT"),
+        Err(PrimalStop::Overflow(evidence)) => Ok(End::Reported(evidence_text(alloc, &evidence)?)),
         Err(PrimalStop::NoMemory) => Err(Fail::from("memory")),
     }
 }
@@ -38,7 +38,7 @@ fn primal_end(alloc: Global, answer: Result<Outcome, PrimalStop>) -> Result<End,
 fn free_end(alloc: Global, answer: Result<Outcome, Stop>) -> Result<End, Fail> {
     match answer {
         Ok(outcome) => Ok(End::Found(outcome)),
-        Err(Stop::Overflow(evidence)) => Ok(End::Told(evidence_text(alloc, &evidence)?)),
+        Err(Stop::Overflow(evidence)) => Ok(End::Reported(evidence_text(alloc, &evidence)?)),
         Err(Stop::NoMemory) => Err(Fail::from("memory")),
     }
 }
@@ -47,10 +47,10 @@ fn dual_end(alloc: Global, answer: Result<Outcome, DualStop>) -> Result<End, Fai
     match answer {
         Ok(outcome) => Ok(End::Found(outcome)),
         Err(DualStop::NotDualFeasible(k)) => {
-            Ok(End::Told(format!(in alloc; "WRONG PRICE {k}")?))
+            Ok(End::Reported(format!(in alloc; "WRONG PRICE {k}")?))
         }
-        Err(DualStop::Limit) => told(alloc, "LIMIT"),
-        Err(DualStop::Overflow(evidence)) => Ok(End::Told(evidence_text(alloc, &evidence)?)),
+        Err(DualStop::Limit) => reported(alloc, "LIMIT"),
+        Err(DualStop::Overflow(evidence)) => Ok(End::Reported(evidence_text(alloc, &evidence)?)),
         Err(DualStop::NoMemory) => Err(Fail::from("memory")),
     }
 }
@@ -145,7 +145,7 @@ fn end_text(alloc: Global, lp: &Lp, end: End) -> Result<String, Fail> {
             }
             Ok(outcome_text(alloc, &outcome)?)
         }
-        End::Told(text) => Ok(text),
+        End::Reported(text) => Ok(text),
     }
 }
 
@@ -168,7 +168,7 @@ const FREE_COLUMN: &[u8] =
 const CROSSED: &[u8] =
     b"NAME          T         FREE\nROWS\n N COST\n N LIM\nCOLUMNS\n X COST 1 LIM 1\nBOUNDS\n UP S X -1\nENDATA\n";
 
-const ENDLESS: &[u8] =
+const UNBOUNDED: &[u8] =
     b"NAME          T         FREE\nROWS\n N COST\n G LIM\nCOLUMNS\n X COST -1 LIM 1\nENDATA\n";
 
 /// COST, two rows with the value of X, and X have the numbers 1 to 4.
@@ -352,7 +352,7 @@ const PATHS: [Path; 33] = [
     },
     Path {
         name: "a direction without end",
-        deck: ENDLESS,
+        deck: UNBOUNDED,
         sense: Sense::Min,
         way: Way::Table,
         limit: 0,

@@ -144,8 +144,8 @@ fn cost_row(alloc: Global, lp: &Lp, file: &EtaFile) -> Result<String, Fail>
         return Err(Fail::from("no basic"));
     }
     let mut out = vec![in alloc; Frac::whole(0); size as usize]?;
-    let mut room = PriceRow::new(alloc, lp)?;
-    room.row(file, 1, &mut out)?;
+    let mut workspace = PriceRow::new(alloc, lp)?;
+    workspace.row(file, 1, &mut out)?;
     Ok(values_text(alloc, &out)?)
 }
 

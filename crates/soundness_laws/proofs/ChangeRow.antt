@@ -10,7 +10,7 @@ use Rattle.problem_definitions.specs.Valid.{IsProblem}
 use Rattle.selection_definitions.specs.Choice.{Choice}
 use Rattle.selection_definitions.specs.Selection.{selected}
 use Rattle.question_definitions.specs.Answers.{Sheet, Changing, Row as RowChange, Set, changing_name}
-use Rattle.soundness_laws.specs.Sweeps.{ChangesFreely}
+use Rattle.soundness_laws.specs.ParametricRuns.{ChangesFreely}
 use Rattle.exact_values.specs.Rational.{ℚ}
 use Rattle.exact_values.specs.Tests.{lt_ℚ}
 use Rattle.run_definitions.specs.Verbs.{change_row, change_set, not_less}

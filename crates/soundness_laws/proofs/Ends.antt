@@ -2,7 +2,7 @@
 use Rattle.std.proofs.Common.{◌≡◌, ℕ, List, refl, sym, subst, ◌∙◌}
 use Rattle.exact_values.specs.Rational.{ℚ}
 use Rattle.lp_definitions.specs.LinearProgram.{LinearProgram, Vector, value_at, objective_value, IsLinearProgram}
-use Rattle.lp_definitions.specs.Solutions.{IsBest, AreProvingPrices, by_crossed, by_ray}
+use Rattle.lp_definitions.specs.Solutions.{IsBest, IsDualCertificate, by_crossed, by_ray}
 use Rattle.lp_definitions.specs.Basis.{basics_of, Tableau, IsTableau, IsOptimalBasis, price_at}
 use Rattle.lp_laws.proofs.Uniqueness.{one_point, one_table}
 use Rattle.lp_laws.proofs.Optimal.{prices_prove_optimal, best_by_basis}
@@ -11,7 +11,7 @@ use Rattle.simplex_definitions.specs.Path.{PathEnding, Ends, EndsOptimal, EndsCr
 use Rattle.simplex_laws.specs.Laws.{IsNonsingularBasis}
 use Rattle.simplex_laws.proofs.Turns.{IsOptimalTurn, rule_of, optimal_turn}
 use Rattle.simplex_laws.proofs.Ends.{feasible, rates_right, optimal_end}
-use Rattle.simplex_laws.proofs.Endless.{crossed_end, unbounded_end}
+use Rattle.simplex_laws.proofs.UnboundedEnds.{crossed_end, unbounded_end}
 use Rattle.simplex_laws.proofs.Rays.{infeasible_end}
 use Rattle.simplex_laws.proofs.OneTurn.{SameTableau, turn_same}
 use Rattle.simplex_laws.proofs.OnePath.{path_leads}
@@ -20,10 +20,10 @@ use Rattle.question_definitions.specs.Answers.{Basis, Sheet}
 use Rattle.answer_definitions.specs.Verdicts.{verdict_of}
 use Rattle.soundness_laws.specs.Truth.{IsTrueOf}
 
--- the point is feasible and no feasible one betters it, and the prices prove that
+-- the point is feasible and no feasible one improves it, and the prices prove that
 pub record IsProvedBest (p : LinearProgram) (s : Basis) (t : Tableau) : Type 0 where
   pub best : IsBest p t.point
-  pub proving : AreProvingPrices p t.point (price_at p (basics_of s) t.rate)
+  pub certificate : IsDualCertificate p t.point (price_at p (basics_of s) t.rate)
 
 ends_optimal : (p : LinearProgram) (s : Basis) (t : Tableau) (z y : List ℚ) → turn p s t ≡ Ends (EndsOptimal z y) → IsOptimalTurn p s t (Ends (EndsOptimal z y))
 ends_optimal p s t z y turns = optimal_turn p s t z y (rule_of p s t (Ends (EndsOptimal z y)) turns)
@@ -41,7 +41,7 @@ optimal_basis p s t z y at tab turns = record {
 -- a tableau at which the path ends optimal makes the basis optimal
 optimal_at : (p : LinearProgram) (s : Basis) (t : Tableau) (z y : List ℚ) → IsNonsingularBasis p s → IsTableau p s t → turn p s t ≡ Ends (EndsOptimal z y) →
     IsLinearProgram p → IsProvedBest p s t
-optimal_at p s t z y at tab turns lawful = record { best = best_by_basis p lawful s (optimal_basis p s t z y at tab turns); proving = prices_prove_optimal p lawful s (optimal_basis p s t z y at tab turns) }
+optimal_at p s t z y at tab turns lawful = record { best = best_by_basis p lawful s (optimal_basis p s t z y at tab turns); certificate = prices_prove_optimal p lawful s (optimal_basis p s t z y at tab turns) }
 
 same_tableau : (p : LinearProgram) (s : Basis) (t u : Tableau) → IsNonsingularBasis p s → IsTableau p s t → IsTableau p s u → SameTableau p s t u
 same_tableau p s t u at first second = record {
@@ -50,8 +50,8 @@ same_tableau p s t u at first second = record {
 }
 
 -- where the path ends optimal, every tableau of the basis shows what is best
-pub shown_is_best : (p : LinearProgram) (s : Basis) (t : Tableau) (z y : List ℚ) → IsTableau p s t → EndsAt p s (EndsOptimal z y) → IsNonsingularBasis p s → IsLinearProgram p → IsProvedBest p s t
-shown_is_best p s t z y tab ends at lawful =
+pub reported_is_best : (p : LinearProgram) (s : Basis) (t : Tableau) (z y : List ℚ) → IsTableau p s t → EndsAt p s (EndsOptimal z y) → IsNonsingularBasis p s → IsLinearProgram p → IsProvedBest p s t
+reported_is_best p s t z y tab ends at lawful =
     let same = turn_same p s t ends.tableau lawful at.is_basis (same_tableau p s t ends.tableau at tab ends.is_tableau) in
     optimal_at p s t z y at tab (same ∙ ends.turns) lawful
 
@@ -64,7 +64,7 @@ module _ (sheet : Sheet) (s : Basis) (steps : ℕ) (lawful : IsLinearProgram she
   pub end_is_true : (ending : PathEnding) → EndsAt sheet.lp s ending → IsTrueOf sheet (verdict_of sheet steps ending)
   end_is_true (EndsOptimal z y) ends =
       let proved = optimal_end sheet.lp s z y lawful at ends in
-      record { point = z; prices = y; best = proved.best; proving = proved.proving; is_objective = plain (value_at z) }
+      record { point = z; prices = y; best = proved.best; certificate = proved.certificate; is_objective = plain (value_at z) }
   end_is_true (EndsCrossed k) ends = let crossed = crossed_end sheet.lp s k ends in (crossed, infeasible_by_proof sheet.lp (by_crossed k crossed))
   end_is_true (EndsInfeasible w) ends =
       let ray = infeasible_end sheet.lp s w at.is_basis at.nonsingular ends in

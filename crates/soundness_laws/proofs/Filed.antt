@@ -34,12 +34,12 @@ use Rattle.listing_definitions.specs.declared.Solver.{Solver}
 use Rattle.listing_definitions.specs.declared.Solver.TheVariants.{Primal as ByPrimal, Dual as ByDual}
 use Rattle.listing_definitions.specs.declared.VerbFault.{VerbFault}
 use Rattle.listing_definitions.specs.Report.{Report, Converted, Revised, Solution, Ranges}
-use Rattle.question_definitions.specs.Answers.{Basis, Sheet, Changing, Sweep, Question, Answer, OfPath, OfSolution, OfRanges, OfSweep, OfPunch, OfInstall, PathEnd, Reached, PathLimit, PricesWrong, SweepEnd, Opening, Chained, SweepLimit, InstallEnd, Installed, DependsBy}
+use Rattle.question_definitions.specs.Answers.{Basis, Sheet, Changing, ParametricRun, Question, Answer, OfPath, OfSolution, OfRanges, OfParametricRun, OfPunch, OfInstall, PathEnd, Reached, PathLimit, PricesWrong, ParametricRunEnd, Opening, Chained, ParametricRunLimit, InstallEnd, Installed, DependsBy}
 use Rattle.question_definitions.specs.Solving.{Solving}
 use Rattle.control_definitions.specs.Cells.{Cells, move_name, move_number, steps_allowed, set_demand}
 use Rattle.run_definitions.specs.State.{Present, gone_through, State, problem_of, choice_of}
 use Rattle.run_definitions.specs.Moves.{Outcome, Goes, Ends, Refusals, Move, Does, MayStop, Asks, Gives, or_fault}
-use Rattle.run_definitions.specs.Verbs.{revises, or_deck_fault, or_selection_fault, files, selects, not_less, change_row, change_set, asks, demanded, by_verdict, if_optimal, after_path, after_sweep, after_install, shows_present, solves, shows, ranges, sweeps, converts, sets_up, punches, punches_basis, inserts, verb_move}
+use Rattle.run_definitions.specs.Verbs.{revises, or_deck_fault, or_selection_fault, files, selects, not_less, change_row, change_set, asks, demanded, by_verdict, if_optimal, after_path, after_parametric_run, after_install, shows_present, solves, shows, ranges, parametric_runs, converts, sets_up, punches, punches_basis, inserts, verb_move}
 use Rattle.run_definitions.specs.Run.{counted, Step, Reaches, begun, stepped}
 use Rattle.run_definitions.specs.Answer.{IsSoFar}
 use Rattle.soundness_laws.specs.Laws.{FilesProblems}
@@ -202,12 +202,12 @@ module _ (S : Solving) where
       record { file = lawful.file; setup = with_setup (record present { opening = s; steps = [] }) is; decks = printable; name = lawful.name }
   installed card lp s taken present state lawful printable is (DependsBy lines) = tt
 
-  swept : (card : ℕ) (sweep : Sweep) (present : Present) (state : State) → AreLawful state → IsProblem present.problem → (end : SweepEnd) → Leads (after_sweep card sweep present state end)
-  swept card sweep present state lawful is (Opening bases verdict check) =
+  run_through : (card : ℕ) (parametric_run : ParametricRun) (present : Present) (state : State) → AreLawful state → IsProblem present.problem → (end : ParametricRunEnd) → Leads (after_parametric_run card parametric_run present state end)
+  run_through card parametric_run present state lawful is (Opening bases verdict check) =
       by_verdict_leads _ _ _ (record { file = lawful.file; setup = with_setup (gone_through bases present) is; decks = lawful.decks; name = lawful.name })
-  swept card sweep present state lawful is (Chained bases intervals end) =
+  run_through card parametric_run present state lawful is (Chained bases intervals end) =
       record { file = lawful.file; setup = with_setup (gone_through bases present) is; decks = lawful.decks; name = lawful.name }
-  swept card sweep present state lawful is SweepLimit = tt
+  run_through card parametric_run present state lawful is ParametricRunLimit = tt
 
   solves_led : (solver : Solver) (limit : Option ℕ) (card : ℕ) (state : State) → AreLawful state → IsLed S card (solves solver limit card state)
   solves_led solver limit card state lawful =
@@ -234,12 +234,12 @@ module _ (S : Solving) where
       unless_fault {X = Mark} S card VerbFault.NotOptimal (if_optimal mark) _ (λ optimal o.
       showing_led card state present OfRanges Ranges lawful)))
 
-  asked_led : (card : ℕ) (present : Present) (state : State) (lp : LinearProgram) (sweep : Sweep) → AreLawful state → IsProblem present.problem →
-      IsLed S card (asks (OfSweep sweep) (record { problem = present.problem; lp = lp }) present (after_sweep card sweep present state))
-  asked_led card present state lp sweep lawful is = may_stop S card _ _ (answered S card (OfSweep sweep) _ _ _ (swept card sweep present state lawful is))
+  asked_led : (card : ℕ) (present : Present) (state : State) (lp : LinearProgram) (parametric_run : ParametricRun) → AreLawful state → IsProblem present.problem →
+      IsLed S card (asks (OfParametricRun parametric_run) (record { problem = present.problem; lp = lp }) present (after_parametric_run card parametric_run present state))
+  asked_led card present state lp parametric_run lawful is = may_stop S card _ _ (answered S card (OfParametricRun parametric_run) _ _ _ (run_through card parametric_run present state lawful is))
 
-  sweeps_led : (card : ℕ) (fault : VerbFault) (change : Problem ℕ → Name → Option Changing) (moved : Option Name) (state : State) → AreLawful state → IsLed S card (sweeps card fault change moved state)
-  sweeps_led card fault change moved state lawful =
+  parametric_runs_led : (card : ℕ) (fault : VerbFault) (change : Problem ℕ → Name → Option Changing) (moved : Option Name) (state : State) → AreLawful state → IsLed S card (parametric_runs card fault change moved state)
+  parametric_runs_led card fault change moved state lawful =
       unless_fault S card VerbFault.NoSetup state.setup _ (λ present e.
       selecting S card present.problem _ _ (λ lp.
       unless_fault {X = Changing} S card fault (option_and_then (change present.problem) moved) _ (λ changing c.
@@ -278,8 +278,8 @@ module _ (S : Solving) where
   verb_led Dual card state names lawful = solves_led ByDual (Some (steps_allowed state.cells)) card state lawful
   verb_led SolutionVerb card state names lawful = shows_led card state lawful
   verb_led Ranging card state names lawful = ranges_led card state lawful
-  verb_led Paraobj card state names lawful = sweeps_led card VerbFault.NoChangeRow change_row state.cells.xchrow state lawful
-  verb_led Pararhs card state names lawful = sweeps_led card VerbFault.NoChangeSet change_set state.cells.xchcol state lawful
+  verb_led Paraobj card state names lawful = parametric_runs_led card VerbFault.NoChangeRow change_row state.cells.xchrow state lawful
+  verb_led Pararhs card state names lawful = parametric_runs_led card VerbFault.NoChangeSet change_set state.cells.xchcol state lawful
   verb_led Bcdout card state names lawful = punches_led S card state lawful
   verb_led Punch card state names lawful = punches_basis_led card state lawful
   verb_led Insert card state names lawful = inserts_led card state lawful

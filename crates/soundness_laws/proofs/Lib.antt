@@ -1,4 +1,4 @@
-pub mod Sweeps
+pub mod ParametricRuns
 pub mod OneEnd
 pub mod Ends
 pub mod Selected

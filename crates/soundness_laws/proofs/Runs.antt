@@ -15,7 +15,7 @@ use Rattle.run_definitions.specs.Run.{counted, Step, Reaches, begun, stepped, Is
 use Rattle.run_definitions.specs.Answer.{Job, Failures, Answer, IsProgramOf, job_decks, IsJobRun, card_fault, control_fault, run, MayEnd, words_refused, read_fails, by_itself, memory_at_start, memory_in_run, memory_at_punch, punch_fails, IsCutShort, in_report, in_end, IsAnswer, whole, print_fails, print_wants_memory}
 use Rattle.soundness_laws.specs.Truth.{Holds, HoldsAtEnd}
 use Rattle.soundness_laws.specs.Headline.{HoldSoFar, HoldInRun, HoldInJob, HoldInEnd, HoldInCut, HoldInAnswer}
-use Rattle.soundness_laws.specs.Laws.{KnowsSolving, reports_of, TellsTruth}
+use Rattle.soundness_laws.specs.Laws.{KnowsSolving, reports_of, ReportsTheTruth}
 use Rattle.soundness_laws.proofs.Moves.{HasProblem, Knows, HoldsGain, Keeps, unmarked, without_setup}
 use Rattle.soundness_laws.proofs.Verbs.{verb_kept}
 use Rattle.soundness_laws.proofs.Filed.{job_reaching}
@@ -126,7 +126,7 @@ module _ (S : Solving) (solving : KnowsSolving S) where
   answer_holds (print_fails failed status cut) = cut_holds cut
   answer_holds (print_wants_memory wanted status cut) = cut_holds cut
 
-  pub tells_truth : TellsTruth S
+  pub tells_truth : ReportsTheTruth S
   tells_truth = record {
     step = λ bytes program reports cards state outcome so_far step. step_holds bytes program so_far.is_program reports cards state outcome so_far.reaches step;
     stop = λ bytes program reports cards state gain ending so_far step. end_of_step_holds bytes program so_far.is_program reports cards state gain ending so_far.reaches step;
@@ -137,9 +137,9 @@ pub knows_linear_programming : KnowsSolving linear_programming
 unfolding linear_programming
 knows_linear_programming = record {
   solves = λ solver sheet s limit end solved. solved;
-  shows = λ mark sheet s lines shown. shown;
+  shows = λ mark sheet s lines viewed. viewed;
   ranges = λ sheet s lines ranged. ranged;
-  sweeps = λ sheet s sweep end ran. ran;
+  parametric_runs = λ sheet s parametric_run end ran. ran;
   punches = λ sheet s cards punched. punched;
   installs = λ sheet t end installed. installed;
 }

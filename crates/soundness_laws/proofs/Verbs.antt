@@ -30,24 +30,24 @@ use Rattle.listing_definitions.specs.declared.Solver.{Solver}
 use Rattle.listing_definitions.specs.declared.Solver.TheVariants.{Primal as ByPrimal, Dual as ByDual}
 use Rattle.listing_definitions.specs.declared.VerbFault.{VerbFault}
 use Rattle.listing_definitions.specs.Report.{SolutionLines, RangeLines, PathVerdict, Check, Filed, Report, Converted, Revised, SetUp, BcdOut, BasisOut, Inserted, Solved, Solution, Ranges}
-use Rattle.question_definitions.specs.Answers.{Basis, Sheet, Changing, Row, Set, changing_name, sweeper, Sweep, Question, Answer, OfPath, OfSolution, OfRanges, OfSweep, OfPunch, OfInstall, PathEnd, Reached, PathLimit, PricesWrong, SweepEnd, Opening, Chained, SweepLimit, InstallEnd, Installed, DependsBy}
+use Rattle.question_definitions.specs.Answers.{Basis, Sheet, Changing, Row, Set, changing_name, parametric_solver, ParametricRun, Question, Answer, OfPath, OfSolution, OfRanges, OfParametricRun, OfPunch, OfInstall, PathEnd, Reached, PathLimit, PricesWrong, ParametricRunEnd, Opening, Chained, ParametricRunLimit, InstallEnd, Installed, DependsBy}
 use Rattle.question_definitions.specs.Solving.{Solving, IsRight}
 use Rattle.answer_definitions.specs.Verdicts.{verdict_of}
-use Rattle.answer_definitions.specs.Sections.{IsShown, IsRanged}
+use Rattle.answer_definitions.specs.Sections.{IsSolutionOf, IsRanged}
 use Rattle.control_definitions.specs.Cells.{Cells, move_name, move_number, steps_allowed, set_demand}
 use Rattle.run_definitions.specs.State.{Present, present_basis, gone_through, State, problem_of, choice_of}
 use Rattle.run_definitions.specs.Moves.{Prints, Punches, next, Does}
-use Rattle.run_definitions.specs.Verbs.{size_of, files, not_less, change_row, change_set, asks, max_counted, mark_of, mark_after, demanded, by_verdict, after_path, after_sweep, after_install, if_optimal, shows_present, solves, shows, ranges, sweeps, converts, revises, sets_up, punches, punches_basis, inserts, verb_move}
+use Rattle.run_definitions.specs.Verbs.{size_of, files, not_less, change_row, change_set, asks, max_counted, mark_of, mark_after, demanded, by_verdict, after_path, after_parametric_run, after_install, if_optimal, shows_present, solves, shows, ranges, parametric_runs, converts, revises, sets_up, punches, punches_basis, inserts, verb_move}
 use Rattle.simplex_laws.specs.Laws.{IsNonsingularBasis}
 use Rattle.simplex_laws.proofs.Ends.{optimal_end}
 use Rattle.simplex_laws.proofs.Steps.{opening_is}
 use Rattle.simplex_laws.proofs.OnePath.{path_leads}
-use Rattle.soundness_laws.specs.Truth.{PresentProgram, IsTrueOf, IsNotUnbounded, GivesBasis, ShowsBest, ShowsRanges, IsOfProblem, named_by, TellsOfRun, ShowsOpening, ShowsChain, Holds}
-use Rattle.soundness_laws.specs.Sweeps.{gone_over, IsTrueSweep}
-use Rattle.soundness_laws.proofs.Sweeps.{swept_leads, swept_true}
+use Rattle.soundness_laws.specs.Truth.{PresentProgram, IsTrueOf, IsNotUnbounded, GivesBasis, ShowsBest, ShowsRanges, IsOfProblem, named_by, ReportsOfRun, ShowsOpening, ShowsChain, Holds}
+use Rattle.soundness_laws.specs.ParametricRuns.{gone_over, IsTrueParametricRun}
+use Rattle.soundness_laws.proofs.ParametricRuns.{run_through_leads, run_through_true}
 use Rattle.soundness_laws.specs.Laws.{KnowsSolving}
 use Rattle.soundness_laws.proofs.ChangeRow.{changes_freely, row_named, set_named, last_is}
-use Rattle.soundness_laws.proofs.Ends.{IsProvedBest, shown_is_best, end_is_true, path_is_true}
+use Rattle.soundness_laws.proofs.Ends.{IsProvedBest, reported_is_best, end_is_true, path_is_true}
 use Rattle.selection_laws.proofs.Selected.{selected_is_lawful, selected_without_change}
 use Rattle.soundness_laws.proofs.Selected.{selected_has_names, selected_has_no_change}
 use Rattle.soundness_laws.proofs.Moves.{HasProblem, EndsOptimally, KnowsMark, Knows, Keeps, IsKept, unmarked, HasBases, KnowsBases, without_setup, with_basis, does, may_stop, answered, unless_fault, unless_deck_fault, unless_selection_fault, selecting}
@@ -123,28 +123,28 @@ module _ (present : Present) (lp : LinearProgram) (cells : Cells) (setup : Optio
   ends_here = subst (λ p. EndsAt p (present_basis present) (EndsOptimal known.point known.prices)) same_lp moved.1
 
 -- what is shown where the path ended optimal at the present basis is best
-best_shown : (present : Present) (lp : LinearProgram) (cells : Cells) (setup : Option Present) (lines : SolutionLines) → HasProblem setup →
+best_view : (present : Present) (lp : LinearProgram) (cells : Cells) (setup : Option Present) (lines : SolutionLines) → HasProblem setup →
     EndsOptimally setup cells.xobj cells.xrhs → IsNonsingularBasis lp (present_basis present) → setup ≡ Some present → selected present.problem (choice_of cells present.options) ≡ Ok lp →
-    IsShown (record { problem = present.problem; lp = lp }) (present_basis present) lines → ShowsBest setup cells lines
-best_shown present lp cells setup lines lawful known at is_setup is shown =
+    IsSolutionOf (record { problem = present.problem; lp = lp }) (present_basis present) lines → ShowsBest setup cells lines
+best_view present lp cells setup lines lawful known at is_setup is viewed =
     let program : PresentProgram setup cells = present_program setup cells present lp lawful is_setup is in
-    let proved : IsProvedBest lp (present_basis present) shown.tableau =
-    shown_is_best lp (present_basis present) shown.tableau known.point known.prices shown.is_tableau (ends_here present lp cells setup known is_setup is) at program.is_linear_program in
+    let proved : IsProvedBest lp (present_basis present) viewed.tableau =
+    reported_is_best lp (present_basis present) viewed.tableau known.point known.prices viewed.is_tableau (ends_here present lp cells setup known is_setup is) at program.is_linear_program in
     record {
       program = program;
       is_basis = at;
-      tableau = shown.tableau;
-      is_tableau = shown.is_tableau;
-      are_lines = shown.are_lines;
+      tableau = viewed.tableau;
+      is_tableau = viewed.is_tableau;
+      are_lines = viewed.are_lines;
       best = proved.best;
-      proving = proved.proving;
+      certificate = proved.certificate;
     }
 
 -- the basis is optimal, whose intervals are shown
-ranges_shown : (present : Present) (lp : LinearProgram) (cells : Cells) (setup : Option Present) (lines : RangeLines) → HasProblem setup →
+ranges_view : (present : Present) (lp : LinearProgram) (cells : Cells) (setup : Option Present) (lines : RangeLines) → HasProblem setup →
     EndsOptimally setup cells.xobj cells.xrhs → IsNonsingularBasis lp (present_basis present) → setup ≡ Some present → selected present.problem (choice_of cells present.options) ≡ Ok lp →
     IsRanged (record { problem = present.problem; lp = lp }) (present_basis present) lines → ShowsRanges setup cells lines
-ranges_shown present lp cells setup lines lawful known at is_setup is ranged =
+ranges_view present lp cells setup lines lawful known at is_setup is ranged =
     let program : PresentProgram setup cells = present_program setup cells present lp lawful is_setup is in
     record {
       program = program;
@@ -187,22 +187,22 @@ moved_demand Xdounb position cells mark setup knows = knows
 -- ---- parametric runs
 
 -- what the opening path of a run prints holds, and so do its intervals
-opening_holds : (state : State) (changing : Changing) (verdict : PathVerdict) (check : Check) → TellsOfRun state.setup state.cells (sweeper changing) (ShowsOpening verdict check) → Holds state (Solved (sweeper changing) verdict check)
-opening_holds state (Row name) verdict check told = told
-opening_holds state (Set name) verdict check told = told
+opening_holds : (state : State) (changing : Changing) (verdict : PathVerdict) (check : Check) → ReportsOfRun state.setup state.cells (parametric_solver changing) (ShowsOpening verdict check) → Holds state (Solved (parametric_solver changing) verdict check)
+opening_holds state (Row name) verdict check reported = reported
+opening_holds state (Set name) verdict check reported = reported
 
 -- what is asked of a run by the cells
-pub record IsAskedFor (state : State) (present : Present) (sweep : Sweep) : Type 0 where
-  pub is_part : IsOfProblem sweep.changing present.problem
-  pub is_named : named_by state.cells sweep.changing ≡ Some (changing_name sweep.changing)
-  pub from_first : sweep.from ≡ state.cells.xparam
-  pub to_last : state.cells.xparmax ≡ Some sweep.to
+pub record IsAskedFor (state : State) (present : Present) (parametric_run : ParametricRun) : Type 0 where
+  pub is_part : IsOfProblem parametric_run.changing present.problem
+  pub is_named : named_by state.cells parametric_run.changing ≡ Some (changing_name parametric_run.changing)
+  pub from_first : parametric_run.from ≡ state.cells.xparam
+  pub to_last : state.cells.xparmax ≡ Some parametric_run.to
 
-told_of : (state : State) (present : Present) (lp : LinearProgram) (sweep : Sweep) (lawful : HasProblem state.setup) (set : state.setup ≡ Some present) (is : selected present.problem (choice_of state.cells present.options) ≡ Ok lp) →
-    IsAskedFor state present sweep → (Tells : Sheet → Sweep → Type 0) → Tells (record { problem = present.problem; lp = lp }) sweep → TellsOfRun state.setup state.cells (sweeper sweep.changing) Tells
-told_of state present lp sweep lawful set is asked Tells tells = record {
+reported_of : (state : State) (present : Present) (lp : LinearProgram) (parametric_run : ParametricRun) (lawful : HasProblem state.setup) (set : state.setup ≡ Some present) (is : selected present.problem (choice_of state.cells present.options) ≡ Ok lp) →
+    IsAskedFor state present parametric_run → (Tells : Sheet → ParametricRun → Type 0) → Tells (record { problem = present.problem; lp = lp }) parametric_run → ReportsOfRun state.setup state.cells (parametric_solver parametric_run.changing) Tells
+reported_of state present lp parametric_run lawful set is asked Tells tells = record {
   program = present_program state.setup state.cells present lp lawful set is;
-  sweep = sweep;
+  parametric_run = parametric_run;
   is_solver = refl;
   is_part = asked.is_part;
   is_named = asked.is_named;
@@ -342,57 +342,57 @@ module _ (S : Solving) (solving : KnowsSolving S) where
       Holds state (report lines)) → IsKept S state card (shows_present card state present question report)
   showing card state present question report knows holds =
       unless_selection_fault S state card (selected present.problem (choice_of state.cells present.options)) _ (λ lp is.
-      may_stop S state card _ _ (answered S state card question _ _ _ (λ lines shown. (holds lp is lines shown, record { marked = knows.marked; bases = knows.bases }))))
+      may_stop S state card _ _ (answered S state card question _ _ _ (λ lines viewed. (holds lp is lines viewed, record { marked = knows.marked; bases = knows.bases }))))
 
   solution_holds : (mark : Mark) (state : State) (present : Present) (lp : LinearProgram) (lines : SolutionLines) → HasProblem state.setup → Knows state → state.mark ≡ Some mark → state.setup ≡ Some present →
-      selected present.problem (choice_of state.cells present.options) ≡ Ok lp → IsShown (record { problem = present.problem; lp = lp }) (present_basis present) lines → Holds state (Solution mark lines)
-  solution_holds Optimal state present lp lines lawful knows m e is shown =
-      best_shown present lp state.cells state.setup lines lawful (knows.marked m) ((knows.bases present e).in_each state.cells.xobj state.cells.xrhs lp is) e is shown
-  solution_holds Infeasible state present lp lines lawful knows m e is shown = tt
-  solution_holds Unbounded state present lp lines lawful knows m e is shown = tt
+      selected present.problem (choice_of state.cells present.options) ≡ Ok lp → IsSolutionOf (record { problem = present.problem; lp = lp }) (present_basis present) lines → Holds state (Solution mark lines)
+  solution_holds Optimal state present lp lines lawful knows m e is viewed =
+      best_view present lp state.cells state.setup lines lawful (knows.marked m) ((knows.bases present e).in_each state.cells.xobj state.cells.xrhs lp is) e is viewed
+  solution_holds Infeasible state present lp lines lawful knows m e is viewed = tt
+  solution_holds Unbounded state present lp lines lawful knows m e is viewed = tt
 
   shows_kept : (card : ℕ) (state : State) → HasProblem state.setup → Knows state → IsKept S state card (shows card state)
   shows_kept card state lawful knows =
       unless_fault S state card VerbFault.NoSetup state.setup _ (λ present e.
       unless_fault S state card VerbFault.NotSolved state.mark _ (λ mark m.
-      showing card state present (OfSolution mark) (Solution mark) knows (λ lp is lines shown. solution_holds mark state present lp lines lawful knows m e is (solving.shows _ _ _ lines shown))))
+      showing card state present (OfSolution mark) (Solution mark) knows (λ lp is lines viewed. solution_holds mark state present lp lines lawful knows m e is (solving.shows _ _ _ lines viewed))))
 
   ranges_kept : (card : ℕ) (state : State) → HasProblem state.setup → Knows state → IsKept S state card (ranges card state)
   ranges_kept card state lawful knows =
       unless_fault S state card VerbFault.NoSetup state.setup _ (λ present e.
       unless_fault S state card VerbFault.NotSolved state.mark _ (λ mark m.
       unless_fault {X = Mark} S state card VerbFault.NotOptimal (if_optimal mark) _ (λ left o.
-      showing card state present OfRanges Ranges knows (λ lp is lines shown.
-      ranges_shown present lp state.cells state.setup lines lawful (knows.marked (m ∙ ap (λ (own : Mark). Some own) (optimal_alone mark left o))) ((knows.bases present e).in_each state.cells.xobj state.cells.xrhs lp is) e is (solving.ranges _ _ lines shown)))))
+      showing card state present OfRanges Ranges knows (λ lp is lines viewed.
+      ranges_view present lp state.cells state.setup lines lawful (knows.marked (m ∙ ap (λ (own : Mark). Some own) (optimal_alone mark left o))) ((knows.bases present e).in_each state.cells.xobj state.cells.xrhs lp is) e is (solving.ranges _ _ lines viewed)))))
 
-  swept : (card : ℕ) (sweep : Sweep) (present : Present) (state : State) (lp : LinearProgram) → HasProblem state.setup → state.setup ≡ Some present → selected present.problem (choice_of state.cells present.options) ≡ Ok lp →
-      IsAskedFor state present sweep → (end : SweepEnd) → IsNonsingularBasis lp (last_of (present_basis present) (gone_over end)) → IsTrueSweep (record { problem = present.problem; lp = lp }) sweep end →
-      Keeps state (after_sweep card sweep present state end)
-  swept card sweep present state lp lawful set is asked (Opening bases verdict check) at truth =
-      by_verdict_keeps state (mark_of verdict) (Solved (sweeper sweep.changing) verdict check) _
-      (opening_holds state sweep.changing verdict check (told_of state present lp sweep lawful set is asked (ShowsOpening verdict check) (record { bases = bases; is_true = truth })))
+  run_through : (card : ℕ) (parametric_run : ParametricRun) (present : Present) (state : State) (lp : LinearProgram) → HasProblem state.setup → state.setup ≡ Some present → selected present.problem (choice_of state.cells present.options) ≡ Ok lp →
+      IsAskedFor state present parametric_run → (end : ParametricRunEnd) → IsNonsingularBasis lp (last_of (present_basis present) (gone_over end)) → IsTrueParametricRun (record { problem = present.problem; lp = lp }) parametric_run end →
+      Keeps state (after_parametric_run card parametric_run present state end)
+  run_through card parametric_run present state lp lawful set is asked (Opening bases verdict check) at truth =
+      by_verdict_keeps state (mark_of verdict) (Solved (parametric_solver parametric_run.changing) verdict check) _
+      (opening_holds state parametric_run.changing verdict check (reported_of state present lp parametric_run lawful set is asked (ShowsOpening verdict check) (record { bases = bases; is_true = truth })))
       (record { marked = unmarked _ _ _; bases = goes_to present state.cells.xobj state.cells.xrhs lp bases is at })
-  swept card sweep present state lp lawful set is asked (Chained bases intervals end) at truth = (
-    told_of state present lp sweep lawful set is asked (ShowsChain (record { from = sweep.from; change = changing_name sweep.changing; intervals = intervals; end = end })) (record { is_from = refl; is_change = refl; is_true = truth }),
+  run_through card parametric_run present state lp lawful set is asked (Chained bases intervals end) at truth = (
+    reported_of state present lp parametric_run lawful set is asked (ShowsChain (record { from = parametric_run.from; change = changing_name parametric_run.changing; intervals = intervals; end = end })) (record { is_from = refl; is_change = refl; is_true = truth }),
     record { marked = unmarked _ _ _; bases = goes_to present state.cells.xobj state.cells.xrhs lp bases is at },
   )
-  swept card sweep present state lp lawful set is asked SweepLimit at truth = (tt, tt)
+  run_through card parametric_run present state lp lawful set is asked ParametricRunLimit at truth = (tt, tt)
 
-  asked_kept : (card : ℕ) (present : Present) (state : State) (lp : LinearProgram) (sweep : Sweep) → HasProblem state.setup → HasBases present → state.setup ≡ Some present →
-      selected present.problem (choice_of state.cells present.options) ≡ Ok lp → IsAskedFor state present sweep →
-      IsKept S state card (asks (OfSweep sweep) (record { problem = present.problem; lp = lp }) present (after_sweep card sweep present state))
-  asked_kept card present state lp sweep lawful has set is asked = may_stop S state card _ _ (answered S state card (OfSweep sweep) _ _ _ (λ end right.
+  asked_kept : (card : ℕ) (present : Present) (state : State) (lp : LinearProgram) (parametric_run : ParametricRun) → HasProblem state.setup → HasBases present → state.setup ≡ Some present →
+      selected present.problem (choice_of state.cells present.options) ≡ Ok lp → IsAskedFor state present parametric_run →
+      IsKept S state card (asks (OfParametricRun parametric_run) (record { problem = present.problem; lp = lp }) present (after_parametric_run card parametric_run present state))
+  asked_kept card present state lp parametric_run lawful has set is asked = may_stop S state card _ _ (answered S state card (OfParametricRun parametric_run) _ _ _ (λ end right.
       let sheet : Sheet = record { problem = present.problem; lp = lp } in
       let at = has.in_each state.cells.xobj state.cells.xrhs lp is in
-      let ran = solving.sweeps sheet (present_basis present) sweep end right in
-      let free = changes_freely sheet (choice_of state.cells present.options) sweep.changing (lawful present set) is asked.is_part in
-      swept card sweep present state lp lawful set is asked end (swept_leads sheet (present_basis present) sweep end ran at)
-      (swept_true sheet (present_basis present) sweep end (selected_is_lawful present.problem (choice_of state.cells present.options) lp (lawful present set) is) free at ran)))
+      let ran = solving.parametric_runs sheet (present_basis present) parametric_run end right in
+      let free = changes_freely sheet (choice_of state.cells present.options) parametric_run.changing (lawful present set) is asked.is_part in
+      run_through card parametric_run present state lp lawful set is asked end (run_through_leads sheet (present_basis present) parametric_run end ran at)
+      (run_through_true sheet (present_basis present) parametric_run end (selected_is_lawful present.problem (choice_of state.cells present.options) lp (lawful present set) is) free at ran)))
 
-  sweeps_kept : (card : ℕ) (fault : VerbFault) (change : Problem ℕ → Name → Option Changing) (moved : Option Name) (state : State) →
+  parametric_runs_kept : (card : ℕ) (fault : VerbFault) (change : Problem ℕ → Name → Option Changing) (moved : Option Name) (state : State) →
       ((problem : Problem ℕ) (changing : Changing) → option_and_then (change problem) moved ≡ Some changing → IsOfProblem changing problem × (named_by state.cells changing ≡ Some (changing_name changing))) →
-      HasProblem state.setup → Knows state → IsKept S state card (sweeps card fault change moved state)
-  sweeps_kept card fault change moved state named lawful knows =
+      HasProblem state.setup → Knows state → IsKept S state card (parametric_runs card fault change moved state)
+  parametric_runs_kept card fault change moved state named lawful knows =
       unless_fault S state card VerbFault.NoSetup state.setup _ (λ present e.
       selecting S state card present.problem _ _ (λ lp is.
       unless_fault {X = Changing} S state card fault (option_and_then (change present.problem) moved) _ (λ changing c.
@@ -453,8 +453,8 @@ module _ (S : Solving) (solving : KnowsSolving S) where
   verb_kept Dual card state lawful knows = dual_kept (Some (steps_allowed state.cells)) card state lawful knows
   verb_kept SolutionVerb card state lawful knows = shows_kept card state lawful knows
   verb_kept Ranging card state lawful knows = ranges_kept card state lawful knows
-  verb_kept Paraobj card state lawful knows = sweeps_kept card VerbFault.NoChangeRow change_row state.cells.xchrow state (row_named state.cells) lawful knows
-  verb_kept Pararhs card state lawful knows = sweeps_kept card VerbFault.NoChangeSet change_set state.cells.xchcol state (set_named state.cells) lawful knows
+  verb_kept Paraobj card state lawful knows = parametric_runs_kept card VerbFault.NoChangeRow change_row state.cells.xchrow state (row_named state.cells) lawful knows
+  verb_kept Pararhs card state lawful knows = parametric_runs_kept card VerbFault.NoChangeSet change_set state.cells.xchcol state (set_named state.cells) lawful knows
   verb_kept Bcdout card state lawful knows = punches_kept card state knows
   verb_kept Punch card state lawful knows = punches_basis_kept card state lawful knows
   verb_kept Insert card state lawful knows = inserts_kept card state lawful knows

@@ -2,7 +2,7 @@
 --     KnowsSolving S               the ends of paths and of parametric runs, the lines of SOLUTION and RANGE,
 --                                  punched bases and what comes of inserted ones are those of the linear
 --                                  program
---     TellsTruth S                 each report of the run of a job holds of the state in which it is made,
+--     ReportsTheTruth S                 each report of the run of a job holds of the state in which it is made,
 --                                  and so does its end
 --     FilesProblems S              every problem that is filed in the run of a job is one
 --     EndsUnlimited S              where there is no limit on steps, PRIMAL doesn't stop at one
@@ -14,11 +14,11 @@ use Rattle.listing_definitions.specs.declared.Mark.{Mark}
 use Rattle.listing_definitions.specs.declared.Solver.{Solver}
 use Rattle.listing_definitions.specs.Report.{SolutionLines, RangeLines, Report}
 use Rattle.listing_definitions.specs.Ending.{Ending, LimitStop}
-use Rattle.question_definitions.specs.Answers.{Basis, Sheet, Sweep, PathEnd, SweepEnd, InstallEnd}
+use Rattle.question_definitions.specs.Answers.{Basis, Sheet, ParametricRun, PathEnd, ParametricRunEnd, InstallEnd}
 use Rattle.question_definitions.specs.Solving.{Solving}
 use Rattle.answer_definitions.specs.Verdicts.{IsSolvedBy}
-use Rattle.answer_definitions.specs.Sections.{IsShown, IsRanged}
-use Rattle.answer_definitions.specs.Sweeps.{IsSwept}
+use Rattle.answer_definitions.specs.Sections.{IsSolutionOf, IsRanged}
+use Rattle.answer_definitions.specs.ParametricRuns.{IsParametricRun}
 use Rattle.answer_definitions.specs.Bases.{ArePunched, IsInstalled}
 use Rattle.answer_definitions.specs.Real.{linear_programming}
 use Rattle.run_definitions.specs.State.{Present, State}
@@ -26,7 +26,7 @@ use Rattle.run_definitions.specs.Moves.{Gain, printed_by, Outcome, Ends, gain_of
 use Rattle.run_definitions.specs.Verbs.{verb_move}
 use Rattle.run_definitions.specs.Run.{Step}
 use Rattle.run_definitions.specs.Answer.{IsJobRun, IsSoFar}
-use Rattle.soundness_laws.specs.Sweeps.{SweepLaws}
+use Rattle.soundness_laws.specs.ParametricRuns.{ParametricRunLaws}
 use Rattle.soundness_laws.specs.Truth.{Holds, HoldsAtEnd}
 use Rattle.soundness_laws.specs.Headline.{HoldInJob}
 
@@ -34,9 +34,9 @@ use Rattle.soundness_laws.specs.Headline.{HoldInJob}
 -- comes of the basis that INSERT reads are those of the linear program
 pub record KnowsSolving (S : Solving) : Type 0 where
   pub solves : (solver : Solver) (sheet : Sheet) (s : Basis) (limit : Option ℕ) (end : PathEnd) → S.Solves solver sheet s limit end → IsSolvedBy solver sheet s limit end
-  pub shows : (mark : Mark) (sheet : Sheet) (s : Basis) (lines : SolutionLines) → S.Shows mark sheet s lines → IsShown sheet s lines
+  pub shows : (mark : Mark) (sheet : Sheet) (s : Basis) (lines : SolutionLines) → S.Shows mark sheet s lines → IsSolutionOf sheet s lines
   pub ranges : (sheet : Sheet) (s : Basis) (lines : RangeLines) → S.Ranges sheet s lines → IsRanged sheet s lines
-  pub sweeps : (sheet : Sheet) (s : Basis) (sweep : Sweep) (end : SweepEnd) → S.Sweeps sheet s sweep end → IsSwept sheet s sweep end
+  pub parametric_runs : (sheet : Sheet) (s : Basis) (parametric_run : ParametricRun) (end : ParametricRunEnd) → S.ParametricRuns sheet s parametric_run end → IsParametricRun sheet s parametric_run end
   pub punches : (sheet : Sheet) (s : Basis) (cards : List (List ℕ)) → S.Punches sheet s cards → ArePunched sheet s cards
   pub installs : (sheet : Sheet) (t : Basis) (end : InstallEnd) → S.Installs sheet t end → IsInstalled sheet t end
 
@@ -47,7 +47,7 @@ reports_of outcome = printed_by (gain_of outcome)
 -- In the run of a job, each report of a statement holds of the state in which it is executed, and so does
 -- the end to which a statement brings the run; and so each report of a job that ends by itself, and its end,
 -- holds of the state in which it was made.
-pub record TellsTruth (S : Solving) : Type 0 where
+pub record ReportsTheTruth (S : Solving) : Type 0 where
   pub step : (bytes : List ℕ) (program : Program) (reports : List Report) (cards : List (List ℕ)) (state : State)
       (outcome : Outcome) → IsSoFar S bytes reports cards program state → Step S program state outcome →
       All (Holds state) (reports_of outcome)
@@ -78,7 +78,7 @@ EndsUnlimited S = (card : ℕ) (state : State) (outcome : Outcome) → state.cel
 
 -- of the runs whose answers are those of linear programming
 pub record RunLaws : Type 0 where
-  pub sweeps : SweepLaws
-  pub truth : TellsTruth linear_programming
+  pub parametric_runs : ParametricRunLaws
+  pub truth : ReportsTheTruth linear_programming
   pub problems : FilesProblems linear_programming
   pub unlimited : EndsUnlimited linear_programming

@@ -1,4 +1,4 @@
-pub mod Sweeps
+pub mod ParametricRuns
 pub mod Truth
 pub mod Headline
 pub mod Laws

@@ -5,7 +5,7 @@
 --     IsTrueOf sheet verdict       what a verdict says of a linear program
 --     ShowsDeck, ShowsBasis ..     what PUNCH and INSERT print is of the deck of the present basis, and of a deck
 --                                  that gives a basis
---     TellsOfRun ..                what PARAOBJ or PARARHS prints is of the run that the cells ask for
+--     ReportsOfRun ..                what PARAOBJ or PARARHS prints is of the run that the cells ask for
 --     ShowsOpening, ShowsChain     a verdict of its opening path; its intervals and its end
 --     Holds state report           a report that is made in a state holds of it
 --     ShowsDependency ..           the lines of a singular basis show the first dependency of its columns
@@ -13,7 +13,7 @@
 use Rattle.std.specs.Prelude.{◌≡◌, ℕ, true, min, List, Option, Some, Ok, length}
 use Rattle.exact_values.specs.Rational.{ℚ}
 use Rattle.lp_definitions.specs.LinearProgram.{LinearProgram, Vector, value_at, objective_value, IsLinearProgram}
-use Rattle.lp_definitions.specs.Solutions.{IsBest, AreProvingPrices, IsCrossed, IsRay, ProvesUnbounded, IsInfeasible, IsUnbounded}
+use Rattle.lp_definitions.specs.Solutions.{IsBest, IsDualCertificate, IsCrossed, IsRay, ProvesUnbounded, IsInfeasible, IsUnbounded}
 use Rattle.lp_definitions.specs.Basis.{basics_of, Tableau, IsTableau, IsOptimalBasis, price_at}
 use Rattle.simplex_definitions.specs.Path.{listed}
 use Rattle.simplex_definitions.specs.DualPath.{IsWrongAt}
@@ -35,10 +35,10 @@ use Rattle.listing_definitions.specs.declared.Solver.{Solver}
 use Rattle.listing_definitions.specs.declared.Solver.TheVariants.{Primal as ByPrimal, Dual as ByDual}
 use Rattle.listing_definitions.specs.Report.{Line, SolutionLines, RangeLines, PathVerdict, OptimalAt, CrossedAt, InfeasibleBy, UnboundedBy, Check, Chain, Report, BasisOut, Inserted, Solved, Solution, Ranges, Parametric}
 use Rattle.listing_definitions.specs.Ending.{Ending, SingularStop, PriceStop}
-use Rattle.question_definitions.specs.Answers.{Basis, Sheet, Changing, Row, Set, changing_name, sweeper, Sweep}
+use Rattle.question_definitions.specs.Answers.{Basis, Sheet, Changing, Row, Set, changing_name, parametric_solver, ParametricRun}
 use Rattle.answer_definitions.specs.Lines.{pair_lines, ray_lines}
 use Rattle.answer_definitions.specs.Sections.{solution_lines, range_lines}
-use Rattle.soundness_laws.specs.Sweeps.{IsTrueOpening, IsTrueChain}
+use Rattle.soundness_laws.specs.ParametricRuns.{IsTrueOpening, IsTrueChain}
 use Rattle.run_definitions.specs.State.{Present, present_basis, State, choice_of}
 use Rattle.run_definitions.specs.Verbs.{max_counted}
 
@@ -56,7 +56,7 @@ pub record PresentProgram (setup : Option Present) (cells : Cells) : Type 0 wher
 abbrev pub sheet_of : {setup : Option Present} {cells : Cells} → PresentProgram setup cells → Sheet
 sheet_of program = record { problem = program.present.problem; lp = program.lp }
 
--- The lines are those of the present basis: its point is feasible, no feasible point betters it, and its
+-- The lines are those of the present basis: its point is feasible, no feasible point improves it, and its
 -- prices, which are printed, prove that.
 pub record ShowsBest (setup : Option Present) (cells : Cells) (lines : SolutionLines) : Type 0 where
   pub program : PresentProgram setup cells
@@ -65,7 +65,7 @@ pub record ShowsBest (setup : Option Present) (cells : Cells) (lines : SolutionL
   pub is_tableau : IsTableau program.lp (present_basis program.present) tableau
   pub are_lines : lines ≡ solution_lines (sheet_of program) (present_basis program.present) tableau
   pub best : IsBest program.lp tableau.point
-  pub proving : AreProvingPrices program.lp tableau.point
+  pub certificate : IsDualCertificate program.lp tableau.point
       (price_at program.lp (basics_of (present_basis program.present)) tableau.rate)
 
 -- The lines are those of the present basis, which is optimal. They print the ends of the intervals of a
@@ -86,7 +86,7 @@ pub record IsBestObjective (p : LinearProgram) (objective : ℚ) : Type 0 where
   pub point : List ℚ
   pub prices : List ℚ
   pub best : IsBest p (value_at point)
-  pub proving : AreProvingPrices p (value_at point) (value_at prices)
+  pub certificate : IsDualCertificate p (value_at point) (value_at prices)
   pub is_objective : objective ≡ objective_value p (value_at point)
 
 -- the lines are the multipliers of a ray that aren't 0
@@ -165,29 +165,29 @@ named_by cells (Row name) = cells.xchrow
 named_by cells (Set name) = cells.xchcol
 
 -- The parametric run of a verb in the linear program that is selected of the setup with these cells: from
--- XPARAM to XPARMAX, with what changes as the cells name it. Something is told of it.
-pub record TellsOfRun (setup : Option Present) (cells : Cells) (solver : Solver) (Tells : Sheet → Sweep → Type 0) : Type 0 where
+-- XPARAM to XPARMAX, with what changes as the cells name it. Something is reported of it.
+pub record ReportsOfRun (setup : Option Present) (cells : Cells) (solver : Solver) (Tells : Sheet → ParametricRun → Type 0) : Type 0 where
   pub program : PresentProgram setup cells
-  pub sweep : Sweep
-  pub is_solver : solver ≡ sweeper sweep.changing
-  pub is_part : IsOfProblem sweep.changing program.present.problem
-  pub is_named : named_by cells sweep.changing ≡ Some (changing_name sweep.changing)
-  pub from_first : sweep.from ≡ cells.xparam
-  pub to_last : cells.xparmax ≡ Some sweep.to
-  pub tells : Tells (sheet_of program) sweep
+  pub parametric_run : ParametricRun
+  pub is_solver : solver ≡ parametric_solver parametric_run.changing
+  pub is_part : IsOfProblem parametric_run.changing program.present.problem
+  pub is_named : named_by cells parametric_run.changing ≡ Some (changing_name parametric_run.changing)
+  pub from_first : parametric_run.from ≡ cells.xparam
+  pub to_last : cells.xparmax ≡ Some parametric_run.to
+  pub tells : Tells (sheet_of program) parametric_run
 
 -- the opening path isn't optimal, and its verdict is proved at the first value
-pub record ShowsOpening (verdict : PathVerdict) (check : Check) (sheet : Sheet) (sweep : Sweep) : Type 0 where
+pub record ShowsOpening (verdict : PathVerdict) (check : Check) (sheet : Sheet) (parametric_run : ParametricRun) : Type 0 where
   pub bases : List Basis
-  pub is_true : IsTrueOpening sheet sweep bases verdict check
+  pub is_true : IsTrueOpening sheet parametric_run bases verdict check
 
 -- At every value of the parameter in an interval that is printed the printed point is best and the printed
 -- prices prove it; the intervals leave no gap; and the last one ends at the last value, or what is printed
 -- proves for every greater value that there is no best point.
-pub record ShowsChain (chain : Chain) (sheet : Sheet) (sweep : Sweep) : Type 0 where
-  pub is_from : chain.from ≡ sweep.from
-  pub is_change : chain.change ≡ changing_name sweep.changing
-  pub is_true : IsTrueChain sheet sweep chain.intervals chain.end
+pub record ShowsChain (chain : Chain) (sheet : Sheet) (parametric_run : ParametricRun) : Type 0 where
+  pub is_from : chain.from ≡ parametric_run.from
+  pub is_change : chain.change ≡ changing_name parametric_run.changing
+  pub is_true : IsTrueChain sheet parametric_run chain.intervals chain.end
 
 -- What a report says of the linear program that is selected in the state in which it is made: SOLUTION
 -- OPTIMAL shows what is best in it, RANGE shows where its basis stays optimal, a verdict of PRIMAL or DUAL
@@ -201,8 +201,8 @@ Holds state (Solved ByPrimal verdict check) =
     (program : PresentProgram state.setup state.cells) × IsTrueOf (sheet_of program) verdict
 Holds state (Solved ByDual verdict check) =
     (program : PresentProgram state.setup state.cells) × IsTrueOf (sheet_of program) verdict × IsNotUnbounded verdict
-Holds state (Solved solver verdict check) = TellsOfRun state.setup state.cells solver (ShowsOpening verdict check)
-Holds state (Parametric solver chain) = TellsOfRun state.setup state.cells solver (ShowsChain chain)
+Holds state (Solved solver verdict check) = ReportsOfRun state.setup state.cells solver (ShowsOpening verdict check)
+Holds state (Parametric solver chain) = ReportsOfRun state.setup state.cells solver (ShowsChain chain)
 Holds state (BasisOut name count) = ShowsDeck state.setup state.cells name count
 Holds state (Inserted name count) = ShowsBasis state.setup state.cells state.decks name count
 Holds state report = Unit {0}

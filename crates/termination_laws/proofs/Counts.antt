@@ -20,8 +20,8 @@ pigeonhole (suc m) (suc n) f below one = let rest = pigeonhole m n g g_below g_o
     g : ℕ → ℕ
     g i = cond (eqb (f i) m) (f n) (f i)
 
-    Told : ℕ → Type 0
-    Told i = ((eqb (f i) m ≡ true) × (f i ≡ m)) ⊎ ((eqb (f i) m ≡ false) × (f i ≢ m))
+    Reported : ℕ → Type 0
+    Reported i = ((eqb (f i) m ≡ true) × (f i ≡ m)) ⊎ ((eqb (f i) m ≡ false) × (f i ≢ m))
 
     last : (i : ℕ) → i < n → f i ≢ f n
     last i low same = let is = one i n (omega (arith, low)) (omega arith) same in omega (arith, is, low)

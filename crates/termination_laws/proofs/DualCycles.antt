@@ -23,8 +23,8 @@ use Rattle.lp_laws.proofs.Statuses.{status_of_nonbasic, nonbasic_from}
 use Rattle.lp_laws.proofs.Uniqueness.{one_point, is_in-basics_of}
 use Rattle.lp_laws.proofs.Values.{clash}
 use Rattle.simplex_definitions.specs.Moves.{is_below, is_fixed, lowers, signed}
-use Rattle.simplex_definitions.specs.DualRatio.{brings_back, ratio, is_cheapest}
-use Rattle.simplex_definitions.specs.Path.{after, mover, worth_rate, last_of}
+use Rattle.simplex_definitions.specs.DualRatio.{restores_feasibility, ratio, is_cheapest}
+use Rattle.simplex_definitions.specs.Path.{after, entering_variable, worth_rate, last_of}
 use Rattle.simplex_definitions.specs.DualPath.{dual_turn, HasRightPrices, IsDualStep, IsDualPath}
 use Rattle.simplex_laws.specs.Laws.{IsNonsingularBasis}
 use Rattle.simplex_laws.proofs.Ends.{right}
@@ -40,7 +40,7 @@ use Rattle.termination_laws.proofs.Numbers.{find_before}
 use Rattle.termination_laws.proofs.Resting.{StopsAt, idle_stops}
 use Rattle.termination_laws.proofs.Fickle.{Exchanges, entered, left, stayed}
 use Rattle.termination_laws.proofs.Returns.{IsReturning, returning_exchanges, no_return_cycle}
-use Rattle.termination_laws.proofs.DualGains.{gain_is, goes, moved, no_better, as_good, for_min_zero}
+use Rattle.termination_laws.proofs.DualGains.{gain_is, goes, moved, no_improvement, as_good, for_min_zero}
 
 -- a variable that stands at a limit by its price stands there wherever it has this price
 one_limit : (low high : Option ℚ) (z w v : ℚ) → v ≢ zero_ℚ → StopsAt low high z v → StopsAt low high w v → z ≡ w
@@ -71,7 +71,7 @@ module _ (p : LinearProgram) (lawful : IsLinearProgram p) (no_change : p.change 
   -- ---- a visit
 
   module _ (v : Visit) (h : IsDualVisit v) where
-    is_right : mover p v.basis v.tableau None ≡ None
+    is_right : entering_variable p v.basis v.tableau None ≡ None
     is_right = wrong_same p v.basis v.tableau h.at.1.tableau lawful h.at.0 (same_tableau p v.basis h.at.0 v.tableau h.at.1.tableau h.is_tableau h.at.1.is_tableau) ∙ h.at.1.right
 
     abbrev back : IsReturn p v.basis v.tableau v.move
@@ -86,13 +86,13 @@ module _ (p : LinearProgram) (lawful : IsLinearProgram p) (no_change : p.change 
     is_q : IsVariable p.matrix back.q
     is_q = (cheapest_passes p v.basis h.at.0 v.tableau h.is_tableau v.move back).0
 
-    brings_q : brings_back p v.basis v.tableau back.r below back.q ≡ true
+    brings_q : restores_feasibility p v.basis v.tableau back.r below back.q ≡ true
     brings_q = brings p v.basis h.at.0 v.tableau h.is_tableau v.move back
 
     right_prices : (k : ℕ) → IsVariable p.matrix k → lowers p v.basis (worth_rate p v.basis v.tableau) k ≡ false
     right_prices = right_at p no_change v.basis h.at.0 v.tableau h.is_tableau is_right v.move back
 
-    least : (j : ℕ) → IsVariable p.matrix j → brings_back p v.basis v.tableau back.r below j ≡ true → ratio p v.basis v.tableau back.r back.q ≤ℚ ratio p v.basis v.tableau back.r j
+    least : (j : ℕ) → IsVariable p.matrix j → restores_feasibility p v.basis v.tableau back.r below j ≡ true → ratio p v.basis v.tableau back.r back.q ≤ℚ ratio p v.basis v.tableau back.r j
     least = least_ratio p no_change v.basis h.at.0 v.tableau h.is_tableau is_right v.move back
 
     leaves : IsBasic p.matrix (basics_of v.basis) back.r
@@ -118,9 +118,9 @@ module _ (p : LinearProgram) (lawful : IsLinearProgram p) (no_change : p.change 
           (own p no_change v.basis h.at.0 v.tableau h.is_tableau right_prices back.r back.q below leaves is_q brings_q least)
 
       -- the objective gets no better
-      gets_no_better : for_min p.sense (v.tableau.point p.objective) ≤ℚ for_min p.sense (z p.objective)
-      gets_no_better =
-          no_better p.sense (v.tableau.point p.objective) (z p.objective)
+      gets_no_improvement : for_min p.sense (v.tableau.point p.objective) ≤ℚ for_min p.sense (z p.objective)
+      gets_no_improvement =
+          no_improvement p.sense (v.tableau.point p.objective) (z p.objective)
           (subst (λ y. zero_ℚ ≤ℚ y) (sym loses)
           (le_by_product (some p no_change v.basis h.at.0 v.tableau h.is_tableau right_prices back.r back.q below leaves is_q brings_q least) (le_of_lt far)
           (by_ring2 (ratio p v.basis v.tableau back.r back.q) (signed below (z back.r -ℚ v.tableau.point back.r)) (λ m d. m ⊗ d ≐ number (pos 0) ⊕ (m ⊖ number (pos 0)) ⊗ (d ⊖ number (pos 0))) refl)))
@@ -140,14 +140,14 @@ module _ (p : LinearProgram) (lawful : IsLinearProgram p) (no_change : p.change 
               (le_by_product (some p no_change v.basis h.at.0 v.tableau h.is_tableau right_prices back.r back.q below leaves is_q brings_q least) (le_of_lt far)
               (by_ring2 (ratio p v.basis v.tableau back.r back.q) (signed below (z back.r -ℚ v.tableau.point back.r)) (λ m d. m ⊗ d ≐ number (pos 0) ⊕ (m ⊖ number (pos 0)) ⊗ (d ⊖ number (pos 0))) refl))))
 
-          stuck : x_q ≡ zero_ℚ → z back.r -ℚ v.tableau.point back.r ≡ zero_ℚ
-          stuck e =
+          infeasible_end : x_q ≡ zero_ℚ → z back.r -ℚ v.tableau.point back.r ≡ zero_ℚ
+          infeasible_end e =
               moved p v.basis h.at.0 v.tableau h.is_tableau back.r back.q below leaves q_enters z there back.r leaves.0
               ∙ ap (λ y. y *ℚ v.tableau.rate back.r back.q) e ∙ zero-mul (v.tableau.rate back.r back.q)
 
           by_factor : (x_q ≡ zero_ℚ) ⊎ (v.tableau.rate p.objective back.q ≡ zero_ℚ) → v.tableau.rate p.objective back.q ≡ zero_ℚ
           by_factor (inr none) = none
-          by_factor (inl e) = absurd (apart_from_above far (ap (signed below) (stuck e) ∙ signed_zero below))
+          by_factor (inl e) = absurd (apart_from_above far (ap (signed below) (infeasible_end e) ∙ signed_zero below))
 
     -- ---- the prices after the step, where that of what enters is 0
 
@@ -237,15 +237,15 @@ module _ (p : LinearProgram) (lawful : IsLinearProgram p) (no_change : p.change 
 
     -- ---- what might bring r back, and isn't chosen though it has a smaller number, has a price
 
-    passed_over : (k : ℕ) → IsVariable p.matrix k → k < back.q → is_in (basics_of v.basis) k ≡ false → brings_back p v.basis v.tableau back.r below k ≡ true → objective_rate p v.tableau.rate k ≢ zero_ℚ
+    passed_over : (k : ℕ) → IsVariable p.matrix k → k < back.q → is_in (basics_of v.basis) k ≡ false → restores_feasibility p v.basis v.tableau back.r below k ≡ true → objective_rate p v.tableau.rate k ≢ zero_ℚ
     passed_over k is before out brings_k zero =
         clash (sym (ap₂ (λ a b. a && b) brings_k cheap)
-        ∙ find_before (λ q. brings_back p v.basis v.tableau back.r below q && is_cheapest p v.basis v.tableau back.r below q) (size p.matrix) 1 back.q back.is_cheapest_of k is.0 before)
+        ∙ find_before (λ q. restores_feasibility p v.basis v.tableau back.r below q && is_cheapest p v.basis v.tableau back.r below q) (size p.matrix) 1 back.q back.is_cheapest_of k is.0 before)
       where
         cheap : is_cheapest p v.basis v.tableau back.r below k ≡ true
         cheap =
-            list_all_from (λ j. not (brings_back p v.basis v.tableau back.r below j) || le_ℚ (ratio p v.basis v.tableau back.r k) (ratio p v.basis v.tableau back.r j)) (size p.matrix) 1
-            (λ j low high. or_right (not (brings_back p v.basis v.tableau back.r below j)) (le_ℚ (ratio p v.basis v.tableau back.r k) (ratio p v.basis v.tableau back.r j))
+            list_all_from (λ j. not (restores_feasibility p v.basis v.tableau back.r below j) || le_ℚ (ratio p v.basis v.tableau back.r k) (ratio p v.basis v.tableau back.r j)) (size p.matrix) 1
+            (λ j low high. or_right (not (restores_feasibility p v.basis v.tableau back.r below j)) (le_ℚ (ratio p v.basis v.tableau back.r k) (ratio p v.basis v.tableau back.r j))
             (sym (zero_first (v.tableau.rate p.objective k) (v.tableau.rate back.r k) (v.tableau.rate p.objective j) (v.tableau.rate back.r j) (sym (objective_is v.tableau.rate k) ∙ zero))))
 
     -- at its own basis a nonbasic stands where its price puts it
@@ -264,13 +264,13 @@ module _ (p : LinearProgram) (lawful : IsLinearProgram p) (no_change : p.change 
   unfolding worth
   same_worth s at z w first second = ap (for_min p.sense) (one_point p s z w at.is_basis.counted at.nonsingular first second p.objective objective_row)
 
-  never_better : (s end : List Status) (vs : List Visit) → IsRightBasis s → IsWalk s vs end → ((x : Visit) → In x vs → IsDualVisit x) → (z w : Vector) → IsPointOf p s z → IsPointOf p end w → worth z ≤ℚ worth w
+  never_improved : (s end : List Status) (vs : List Visit) → IsRightBasis s → IsWalk s vs end → ((x : Visit) → In x vs → IsDualVisit x) → (z w : Vector) → IsPointOf p s z → IsPointOf p end w → worth z ≤ℚ worth w
   unfolding worth
-  never_better s end [] good walk visits z w first last = le_of_eq (same_worth s good.0 z w first (subst (λ b. IsPointOf p b w) (sym walk) last))
-  never_better s end (v ∷ vs) good walk visits z w first last =
+  never_improved s end [] good walk visits z w first last = le_of_eq (same_worth s good.0 z w first (subst (λ b. IsPointOf p b w) (sym walk) last))
+  never_improved s end (v ∷ vs) good walk visits z w first last =
       le_trans (le_of_eq (same_worth s good.0 z v.tableau.point first (subst (λ b. IsPointOf p b v.tableau.point) walk.0 h.is_tableau.is_point)))
-      (le_trans (gets_no_better v h n.tableau.point n.is_tableau.is_point)
-      (never_better (after v.basis v.move) end vs (right_next v h) walk.1 (λ x i. visits x (inr i)) n.tableau.point w n.is_tableau.is_point last))
+      (le_trans (gets_no_improvement v h n.tableau.point n.is_tableau.is_point)
+      (never_improved (after v.basis v.move) end vs (right_next v h) walk.1 (λ x i. visits x (inr i)) n.tableau.point w n.is_tableau.is_point last))
     where
       h : IsDualVisit v
       h = visits v (inl refl)
@@ -282,7 +282,7 @@ module _ (p : LinearProgram) (lawful : IsLinearProgram p) (no_change : p.change 
   unfolding worth
   no_prices s vs walk visits v i =
       no_price v h n.tableau.point n.is_tableau.is_point
-      (never_better (after v.basis v.move) v.basis turned.others (right_next v h) turned.walk (λ x j. visits x (turned.was_in x (inr j))) n.tableau.point v.tableau.point n.is_tableau.is_point h.is_tableau.is_point)
+      (never_improved (after v.basis v.move) v.basis turned.others (right_next v h) turned.walk (λ x j. visits x (turned.was_in x (inr j))) n.tableau.point v.tableau.point n.is_tableau.is_point h.is_tableau.is_point)
     where
       h : IsDualVisit v
       h = visits v i
@@ -340,8 +340,8 @@ module _ (p : LinearProgram) (lawful : IsLinearProgram p) (no_change : p.change 
           (subst (StopsAt (lower_of p k) (upper_of p k) (y.tableau.point k)) (ap (for_min p.sense) e) (stands_by_price y (visits y j) k (is, mark)))
           (stands_by_price x (visits x i) k (is, out))
 
-      by_test : (test : Bool) → brings_back p x.basis x.tableau (back x (visits x i)).r (below x (visits x i)) k ≡ test →
-          (brings_back p x.basis x.tableau (back x (visits x i)).r (below x (visits x i)) k ≡ false) ⊎ (y.tableau.point k ≡ x.tableau.point k)
+      by_test : (test : Bool) → restores_feasibility p x.basis x.tableau (back x (visits x i)).r (below x (visits x i)) k ≡ test →
+          (restores_feasibility p x.basis x.tableau (back x (visits x i)).r (below x (visits x i)) k ≡ false) ⊎ (y.tableau.point k ≡ x.tableau.point k)
       by_test false e = inl e
       by_test true e = inr (by_mark (passed_over x (visits x i) k is before out e) (is_in (basics_of y.basis) k) refl price_here)
 
@@ -349,7 +349,7 @@ module _ (p : LinearProgram) (lawful : IsLinearProgram p) (no_change : p.change 
     unfolding dual_returning
     no_dual_cycle =
         no_return_cycle p s v vs walk (λ x i. dual_returning x (visits x i))
-        (λ x y i j k is before out. by_test x y i j k is before out (brings_back p x.basis x.tableau (back x (visits x i)).r (below x (visits x i)) k) refl)
+        (λ x y i j k is before out. by_test x y i j k is before out (restores_feasibility p x.basis x.tableau (back x (visits x i)).r (below x (visits x i)) k) refl)
 
   pub no_dual_return : (s : List Status) (bases : List (List Status)) → IsRightBasis s → IsDualPath p s bases → 0 < length bases → s ≢ last_of s bases
   no_dual_return s [] good path some e = absurd (omega (arith, some))

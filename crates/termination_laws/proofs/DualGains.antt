@@ -50,9 +50,9 @@ module _ (sense : Sense) (x aq rq loss : ℚ) where
       for_min_times sense x aq ∙ ap (λ w. x *ℚ w) (by_ring2 (for_min sense aq) x (λ w x. w ≐ opposite (opposite w)) refl ∙ sym (ap neg_ℚ own))
       ∙ by_ring3 x loss rq (λ x m r. x ⊗ opposite (m ⊗ r) ≐ m ⊗ opposite (x ⊗ r)) refl
 
-pub no_better : (sense : Sense) (a b : ℚ) → zero_ℚ ≤ℚ for_min sense (b -ℚ a) → for_min sense a ≤ℚ for_min sense b
-no_better Min a b h = le_by_one h (by_ring2 a b (λ a b. b ≐ a ⊕ ((b ⊖ a) ⊖ number (pos 0))) refl)
-no_better Max a b h = le_by_one h (by_ring2 a b (λ a b. opposite b ≐ opposite a ⊕ (opposite (b ⊖ a) ⊖ number (pos 0))) refl)
+pub no_improvement : (sense : Sense) (a b : ℚ) → zero_ℚ ≤ℚ for_min sense (b -ℚ a) → for_min sense a ≤ℚ for_min sense b
+no_improvement Min a b h = le_by_one h (by_ring2 a b (λ a b. b ≐ a ⊕ ((b ⊖ a) ⊖ number (pos 0))) refl)
+no_improvement Max a b h = le_by_one h (by_ring2 a b (λ a b. opposite b ≐ opposite a ⊕ (opposite (b ⊖ a) ⊖ number (pos 0))) refl)
 
 pub as_good : (sense : Sense) (a b : ℚ) → for_min sense b ≤ℚ for_min sense a → for_min sense (b -ℚ a) ≤ℚ zero_ℚ
 as_good Min a b h = le_by_one h (by_ring2 a b (λ a b. number (pos 0) ≐ (b ⊖ a) ⊕ (a ⊖ b)) refl)

@@ -23,7 +23,7 @@ use Rattle.simplex_laws.specs.Laws.{IsNonsingularBasis}
 use Rattle.simplex_laws.proofs.Numbered.{find_none}
 use Rattle.simplex_laws.proofs.Turns.{IsFirstPhase}
 use Rattle.simplex_laws.proofs.Ends.{right, inside, low_of, high_of, and_true}
-use Rattle.simplex_laws.proofs.Endless.{lowering_enters, IsEntering}
+use Rattle.simplex_laws.proofs.UnboundedEnds.{lowering_enters, IsEntering}
 use Rattle.simplex_laws.proofs.Rays.{Breaks, breaks_lower, breaks_upper, broken_basic, broken_limit}
 use Rattle.termination_laws.proofs.Numbers.{find_before, against_product, still_product, weighed, signed_sum}
 use Rattle.termination_laws.proofs.Resting.{StopsAt, idle_stops, moving, comes_back}

@@ -11,19 +11,19 @@ use Rattle.lp_definitions.specs.declared.Status.{Status}
 use Rattle.lp_definitions.specs.declared.Status.TheVariants.{Bs}
 use Rattle.lp_laws.specs.Vectors.{along}
 use Rattle.lp_laws.proofs.Uniqueness.{one_point}
-use Rattle.simplex_definitions.specs.Moves.{is_below, lowers, room}
+use Rattle.simplex_definitions.specs.Moves.{is_below, lowers, step_length}
 use Rattle.simplex_definitions.specs.Path.{Moves, after, IsStep, stopped_by, excess_rate, turn}
 use Rattle.simplex_laws.specs.Laws.{IsNonsingularBasis, IsNoWorse}
 use Rattle.simplex_laws.proofs.Numbered.{find_some}
-use Rattle.simplex_laws.proofs.Turns.{IsBroughtTurn, IsStoppedTurn, MovingRule, brings, stops, bettering, moving_turn, rule_of}
+use Rattle.simplex_laws.proofs.Turns.{IsBroughtTurn, IsStoppedTurn, MovingRule, brings, stops, improving, moving_turn, rule_of}
 use Rattle.simplex_laws.proofs.Ends.{feasible, IsFeasible-same, low_of, high_of}
-use Rattle.simplex_laws.proofs.Endless.{objective_value-same}
+use Rattle.simplex_laws.proofs.UnboundedEnds.{objective_value-same}
 use Rattle.simplex_laws.proofs.Rays.{Breaks, breaks_lower, breaks_upper, broken_basic, broken_limit}
 use Rattle.simplex_laws.proofs.Steps.{step_leads}
 use Rattle.simplex_laws.proofs.Second.{feasible_step}
 use Rattle.termination_laws.proofs.Walks.{Visit, In, IsWalk, Turned, turn_to, IsVisitBy, visit_step}
 use Rattle.termination_laws.proofs.Fickle.{Exchanges, FicklePair, fickle_pair}
-use Rattle.termination_laws.proofs.Runs.{IsRun, run_of, move_is, entered, k_is, run_no_worse, no_length, stopped_leaves, mover_enters, reached_apart}
+use Rattle.termination_laws.proofs.Runs.{IsRun, run_of, move_is, entered, k_is, run_no_worse, no_length, stopped_leaves, entering_variable_enters, reached_apart}
 use Rattle.termination_laws.proofs.Numbers.{find_before}
 use Rattle.termination_laws.proofs.Returns.{IsReturning, no_return_cycle}
 use Rattle.termination_laws.proofs.SecondClash.{second_clash}
@@ -32,7 +32,7 @@ use Rattle.termination_laws.proofs.SecondClash.{second_clash}
 abbrev pub IsVisit : LinearProgram → Visit → Type 0
 IsVisit p = IsVisitBy turn p (IsNonsingularBasis p)
 
--- it brings r back by q, or it betters the objective by q until k stops that
+-- it brings r back by q, or it improves the objective by q until k stops that
 record IsFirst (p : LinearProgram) (v : Visit) : Type 0 where
   r : ℕ
   q : ℕ
@@ -87,16 +87,16 @@ module _ (p : LinearProgram) (v : Visit) (h : IsVisit p v) (second : IsSecond p 
     basis = h.at.is_basis;
     enters_is = subst (λ m. IsVariable p.matrix m.enters) (sym is) (entered p v.basis v.tableau h.at h.is_tableau v.move second.q second.k second.turn).is_variable;
     leaves_is = subst (λ m. IsVariable p.matrix m.leaves) (sym is) (k_is p v.basis v.tableau h.at h.is_tableau v.move second.q second.k second.turn);
-    enters = subst (λ m. status_of v.basis m.enters ≢ Bs) (sym is) (mover_enters p v.basis v.tableau h.at h.is_tableau v.move second.q second.k second.turn at_once);
+    enters = subst (λ m. status_of v.basis m.enters ≢ Bs) (sym is) (entering_variable_enters p v.basis v.tableau h.at h.is_tableau v.move second.q second.k second.turn at_once);
     leaves = subst (λ m. status_of v.basis m.leaves ≡ Bs) (sym is) (stopped_leaves p v.basis v.tableau h.at h.is_tableau v.move second.q second.k second.turn at_once);
-    stands = subst (λ m. m.to ≢ Bs) (sym is) (reached_apart (bettering p v.basis v.tableau second.q) second.k);
+    stands = subst (λ m. m.to ≢ Bs) (sym is) (reached_apart (improving p v.basis v.tableau second.q) second.k);
   }
     where
-      is : v.move ≡ stopped_by second.q (bettering p v.basis v.tableau second.q) second.k
+      is : v.move ≡ stopped_by second.q (improving p v.basis v.tableau second.q) second.k
       is = move_is p v.basis v.tableau h.at h.is_tableau v.move second.q second.k second.turn
 
-      at_once : room p v.tableau.point (bettering p v.basis v.tableau second.q) second.k ≡ Some zero_ℚ
-      at_once = run.is_room ∙ ap (λ x. Some x) none
+      at_once : step_length p v.tableau.point (improving p v.basis v.tableau second.q) second.k ≡ Some zero_ℚ
+      at_once = run.is_step_length ∙ ap (λ x. Some x) none
 
 module _ (p : LinearProgram) (lawful : IsLinearProgram p) where
   abbrev worth : Vector → ℚ
@@ -131,7 +131,7 @@ module _ (p : LinearProgram) (lawful : IsLinearProgram p) where
       r = run p v h second
 
       moved : Vector
-      moved = along v.tableau.point r.length (bettering p v.basis v.tableau second.q)
+      moved = along v.tableau.point r.length (improving p v.basis v.tableau second.q)
 
   -- so on a closed walk no step has a length
   still : (s : List Status) (vs : List Visit) → IsWalk s vs s → (visits : (x : Visit) → In x vs → IsVisit p x) → (seconds : (x : Visit) → In x vs → IsSecond p x) →
@@ -150,7 +150,7 @@ module _ (p : LinearProgram) (lawful : IsLinearProgram p) where
       r = run p v h second
 
       moved : Vector
-      moved = along v.tableau.point r.length (bettering p v.basis v.tableau second.q)
+      moved = along v.tableau.point r.length (improving p v.basis v.tableau second.q)
 
       turned : Turned v vs
       turned = turn_to s v vs walk i
@@ -173,15 +173,15 @@ module _ (p : LinearProgram) (lawful : IsLinearProgram p) where
       r = run p v h second
 
       moved : Vector
-      moved = along v.tableau.point r.length (bettering p v.basis v.tableau second.q)
+      moved = along v.tableau.point r.length (improving p v.basis v.tableau second.q)
 
       own : (k : ℕ) → IsVariable p.matrix k → v.tableau.point k ≡ z k
       own = one_point p s v.tableau.point z at.is_basis.counted at.nonsingular (here s v walk.0 h) point
 
       unmoved : (k : ℕ) → moved k ≡ v.tableau.point k
       unmoved k =
-          ap (λ t. v.tableau.point k +ℚ t *ℚ bettering p v.basis v.tableau second.q k) (none v (inl refl))
-          ∙ by_ring2 (v.tableau.point k) (bettering p v.basis v.tableau second.q k) (λ z d. z ⊕ number (pos 0) ⊗ d ≐ z) refl
+          ap (λ t. v.tableau.point k +ℚ t *ℚ improving p v.basis v.tableau second.q k) (none v (inl refl))
+          ∙ by_ring2 (v.tableau.point k) (improving p v.basis v.tableau second.q k) (λ z d. z ⊕ number (pos 0) ⊗ d ≐ z) refl
 
       first : ((x : Visit) → In x vs → (k : ℕ) → IsVariable p.matrix k → x.tableau.point k ≡ moved k) → (x : Visit) → ((x ≡ v) ⊎ In x vs) → (k : ℕ) → IsVariable p.matrix k → x.tableau.point k ≡ z k
       first later x (inl e) k is = ap (λ y. y.tableau.point k) e ∙ own k is
@@ -191,7 +191,7 @@ module _ (p : LinearProgram) (lawful : IsLinearProgram p) where
   no_second_cycle s v vs walk visits seconds =
       second_clash p lawful e.basis w.basis e.tableau w.tableau (visits e pair.is_entering).at (visits w pair.is_leaving).at (visits e pair.is_entering).is_tableau (visits w pair.is_leaving).is_tableau
       (λ k is. points e pair.is_entering k is ∙ sym (points w pair.is_leaving k is)) pair.t at_w.q (at_e.turn.moves ∙ ap (λ j. Some j) q_is) at_w.turn.moves
-      (at_w.turn.stops ∙ ap (λ j. Some j) k_at) (subst (λ j. room p w.tableau.point (bettering p w.basis w.tableau at_w.q) j ≡ Some zero_ℚ) k_at at_once) pair.past q_before
+      (at_w.turn.stops ∙ ap (λ j. Some j) k_at) (subst (λ j. step_length p w.tableau.point (improving p w.basis w.tableau at_w.q) j ≡ Some zero_ℚ) k_at at_once) pair.past q_before
     where
       none : (x : Visit) → (i : In x (v ∷ vs)) → (run p x (visits x i) (seconds x i)).length ≡ zero_ℚ
       none = still s (v ∷ vs) walk visits seconds
@@ -217,10 +217,10 @@ module _ (p : LinearProgram) (lawful : IsLinearProgram p) where
       at_w : IsSecond p w
       at_w = seconds w pair.is_leaving
 
-      e_is : e.move ≡ stopped_by at_e.q (bettering p e.basis e.tableau at_e.q) at_e.k
+      e_is : e.move ≡ stopped_by at_e.q (improving p e.basis e.tableau at_e.q) at_e.k
       e_is = let h = visits e pair.is_entering in move_is p e.basis e.tableau h.at h.is_tableau e.move at_e.q at_e.k at_e.turn
 
-      w_is : w.move ≡ stopped_by at_w.q (bettering p w.basis w.tableau at_w.q) at_w.k
+      w_is : w.move ≡ stopped_by at_w.q (improving p w.basis w.tableau at_w.q) at_w.k
       w_is = let h = visits w pair.is_leaving in move_is p w.basis w.tableau h.at h.is_tableau w.move at_w.q at_w.k at_w.turn
 
       q_is : at_e.q ≡ pair.t
@@ -232,8 +232,8 @@ module _ (p : LinearProgram) (lawful : IsLinearProgram p) where
       q_before : at_w.q < pair.t
       q_before = subst (λ m. m.enters < pair.t) w_is pair.enters_before
 
-      at_once : room p w.tableau.point (bettering p w.basis w.tableau at_w.q) at_w.k ≡ Some zero_ℚ
-      at_once = (run p w (visits w pair.is_leaving) at_w).is_room ∙ ap (λ x. Some x) (none w pair.is_leaving)
+      at_once : step_length p w.tableau.point (improving p w.basis w.tableau at_w.q) at_w.k ≡ Some zero_ℚ
+      at_once = (run p w (visits w pair.is_leaving) at_w).is_step_length ∙ ap (λ x. Some x) (none w pair.is_leaving)
 
   -- ---- both phases
 

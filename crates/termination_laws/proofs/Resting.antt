@@ -66,19 +66,19 @@ ahead low high d = if lt_ℚ zero_ℚ d then high else (if lt_ℚ d zero_ℚ the
 abbrev pub room_to : Option ℚ → ℚ → ℚ → Option ℚ
 room_to limit z d = option_map (λ l. (l -ℚ z) /ℚ d) limit
 
-room_none : (limit : Option ℚ) (z d : ℚ) → d ≢ zero_ℚ → room_to limit z d ≡ Some zero_ℚ → limit ≡ Some z
-room_none None z d apart e = cc
-room_none (Some l) z d apart e =
+step_length_none : (limit : Option ℚ) (z d : ℚ) → d ≢ zero_ℚ → room_to limit z d ≡ Some zero_ℚ → limit ≡ Some z
+step_length_none None z d apart e = cc
+step_length_none (Some l) z d apart e =
     ap (λ v. Some v) (same_from_difference l z (sym (div-mul_cancel (l -ℚ z) d apart) ∙ ap (λ x. x *ℚ d) (same_Some _ _ e) ∙ zero-mul d))
 
-none_room : (limit : Option ℚ) (z d : ℚ) → d ≢ zero_ℚ → limit ≡ Some z → room_to limit z d ≡ Some zero_ℚ
-none_room None z d apart e = cc
-none_room (Some l) z d apart e =
+none_step_length : (limit : Option ℚ) (z d : ℚ) → d ≢ zero_ℚ → limit ≡ Some z → room_to limit z d ≡ Some zero_ℚ
+none_step_length None z d apart e = cc
+none_step_length (Some l) z d apart e =
     ap (λ v. Some v) (div_is (l -ℚ z) d zero_ℚ apart (ap (λ x. x -ℚ z) (same_Some _ _ e) ∙ by_ring2 z d (λ z d. z ⊖ z ≐ number (pos 0) ⊗ d) refl))
 
 -- where it stands at the limit ahead, there is no room
-pub no_room : (low high : Option ℚ) (z d : ℚ) → (zero_ℚ <ℚ d → high ≡ Some z) → (d <ℚ zero_ℚ → low ≡ Some z) → d ≢ zero_ℚ → room_to (ahead low high d) z d ≡ Some zero_ℚ
-no_room low high z d upper lower apart = none_room (ahead low high d) z d apart (by_tests (lt_ℚ zero_ℚ d) refl (lt_ℚ d zero_ℚ) refl)
+pub no_step_length : (low high : Option ℚ) (z d : ℚ) → (zero_ℚ <ℚ d → high ≡ Some z) → (d <ℚ zero_ℚ → low ≡ Some z) → d ≢ zero_ℚ → room_to (ahead low high d) z d ≡ Some zero_ℚ
+no_step_length low high z d upper lower apart = none_step_length (ahead low high d) z d apart (by_tests (lt_ℚ zero_ℚ d) refl (lt_ℚ d zero_ℚ) refl)
   where
     by_tests : (up : Bool) → lt_ℚ zero_ℚ d ≡ up → (down : Bool) → lt_ℚ d zero_ℚ ≡ down → (if up then high else (if down then low else None)) ≡ Some z
     by_tests true up down down_is = upper (lt_from_test zero_ℚ d up)
@@ -100,16 +100,16 @@ no_fall Fr low high z down allowed stands limit free = let none = sym limit ∙ 
 
 -- what may move, and is stopped at once by a motion, is moved the other way by it
 pub blocked : (st : Status) (low high : Option ℚ) (z w d : ℚ) → IsAllowed st low high → StandsAt st low high z → Moving st (on_limits eq_ℚ low high) w → room_to (ahead low high d) z d ≡ Some zero_ℚ → Against w d
-blocked st low high z w d allowed stands (rising_from h up free) room = record { rising = λ g. by_test (lt_ℚ zero_ℚ d) refl room; falling = λ g. absurd (lt_not_le h (le_of_lt g)) }
+blocked st low high z w d allowed stands (rising_from h up free) step_length = record { rising = λ g. by_test (lt_ℚ zero_ℚ d) refl step_length; falling = λ g. absurd (lt_not_le h (le_of_lt g)) }
   where
     by_test : (above : Bool) → lt_ℚ zero_ℚ d ≡ above → room_to (if above then high else (if lt_ℚ d zero_ℚ then low else None)) z d ≡ Some zero_ℚ → d ≤ℚ zero_ℚ
     by_test false is e = le_from_lt_fails zero_ℚ d is
-    by_test true is e = absurd (no_rise st low high z up allowed stands (room_none high z d (apart_from_above (lt_from_test zero_ℚ d is)) e) free)
-blocked st low high z w d allowed stands (falling_from h down free) room = record { rising = λ g. absurd (lt_not_le h (le_of_lt g)); falling = λ g. by_tests (lt_ℚ zero_ℚ d) refl (lt_ℚ d zero_ℚ) refl room }
+    by_test true is e = absurd (no_rise st low high z up allowed stands (step_length_none high z d (apart_from_above (lt_from_test zero_ℚ d is)) e) free)
+blocked st low high z w d allowed stands (falling_from h down free) step_length = record { rising = λ g. absurd (lt_not_le h (le_of_lt g)); falling = λ g. by_tests (lt_ℚ zero_ℚ d) refl (lt_ℚ d zero_ℚ) refl step_length }
   where
     by_tests : (above : Bool) → lt_ℚ zero_ℚ d ≡ above → (below : Bool) → lt_ℚ d zero_ℚ ≡ below → room_to (if above then high else (if below then low else None)) z d ≡ Some zero_ℚ → zero_ℚ ≤ℚ d
     by_tests true is below below_is e = le_of_lt (lt_from_test zero_ℚ d is)
-    by_tests false is true below_is e = absurd (no_fall st low high z down allowed stands (room_none low z d (apart_from_below (lt_from_test d zero_ℚ below_is)) e) free)
+    by_tests false is true below_is e = absurd (no_fall st low high z down allowed stands (step_length_none low z d (apart_from_below (lt_from_test d zero_ℚ below_is)) e) free)
     by_tests false is false below_is e = le_from_lt_fails d zero_ℚ below_is
 
 -- ---- what left outside its limits

@@ -14,7 +14,7 @@ use Rattle.simplex_definitions.specs.Moves.{is_below, lowers}
 use Rattle.simplex_definitions.specs.Path.{excess_rate}
 use Rattle.simplex_laws.specs.Laws.{IsNonsingularBasis}
 use Rattle.simplex_laws.proofs.Turns.{IsFirstPhase}
-use Rattle.simplex_laws.proofs.Endless.{IsEntering, lowering_enters}
+use Rattle.simplex_laws.proofs.UnboundedEnds.{IsEntering, lowering_enters}
 use Rattle.simplex_laws.proofs.Rays.{broken_basic}
 use Rattle.termination_laws.proofs.Walks.{Visit, In, IsWalk}
 use Rattle.termination_laws.proofs.Fickle.{Exchanges, FicklePair, fickle_pair}

@@ -13,28 +13,28 @@ use Rattle.lp_laws.specs.Rates.{weight}
 use Rattle.lp_laws.proofs.Values.{clash}
 use Rattle.lp_laws.proofs.Optimal.{objective_by_nonbasics}
 use Rattle.lp_laws.proofs.Statuses.{status_of_nonbasic, nonbasic_by_status}
-use Rattle.simplex_definitions.specs.Moves.{is_fixed, is_no_later, lowers, signed, goes_up, room, reaches_first, stopper}
-use Rattle.simplex_definitions.specs.Path.{worth_rate, mover}
+use Rattle.simplex_definitions.specs.Moves.{is_fixed, is_no_later, lowers, signed, goes_up, step_length, reaches_first, stopper}
+use Rattle.simplex_definitions.specs.Path.{worth_rate, entering_variable}
 use Rattle.simplex_laws.specs.Laws.{IsNonsingularBasis}
 use Rattle.simplex_laws.proofs.Numbered.{find_some, list_all_from}
 use Rattle.simplex_laws.proofs.Stoppers.{stopper_some}
-use Rattle.simplex_laws.proofs.Turns.{bettering}
+use Rattle.simplex_laws.proofs.Turns.{improving}
 use Rattle.simplex_laws.proofs.Ends.{right}
-use Rattle.simplex_laws.proofs.Endless.{enters, IsEntering, bettering_keeps, bettering_betters}
+use Rattle.simplex_laws.proofs.UnboundedEnds.{enters, IsEntering, improving_keeps, improving_improves}
 use Rattle.simplex_laws.proofs.Steps.{signed_zero}
 use Rattle.termination_laws.proofs.Numbers.{find_before, against_product, still_product, weighed, for_min_sum}
-use Rattle.termination_laws.proofs.Resting.{StopsAt, idle_stops, moving, no_room, blocked}
+use Rattle.termination_laws.proofs.Resting.{StopsAt, idle_stops, moving, no_step_length, blocked}
 
--- at the first basis t betters the objective, and at the second t stops q at once
+-- at the first basis t improves the objective, and at the second t stops q at once
 module _ (p : LinearProgram) (lawful : IsLinearProgram p) (s₁ s₂ : List Status) (t₁ t₂ : Tableau) (at₁ : IsNonsingularBasis p s₁) (at₂ : IsNonsingularBasis p s₂) (tab₁ : IsTableau p s₁ t₁) (tab₂ : IsTableau p s₂ t₂)
-    (same : (k : ℕ) → IsVariable p.matrix k → t₁.point k ≡ t₂.point k) (t q : ℕ) (moves₁ : mover p s₁ t₁ None ≡ Some t) (moves₂ : mover p s₂ t₂ None ≡ Some q)
-    (stops : stopper p t₂.point (bettering p s₂ t₂ q) ≡ Some t) (at_once : room p t₂.point (bettering p s₂ t₂ q) t ≡ Some zero_ℚ)
+    (same : (k : ℕ) → IsVariable p.matrix k → t₁.point k ≡ t₂.point k) (t q : ℕ) (moves₁ : entering_variable p s₁ t₁ None ≡ Some t) (moves₂ : entering_variable p s₂ t₂ None ≡ Some q)
+    (stops : stopper p t₂.point (improving p s₂ t₂ q) ≡ Some t) (at_once : step_length p t₂.point (improving p s₂ t₂ q) t ≡ Some zero_ℚ)
     (past : (k : ℕ) → IsVariable p.matrix k → t < k → status_of s₁ k ≡ status_of s₂ k) (before_t : q < t) where
   abbrev w : Vector
   w = worth_rate p s₁ t₁
 
   abbrev d : Vector
-  d = bettering p s₂ t₂ q
+  d = improving p s₂ t₂ q
 
   entered₁ : IsEntering p s₁ w t
   entered₁ = enters p s₁ w t at₁.is_basis moves₁
@@ -43,7 +43,7 @@ module _ (p : LinearProgram) (lawful : IsLinearProgram p) (s₁ s₂ : List Stat
   entered₂ = enters p s₂ (worth_rate p s₂ t₂) q at₂.is_basis moves₂
 
   keeps : KeepsEquations p.matrix d
-  keeps = bettering_keeps p s₂ t₂ at₂.is_basis tab₂ q entered₂
+  keeps = improving_keeps p s₂ t₂ at₂.is_basis tab₂ q entered₂
 
   total : for_min p.sense (objective_value p d) ≡ sum_to (size p.matrix) (λ k. weight (basics_of s₁) d (suc k) *ℚ w (suc k))
   total =
@@ -55,14 +55,14 @@ module _ (p : LinearProgram) (lawful : IsLinearProgram p) (s₁ s₂ : List Stat
   stands k is = subst (StandsAt (status_of s₁ k) (lower_of p k) (upper_of p k)) (same k is) (tab₁.is_point.placed k is)
 
   -- none before t is stopped at once
-  too_early : (k : ℕ) → IsVariable p.matrix k → k < t → room p t₂.point d k ≡ Some zero_ℚ → ⊥
+  too_early : (k : ℕ) → IsVariable p.matrix k → k < t → step_length p t₂.point d k ≡ Some zero_ℚ → ⊥
   too_early k is before none =
       clash (sym reaches ∙ find_before (reaches_first p t₂.point d) (size p.matrix) 1 t stops k is.0 before)
     where
       reaches : reaches_first p t₂.point d k ≡ true
       reaches =
-          list_all_from (λ i. is_no_later (room p t₂.point d k) (room p t₂.point d i)) (size p.matrix) 1
-          (λ i low high. subst (λ o. is_no_later o (room p t₂.point d i) ≡ true) (at_once ∙ sym none) ((stopper_some p t₂.point d t stops).1 i (low, omega (arith, high))))
+          list_all_from (λ i. is_no_later (step_length p t₂.point d k) (step_length p t₂.point d i)) (size p.matrix) 1
+          (λ i low high. subst (λ o. is_no_later o (step_length p t₂.point d i) ≡ true) (at_once ∙ sym none) ((stopper_some p t₂.point d t stops).1 i (low, omega (arith, high))))
 
   before_term : (k : ℕ) → IsVariable p.matrix k → k < t → is_in (basics_of s₁) k ≡ false → zero_ℚ ≤ℚ d k *ℚ w k
   before_term k is before out = against_product (w k) (d k) (record { rising = λ h. not_up h (lt_or_le zero_ℚ (d k)); falling = λ h. not_down h (lt_or_le (d k) zero_ℚ) })
@@ -74,12 +74,12 @@ module _ (p : LinearProgram) (lawful : IsLinearProgram p) (s₁ s₂ : List Stat
 
       not_up : w k <ℚ zero_ℚ → ((zero_ℚ <ℚ d k) ⊎ (d k ≤ℚ zero_ℚ)) → d k ≤ℚ zero_ℚ
       not_up h (inl up) =
-          absurd (too_early k is before (no_room (lower_of p k) (upper_of p k) (t₂.point k) (d k) (λ g. rests.rising h) (λ g. absurd (lt_not_le up (le_of_lt g))) (apart_from_above up)))
+          absurd (too_early k is before (no_step_length (lower_of p k) (upper_of p k) (t₂.point k) (d k) (λ g. rests.rising h) (λ g. absurd (lt_not_le up (le_of_lt g))) (apart_from_above up)))
       not_up h (inr other) = other
 
       not_down : zero_ℚ <ℚ w k → ((d k <ℚ zero_ℚ) ⊎ (zero_ℚ ≤ℚ d k)) → zero_ℚ ≤ℚ d k
       not_down h (inl down) =
-          absurd (too_early k is before (no_room (lower_of p k) (upper_of p k) (t₂.point k) (d k) (λ g. absurd (lt_not_le down (le_of_lt g))) (λ g. rests.falling h) (apart_from_below down)))
+          absurd (too_early k is before (no_step_length (lower_of p k) (upper_of p k) (t₂.point k) (d k) (λ g. absurd (lt_not_le down (le_of_lt g))) (λ g. rests.falling h) (apart_from_below down)))
       not_down h (inr other) = other
 
   own_term : zero_ℚ ≤ℚ d t *ℚ w t
@@ -107,6 +107,6 @@ module _ (p : LinearProgram) (lawful : IsLinearProgram p) (s₁ s₂ : List Stat
 
   pub second_clash : ⊥
   second_clash =
-      lt_not_le (bettering_betters p s₂ t₂ at₂.is_basis tab₂ q entered₂)
+      lt_not_le (improving_improves p s₂ t₂ at₂.is_basis tab₂ q entered₂)
       (subst (λ v. zero_ℚ ≤ℚ v) (sym total)
       (sum_to-nonnegative (size p.matrix) (λ k. weight (basics_of s₁) d (suc k) *ℚ w (suc k)) (λ k below. term (suc k) (omega arith, omega (arith, below)))))

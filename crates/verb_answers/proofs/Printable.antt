@@ -19,8 +19,8 @@ use Rattle.lp_model.specs.declared.reports.ParaReport.TheVariants as reports
 use Rattle.simplex_definitions.specs.Moves.{goes_up, stopper}
 use Rattle.simplex_definitions.specs.Path.{listed, ray_of, speeds}
 use Rattle.simplex_definitions.specs.DualRatio.{cheapest}
-use Rattle.simplex_definitions.specs.Chain.{Part, ChainEnd, AtMax, UnboundedPast, InfeasiblePast, FaceTurn, FaceMoves, FaceDone, FaceEnds, IsPart as IsInterval, IsChain, at_max, past_break, goes_on}
-use Rattle.simplex_definitions.specs.ObjectiveRun.{objective_family, change_rate, face_mover, face_until, face_by, objective_face, IsObjectiveFace}
+use Rattle.simplex_definitions.specs.Chain.{Part, ChainEnd, AtMax, UnboundedPast, InfeasiblePast, FaceTurn, FaceMoves, FaceDone, FaceEnds, IsPart as IsInterval, IsChain, at_max, past_breakpoint, goes_on}
+use Rattle.simplex_definitions.specs.ObjectiveRun.{objective_family, change_rate, face_entering_variable, face_until, face_by, objective_face, IsObjectiveFace}
 use Rattle.simplex_definitions.specs.RhsRun.{rhs_family, leaves_below, leaving, face_exchange, face_at, rhs_face, IsRhsFace}
 use Rattle.problem_definitions.proofs.Each.{each-all}
 use Rattle.bounded_primal.specs.Outcomes.{IsTrueOutcome}
@@ -63,7 +63,7 @@ module _ (p : LinearProgram) (h : ℕ) (theta : ℚ) (s : List Status) (t : Tabl
 
   objective_end : (end : ChainEnd) → objective_face p h theta s t ≡ FaceEnds end → EndHasPlaces (size p.matrix) end
   unfolding objective_face
-  objective_end end e = objective_by (face_mover p h theta s t) end e
+  objective_end end e = objective_by (face_entering_variable p h theta s t) end e
 
 module _ (p : LinearProgram) (shift : List ℚ) (theta : ℚ) (s : List Status) (t : Tableau) (v : Vector) where
   rhs_exchange : (r : ℕ) (below : Bool) (o : Option ℕ) (end : ChainEnd) → face_exchange p shift theta s t v r below o ≡ FaceEnds end → EndHasPlaces (size p.matrix) end
@@ -95,7 +95,7 @@ module _ (family : ℚ → LinearProgram) (Face : ℚ → List Status → FaceTu
 
   chain_places : (from : ℚ) (s : List Status) (parts : List Part) (end : ChainEnd) (path : List (List Status)) → IsChain family Face max from s parts end path → AllByRecursion (HasPlaces places) parts × EndHasPlaces places end
   chain_places _ _ _ _ _ (at_max {from} {s} {part} is whole) = ((interval_places from s part is, tt), tt)
-  chain_places _ _ _ _ _ (past_break {from} {s} {part} {end} {path} is faces) = ((interval_places from s part is, tt), ended part.to _ end faces.last)
+  chain_places _ _ _ _ _ (past_breakpoint {from} {s} {part} {end} {path} is faces) = ((interval_places from s part is, tt), ended part.to _ end faces.last)
   chain_places _ _ _ _ _ (goes_on {from} {s} {part} {parts} {end} {bases} {later} is faces chain) =
       let rest = chain_places part.to _ parts end later chain in
       ((interval_places from s part is, rest.0), rest.1)
@@ -134,12 +134,12 @@ module _ (sheet : Sheet) (named : IsSheet sheet) where
       ((theta : ℚ) (s : List Status) (end : ChainEnd) → Face theta s (FaceEnds end) → EndHasPlaces places end) →
       (from max : ℚ) (s now : List Status) (limit : ℕ) (a : Matrix) (before after : List (List Bool)) (report : ParaReport) → RunEnds family Face from max s now limit a before after report → IsTrueReported family from max report → IsPrintable sheet report
   report_listed family Face counted ended from max s now limit a before after (reports.Opening outcome) run truth = opening_listed (family from) outcome (counted from) truth
-  report_listed family Face counted ended from max s now limit a before after (reports.Run told) run truth =
-      let chain = chain_places family Face places counted ended max from _ (map part_of told.parts) (end_of told.end) run.is_report.faces run.is_report.chain in
+  report_listed family Face counted ended from max s now limit a before after (reports.Run reported) run truth =
+      let chain = chain_places family Face places counted ended max from _ (map part_of reported.parts) (end_of reported.end) run.is_report.faces run.is_report.chain in
       record {
         is_sheet = named;
-        parts = each-all (IsPart sheet) told.parts (parts_listed told.parts chain.0);
-        end = end_listed told.end chain.1;
+        parts = each-all (IsPart sheet) reported.parts (parts_listed reported.parts chain.0);
+        end = end_listed reported.end chain.1;
       }
 
   pub objective_printable : (h : ℕ) (from max : ℚ) (s now : List Status) (limit : ℕ) (a : Matrix) (before after : List (List Bool)) (report : ParaReport) →

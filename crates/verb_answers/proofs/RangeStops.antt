@@ -17,7 +17,7 @@ use Rattle.simplex_definitions.specs.Evidence.{Formula, by_exchange, by_entry, b
 use Rattle.basis_values.specs.Calls.{job_of, is_of_point, StopsAt, PointRefused, RangeRefused}
 use Rattle.verb_answers.specs.Stops.{RangesRefused}
 use Rattle.verb_answers.proofs.Refused.{within_last, covers_trans}
-use Rattle.ranging.proofs.Shown.{of_number}
+use Rattle.ranging.proofs.Views.{of_number}
 
 -- what shows that a path stops shows it of RANGE
 module _ (p : LinearProgram) (Goes : Status → Type 0) (s : List Status) (e : Evidence) where

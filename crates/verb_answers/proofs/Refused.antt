@@ -49,25 +49,25 @@ module _ (a : Matrix) where
 
 -- what shows that a path stops, without a move, shows it of SOLUTION
 module _ (p : LinearProgram) (Other : Status → Type 0) (s : List Status) (e : Evidence) where
-  formula_shown : (t : Tableau) (w : Basics) (rate : ℕ → ℕ → ℚ) → Formula (Primal p) (λ to. ⊥) s t w rate e → Formula (Solution p) Other s t w rate e
-  formula_shown t w rate (by_exchange f) = by_exchange f
-  formula_shown t w rate (by_entry f) = by_entry f
-  formula_shown t w rate (by_carried f) = by_carried f
-  formula_shown t w rate (by_point f) = by_point f
-  formula_shown t w rate (by_slack f) = by_slack f
-  formula_shown t w rate (by_move to goes f) = absurd goes
-  formula_shown t w rate (by_ratio f) = by_ratio f
-  formula_shown t w rate (by_range f) = by_range f
-  formula_shown t w rate (by_objective f) = by_objective f
-  formula_shown t w rate (by_slope u is f) = by_slope u is f
+  formula_view : (t : Tableau) (w : Basics) (rate : ℕ → ℕ → ℚ) → Formula (Primal p) (λ to. ⊥) s t w rate e → Formula (Solution p) Other s t w rate e
+  formula_view t w rate (by_exchange f) = by_exchange f
+  formula_view t w rate (by_entry f) = by_entry f
+  formula_view t w rate (by_carried f) = by_carried f
+  formula_view t w rate (by_point f) = by_point f
+  formula_view t w rate (by_slack f) = by_slack f
+  formula_view t w rate (by_move to goes f) = absurd goes
+  formula_view t w rate (by_ratio f) = by_ratio f
+  formula_view t w rate (by_range f) = by_range f
+  formula_view t w rate (by_objective f) = by_objective f
+  formula_view t w rate (by_slope u is f) = by_slope u is f
 
-  refusal_shown : (around wider : List Basics) (w : Basics) → Covers p.matrix around wider → ShowsRefusal (Primal p) (λ to. ⊥) around s w e → ShowsRefusal (Solution p) Other wider s w e
-  refusal_shown around wider w cover r = record {
+  refusal_view : (around wider : List Basics) (w : Basics) → Covers p.matrix around wider → ShowsRefusal (Primal p) (λ to. ⊥) around s w e → ShowsRefusal (Solution p) Other wider s w e
+  refusal_view around wider w cover r = record {
     tableau = r.tableau;
     is_tableau = r.is_tableau;
     way_rate = r.way_rate;
     are_way_rates = r.are_way_rates;
-    formula = formula_shown r.tableau w r.way_rate r.formula;
+    formula = formula_view r.tableau w r.way_rate r.formula;
     is_way = (r.is_way.0, covered p.matrix w around wider cover r.is_way.1);
     reaches = λ is. ((r.reaches is).0, covered p.matrix (exchanged w e.p e.q) around wider cover (r.reaches is).1);
     no_way = r.no_way;
@@ -94,7 +94,7 @@ module _ (p : LinearProgram) (no_change : p.change ≡ None) (before mid : List 
                 reached = refl;
                 ahead = None;
                 is_ahead = tt;
-                shows = refusal_shown p (GoesTo (Solution p) None s e) s e (basics_of s ∷ mid) (map basics_of (earlier ++ s ∷ [])) (waypoint (basics_of s) after e.way) cover
+                shows = refusal_view p (GoesTo (Solution p) None s e) s e (basics_of s ∷ mid) (map basics_of (earlier ++ s ∷ [])) (waypoint (basics_of s) after e.way) cover
                     (subst (λ (o : Option Change). ShowsRefusal (job_of p o) (λ to. ⊥) (basics_of s ∷ mid) s (waypoint (basics_of s) after e.way) e) no_change h.stops.shows);
                 is_theta = subst (λ (o : Option Change). Contains (thetas_of (job_of p o) []) e.theta) no_change h.stops.is_theta;
                 of_move = record { enters = λ is. absurd (clash (sym is ∙ number.no_move)); brings = λ is. absurd (clash (sym is ∙ number.no_ratio)); steps = λ is. tt };
@@ -107,8 +107,8 @@ module _ (p : LinearProgram) (no_change : p.change ≡ None) (before mid : List 
 -- ---- a slack
 
 module _ (p : LinearProgram) (s : List Status) (z : Vector) (rate : ℕ → ℕ → ℚ) (point : IsPointOf p s z) (rates : AreRates p.matrix (basics_of s) rate) (nonsingular : IsNonsingular p.matrix (basics_of s)) (before after : List Basics) (e : Evidence) where
-  slack_shown : (Goes : Status → Type 0) (around : List Basics) → IsWithinOne p.matrix (basics_of s) around → SomeSlackRefused p z e → ShowsRefusal (Solution p) Goes around s (basics_of s) e
-  slack_shown Goes around own (i, is, h) = record {
+  slack_view : (Goes : Status → Type 0) (around : List Basics) → IsWithinOne p.matrix (basics_of s) around → SomeSlackRefused p z e → ShowsRefusal (Solution p) Goes around s (basics_of s) e
+  slack_view Goes around own (i, is, h) = record {
     tableau = record { point = z; rate = rate };
     is_tableau = record { is_point = point; are_rates = rates };
     way_rate = rate;
@@ -133,7 +133,7 @@ module _ (p : LinearProgram) (s : List Status) (z : Vector) (rate : ℕ → ℕ 
             ahead = None;
             is_ahead = tt;
             shows = subst (λ (w : Basics). ShowsRefusal (Solution p) (GoesTo (Solution p) None s e) (map basics_of (earlier ++ s ∷ [])) s w e) (sym (ap (waypoint (basics_of s) after) h.no_way))
-                (slack_shown (GoesTo (Solution p) None s e) (map basics_of (earlier ++ s ∷ [])) (within_last p.matrix earlier s) some);
+                (slack_view (GoesTo (Solution p) None s e) (map basics_of (earlier ++ s ∷ [])) (within_last p.matrix earlier s) some);
             is_theta = (0, omega arith, sym h.no_theta);
             of_move = record {
               enters = λ is. absurd (clash (sym is ∙ ap (is_between 7 9) h.names.is_formula));

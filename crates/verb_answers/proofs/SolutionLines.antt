@@ -14,7 +14,7 @@ use Rattle.listing_definitions.specs.declared.At.TheVariants.{Equal, Lower, Uppe
 use Rattle.listing_tables.specs.Lines as printed
 use Rattle.answer_definitions.specs.Lines as asked
 use Rattle.question_definitions.specs.Answers.{Sheet}
-use Rattle.answer_definitions.specs.Sections.{IsShown, solution_row, solution_column, solution_lines}
+use Rattle.answer_definitions.specs.Sections.{IsSolutionOf, solution_row, solution_column, solution_lines}
 use Rattle.verb_answers.specs.Slack.{slack_at}
 
 -- ---- where a variable stands, in the two forms
@@ -67,8 +67,8 @@ module _ (problem : Problem ℕ) (p : LinearProgram) (s : List Status) (point pr
       (λ k low high. ap (λ (vs : List Value). printed.line_of problem (λ _. vs) k) (column_same k (omega (arith, low), omega (arith, high)))) in
       λ i. record { rows = rows i; columns = columns i }
 
-  pub shown : IsShown (record { problem = problem; lp = p }) s (printed.solution_lines problem p s point prices slack)
-  shown = record {
+  pub viewed : IsSolutionOf (record { problem = problem; lp = p }) s (printed.solution_lines problem p s point prices slack)
+  viewed = record {
     tableau = tableau;
     is_tableau = record { is_point = is_point; are_rates = are_prices.are_rates };
     are_lines = lines_same;

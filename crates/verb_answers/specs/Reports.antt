@@ -1,5 +1,5 @@
 -- What the path from a basis answers, in the words of the definitions of runs.
---     sheet_shown sheet                    the problem and the linear program
+--     sheet_view sheet                    the problem and the linear program
 --     most_steps p limit                   how many steps a path may take
 --     IsCheckedSo p outcome verdict        the verdict is that of the outcome's check
 --     IsReached sheet s now limit report   the path from s ends at now, and the report tells its end and the check of it
@@ -23,7 +23,7 @@ use Rattle.question_definitions.specs.Answers.{Basis}
 use Rattle.answer_definitions.specs.Verdicts.{RuleReachesVerdict}
 use Rattle.answer_definitions.specs.Evidence.{RuleOverflowsOnPath}
 use Rattle.listing_tables.specs.declared.sheet.Sheet.{Sheet}
-use Rattle.report_text.specs.Verdicts.{verdict_shown, check_shown}
+use Rattle.report_text.specs.Verdicts.{verdict_view, check_view}
 use Rattle.basis_values.specs.Calls.{LieIn}
 use Rattle.bounded_primal.specs.Calls.{PathGoesOn, RuleCallGoesOn}
 use Rattle.bounded_primal.specs.Stops.{PathFrom}
@@ -37,8 +37,8 @@ use Rattle.verb_answers.specs.declared.path.PathReport.{PathReport}
 abbrev pub most_steps : LinearProgram → Option ℕ → ℕ
 most_steps p limit = unwrap_or limit (lists_of p)
 
-abbrev pub sheet_shown : Sheet → answers.Sheet
-sheet_shown sheet = record { problem = sheet.problem.now; lp = sheet.lp.now }
+abbrev pub sheet_view : Sheet → answers.Sheet
+sheet_view sheet = record { problem = sheet.problem.now; lp = sheet.lp.now }
 
 -- each kind of outcome has its own check, of all that the outcome shows
 abbrev pub IsCheckedSo : LinearProgram → Outcome → Verdict → Type 0
@@ -47,11 +47,11 @@ IsCheckedSo p (Crossed k) verdict = verdict ≡ crossed_check p k
 IsCheckedSo p (Infeasible steps ray) verdict = verdict ≡ infeasible_check p (value_at ray)
 IsCheckedSo p (Unbounded steps point direction) verdict = verdict ≡ unbounded_check p (value_at point) (value_at direction)
 
--- the path by this rule goes over these bases, of which the last is now, and its end has the verdict and the check that are told
+-- the path by this rule goes over these bases, of which the last is now, and its end has the verdict and the check that are reported
 pub record RuleIsReached (rule : Rule) (sheet : Sheet) (s now : Basis) (limit : Option ℕ) (report : PathReport) : Type 0 where
   pub bases : List Basis
   pub leads : last_of s bases ≡ now
-  pub reaches : RuleReachesVerdict rule (sheet_shown sheet) s limit bases (verdict_shown sheet report.outcome) (check_shown report.refused)
+  pub reaches : RuleReachesVerdict rule (sheet_view sheet) s limit bases (verdict_view sheet report.outcome) (check_view report.refused)
 
 -- The path by this rule goes over these bases, of which the last is now. For every list of bases that ends with s, in which the
 -- waypoints lay before the call, the statement may stop with this evidence at now, and at one of the waypoints that are there after the
@@ -61,7 +61,7 @@ pub record RuleOverflowsThere (rule : Rule) (statement : SolvingStatement) (shee
   pub goes : RulePath rule sheet.lp.now s bases × (last_of s bases ≡ now)
   pub is_way : e.way ≤ length after
   pub overflows : (earlier : List Basis) → LieIn sheet.lp.now.matrix before (earlier ++ s ∷ []) →
-      RuleOverflowsOnPath rule statement (sheet_shown sheet) (earlier ++ s ∷ []) limit e (Some (record { basis = now; way = waypoint (basics_of now) after e.way }))
+      RuleOverflowsOnPath rule statement (sheet_view sheet) (earlier ++ s ∷ []) limit e (Some (record { basis = now; way = waypoint (basics_of now) after e.way }))
 
 -- ---- the simplex path
 
@@ -76,7 +76,7 @@ abbrev pub PassesLimit : Sheet → Basis → Basis → Option ℕ → Type 0
 PassesLimit sheet s now (Some limit) = PathGoesOn sheet.lp.now s now limit
 PassesLimit sheet s now None = ⊥
 
--- the limit, if there is one, stops only a path that goes on; want of memory stops it anywhere
+-- the limit, if there is one, stops only a path that goes on; running out of memory stops it anywhere
 abbrev pub PathStops : Sheet → Basis → Basis → Option ℕ → List Basics → List Basics → PrimalStop → Type 0
 PathStops sheet s now limit before after Limit = PassesLimit sheet s now limit
 PathStops sheet s now limit before after (Overflow e) = OverflowsThere sheet s now limit before after e
@@ -88,7 +88,7 @@ PathStops sheet s now limit before after NoMemory = (bases : List Basis) × Path
 abbrev pub IsDualReached : Sheet → Basis → Basis → ℕ → PathReport → Type 0
 IsDualReached sheet s now limit report = HasRightPrices sheet.lp.now s × RuleIsReached dual_turn sheet s now (Some limit) report
 
--- a wrong price stops it before any step; its limit stops only a path that goes on from right prices; want of memory stops it anywhere
+-- a wrong price stops it before any step; its limit stops only a path that goes on from right prices; running out of memory stops it anywhere
 abbrev pub DualPathStops : Sheet → Basis → Basis → ℕ → List Basics → List Basics → DualStop → Type 0
 DualPathStops sheet s now limit before after (dual_stop.NotDualFeasible j) = IsWrongAt sheet.lp.now s j × (now ≡ s)
 DualPathStops sheet s now limit before after dual_stop.Limit = HasRightPrices sheet.lp.now s × RuleCallGoesOn dual_turn sheet.lp.now s now limit

@@ -3,7 +3,7 @@
 ghost use Rattle.std.specs.Prelude.{◌≡◌};
 ghost use Rattle.bounded_primal.specs.Outcomes.{IsTrueOutcome};
 ghost use Rattle.certificate_check.specs.Results.{IsNotFailed};
-ghost use Rattle.report_text.specs.Verdicts.{check_shown};
+ghost use Rattle.report_text.specs.Verdicts.{check_view};
 ghost use Rattle.answer_definitions.specs.Verdicts.{found};
 ghost use Rattle.verb_answers.specs.Reports.{IsCheckedSo};
 
@@ -34,7 +34,7 @@ pub fn check_of(lp: &Lp, outcome: &Outcome) -> Verdict
 /// The first operation that was refused, if one was.
 pub fn refused_of(verdict: Verdict) -> Option<Refused>
     requires { IsNotFailed verdict }
-    ensures { verdict ≡ found (check_shown result) }
+    ensures { verdict ≡ found (check_view result) }
 {
     match verdict {
         Verdict::Unchecked(refused) => Some(refused),
@@ -45,7 +45,7 @@ pub fn refused_of(verdict: Verdict) -> Option<Refused>
 /// The first operation that the check of a true outcome is refused, if one is.
 pub fn refusal_of(lp: &Lp, outcome: &Outcome) -> Option<Refused>
     requires { IsTrueOutcome lp.now outcome.now }
-    ensures { IsCheckedSo lp.now outcome.now (found (check_shown result)) }
+    ensures { IsCheckedSo lp.now outcome.now (found (check_view result)) }
 {
     refused_of(check_of(lp, outcome))
 }

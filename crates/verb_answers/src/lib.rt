@@ -19,4 +19,4 @@ pub use path::{PathReport, dual_from, path_from};
 pub use ranges::{Ranged, ranges_of};
 pub use report::RunReport;
 pub use right_hand_side::rhs_run_of;
-pub use solution::{Shown, solution_of};
+pub use solution::{Views, solution_of};

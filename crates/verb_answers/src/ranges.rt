@@ -5,10 +5,10 @@ ghost use Rattle.lp_model.specs.RatesCalls.{IfOverflow};
 ghost use Rattle.basis_values.specs.Calls.{HasRates, KeepsRates};
 ghost use Rattle.answer_definitions.specs.Sections.{IsRanged};
 ghost use Rattle.listing_tables.specs.Lines.{range_lines};
-ghost use Rattle.verb_answers.specs.Answers.{sheet_shown, AreRanged};
+ghost use Rattle.verb_answers.specs.Answers.{sheet_view, AreRanged};
 ghost use Rattle.verb_answers.specs.Stops.{RangesRefused};
 
-use crate::solution::point_shown;
+use crate::solution::point_view;
 use listing_tables::Sheet;
 use lp_model::{Basis, Point, RangeReport, Rates, Stop};
 use ranging::range;
@@ -32,7 +32,7 @@ pub fn ranges_of<R: Rates>(
     requires optimal { IsOptimalBasis sheet.lp.now basis.now }
     requires rates { HasRates (R.matrix rates.old) (R.basics rates.old) sheet.lp.now basis.now }
     ensures listed { IfOk result (AreRanged sheet.entry.lp.now basis.now) }
-    ensures ranged { IfOk result (λ ranged. IsRanged (sheet_shown sheet.entry) basis.now
+    ensures ranged { IfOk result (λ ranged. IsRanged (sheet_view sheet.entry) basis.now
         (range_lines sheet.entry.lp.now basis.now ranged.point ranged.report
         sheet.entry.problem.now)) }
     ensures overflow { IfErr result (λ stop. IfOverflow stop (RangesRefused sheet.entry.lp.now
@@ -42,7 +42,7 @@ pub fn ranges_of<R: Rates>(
         (R.waypoints rates.old) (R.waypoints rates.new) }
 {
     let lp = sheet.lp;
-    let point = point_shown(alloc, lp, basis, rates)?;
+    let point = point_view(alloc, lp, basis, rates)?;
     let report = range(alloc, lp, basis, rates)?;
     Ok(Ranged { point, report })
 }

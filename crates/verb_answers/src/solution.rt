@@ -4,9 +4,9 @@ ghost use Rattle.lp_definitions.specs.LinearProgram.{size, value_at};
 ghost use Rattle.lp_definitions.specs.Basis.{IsPointOf, ArePricesOf};
 ghost use Rattle.lp_model.specs.RatesCalls.{IfOverflow};
 ghost use Rattle.basis_values.specs.Calls.{HasRates, KeepsRates, PointRefused};
-ghost use Rattle.answer_definitions.specs.Sections.{IsShown};
+ghost use Rattle.answer_definitions.specs.Sections.{IsSolutionOf};
 ghost use Rattle.listing_tables.specs.Lines.{solution_lines};
-ghost use Rattle.verb_answers.specs.Answers.{sheet_shown, AreShown};
+ghost use Rattle.verb_answers.specs.Answers.{sheet_view, AreViews};
 ghost use Rattle.verb_answers.specs.Stops.{SolutionRefused};
 
 use crate::slack::slacks;
@@ -18,14 +18,14 @@ use std::alloc::Global;
 
 /// What SOLUTION shows of a basis: each variable's value and price, and the slack of each row.
 #[derive(Debug, Drop)]
-pub struct Shown {
+pub struct Views {
     pub point: Point,
     pub prices: Prices,
     pub slack: Vec<Frac>,
 }
 
 /// The basis's point.
-pub fn point_shown<R: Rates>(
+pub fn point_view<R: Rates>(
     alloc: Global,
     lp: &Lp,
     basis: &Basis,
@@ -46,7 +46,7 @@ pub fn point_shown<R: Rates>(
 }
 
 /// The basis's prices.
-fn prices_shown<R: Rates>(
+fn prices_view<R: Rates>(
     alloc: Global,
     lp: &Lp,
     basis: &Basis,
@@ -72,13 +72,13 @@ pub fn solution_of<R: Rates>(
     sheet: Sheet<'_>,
     basis: &Basis,
     rates: &mut R,
-) -> Result<Shown, Stop>
+) -> Result<Views, Stop>
     requires no_change { sheet.lp.now.change ≡ None }
     requires rates { HasRates (R.matrix rates.old) (R.basics rates.old) sheet.lp.now basis.now }
-    ensures listed { IfOk result (AreShown sheet.entry.lp.now basis.now) }
-    ensures shown { IfOk result (λ shown. IsShown (sheet_shown sheet.entry) basis.now
-        (solution_lines sheet.entry.problem.now sheet.entry.lp.now basis.now shown.point
-        shown.prices shown.slack.items)) }
+    ensures listed { IfOk result (AreViews sheet.entry.lp.now basis.now) }
+    ensures viewed { IfOk result (λ viewed. IsSolutionOf (sheet_view sheet.entry) basis.now
+        (solution_lines sheet.entry.problem.now sheet.entry.lp.now basis.now viewed.point
+        viewed.prices viewed.slack.items)) }
     ensures overflow { IfErr result (λ stop. IfOverflow stop
         (SolutionRefused sheet.entry.lp.now (R.waypoints rates.old) basis.now
         (R.waypoints rates.new))) }
@@ -87,10 +87,10 @@ pub fn solution_of<R: Rates>(
         (R.waypoints rates.old) (R.waypoints rates.new) }
 {
     let lp = sheet.lp;
-    let point = point_shown(alloc, lp, basis, rates)?;
-    let prices = prices_shown(alloc, lp, basis, rates)?;
+    let point = point_view(alloc, lp, basis, rates)?;
+    let prices = prices_view(alloc, lp, basis, rates)?;
     let slack = slacks(alloc, lp, point.values())?;
-    Ok(Shown {
+    Ok(Views {
         point,
         prices,
         slack,

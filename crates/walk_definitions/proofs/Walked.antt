@@ -81,8 +81,8 @@ ready = record (start []) {
 verdict : List ℕ
 verdict = codes "PRIMAL OPTIMAL STEPS 7 OBJECTIVE 0 CHECKED\n"
 
-shown : List ℕ
-shown =
+viewed : List ℕ
+viewed =
     codes "SOLUTION OPTIMAL\nSECTION 1 - ROWS\nNUMBER ROW AT ACTIVITY SLACK LOWER UPPER DUAL\n"
     ++ (codes "    1 COST     BS 0 0 NONE NONE 0\n"
     ++ (codes "SECTION 2 - COLUMNS\nNUMBER COLUMN AT ACTIVITY COST LOWER UPPER REDUCED\n"
@@ -91,8 +91,8 @@ shown =
 solved : Walker
 solved = record {
   state = record ready { position = 2; executed = 1; mark = Some Optimal };
-  pending = Some (record { rest = verdict ++ (shown ++ codes "END 0\n"); objective = fraction (pos 0) 1; check = Checked });
-  rest = shown ++ codes "END 0\n";
+  pending = Some (record { rest = verdict ++ (viewed ++ codes "END 0\n"); objective = fraction (pos 0) 1; check = Checked });
+  rest = viewed ++ codes "END 0\n";
   reports = 1;
 }
 
@@ -104,12 +104,12 @@ proved = record {
   reports = 2;
 }
 
-solves : turn solving (record { state = ready; pending = None; rest = verdict ++ (shown ++ codes "END 0\n"); reports = 0 }) ≡ Walks solved
-unfolding turn solving ready problem verdict shown solved verb_move is_open_stop selected selection_fault is_made fraction_in count_in digits fraction gcd whole
+solves : turn solving (record { state = ready; pending = None; rest = verdict ++ (viewed ++ codes "END 0\n"); reports = 0 }) ≡ Walks solved
+unfolding turn solving ready problem verdict viewed solved verb_move is_open_stop selected selection_fault is_made fraction_in count_in digits fraction gcd whole
 solves = refl
 
 shows : turn solving solved ≡ Walks proved
-unfolding turn solving ready problem verdict shown solved proved verb_move is_open_stop selected selection_fault is_made fraction_in count_in digits fraction gcd whole refuses shared_factor raised_numerator raised_sum sum_denominator ◌+ℚ◌ ◌*ℚ◌ neg_ℚ compare_ℚ
+unfolding turn solving ready problem verdict viewed solved proved verb_move is_open_stop selected selection_fault is_made fraction_in count_in digits fraction gcd whole refuses shared_factor raised_numerator raised_sum sum_denominator ◌+ℚ◌ ◌*ℚ◌ neg_ℚ compare_ℚ
 shows = refl
 
 ends : turn solving proved ≡ Finds (Attested 2)
@@ -117,6 +117,6 @@ unfolding turn solving proved ready is_open_stop digits
 ends = refl
 
 -- the end before SOLUTION leaves the verdict pending
-unshown : turn (record solving { statements = [] }) solved ≡ Finds (Open (verdict ++ (shown ++ codes "END 0\n")))
-unfolding turn solving solved ready is_open_stop shown verdict
+unshown : turn (record solving { statements = [] }) solved ≡ Finds (Open (verdict ++ (viewed ++ codes "END 0\n")))
+unfolding turn solving solved ready is_open_stop viewed verdict
 unshown = refl

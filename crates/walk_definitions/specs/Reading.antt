@@ -16,9 +16,9 @@ use Rattle.listing_definitions.specs.Numbers.{digits, rational_text}
 use Rattle.listing_definitions.specs.Report.{Number, limit_value, PathVerdict, OptimalAt, CrossedAt, InfeasibleBy, UnboundedBy, Check, SolutionLines, RangeLines, Interval, ChainEnd, EndsAt, UnboundedPast, InfeasiblePast}
 use Rattle.listing_definitions.specs.Report as reports
 use Rattle.listing_definitions.specs.Text.{solver_text, mark_text}
-use Rattle.question_definitions.specs.Answers.{Sheet, changing_name, sweeper, Sweep, Question, OfPath, OfSolution, OfRanges, OfSweep, OfPunch, OfInstall, Answer, Reached, SweepEnd, Opening, Chained}
+use Rattle.question_definitions.specs.Answers.{Sheet, changing_name, parametric_solver, ParametricRun, Question, OfPath, OfSolution, OfRanges, OfParametricRun, OfPunch, OfInstall, Answer, Reached, ParametricRunEnd, Opening, Chained}
 use Rattle.answer_definitions.specs.Lines.{row_numbers, column_numbers}
-use Rattle.answer_definitions.specs.Sweeps.{sheet_at}
+use Rattle.answer_definitions.specs.ParametricRuns.{sheet_at}
 use Rattle.walk_definitions.specs.Words.{Parsed, left_after, with_text, with_word, fraction_in, count_in, max_count}
 use Rattle.walk_definitions.specs.Forms.{all_operations}
 use Rattle.walk_definitions.specs.Tables.{Slot, AnyCode, AnyNumber, Known, pair_slots, part_slots, table_in, ray_in}
@@ -121,15 +121,15 @@ module _ (sheet : Sheet) where
       by solver left = None
 
 -- what stands before the first interval
-abbrev pub sweep_head : Sweep → List ℕ
-sweep_head sweep =
-    solver_text (sweeper sweep.changing) ++ (codes " FROM " ++ (rational_text sweep.from ++ (codes " CHANGE " ++ (changing_name sweep.changing ++ codes "\n"))))
+abbrev pub parametric_run_head : ParametricRun → List ℕ
+parametric_run_head parametric_run =
+    solver_text (parametric_solver parametric_run.changing) ++ (codes " FROM " ++ (rational_text parametric_run.from ++ (codes " CHANGE " ++ (changing_name parametric_run.changing ++ codes "\n"))))
 
 -- the intervals of a run, and how it closes
 abbrev pub Run : Type 0
 Run = List Interval × ChainEnd
 
-module _ (sheet : Sheet) (sweep : Sweep) where
+module _ (sheet : Sheet) (parametric_run : ParametricRun) where
   -- an interval, and the rest of the run after it
   abbrev pub onward : (ℚ → List ℕ → Judged Run) → Judged Interval → Judged Run
   onward go (Right interval after) = judged_map (λ run. (interval ∷ run.0, run.1)) (go interval.to after)
@@ -139,10 +139,10 @@ module _ (sheet : Sheet) (sweep : Sweep) where
   -- where an interval stands it is read and tested before the next one; else the run closes, but not before its first interval
   abbrev pub part_in : (ℚ → List ℕ → Judged Run) → ℕ → ℚ → List ℕ → Option (List ℕ) → Judged Run
   part_in go number last rest (Some after) =
-      onward go (tested (interval_test sheet sweep.changing (nat_eq number 1) sweep.to) (interval_in sheet number last rest))
+      onward go (tested (interval_test sheet parametric_run.changing (nat_eq number 1) parametric_run.to) (interval_in sheet number last rest))
   part_in go number last rest None =
       if nat_eq number 1 then Fails
-      else judged_map (λ end. ([], end)) (tested (close_test sheet sweep.changing sweep.to last) (close_in sheet (sweeper sweep.changing) rest))
+      else judged_map (λ end. ([], end)) (tested (close_test sheet parametric_run.changing parametric_run.to last) (close_in sheet (parametric_solver parametric_run.changing) rest))
 
   -- the interval of this number is due, from the last end on; each takes a byte of room at least
   abbrev pub run_in : List ℕ → ℕ → ℚ → List ℕ → Judged Run
@@ -150,16 +150,16 @@ module _ (sheet : Sheet) (sweep : Sweep) where
   run_in (byte ∷ room) number last rest = part_in (run_in room (number + 1)) number last rest (left_after (codes "INTERVAL ") rest)
 
   -- an opening that isn't optimal speaks of the linear program at the first value, which is made once the report is read
-  abbrev pub opening_in : List ℕ → Judged SweepEnd
+  abbrev pub opening_in : List ℕ → Judged ParametricRunEnd
   opening_in rest = judged_map (λ claim. Opening [] claim.0 claim.1)
-      (tested (λ claim. in_turn (verdict_of (making_steps sheet sweep.changing sweep.from) ∷ verdict_test (sheet_at sheet sweep.changing sweep.from) claim.0 claim.1 ∷ []))
-      (verdict_in sheet (sweeper sweep.changing) rest))
+      (tested (λ claim. in_turn (verdict_of (making_steps sheet parametric_run.changing parametric_run.from) ∷ verdict_test (sheet_at sheet parametric_run.changing parametric_run.from) claim.0 claim.1 ∷ []))
+      (verdict_in sheet (parametric_solver parametric_run.changing) rest))
 
-  abbrev pub sweep_in : List ℕ → Option (List ℕ) → Judged SweepEnd
-  sweep_in rest None = opening_in rest
-  sweep_in rest (Some after) = judged_map (λ run. Chained [] run.0 run.1) (run_in after 1 sweep.from after)
+  abbrev pub parametric_run_in : List ℕ → Option (List ℕ) → Judged ParametricRunEnd
+  parametric_run_in rest None = opening_in rest
+  parametric_run_in rest (Some after) = judged_map (λ run. Chained [] run.0 run.1) (run_in after 1 parametric_run.from after)
 
--- the answer to a question, as the listing has it; those of RANGE, PUNCH and INSERT can't be had without a basis
+-- the answer to a question, as the listing has it; those of RANGE, PUNCH and INSERT can't be computed without a basis
 abbrev pub judged : (question : Question) → Sheet → List ℕ → Judged (Answer question)
 judged (OfPath solver limit) sheet rest =
     judged_map (λ claim. Reached [] claim.0 claim.1) (tested (λ claim. verdict_test sheet claim.0 claim.1) (verdict_in sheet solver rest))
@@ -167,4 +167,4 @@ judged (OfSolution mark) sheet rest = tested (solution_test sheet mark) (solutio
 judged OfRanges sheet rest = Fails
 judged OfPunch sheet rest = Fails
 judged (OfInstall basis) sheet rest = Fails
-judged (OfSweep sweep) sheet rest = sweep_in sheet sweep rest (left_after (sweep_head sweep) rest)
+judged (OfParametricRun parametric_run) sheet rest = parametric_run_in sheet parametric_run rest (left_after (parametric_run_head parametric_run) rest)

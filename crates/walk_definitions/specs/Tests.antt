@@ -17,7 +17,7 @@ use Rattle.listing_definitions.specs.Report.{PathVerdict, OptimalAt, CrossedAt, 
 use Rattle.listing_definitions.specs.Report as reports
 use Rattle.question_definitions.specs.Answers.{Sheet, Changing, Row, Set}
 use Rattle.answer_definitions.specs.Lines.{row_numbers}
-use Rattle.answer_definitions.specs.Sweeps.{row_of, shifts_of, family_of}
+use Rattle.answer_definitions.specs.ParametricRuns.{row_of, shifts_of, family_of}
 use Rattle.walk_definitions.specs.Tables.{column_of, multipliers}
 
 -- a comparison of the walk's own
@@ -126,7 +126,7 @@ module _ (sheet : Sheet) (changing : Changing) where
 
   -- ---- how a run closes, where its last interval ends at last
 
-  -- a direction that keeps all limits; its objective doesn't get worse at t, and its change row betters
+  -- a direction that keeps all limits; its objective doesn't get worse at t, and its change row improves
   abbrev pub unbounded_past : ℕ → ℚ → Vector → Vector → Verdict
   unbounded_past h t z d = let lp = sheet.lp in in_turn (
       verdict_of (feasible_point lp z) ∷ verdict_of (equations lp 3 d) ∷ verdict_of (free_direction lp d) ∷

@@ -13,7 +13,7 @@ use Rattle.listing_definitions.specs.declared.Mark.TheVariants.{Optimal}
 use Rattle.listing_definitions.specs.Report.{Check, Inserted, PathVerdict, OptimalAt}
 use Rattle.listing_definitions.specs.Ending.{Ending, Ended, StatementLimit}
 use Rattle.listing_definitions.specs.Listing.{ending_text}
-use Rattle.question_definitions.specs.Answers.{Sheet, Question, OfPath, OfSolution, OfRanges, OfSweep, OfPunch, OfInstall, Answer, Reached, PathLimit, PricesWrong, Installed}
+use Rattle.question_definitions.specs.Answers.{Sheet, Question, OfPath, OfSolution, OfRanges, OfParametricRun, OfPunch, OfInstall, Answer, Reached, PathLimit, PricesWrong, Installed}
 use Rattle.run_definitions.specs.State.{State}
 use Rattle.run_definitions.specs.Moves.{Nothing, Prints, printed_by, gain_text, gain_of, Outcome, Goes, Ends, InSelection, InAnswer, Move, Does, MayStop, Asks}
 use Rattle.run_definitions.specs.Verbs.{verb_move}
@@ -83,7 +83,7 @@ open_question w OfRanges sheet go = option_or (open_stop w) (open_if (is_ranges 
 open_question w OfPunch sheet go = option_or (open_stop w) (open_if (is_punched sheet.problem.name w.rest) w)
 open_question w (OfInstall basis) sheet go = option_or (open_stop w) (option_or (open_if (is_inserted_by (go Installed) w.rest) w) (open_pending w))
 open_question w (OfPath solver limit) sheet go = option_or (open_stop w) (open_pending w)
-open_question w (OfSweep sweep) sheet go = option_or (open_stop w) (open_pending w)
+open_question w (OfParametricRun parametric_run) sheet go = option_or (open_stop w) (open_pending w)
 
 abbrev pub opened : Walker → Move → Option Found
 opened w (Does outcome) = open_outcome w outcome
@@ -150,7 +150,7 @@ noted w (OfSolution mark) sheet lines = w.pending
 noted w OfRanges sheet lines = w.pending
 noted w OfPunch sheet cards = w.pending
 noted w (OfInstall basis) sheet end = None
-noted w (OfSweep sweep) sheet end = None
+noted w (OfParametricRun parametric_run) sheet end = None
 
 abbrev pub settling : Walker → (question : Question) → Sheet → Answer question → Turn → Turn
 settling w (OfSolution Optimal) sheet lines turn = settled w w.pending (point_of sheet lines sheet.lp.objective) turn

@@ -31,10 +31,10 @@ use Rattle.listing_definitions.specs.Report.{Report, Solved}
 use Rattle.listing_definitions.specs.Report as reports
 use Rattle.listing_definitions.specs.Ending.{Ending, Ended, StatementLimit}
 use Rattle.listing_definitions.specs.Listing.{ending_text}
-use Rattle.question_definitions.specs.Answers.{Basis, Sheet, Changing, sweeper, Sweep, Question, OfPath, OfSolution, OfRanges, OfSweep, OfPunch, OfInstall, Answer, PathEnd, Reached, PathLimit, PricesWrong, SweepEnd, Opening, Chained, SweepLimit, InstallEnd, Installed, DependsBy}
+use Rattle.question_definitions.specs.Answers.{Basis, Sheet, Changing, parametric_solver, ParametricRun, Question, OfPath, OfSolution, OfRanges, OfParametricRun, OfPunch, OfInstall, Answer, PathEnd, Reached, PathLimit, PricesWrong, ParametricRunEnd, Opening, Chained, ParametricRunLimit, InstallEnd, Installed, DependsBy}
 use Rattle.run_definitions.specs.State.{Present, gone_through, State, problem_of, choice_of}
 use Rattle.run_definitions.specs.Moves.{printed_by, gain_text, gain_of, Outcome, Goes, Ends, InSelection, Move, Does, MayStop, Asks, or_fault}
-use Rattle.run_definitions.specs.Verbs.{or_deck_fault, or_selection_fault, selects, mark_of, demanded, by_verdict, change_row, change_set, not_less, after_path, solves, shows_present, if_optimal, after_sweep, sweeps, after_install, verb_move}
+use Rattle.run_definitions.specs.Verbs.{or_deck_fault, or_selection_fault, selects, mark_of, demanded, by_verdict, change_row, change_set, not_less, after_path, solves, shows_present, if_optimal, after_parametric_run, parametric_runs, after_install, verb_move}
 use Rattle.run_definitions.specs.Run.{max_executed, counted}
 use Rattle.walk_definitions.specs.Words.{left_after}
 use Rattle.walk_definitions.specs.Tests.{point_of}
@@ -84,11 +84,11 @@ path_counts solver card present state (Reached bases verdict check) =
 path_counts solver card present state PathLimit = tt
 path_counts solver card present state (PricesWrong j) = tt
 
-sweep_counts : (card : ℕ) (sweep : Sweep) (present : Present) (state : State) (end : SweepEnd) → Counts state.executed (after_sweep card sweep present state end)
-sweep_counts card sweep present state (Opening bases verdict check) =
-    verdict_counts (mark_of verdict) (Solved (sweeper sweep.changing) verdict check) (record state { setup = Some (gone_through bases present); mark = None })
-sweep_counts card sweep present state (Chained bases intervals end) = refl
-sweep_counts card sweep present state SweepLimit = tt
+parametric_run_counts : (card : ℕ) (parametric_run : ParametricRun) (present : Present) (state : State) (end : ParametricRunEnd) → Counts state.executed (after_parametric_run card parametric_run present state end)
+parametric_run_counts card parametric_run present state (Opening bases verdict check) =
+    verdict_counts (mark_of verdict) (Solved (parametric_solver parametric_run.changing) verdict check) (record state { setup = Some (gone_through bases present); mark = None })
+parametric_run_counts card parametric_run present state (Chained bases intervals end) = refl
+parametric_run_counts card parametric_run present state ParametricRunLimit = tt
 
 install_counts : (card : ℕ) (lp : LinearProgram) (s : Basis) (taken : List Card × List (List Card)) (present : Present) (state : State) (end : InstallEnd) → Counts state.executed (after_install card lp s taken present state end)
 install_counts card lp s taken present state Installed = refl
@@ -104,14 +104,14 @@ solves_counts solver limit card state =
 present_counts : (card : ℕ) (state : State) (present : Present) (question : Question) (report : Answer question → Report) → KeepsCount state.executed (shows_present card state present question report)
 present_counts card state present question report = with_program state.executed card (selected present.problem (choice_of state.cells present.options)) _ (λ lp answer. refl)
 
-sweeps_count : (card : ℕ) (fault : VerbFault) (change : Problem ℕ → Name → Option Changing) (moved : Option Name) (state : State) → KeepsCount state.executed (sweeps card fault change moved state)
-sweeps_count card fault change moved state =
+parametric_runs_count : (card : ℕ) (fault : VerbFault) (change : Problem ℕ → Name → Option Changing) (moved : Option Name) (state : State) → KeepsCount state.executed (parametric_runs card fault change moved state)
+parametric_runs_count card fault change moved state =
     with_value state.executed card NoSetup state.setup _ (λ present.
     with_selection state.executed card present.problem (choice_of state.cells present.options) _ (λ lp.
     with_value state.executed card fault (option_and_then (change present.problem) moved) _ (λ changing.
     with_value state.executed card NoParmax state.cells.xparmax _ (λ last.
     with_value state.executed card ParmaxBelow (not_less state.cells.xparam last) _ (λ to.
-    sweep_counts card (record { changing = changing; from = state.cells.xparam; to = to; limit = steps_allowed state.cells }) present state)))))
+    parametric_run_counts card (record { changing = changing; from = state.cells.xparam; to = to; limit = steps_allowed state.cells }) present state)))))
 
 verb_counts : (verb : Verb ℕ) (card : ℕ) (state : State) → KeepsCount state.executed (verb_move verb card state)
 unfolding verb_move
@@ -139,8 +139,8 @@ verb_counts Ranging card state =
     with_value state.executed card NoSetup state.setup _ (λ present.
     with_value state.executed card NotSolved state.mark _ (λ mark.
     with_value state.executed card NotOptimal (if_optimal mark) _ (λ optimal. present_counts card state present OfRanges reports.Ranges)))
-verb_counts Paraobj card state = sweeps_count card NoChangeRow change_row state.cells.xchrow state
-verb_counts Pararhs card state = sweeps_count card NoChangeSet change_set state.cells.xchcol state
+verb_counts Paraobj card state = parametric_runs_count card NoChangeRow change_row state.cells.xchrow state
+verb_counts Pararhs card state = parametric_runs_count card NoChangeSet change_set state.cells.xchcol state
 verb_counts Bcdout card state = with_value state.executed card NoProblem (problem_of state.cells.xpbname state.file) _ (λ problem. refl)
 verb_counts Punch card state =
     with_value state.executed card NoSetup state.setup _ (λ present.
@@ -188,7 +188,7 @@ settling_counts n w (OfSolution Infeasible) sheet lines turn counts = counts
 settling_counts n w (OfSolution Unbounded) sheet lines turn counts = counts
 settling_counts n w (OfPath solver limit) sheet answer turn counts = counts
 settling_counts n w OfRanges sheet answer turn counts = counts
-settling_counts n w (OfSweep sweep) sheet answer turn counts = counts
+settling_counts n w (OfParametricRun parametric_run) sheet answer turn counts = counts
 settling_counts n w OfPunch sheet answer turn counts = counts
 settling_counts n w (OfInstall basis) sheet answer turn counts = counts
 

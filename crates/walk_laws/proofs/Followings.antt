@@ -29,7 +29,7 @@ use Rattle.question_definitions.specs.Answers.{Basis, Sheet, Changing, changing_
 use Rattle.control_definitions.specs.Cells.{Cells, move_name, move_number, steps_allowed, set_demand}
 use Rattle.run_definitions.specs.State.{Present, State, problem_of, choice_of}
 use Rattle.run_definitions.specs.Moves.{Nothing, Prints, Outcome, Goes, stops, Does, Asks}
-use Rattle.run_definitions.specs.Verbs.{size_of, files, not_less, change_row, change_set, mark_after, if_optimal, solves, shows, ranges, sweeps, converts, revises, sets_up, punches, punches_basis, inserts, verb_move}
+use Rattle.run_definitions.specs.Verbs.{size_of, files, not_less, change_row, change_set, mark_after, if_optimal, solves, shows, ranges, parametric_runs, converts, revises, sets_up, punches, punches_basis, inserts, verb_move}
 use Rattle.run_definitions.specs.Run.{counted}
 use Rattle.soundness_laws.specs.Truth.{IsOfProblem, named_by}
 use Rattle.soundness_laws.proofs.ChangeRow.{row_named, set_named, last_is}
@@ -43,8 +43,8 @@ use Rattle.walk_laws.proofs.Owing.{Owes, SelectsSame}
 use Rattle.walk_laws.proofs.Turns.{never_either, never_if, never_stop, never_pending, on_unless}
 use Rattle.walk_laws.proofs.Followed.{GoesOn, EndsSo, IsFollowed, may_stop, does, unless_fault, unless_deck_fault, unless_selection_fault, selecting, one_says}
 use Rattle.walk_laws.proofs.Answered.{IsPathSolver, path_followed}
-use Rattle.walk_laws.proofs.Shown.{solution_followed}
-use Rattle.walk_laws.proofs.Swept.{sweep_followed}
+use Rattle.walk_laws.proofs.Views.{solution_followed}
+use Rattle.walk_laws.proofs.RanThrough.{parametric_run_followed}
 
 -- ---- while the mark stands the cells select the same
 
@@ -120,16 +120,16 @@ module _ (reading : ReadingLaw) (truth : JudgedLaws) (Holds : Type 0) (w : Walke
       unless_selection_fault Holds w owed card (selected present.problem (choice_of w.state.cells present.options)) _ (λ lp is.
       solution_followed reading truth Holds w owed lawful card present lp e is mark)))
 
-  sweeps_followed : (card : ℕ) (fault : VerbFault) (change : Problem ℕ → Name → Option Changing) (moved : Option Name) →
+  parametric_runs_followed : (card : ℕ) (fault : VerbFault) (change : Problem ℕ → Name → Option Changing) (moved : Option Name) →
       ((problem : Problem ℕ) (changing : Changing) → option_and_then (change problem) moved ≡ Some changing → IsOfProblem changing problem × (named_by w.state.cells changing ≡ Some (changing_name changing))) →
-      IsFollowed Holds w card (sweeps card fault change moved (counted w.state))
-  sweeps_followed card fault change moved of_problem =
+      IsFollowed Holds w card (parametric_runs card fault change moved (counted w.state))
+  parametric_runs_followed card fault change moved of_problem =
       unless_fault Holds w owed card VerbFault.NoSetup w.state.setup _ (λ present e.
       selecting Holds w owed card present.problem (choice_of w.state.cells present.options) _ (λ lp is.
       unless_fault Holds w owed {X = Changing} card fault (option_and_then (change present.problem) moved) _ (λ changing c.
       unless_fault Holds w owed {X = ℚ} card VerbFault.NoParmax w.state.cells.xparmax _ (λ last l.
       unless_fault Holds w owed {X = ℚ} card VerbFault.ParmaxBelow (not_less w.state.cells.xparam last) _ (λ to t.
-      sweep_followed reading truth Holds w owed lawful card present lp (record { changing = changing; from = w.state.cells.xparam; to = to; limit = steps_allowed w.state.cells }) e is (record {
+      parametric_run_followed reading truth Holds w owed lawful card present lp (record { changing = changing; from = w.state.cells.xparam; to = to; limit = steps_allowed w.state.cells }) e is (record {
         is_part = (of_problem present.problem changing c).0;
         is_named = (of_problem present.problem changing c).1;
         from_first = refl;
@@ -195,8 +195,8 @@ module _ (reading : ReadingLaw) (truth : JudgedLaws) (Holds : Type 0) (w : Walke
   verb_followed Dual card = solves_followed ByDual tt (Some (steps_allowed w.state.cells)) card
   verb_followed SolutionVerb card = shows_followed card
   verb_followed Ranging card = ranges_followed card
-  verb_followed Paraobj card = sweeps_followed card VerbFault.NoChangeRow change_row w.state.cells.xchrow (row_named w.state.cells)
-  verb_followed Pararhs card = sweeps_followed card VerbFault.NoChangeSet change_set w.state.cells.xchcol (set_named w.state.cells)
+  verb_followed Paraobj card = parametric_runs_followed card VerbFault.NoChangeRow change_row w.state.cells.xchrow (row_named w.state.cells)
+  verb_followed Pararhs card = parametric_runs_followed card VerbFault.NoChangeSet change_set w.state.cells.xchcol (set_named w.state.cells)
   verb_followed Bcdout card = punches_followed card
   verb_followed Punch card = punches_basis_followed card
   verb_followed Insert card = inserts_followed card

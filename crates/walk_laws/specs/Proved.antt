@@ -4,24 +4,24 @@
 --     Says state report            what an attested report says of the state in which it is made
 --     IsTrueListing bytes lines    THE THEOREM
 use Rattle.std.specs.Prelude.{◌≡◌, ℕ, List, map, Option}
-use Rattle.lp_definitions.specs.Solutions.{IsBest, AreProvingPrices}
+use Rattle.lp_definitions.specs.Solutions.{IsBest, IsDualCertificate}
 use Rattle.control_definitions.specs.Cells.{Cells}
 use Rattle.listing_definitions.specs.declared.Mark.TheVariants.{Optimal}
 use Rattle.listing_definitions.specs.declared.Solver.TheVariants.{Primal as ByPrimal, Dual as ByDual}
 use Rattle.listing_definitions.specs.Report.{SolutionLines, Chain, Report, Solved, Solution, Parametric}
 use Rattle.listing_definitions.specs.Ending.{Ending}
 use Rattle.listing_definitions.specs.Listing.{listing}
-use Rattle.question_definitions.specs.Answers.{Sheet, changing_name, Sweep, Question, OfPath, OfSolution, OfSweep, Answer}
+use Rattle.question_definitions.specs.Answers.{Sheet, changing_name, ParametricRun, Question, OfPath, OfSolution, OfParametricRun, Answer}
 use Rattle.question_definitions.specs.Solving.{Solving}
-use Rattle.answer_definitions.specs.Sweeps.{family_of, sheet_at}
+use Rattle.answer_definitions.specs.ParametricRuns.{family_of, sheet_at}
 use Rattle.run_definitions.specs.State.{Present, State}
 use Rattle.run_definitions.specs.Answer.{IsJobRun}
 use Rattle.parametric_laws.specs.Truth.{IsTrueRun}
-use Rattle.soundness_laws.specs.Truth.{PresentProgram, sheet_of, IsTrueOf, IsNotUnbounded, TellsOfRun}
+use Rattle.soundness_laws.specs.Truth.{PresentProgram, sheet_of, IsTrueOf, IsNotUnbounded, ReportsOfRun}
 use Rattle.soundness_laws.specs.Headline.{HoldInJob}
 use Rattle.walk_definitions.specs.Tests.{point_of, prices_of}
 use Rattle.walk_definitions.specs.Reading.{Right, judged}
-use Rattle.judged_laws.specs.Shown.{part_of, past_of, IsTrueAtFirst}
+use Rattle.judged_laws.specs.Views.{part_of, past_of, IsTrueAtFirst}
 
 abbrev pub IsTaken : (question : Question) → Sheet → Answer question → Type 0
 IsTaken question sheet answer = (rest : List ℕ) × (after : List ℕ) × (judged question sheet rest ≡ Right answer after)
@@ -30,7 +30,7 @@ IsTaken question sheet answer = (rest : List ℕ) × (after : List ℕ) × (judg
 abbrev pub attested : Solving
 attested = record {
   Solves = λ solver sheet s limit end. IsTaken (OfPath solver limit) sheet end;
-  Sweeps = λ sheet s sweep end. IsTaken (OfSweep sweep) sheet end;
+  ParametricRuns = λ sheet s parametric_run end. IsTaken (OfParametricRun parametric_run) sheet end;
   Shows = λ mark sheet s lines. IsTaken (OfSolution mark) sheet lines;
   Ranges = λ sheet s lines. ⊥;
   Punches = λ sheet s cards. ⊥;
@@ -42,22 +42,22 @@ attested = record {
 pub record ShowsProved (setup : Option Present) (cells : Cells) (lines : SolutionLines) : Type 0 where
   pub program : PresentProgram setup cells
   pub best : IsBest program.lp (point_of (sheet_of program) lines)
-  pub proving : AreProvingPrices program.lp (point_of (sheet_of program) lines) (prices_of (sheet_of program) lines)
+  pub certificate : IsDualCertificate program.lp (point_of (sheet_of program) lines) (prices_of (sheet_of program) lines)
 
 -- At every value of the parameter in an interval that is printed the point is best and the prices prove it; there is no gap; and the last
 -- interval ends at the last value, or what is printed proves for every greater one that there is no best point, or no feasible one.
-pub record ShowsProvedChain (chain : Chain) (sheet : Sheet) (sweep : Sweep) : Type 0 where
-  pub is_from : chain.from ≡ sweep.from
-  pub is_change : chain.change ≡ changing_name sweep.changing
-  pub is_true : IsTrueRun (family_of sheet sweep.changing) sweep.from sweep.to (map part_of chain.intervals) (past_of sheet chain.end)
+pub record ShowsProvedChain (chain : Chain) (sheet : Sheet) (parametric_run : ParametricRun) : Type 0 where
+  pub is_from : chain.from ≡ parametric_run.from
+  pub is_change : chain.change ≡ changing_name parametric_run.changing
+  pub is_true : IsTrueRun (family_of sheet parametric_run.changing) parametric_run.from parametric_run.to (map part_of chain.intervals) (past_of sheet chain.end)
 
 -- Ranges, punched bases and inserted ones don't come: the walk goes past none of them.
 abbrev pub Says : State → Report → Type 0
 Says state (Solution Optimal lines) = ShowsProved state.setup state.cells lines
 Says state (Solved ByPrimal verdict check) = (program : PresentProgram state.setup state.cells) × IsTrueOf (sheet_of program) verdict
 Says state (Solved ByDual verdict check) = (program : PresentProgram state.setup state.cells) × IsTrueOf (sheet_of program) verdict × IsNotUnbounded verdict
-Says state (Solved solver verdict check) = TellsOfRun state.setup state.cells solver (λ sheet sweep. IsTrueAtFirst (sheet_at sheet sweep.changing sweep.from) verdict)
-Says state (Parametric solver chain) = TellsOfRun state.setup state.cells solver (ShowsProvedChain chain)
+Says state (Solved solver verdict check) = ReportsOfRun state.setup state.cells solver (λ sheet parametric_run. IsTrueAtFirst (sheet_at sheet parametric_run.changing parametric_run.from) verdict)
+Says state (Parametric solver chain) = ReportsOfRun state.setup state.cells solver (ShowsProvedChain chain)
 Says state report = Unit {0}
 
 -- no end to which an attested listing comes speaks of a linear program

@@ -13,7 +13,7 @@ use Rattle.exact_values.proofs.Ring_laws.{zero-mul, whole_ratio}
 use Rattle.exact_values.proofs.Inverse.{div_is, apart-mul, inverse_apart, same_quotients, whole_numerator, numerator_of_zero}
 use Rattle.exact_values.proofs.Compare.{parts_equal, compare_ties, same_from_compare}
 use Rattle.lp_definitions.specs.LinearProgram.{value_at}
-use Rattle.whole_vectors.specs.Quotients.{quotients, AreProducts, AreQuotients, IsSameOver, StandFor}
+use Rattle.whole_vectors.specs.Quotients.{quotients, AreProducts, AreQuotients, IsSameOver, Represent}
 use Rattle.whole_vectors.proofs.Made.{IsMadeTo, all_made}
 
 -- the value at k, and 0 past the end
@@ -47,8 +47,8 @@ pub quotients_made : (by : ℚ) (n : ℕ) (old new : List ℚ) → length old �
 quotients_made by n old new all h = record { each = all_made (λ x. x /ℚ by) n old new all (zero-mul (inverse_ℚ by)) h }
 
 -- what the test of equality tells
-pub same_told : (x y v : ℚ) (b : Bool) → b ≡ parts_equal x v → b ≡ true → v ≡ y → x ≡ y
-same_told x y v b is h e = same_from_compare ((Equal-is (compare_ℚ x v)).0 (sym (is ∙ compare_ties x v) ∙ h)) ∙ e
+pub same_reported : (x y v : ℚ) (b : Bool) → b ≡ parts_equal x v → b ≡ true → v ≡ y → x ≡ y
+same_reported x y v b is h e = same_from_compare ((Equal-is (compare_ℚ x v)).0 (sym (is ∙ compare_ties x v) ∙ h)) ∙ e
 
 -- a product of numbers that aren't 0 isn't
 pub apart_product : (x y : ℚ) (n : ℤ) → x ≢ zero_ℚ → y ≡ whole n → n ≢ pos 0 → x *ℚ y ≢ zero_ℚ
@@ -65,7 +65,7 @@ pub length-quotients : (d : ℚ) (xs : List ℚ) → length (quotients d xs) ≡
 length-quotients d [] = refl
 length-quotients d (x ∷ xs) = ap suc (length-quotients d xs)
 
-pub stand_map : (P Q : List ℚ → Type 0) (d : ℚ) (xs : List ℚ) → (P (quotients d xs) → Q (quotients d xs)) → StandFor P d xs → StandFor Q d xs
+pub stand_map : (P Q : List ℚ → Type 0) (d : ℚ) (xs : List ℚ) → (P (quotients d xs) → Q (quotients d xs)) → Represent P d xs → Represent Q d xs
 stand_map P Q d xs f h = record { apart = h.apart; holds = f h.holds }
 
 -- all multiplied by the denominator

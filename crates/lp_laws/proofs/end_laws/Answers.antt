@@ -5,7 +5,7 @@ use Rattle.lp_laws.proofs.end_laws.Goals as goal
 
 pub returns : goal.returns
 returns c = record {
-  proving = prices_prove_optimal;
+  certificate = prices_prove_optimal;
   best = best_by_basis;
   ray_above = ray_above;
   ray_below = ray_below;

@@ -1,5 +1,5 @@
 use Rattle.simplex_laws.proofs.Ends.{optimal_end}
-use Rattle.simplex_laws.proofs.Endless.{crossed_end, unbounded_end}
+use Rattle.simplex_laws.proofs.UnboundedEnds.{crossed_end, unbounded_end}
 use Rattle.simplex_laws.proofs.Rays.{infeasible_end}
 use Rattle.simplex_laws.proofs.end_laws.Goals as goal
 

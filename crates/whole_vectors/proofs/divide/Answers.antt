@@ -2,11 +2,11 @@ use Rattle.std.proofs.Common.{arith}
 use Rattle.exact_values.specs.Rational.{one_ℚ}
 use Rattle.lp_laws.proofs.Idle.{over_once, left_nothing_over}
 use Rattle.whole_vectors.proofs.Made.{made_past}
-use Rattle.whole_vectors.proofs.Over.{quotients_made, same_told}
+use Rattle.whole_vectors.proofs.Over.{quotients_made, same_reported}
 use Rattle.whole_vectors.proofs.divide.Goals as goal
 
 pub returns-then-eq : goal.returns-then-eq
-returns-then-eq c = record { each = λ k. over_once _ c.args.by (same_told c.args.by one_ℚ c.whole.result c.eq.result c.eq.ensures c.if-eq.true c.whole.ensures) }
+returns-then-eq c = record { each = λ k. over_once _ c.args.by (same_reported c.args.by one_ℚ c.whole.result c.eq.result c.eq.ensures c.if-eq.true c.whole.ensures) }
 
 pub loop-place-preserved-then-is_zero : goal.loop-place-preserved-then-is_zero
 loop-place-preserved-then-is_zero c =

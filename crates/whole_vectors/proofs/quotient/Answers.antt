@@ -3,7 +3,7 @@ use Rattle.std.specs.Prelude.{unsigned_abs, ◌≤ℤ◌}
 use Rattle.exact_values.specs.Rational.{one_ℚ, fraction}
 use Rattle.lp_laws.proofs.Idle.{left_nothing_over, over_once}
 use Rattle.frac128.proofs.Parts.{read_fitting}
-use Rattle.whole_vectors.proofs.Over.{same_told, over_whole}
+use Rattle.whole_vectors.proofs.Over.{same_reported, over_whole}
 use Rattle.whole_vectors.proofs.Words.{is_one}
 use Rattle.whole_vectors.proofs.quotient.Goals as goal
 use Rattle.whole_vectors.proofs.quotient.Goals.{then-is_zero-via-then-is_zero, then-is_zero-via-else-is_zero+then-eq}
@@ -11,7 +11,7 @@ use Rattle.whole_vectors.proofs.quotient.Goals.{then-is_zero-via-then-is_zero, t
 pub returns-then-is_zero : goal.returns-then-is_zero
 returns-then-is_zero c = elim c.then-is_zero.branch [
   | then-is_zero-via-then-is_zero w ↦ left_nothing_over c.args.number c.args.by (c.is_zero.ensures.0 w.if-is_zero.true)
-  | then-is_zero-via-else-is_zero+then-eq w ↦ over_once c.args.number c.args.by (same_told c.args.by one_ℚ w.whole.result w.eq.result w.eq.ensures w.if-eq.true w.whole.ensures)
+  | then-is_zero-via-else-is_zero+then-eq w ↦ over_once c.args.number c.args.by (same_reported c.args.by one_ℚ w.whole.result w.eq.result w.eq.ensures w.if-eq.true w.whole.ensures)
 ]
 
 pub returns-then-num-ge1 : goal.returns-then-num-ge1

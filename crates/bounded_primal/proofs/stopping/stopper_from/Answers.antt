@@ -1,6 +1,6 @@
 use Rattle.std.proofs.Common.{arith}
 use Rattle.lp_definitions.specs.LinearProgram.{value_at, size}
-use Rattle.simplex_definitions.specs.Moves.{room}
+use Rattle.simplex_definitions.specs.Moves.{step_length}
 use Rattle.basis_values.specs.Motions.{motion}
 use Rattle.basis_values.proofs.Nearest.{found_within}
 use Rattle.bounded_primal.proofs.StopperFacts.{stop_found, nothing_found}
@@ -12,6 +12,6 @@ returns-in-None-clause-stopper c = nothing_found c.args.lp.now (value_at c.args.
 
 pub returns-in-Some-clause-stopper : goal.returns-in-Some-clause-stopper
 returns-in-Some-clause-stopper c =
-    let within = found_within (room c.args.lp.now (value_at c.args.point.now) (motion (value_at c.args.direction.now) c.args.up)) (size c.args.lp.now.matrix) c.in_ok-found.found c.in-Some.nearest c.in_ok-found.ensures.nearest c.in-Some.is in
+    let within = found_within (step_length c.args.lp.now (value_at c.args.point.now) (motion (value_at c.args.direction.now) c.args.up)) (size c.args.lp.now.matrix) c.in_ok-found.found c.in-Some.nearest c.in_ok-found.ensures.nearest c.in-Some.is in
     stop_found c.args.lp.now (value_at c.args.point.now) (value_at c.args.direction.now) c.args.up c.in_ok-found.found c.in-Some.nearest c.index-direction-nearest.result c.counted-speed.result c.counted.result c.limit_reached.result
     c.in_ok-found.ensures.nearest c.in-Some.is (value_read c.args.direction.now c.in-Some.nearest.p c.index-direction-nearest.result (omega (arith, within.0, within.1)) c.index-direction-nearest.is) c.counted-speed.ensures c.counted.ensures c.limit_reached.ensures

@@ -30,14 +30,14 @@ returns-in_err-point-in-None-clause-turn g c =
     let p = err_from_is_err_and c.from_residual-in_err-point-in-None.result c.from_residual-in_err-point-in-None.ensures.1 in
     rw (p.1, p.2) (point_stops_later c.args.at.now.lp.now c.args.at.now.basis.now c.args.at.now.left (g.R.Rates.waypoints c.args.rates.now) (g.R.Rates.waypoints c.stopper_of.new.rates) (g.R.Rates.waypoints c.whole_point.new.rates) c.in_err-point-in-None.field-0.0 c.stopper_of.ensures.rates.1 c.in_err-point-in-None.ensures.overflow)
 
-pub returns-in_ok-endless-in-None-clause-turn : goal.returns-in_ok-endless-in-None-clause-turn
-returns-in_ok-endless-in-None-clause-turn g c = run_ends c.args.at.now.lp.now c.args.at.now.basis.now (value_at c.args.at.now.point.now) (g.R.Rates.matrix c.args.rates.now) (g.R.Rates.basics c.args.rates.now) c.requires.rates c.requires.point c.requires.uncrossed c.requires.inside c.args.moved c.requires.moves (value_at c.stopper_of.new.direction) c.in_ok-stopper_of.ensures.direction c.in_ok-point-in-None.point.items c.args.at.now.steps c.in_ok-endless-in-None.field-0 (sym c.in-None.is ∙ c.in_ok-stopper_of.ensures.stopper) c.in_ok-point-in-None.ensures.places c.in_ok-point-in-None.ensures.point (rw c.values.ensures at c.in_ok-endless-in-None.ensures)
+pub returns-in_ok-unbounded_ending-in-None-clause-turn : goal.returns-in_ok-unbounded_ending-in-None-clause-turn
+returns-in_ok-unbounded_ending-in-None-clause-turn g c = run_ends c.args.at.now.lp.now c.args.at.now.basis.now (value_at c.args.at.now.point.now) (g.R.Rates.matrix c.args.rates.now) (g.R.Rates.basics c.args.rates.now) c.requires.rates c.requires.point c.requires.uncrossed c.requires.inside c.args.moved c.requires.moves (value_at c.stopper_of.new.direction) c.in_ok-stopper_of.ensures.direction c.in_ok-point-in-None.point.items c.args.at.now.steps c.in_ok-unbounded_ending-in-None.field-0 (sym c.in-None.is ∙ c.in_ok-stopper_of.ensures.stopper) c.in_ok-point-in-None.ensures.places c.in_ok-point-in-None.ensures.point (rw c.values.ensures at c.in_ok-unbounded_ending-in-None.ensures)
 
 pub returns-in_err-point-in-None-clause-rates : goal.returns-in_err-point-in-None-clause-rates
 returns-in_err-point-in-None-clause-rates g c = kept_then c.stopper_of.ensures.rates c.whole_point.ensures.rates
 
-pub returns-in_err-endless-in-None-clause-rates : goal.returns-in_err-endless-in-None-clause-rates
-returns-in_err-endless-in-None-clause-rates g c = kept_then c.stopper_of.ensures.rates c.whole_point.ensures.rates
+pub returns-in_err-unbounded_ending-in-None-clause-rates : goal.returns-in_err-unbounded_ending-in-None-clause-rates
+returns-in_err-unbounded_ending-in-None-clause-rates g c = kept_then c.stopper_of.ensures.rates c.whole_point.ensures.rates
 
-pub returns-in_ok-endless-in-None-clause-rates : goal.returns-in_ok-endless-in-None-clause-rates
-returns-in_ok-endless-in-None-clause-rates g c = kept_then c.stopper_of.ensures.rates c.whole_point.ensures.rates
+pub returns-in_ok-unbounded_ending-in-None-clause-rates : goal.returns-in_ok-unbounded_ending-in-None-clause-rates
+returns-in_ok-unbounded_ending-in-None-clause-rates g c = kept_then c.stopper_of.ensures.rates c.whole_point.ensures.rates

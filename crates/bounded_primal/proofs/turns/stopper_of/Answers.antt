@@ -4,7 +4,7 @@ use Rattle.lp_model.proofs.Stops.{IfOverflow-map}
 use Rattle.bounded_primal.specs.Turns.{by_direction, by_stopper}
 use Rattle.basis_values.proofs.RatesStops.{column_refused}
 use Rattle.basis_values.proofs.Kept.{kept_by}
-use Rattle.bounded_primal.proofs.Agreement.{room_refused}
+use Rattle.bounded_primal.proofs.Agreement.{step_length_refused}
 use Rattle.bounded_primal.proofs.LookedAt.{listed_cover}
 use Rattle.bounded_primal.proofs.StopperFacts.{call_refused}
 use Rattle.bounded_primal.proofs.turns.stopper_of.Goals as goal
@@ -20,7 +20,7 @@ pub returns-in-Err-clause-overflow : goal.returns-in-Err-clause-overflow
 returns-in-Err-clause-overflow g c =
     let direction = rw (c.requires.rates.same_matrix, c.requires.rates.same_basics) at c.in_ok-direction.ensures.direction in
     λ z at.
-    let some = room_refused c.args.lp.now (value_at c.args.point.now) z (c.requires.point z at) (value_at c.direction.new.out) c.args.up c.args.q c.in-Err.evidence (rw c.values.ensures at c.in-Err.ensures.refused) in
+    let some = step_length_refused c.args.lp.now (value_at c.args.point.now) z (c.requires.point z at) (value_at c.direction.new.out) c.args.up c.args.q c.in-Err.evidence (rw c.values.ensures at c.in-Err.ensures.refused) in
     by_stopper (value_at c.direction.new.out) direction
     (call_refused c.args.lp.now c.args.basis.now z (value_at c.direction.new.out) c.args.q c.args.up c.requires.rates.nonsingular at c.requires.nonbasic direction some.0 some.1 c.in-Err.evidence some.2)
 

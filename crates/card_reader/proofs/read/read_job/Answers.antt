@@ -1,7 +1,7 @@
 use Rattle.std.proofs.Common.{◌≡◌, ◌∙◌, arith, None}
 use Rattle.std.proofs.lemmas.Result.{err_from_is_err_and}
 use Rattle.card_definitions.specs.Cards.{cards_of, job_fault}
-use Rattle.card_reader.specs.Reading.{TellsCardFault}
+use Rattle.card_reader.specs.Reading.{ReportsCardFault}
 use Rattle.card_reader.proofs.ReadLemmas.{holds_of_job, reads_at_stop, too_long_by_bytes}
 use Rattle.card_reader.proofs.read.read_job.Goals as goal
 
@@ -12,7 +12,7 @@ pub returns-in_err-spans-clause-fault : goal.returns-in_err-spans-clause-fault
 returns-in_err-spans-clause-fault g c =
     let p = err_from_is_err_and c.from_residual-in_err-spans.result c.from_residual-in_err-spans.ensures.1 in
     let stop = c.in_err-spans.field-0.0 in
-    rw (p.1, p.2) (holds_of_job (λ job. TellsCardFault stop (job_fault job)) _ c.in_ok-bytes.bytes.items c.in_ok-bytes.ensures.bytes (omega arith)
+    rw (p.1, p.2) (holds_of_job (λ job. ReportsCardFault stop (job_fault job)) _ c.in_ok-bytes.bytes.items c.in_ok-bytes.ensures.bytes (omega arith)
     (rw c.deref.ensures.value at c.in_err-spans.ensures.fault))
 
 pub returns-in_err-spans-clause-reads : goal.returns-in_err-spans-clause-reads

@@ -6,7 +6,7 @@ use Rattle.std.proofs.lemmas.Bool.{and_right}
 use Rattle.control_definitions.specs.Program.{Verb}
 use Rattle.control_definitions.specs.Arguments.{label_text}
 use Rattle.control_definitions.specs.Compiled.{head_fault, has_label, fault_at}
-use Rattle.control_verbs.specs.Shown.{statement_shown}
+use Rattle.control_verbs.specs.Views.{statement_view}
 use Rattle.control_compiler.specs.Jobs.{live_cards, live_after}
 use Rattle.control_compiler.proofs.Live.{head_is_faulty}
 use Rattle.control_compiler.proofs.Places.{next_positions}
@@ -36,7 +36,7 @@ returns c =
       after = record {
         labels = next_positions c.new-labels.result c.place_label.new.labels [] (record { number = c.args.number; bytes = c.bytes-card.result.now }) c.label_in.result 1
             (c.label_in.ensures.label ∙ ap label_text c.label.ensures.label) facts.0 (and_right (has_label c.bytes-card.result.now) false refl) refl c.in_ok-place_label.ensures.ok (λ label some. c.new-labels.ensures label);
-        statements = ap (map statement_shown) c.new.ensures.items ∙ sym (ap (λ (verb : Option (Verb (List ℕ))). cons_option (option_map (said_on c.args.number) verb) []) facts.1);
+        statements = ap (map statement_view) c.new.ensures.items ∙ sym (ap (λ (verb : Option (Verb (List ℕ))). cons_option (option_map (said_on c.args.number) verb) []) facts.1);
         lawful = rw c.new.ensures.items (search rules);
       };
       empty = c.new.ensures.items;

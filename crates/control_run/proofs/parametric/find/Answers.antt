@@ -5,21 +5,21 @@ use Rattle.run_definitions.specs.State.{choice_of}
 use Rattle.run_setup.specs.Kept.{Setup}
 use Rattle.run_setup.proofs.Selected.{no_change}
 use Rattle.run_setup.proofs.Present.{as_many_columns, as_many_rows, ready_solved}
-use Rattle.control_run.specs.Sweeping.{sweep_shown}
+use Rattle.control_run.specs.ParametricVerbs.{parametric_run_view}
 use Rattle.control_run.proofs.Selected_again.{name_kept, now_is, rates_again}
-use Rattle.control_run.proofs.Sweep_steps.{unselected_told, unasked_told, again_told, serves, asked_of}
+use Rattle.control_run.proofs.Parametric_steps.{unselected_reported, unasked_reported, again_reported, serves, asked_of}
 use Rattle.control_run.proofs.parametric.find.Goals as goal
 
 pub returns-in-Err-clause-tells : goal.returns-in-Err-clause-tells
 returns-in-Err-clause-tells g c =
     rw c.refused.ensures
-    (unselected_told g.P.Sink.written g.P.Sink.stopped_at g.P.Sink.faults g.P.Sink.refusals c.args.verb c.args.cells.now c.args.file.now refl c.select_again.new.setup c.in-Some.problem.now
+    (unselected_reported g.P.Sink.written g.P.Sink.stopped_at g.P.Sink.faults g.P.Sink.refusals c.args.verb c.args.cells.now c.args.file.now refl c.select_again.new.setup c.in-Some.problem.now
     (ap (λ (s : Setup). filed_under s.name c.args.file.now) (sym c.setup.view_is) ∙ sym c.in-Some.ensures) c.args.print.now c.in-Err.refusal c.in-Err.ensures.refused)
 
 pub returns-in-Err-request_of-clause-tells : goal.returns-in-Err-request_of-clause-tells
 returns-in-Err-request_of-clause-tells g c =
     rw (c.refused-in-Err-request_of.ensures, c.refusal_of.ensures)
-    (unasked_told g.P.Sink.written g.P.Sink.stopped_at g.P.Sink.faults g.P.Sink.refusals c.args.verb c.args.cells.now c.args.file.now refl c.select_again.new.setup c.in-Some.problem.now
+    (unasked_reported g.P.Sink.written g.P.Sink.stopped_at g.P.Sink.faults g.P.Sink.refusals c.args.verb c.args.cells.now c.args.file.now refl c.select_again.new.setup c.in-Some.problem.now
     (ap (λ (s : Setup). filed_under s.name c.args.file.now) (sym c.setup.view_is) ∙ sym c.in-Some.ensures) c.select_again.new.setup.lp c.in_default-select_again.ensures.selected c.args.print.now c.in-Err-request_of.stop c.in-Err-request_of.ensures.refused)
 
 pub returns-in-Err-request_of-clause-ready : goal.returns-in-Err-request_of-clause-ready
@@ -50,13 +50,13 @@ follow-requires-clause-rates g c =
 
 pub follow-requires-clause-serves : goal.follow-requires-clause-serves
 follow-requires-clause-serves g c =
-    c.run_of-sweep.ensures.serves c.in-Some.problem.now c.setup-2.inside.lp
+    c.run_of-parametric_run.ensures.serves c.in-Some.problem.now c.setup-2.inside.lp
     (serves c.in-Some.problem.now (choice_of c.args.cells.now c.args.setup.now.options) c.setup-2.inside.lp (now_is c.args.setup.now c.setup-2.view_is c.select_again.ensures.others c.args.file.now c.in-Some.problem.now c.args.cells.now c.in_default-select_again.ensures.selected)
     c.in-Ok.request c.in-Ok.ensures.of)
 
 pub returns-clause-tells : goal.returns-clause-tells
 returns-clause-tells g c =
-    again_told g.P.Sink.written g.P.Sink.stopped_at g.P.Sink.faults g.P.Sink.refusals c.args.verb c.args.cells.now c.args.file.now c.args.setup.now c.setup-2.view_is c.select_again.ensures.others c.in-Some.problem.now
-    (ap (λ (s : Setup). filed_under s.name c.args.file.now) (sym c.setup.view_is) ∙ sym c.in-Some.ensures) c.in_default-select_again.ensures.selected _ refl refl (sweep_shown c.run_of-sweep.result)
-    (asked_of c.args.verb c.in-Some.problem.now c.args.cells.now c.in-Ok.request c.run_of-sweep.result c.steps_allowed.result c.steps_allowed.ensures.steps c.run_of-sweep.ensures.shown c.in-Ok.ensures.asked)
+    again_reported g.P.Sink.written g.P.Sink.stopped_at g.P.Sink.faults g.P.Sink.refusals c.args.verb c.args.cells.now c.args.file.now c.args.setup.now c.setup-2.view_is c.select_again.ensures.others c.in-Some.problem.now
+    (ap (λ (s : Setup). filed_under s.name c.args.file.now) (sym c.setup.view_is) ∙ sym c.in-Some.ensures) c.in_default-select_again.ensures.selected _ refl refl (parametric_run_view c.run_of-parametric_run.result)
+    (asked_of c.args.verb c.in-Some.problem.now c.args.cells.now c.in-Ok.request c.run_of-parametric_run.result c.steps_allowed.result c.steps_allowed.ensures.steps c.run_of-parametric_run.ensures.viewed c.in-Ok.ensures.asked)
     c.args.print.now c.follow.new.print c.follow.result c.follow.ensures.tells

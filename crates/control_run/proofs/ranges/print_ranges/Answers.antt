@@ -1,5 +1,5 @@
 use Rattle.std.proofs.lemmas.Result.{err_from_is_err_and}
-use Rattle.control_run.proofs.Ranging.{ranges_told, ranges_cut}
+use Rattle.control_run.proofs.Ranging.{ranges_reported, ranges_cut}
 use Rattle.control_run.proofs.ranges.print_ranges.Goals as goal
 
 pub text_of-requires : goal.text_of-requires
@@ -20,4 +20,4 @@ returns-in_err-text_of g c = λ before.
 
 pub returns : goal.returns
 returns g c = λ before.
-    ranges_told g.P.Sink.written g.P.Sink.stopped_at g.P.Sink.faults g.P.Sink.refusals c.args.sheet c.args.basis.now before c.args.ranged.now.point c.args.ranged.now.report c.requires.ranged c.in_ok-text_of.ensures
+    ranges_reported g.P.Sink.written g.P.Sink.stopped_at g.P.Sink.faults g.P.Sink.refusals c.args.sheet c.args.basis.now before c.args.ranged.now.point c.args.ranged.now.report c.requires.ranged c.in_ok-text_of.ensures

@@ -1,6 +1,6 @@
 use Rattle.std.proofs.Common.{length, ap, ◌∙◌}
 use Rattle.std.proofs.lemmas.Result.{err_from_is_err_and}
-use Rattle.control_run.proofs.Showing.{lines_told, lines_cut}
+use Rattle.control_run.proofs.Showing.{lines_reported, lines_cut}
 use Rattle.control_run.proofs.solution.print_lines.Goals as goal
 
 pub text_of-requires : goal.text_of-requires
@@ -19,10 +19,10 @@ pub returns-in_err-text_of : goal.returns-in_err-text_of
 returns-in_err-text_of g c = λ before.
     let p = err_from_is_err_and c.from_residual.result c.from_residual.ensures.1 in
     rw (p.1, p.2)
-    (lines_cut g.P.Sink.written g.P.Sink.stopped_at g.P.Sink.faults g.P.Sink.refusals c.args.sheet c.args.basis.now before c.args.mark c.args.shown.now.point c.args.shown.now.prices c.args.shown.now.slack.items c.deref.result.now c.deref.ensures.value
-    c.requires.shown _ c.in_err-text_of.ensures)
+    (lines_cut g.P.Sink.written g.P.Sink.stopped_at g.P.Sink.faults g.P.Sink.refusals c.args.sheet c.args.basis.now before c.args.mark c.args.viewed.now.point c.args.viewed.now.prices c.args.viewed.now.slack.items c.deref.result.now c.deref.ensures.value
+    c.requires.viewed _ c.in_err-text_of.ensures)
 
 pub returns : goal.returns
 returns g c = λ before.
-    lines_told g.P.Sink.written g.P.Sink.stopped_at g.P.Sink.faults g.P.Sink.refusals c.args.sheet c.args.basis.now before c.args.mark c.args.shown.now.point c.args.shown.now.prices c.args.shown.now.slack.items c.deref.result.now c.deref.ensures.value
-    c.requires.shown c.in_ok-text_of.ensures
+    lines_reported g.P.Sink.written g.P.Sink.stopped_at g.P.Sink.faults g.P.Sink.refusals c.args.sheet c.args.basis.now before c.args.mark c.args.viewed.now.point c.args.viewed.now.prices c.args.viewed.now.slack.items c.deref.result.now c.deref.ensures.value
+    c.requires.viewed c.in_ok-text_of.ensures

@@ -1,11 +1,11 @@
 use Rattle.std.proofs.Common.{subst}
 use Rattle.lp_model.specs.RatesCalls.{IfOverflow}
-use Rattle.verb_answers.specs.Answers.{sheet_shown}
+use Rattle.verb_answers.specs.Answers.{sheet_view}
 use Rattle.verb_answers.specs.Stops.{SolutionRefused}
 use Rattle.lp_definitions.specs.declared.Evidence.{Evidence}
 use Rattle.run_setup.specs.Overflows.{IsOverflowAt}
 use Rattle.control_run.specs.Found.{LinesFound}
-use Rattle.control_run.proofs.Telling.{overflow_tells}
+use Rattle.control_run.proofs.Reporting.{overflow_tells}
 use Rattle.control_run.proofs.Showing.{lines_overflow}
 use Rattle.control_run.proofs.solution.show_basis.Goals as goal
 
@@ -16,7 +16,7 @@ pub returns-in-Err-Overflow-clause-tells : goal.returns-in-Err-Overflow-clause-t
 returns-in-Err-Overflow-clause-tells g c =
     let t = subst (λ stop. IfOverflow stop (SolutionRefused c.args.sheet.lp.now (g.R.Rates.waypoints c.args.rates.now) c.args.basis.now (g.R.Rates.waypoints c.solution_of.new.rates))) c.in-Err-Overflow.field-0-is c.in-Err-Overflow.ensures.overflow in
     overflow_tells g.P.Sink.written g.P.Sink.stopped_at g.P.Sink.faults g.P.Sink.refusals
-    (LinesFound (sheet_shown c.args.sheet) c.args.basis.now (g.R.Rates.waypoints c.args.rates.now) c.args.mark) c.args.print.now
+    (LinesFound (sheet_view c.args.sheet) c.args.basis.now (g.R.Rates.waypoints c.args.rates.now) c.args.mark) c.args.print.now
     c.args.basis.now (g.R.Rates.waypoints c.solution_of.new.rates) c.in-Err-Overflow.evidence c.overflow_at.result
     (subst (λ (e : Evidence). IsOverflowAt c.args.basis.now (g.R.Rates.waypoints c.solution_of.new.rates) e c.overflow_at.result) c.in-Err-Overflow.evidence-is c.overflow_at.ensures)
     (lines_overflow c.args.sheet c.args.basis.now (g.R.Rates.waypoints c.args.rates.now) (g.R.Rates.waypoints c.solution_of.new.rates) c.args.mark c.in-Err-Overflow.evidence t)

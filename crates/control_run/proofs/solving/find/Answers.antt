@@ -6,13 +6,13 @@ use Rattle.run_setup.specs.Kept.{Setup}
 use Rattle.run_setup.proofs.Selected.{no_change}
 use Rattle.run_setup.proofs.Present.{as_many_columns, as_many_rows}
 use Rattle.control_run.proofs.Selected_again.{now_is, rates_again}
-use Rattle.control_run.proofs.Solving_steps.{refusal_told, refusal_ends, again_told, again_solved}
+use Rattle.control_run.proofs.Solving_steps.{refusal_reported, refusal_ends, again_reported, again_solved}
 use Rattle.control_run.proofs.solving.find.Goals as goal
 
 pub returns-in-Err-clause-tells : goal.returns-in-Err-clause-tells
 returns-in-Err-clause-tells g c =
     rw c.refused.ensures
-    (refusal_told g.P.Sink.written g.P.Sink.stopped_at g.P.Sink.faults g.P.Sink.refusals c.args.verb c.args.cells.now c.args.file.now refl c.select_again.new.setup c.in-Some.problem.now
+    (refusal_reported g.P.Sink.written g.P.Sink.stopped_at g.P.Sink.faults g.P.Sink.refusals c.args.verb c.args.cells.now c.args.file.now refl c.select_again.new.setup c.in-Some.problem.now
     (ap (λ (s : Setup). filed_under s.name c.args.file.now) (sym c.setup.view_is) ∙ sym c.in-Some.ensures) c.args.print.now c.in-Err.refusal c.in-Err.ensures.refused)
 
 pub follow-requires-clause-sheet : goal.follow-requires-clause-sheet
@@ -37,7 +37,7 @@ follow-requires-clause-rates g c =
 
 pub returns-clause-tells : goal.returns-clause-tells
 returns-clause-tells g c =
-    again_told g.P.Sink.written g.P.Sink.stopped_at g.P.Sink.faults g.P.Sink.refusals c.args.verb c.args.cells.now c.args.file.now c.args.setup.now c.setup-2.view_is c.select_again.ensures.others c.in-Some.problem.now
+    again_reported g.P.Sink.written g.P.Sink.stopped_at g.P.Sink.faults g.P.Sink.refusals c.args.verb c.args.cells.now c.args.file.now c.args.setup.now c.setup-2.view_is c.select_again.ensures.others c.in-Some.problem.now
     (ap (λ (s : Setup). filed_under s.name c.args.file.now) (sym c.setup.view_is) ∙ sym c.in-Some.ensures) c.in_default-select_again.ensures.selected _ refl refl c.args.print.now c.follow.new.print c.follow.result c.follow.ensures.tells
 
 pub returns-clause-solved : goal.returns-clause-solved

@@ -3,10 +3,10 @@ use Rattle.std.proofs.Common.{Ok, Some, subst}
 use Rattle.simplex_definitions.specs.DualPath.{dual_turn}
 use Rattle.simplex_definitions.specs.Statements.{Dual}
 use Rattle.listing_definitions.specs.declared.Solver.TheVariants as solvers
-use Rattle.verb_answers.specs.Reports.{sheet_shown, DualPathStops}
+use Rattle.verb_answers.specs.Reports.{sheet_view, DualPathStops}
 use Rattle.run_machine.specs.declared.finding.Finding.TheVariants.{WrongPrices, Limit}
 use Rattle.control_run.specs.Found.{PathFinds, wrong_prices, at_limit}
-use Rattle.control_run.proofs.Telling.{tells_quietly, overflow_tells}
+use Rattle.control_run.proofs.Reporting.{tells_quietly, overflow_tells}
 use Rattle.control_run.proofs.Present.{dual_reached}
 use Rattle.control_run.proofs.Solving_steps.{path_overflows}
 use Rattle.control_run.proofs.solving.follow_dual.Goals as goal
@@ -21,18 +21,18 @@ pub returns-in-Err-NotDualFeasible-clause-tells : goal.returns-in-Err-NotDualFea
 returns-in-Err-NotDualFeasible-clause-tells g c =
     let t = subst (DualPathStops c.args.sheet c.args.basis.now c.dual_from.new.basis c.args.limit (g.R.Rates.waypoints c.args.rates.now) (g.R.Rates.waypoints c.dual_from.new.rates)) c.in-Err-NotDualFeasible.field-0-is c.in-Err-NotDualFeasible.ensures.stops in
     tells_quietly g.P.Sink.written g.P.Sink.stopped_at g.P.Sink.faults g.P.Sink.refusals
-    (PathFinds solvers.Dual (sheet_shown c.args.sheet) c.args.basis.now c.dual_from.new.basis (Some c.args.limit) (g.R.Rates.waypoints c.args.rates.now) (g.R.Rates.waypoints c.dual_from.new.rates)) c.args.print.now (Ok (WrongPrices c.in-Err-NotDualFeasible.variable)) (wrong_prices t.0)
+    (PathFinds solvers.Dual (sheet_view c.args.sheet) c.args.basis.now c.dual_from.new.basis (Some c.args.limit) (g.R.Rates.waypoints c.args.rates.now) (g.R.Rates.waypoints c.dual_from.new.rates)) c.args.print.now (Ok (WrongPrices c.in-Err-NotDualFeasible.variable)) (wrong_prices t.0)
 
 pub returns-in-Err-Limit-clause-tells : goal.returns-in-Err-Limit-clause-tells
 returns-in-Err-Limit-clause-tells g c =
     let t = subst (DualPathStops c.args.sheet c.args.basis.now c.dual_from.new.basis c.args.limit (g.R.Rates.waypoints c.args.rates.now) (g.R.Rates.waypoints c.dual_from.new.rates)) c.in-Err-Limit.field-0-is c.in-Err-Limit.ensures.stops in
     tells_quietly g.P.Sink.written g.P.Sink.stopped_at g.P.Sink.faults g.P.Sink.refusals
-    (PathFinds solvers.Dual (sheet_shown c.args.sheet) c.args.basis.now c.dual_from.new.basis (Some c.args.limit) (g.R.Rates.waypoints c.args.rates.now) (g.R.Rates.waypoints c.dual_from.new.rates)) c.args.print.now (Ok Limit) (at_limit (t.0, t.1.goes_on))
+    (PathFinds solvers.Dual (sheet_view c.args.sheet) c.args.basis.now c.dual_from.new.basis (Some c.args.limit) (g.R.Rates.waypoints c.args.rates.now) (g.R.Rates.waypoints c.dual_from.new.rates)) c.args.print.now (Ok Limit) (at_limit (t.0, t.1.goes_on))
 
 pub returns-in-Err-Overflow-clause-tells : goal.returns-in-Err-Overflow-clause-tells
 returns-in-Err-Overflow-clause-tells g c =
     let t = subst (DualPathStops c.args.sheet c.args.basis.now c.dual_from.new.basis c.args.limit (g.R.Rates.waypoints c.args.rates.now) (g.R.Rates.waypoints c.dual_from.new.rates)) c.in-Err-Overflow.field-0-is c.in-Err-Overflow.ensures.stops in
     overflow_tells g.P.Sink.written g.P.Sink.stopped_at g.P.Sink.faults g.P.Sink.refusals
-    (PathFinds solvers.Dual (sheet_shown c.args.sheet) c.args.basis.now c.dual_from.new.basis (Some c.args.limit) (g.R.Rates.waypoints c.args.rates.now) (g.R.Rates.waypoints c.dual_from.new.rates)) c.args.print.now
+    (PathFinds solvers.Dual (sheet_view c.args.sheet) c.args.basis.now c.dual_from.new.basis (Some c.args.limit) (g.R.Rates.waypoints c.args.rates.now) (g.R.Rates.waypoints c.dual_from.new.rates)) c.args.print.now
     c.dual_from.new.basis (g.R.Rates.waypoints c.dual_from.new.rates) c.in-Err-Overflow.evidence c.overflow_at.result c.overflow_at.ensures
     (path_overflows solvers.Dual dual_turn (Dual c.args.sheet.lp.now) c.args.sheet c.args.basis.now c.dual_from.new.basis (Some c.args.limit) (g.R.Rates.waypoints c.args.rates.now) (g.R.Rates.waypoints c.dual_from.new.rates) c.in-Err-Overflow.evidence (λ bases place o. o) t)

@@ -3,10 +3,10 @@ use Rattle.std.proofs.Common.{Ok, subst}
 use Rattle.simplex_definitions.specs.Path.{turn}
 use Rattle.simplex_definitions.specs.Statements.{Primal}
 use Rattle.listing_definitions.specs.declared.Solver.TheVariants as solvers
-use Rattle.verb_answers.specs.Reports.{sheet_shown, PathStops}
+use Rattle.verb_answers.specs.Reports.{sheet_view, PathStops}
 use Rattle.run_machine.specs.declared.finding.Finding.TheVariants.{Limit}
 use Rattle.control_run.specs.Found.{PathFinds, at_limit}
-use Rattle.control_run.proofs.Telling.{tells_quietly, overflow_tells}
+use Rattle.control_run.proofs.Reporting.{tells_quietly, overflow_tells}
 use Rattle.control_run.proofs.Present.{path_reached}
 use Rattle.control_run.proofs.Solving_steps.{limit_passed, path_overflows}
 use Rattle.control_run.proofs.solving.follow_primal.Goals as goal
@@ -21,12 +21,12 @@ pub returns-in-Err-Limit-clause-tells : goal.returns-in-Err-Limit-clause-tells
 returns-in-Err-Limit-clause-tells g c =
     let t = subst (PathStops c.args.sheet c.args.basis.now c.path_from.new.basis c.args.limit (g.R.Rates.waypoints c.args.rates.now) (g.R.Rates.waypoints c.path_from.new.rates)) c.in-Err-Limit.field-0-is c.in-Err-Limit.ensures.stops in
     tells_quietly g.P.Sink.written g.P.Sink.stopped_at g.P.Sink.faults g.P.Sink.refusals
-    (PathFinds solvers.Primal (sheet_shown c.args.sheet) c.args.basis.now c.path_from.new.basis c.args.limit (g.R.Rates.waypoints c.args.rates.now) (g.R.Rates.waypoints c.path_from.new.rates)) c.args.print.now (Ok Limit) (at_limit (limit_passed c.args.sheet c.args.basis.now c.path_from.new.basis c.args.limit t))
+    (PathFinds solvers.Primal (sheet_view c.args.sheet) c.args.basis.now c.path_from.new.basis c.args.limit (g.R.Rates.waypoints c.args.rates.now) (g.R.Rates.waypoints c.path_from.new.rates)) c.args.print.now (Ok Limit) (at_limit (limit_passed c.args.sheet c.args.basis.now c.path_from.new.basis c.args.limit t))
 
 pub returns-in-Err-Overflow-clause-tells : goal.returns-in-Err-Overflow-clause-tells
 returns-in-Err-Overflow-clause-tells g c =
     let t = subst (PathStops c.args.sheet c.args.basis.now c.path_from.new.basis c.args.limit (g.R.Rates.waypoints c.args.rates.now) (g.R.Rates.waypoints c.path_from.new.rates)) c.in-Err-Overflow.field-0-is c.in-Err-Overflow.ensures.stops in
     overflow_tells g.P.Sink.written g.P.Sink.stopped_at g.P.Sink.faults g.P.Sink.refusals
-    (PathFinds solvers.Primal (sheet_shown c.args.sheet) c.args.basis.now c.path_from.new.basis c.args.limit (g.R.Rates.waypoints c.args.rates.now) (g.R.Rates.waypoints c.path_from.new.rates)) c.args.print.now
+    (PathFinds solvers.Primal (sheet_view c.args.sheet) c.args.basis.now c.path_from.new.basis c.args.limit (g.R.Rates.waypoints c.args.rates.now) (g.R.Rates.waypoints c.path_from.new.rates)) c.args.print.now
     c.path_from.new.basis (g.R.Rates.waypoints c.path_from.new.rates) c.in-Err-Overflow.evidence c.overflow_at.result c.overflow_at.ensures
     (path_overflows solvers.Primal turn (Primal c.args.sheet.lp.now) c.args.sheet c.args.basis.now c.path_from.new.basis c.args.limit (g.R.Rates.waypoints c.args.rates.now) (g.R.Rates.waypoints c.path_from.new.rates) c.in-Err-Overflow.evidence (λ bases place o. o) t)

@@ -1,5 +1,5 @@
 use Rattle.std.proofs.Common.{length, ◌-◌, ◌≤◌, ◌+◌}
-use Rattle.deck_fields.specs.WordsShown.{AreWordsBefore}
+use Rattle.deck_fields.specs.WordsViewed.{AreWordsBefore}
 use Rattle.deck_fields.proofs.free_card.free_words.Given as goal
 
 abbrev pub invariant-loop-start : goal.invariant-loop-start

@@ -1,5 +1,5 @@
 use Rattle.std.proofs.Common.{length, drop, take, ◌-◌, ◌+◌, refl, sym, subst, arith}
-use Rattle.deck_fields.specs.WordsShown.{AreWordsBefore}
+use Rattle.deck_fields.specs.WordsViewed.{AreWordsBefore}
 use Rattle.deck_fields.proofs.WordsBefore.{rest_is, before-blank, before-word}
 use Rattle.deck_fields.proofs.free_card.next_word.Goals.{then-len-gt0, else-len-gt0}
 use Rattle.deck_fields.proofs.free_card.next_word.Goals as goal

@@ -3,29 +3,29 @@ use Rattle.std.proofs.lemmas.Result.{on_ok_weaker}
 use Rattle.indexmap.specs.IndexMap.{insert_entry}
 use Rattle.problem_definitions.specs.Names.{same}
 use Rattle.deck_definitions.specs.DataCards.{bound_of}
-use Rattle.deck_cards.specs.Told.{TellsDeckFault}
-use Rattle.deck_parts.specs.Shown.{group_at, bound_rest_fault}
-use Rattle.deck_cards.specs.Shown.{shown}
+use Rattle.deck_cards.specs.Reported.{ReportsDeckFault}
+use Rattle.deck_parts.specs.Views.{group_at, bound_rest_fault}
+use Rattle.deck_cards.specs.Views.{viewed}
 use Rattle.deck_parts.proofs.Grouped.{items_found, put_in_set}
 use Rattle.deck_parts.proofs.bound_sets.take_bound_into.Goals as goal
 
 pub returns-clause-no_fault : goal.returns-clause-no_fault
 returns-clause-no_fault c =
     let taken = c.or_insert-items.ensures.value ∙ ap₂ unwrap_or c.in_ok-sets.ensures.value c.new.ensures in
-    subst (λ items. OnOk c.take_bound.result (bound_rest_fault items (shown c.args.card.now) c.args.kind ≡ None))
+    subst (λ items. OnOk c.take_bound.result (bound_rest_fault items (viewed c.args.card.now) c.args.kind ≡ None))
     (taken ∙ items_found c.args.card.now.name1 c.args.sets.now.entries c.in_ok-sets.ensures.unique) c.take_bound.ensures.no_fault
 
 pub returns-clause-step : goal.returns-clause-step
 returns-clause-step c =
     let taken = c.or_insert-items.ensures.value ∙ ap₂ unwrap_or c.in_ok-sets.ensures.value c.new.ensures in
-    on_ok_weaker {P = c.take_bound.new.items ≡ c.or_insert-items.result.now ++ bound_of (shown c.args.card.now) c.args.kind ∷ []} c.take_bound.result
+    on_ok_weaker {P = c.take_bound.new.items ≡ c.or_insert-items.result.now ++ bound_of (viewed c.args.card.now) c.args.kind ∷ []} c.take_bound.result
     (λ step. ap (λ m. map group_at m.entries) (c.sets-3-1.given.1 (sym c.in_ok-sets.ensures.same_map)) ∙ ap (map group_at) (c.in_ok-sets.ensures.update.1 c.take_bound.new.items)
-    ∙ ap (λ items. map group_at (insert_entry same c.args.sets.now.entries c.args.card.now.name1 items)) (step ∙ ap (λ items. items ++ bound_of (shown c.args.card.now) c.args.kind ∷ []) taken)
-    ∙ put_in_set c.args.card.now.name1 (λ items. items ++ bound_of (shown c.args.card.now) c.args.kind ∷ []) c.args.sets.now.entries c.in_ok-sets.ensures.unique)
+    ∙ ap (λ items. map group_at (insert_entry same c.args.sets.now.entries c.args.card.now.name1 items)) (step ∙ ap (λ items. items ++ bound_of (viewed c.args.card.now) c.args.kind ∷ []) taken)
+    ∙ put_in_set c.args.card.now.name1 (λ items. items ++ bound_of (viewed c.args.card.now) c.args.kind ∷ []) c.args.sets.now.entries c.in_ok-sets.ensures.unique)
     c.take_bound.ensures.step
 
 pub returns-clause-stop : goal.returns-clause-stop
 returns-clause-stop c =
     let taken = c.or_insert-items.ensures.value ∙ ap₂ unwrap_or c.in_ok-sets.ensures.value c.new.ensures in
-    subst (λ items. IfErr c.take_bound.result (TellsDeckFault (bound_rest_fault items (shown c.args.card.now) c.args.kind)))
+    subst (λ items. IfErr c.take_bound.result (ReportsDeckFault (bound_rest_fault items (viewed c.args.card.now) c.args.kind)))
     (taken ∙ items_found c.args.card.now.name1 c.args.sets.now.entries c.in_ok-sets.ensures.unique) c.take_bound.ensures.stop

@@ -1,7 +1,7 @@
 -- The bounds so far have the numbers of their columns.
 use Rattle.std.proofs.Common.{◌≡◌, map, take}
 use Rattle.problem_definitions.specs.Numbering.{bound_by}
-use Rattle.deck_parts.specs.Shown.{column_number}
+use Rattle.deck_parts.specs.Views.{column_number}
 use Rattle.deck_parts.proofs.bounds.numbered_bounds.Given as goal
 
 abbrev pub invariant-loop-bound : goal.invariant-loop-bound

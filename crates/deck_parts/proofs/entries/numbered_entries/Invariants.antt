@@ -1,7 +1,7 @@
 -- The entries so far, and those of the names that are left, are all.
 use Rattle.std.proofs.Common.{◌≡◌, ◌++◌, map}
 use Rattle.problem_definitions.specs.Numbering.{entry_by}
-use Rattle.deck_parts.specs.Shown.{entry_at, row_number}
+use Rattle.deck_parts.specs.Views.{entry_at, row_number}
 use Rattle.deck_parts.proofs.entries.numbered_entries.Given as goal
 
 abbrev pub invariant-loop-row : goal.invariant-loop-row

@@ -8,9 +8,9 @@ use Rattle.deck_definitions.specs.declared.DeckFaultKind.TheVariants.{ColumnSpli
 use Rattle.deck_definitions.specs.declared.Section.TheVariants.{Columns}
 use Rattle.deck_definitions.specs.DataCards.{entries_of, pairs_of}
 use Rattle.deck_definitions.specs.Tests.{pairs_fault}
-use Rattle.deck_cards.specs.Told.{TellsDeckFault}
-use Rattle.deck_parts.specs.Shown.{rows_alone, group_at, column_fault}
-use Rattle.deck_cards.specs.Shown.{shown}
+use Rattle.deck_cards.specs.Reported.{ReportsDeckFault}
+use Rattle.deck_parts.specs.Views.{rows_alone, group_at, column_fault}
+use Rattle.deck_cards.specs.Views.{viewed}
 use Rattle.deck_parts.proofs.Fronts.{place_within, place_tells, column_fine, column_refused}
 use Rattle.deck_parts.proofs.Grouped.{items_found, put_in_set}
 use Rattle.deck_parts.proofs.groups.take_column_into.Goals as goal
@@ -23,35 +23,35 @@ place_fault-requires c =
 pub returns-in-Some-clause-stop : goal.returns-in-Some-clause-stop
 returns-in-Some-clause-stop c =
     let place = c.index-place.ensures ∙ c.in_ok-entry.ensures.index in
-    let told = ap₂ (λ p n. first_fault ((nat_lt (p + 1) n ⟹ ColumnSplit) ∷ (nat_eq p n && nat_le MAX_COLUMNS n ⟹ TooManyColumns) ∷ [])) place c.len-before.ensures.len in
+    let reported = ap₂ (λ p n. first_fault ((nat_lt (p + 1) n ⟹ ColumnSplit) ∷ (nat_eq p n && nat_le MAX_COLUMNS n ⟹ TooManyColumns) ∷ [])) place c.len-before.ensures.len in
     column_refused (map group_at c.args.columns.now.entries) c.args.card.now.name1 _ c.in-Some.kind
-    (sym (place_tells c.args.card.now.name1 c.args.columns.now.entries) ∙ sym told ∙ sym c.in-Some.ensures)
+    (sym (place_tells c.args.card.now.name1 c.args.columns.now.entries) ∙ sym reported ∙ sym c.in-Some.ensures)
 
 pub returns-clause-no_fault : goal.returns-clause-no_fault
 returns-clause-no_fault c =
     let place = c.index-place.ensures ∙ c.in_ok-entry.ensures.index in
-    let told = ap₂ (λ p n. first_fault ((nat_lt (p + 1) n ⟹ ColumnSplit) ∷ (nat_eq p n && nat_le MAX_COLUMNS n ⟹ TooManyColumns) ∷ [])) place c.len-before.ensures.len in
-    let fine : column_fault (map group_at c.args.columns.now.entries) c.args.card.now.name1 None ≡ None = sym (place_tells c.args.card.now.name1 c.args.columns.now.entries) ∙ sym told ∙ sym c.in_default.ensures in
+    let reported = ap₂ (λ p n. first_fault ((nat_lt (p + 1) n ⟹ ColumnSplit) ∷ (nat_eq p n && nat_le MAX_COLUMNS n ⟹ TooManyColumns) ∷ [])) place c.len-before.ensures.len in
+    let fine : column_fault (map group_at c.args.columns.now.entries) c.args.card.now.name1 None ≡ None = sym (place_tells c.args.card.now.name1 c.args.columns.now.entries) ∙ sym reported ∙ sym c.in_default.ensures in
     let taken = c.or_insert-items.ensures.value ∙ ap₂ unwrap_or c.in_ok-entry.ensures.value c.new.ensures in
     subst (λ fault. OnOk c.take_pairs.result (fault ≡ None)) (sym (column_fine (map group_at c.args.columns.now.entries) c.args.card.now.name1 _ fine))
-    (subst (λ items. OnOk c.take_pairs.result (pairs_fault (rows_alone c.args.rows.now) Columns items c.args.count (pairs_of (shown c.args.card.now)) ≡ None))
+    (subst (λ items. OnOk c.take_pairs.result (pairs_fault (rows_alone c.args.rows.now) Columns items c.args.count (pairs_of (viewed c.args.card.now)) ≡ None))
     (taken ∙ items_found c.args.card.now.name1 c.args.columns.now.entries c.in_ok-entry.ensures.unique) c.take_pairs.ensures.no_fault)
 
 pub returns-clause-step : goal.returns-clause-step
 returns-clause-step c =
     let taken = c.or_insert-items.ensures.value ∙ ap₂ unwrap_or c.in_ok-entry.ensures.value c.new.ensures in
-    on_ok_weaker {P = c.take_pairs.new.items ≡ c.or_insert-items.result.now ++ entries_of (shown c.args.card.now)} c.take_pairs.result
+    on_ok_weaker {P = c.take_pairs.new.items ≡ c.or_insert-items.result.now ++ entries_of (viewed c.args.card.now)} c.take_pairs.result
     (λ step. ap (λ m. map group_at m.entries) (c.columns-3-1.given.1 (sym c.in_ok-entry.ensures.same_map)) ∙ ap (map group_at) (c.in_ok-entry.ensures.update.1 c.take_pairs.new.items)
-    ∙ ap (λ items. map group_at (insert_entry same c.args.columns.now.entries c.args.card.now.name1 items)) (step ∙ ap (λ items. items ++ entries_of (shown c.args.card.now)) taken)
-    ∙ put_in_set c.args.card.now.name1 (λ items. items ++ entries_of (shown c.args.card.now)) c.args.columns.now.entries c.in_ok-entry.ensures.unique)
+    ∙ ap (λ items. map group_at (insert_entry same c.args.columns.now.entries c.args.card.now.name1 items)) (step ∙ ap (λ items. items ++ entries_of (viewed c.args.card.now)) taken)
+    ∙ put_in_set c.args.card.now.name1 (λ items. items ++ entries_of (viewed c.args.card.now)) c.args.columns.now.entries c.in_ok-entry.ensures.unique)
     c.take_pairs.ensures.step
 
 pub returns-clause-stop : goal.returns-clause-stop
 returns-clause-stop c =
     let place = c.index-place.ensures ∙ c.in_ok-entry.ensures.index in
-    let told = ap₂ (λ p n. first_fault ((nat_lt (p + 1) n ⟹ ColumnSplit) ∷ (nat_eq p n && nat_le MAX_COLUMNS n ⟹ TooManyColumns) ∷ [])) place c.len-before.ensures.len in
-    let fine : column_fault (map group_at c.args.columns.now.entries) c.args.card.now.name1 None ≡ None = sym (place_tells c.args.card.now.name1 c.args.columns.now.entries) ∙ sym told ∙ sym c.in_default.ensures in
+    let reported = ap₂ (λ p n. first_fault ((nat_lt (p + 1) n ⟹ ColumnSplit) ∷ (nat_eq p n && nat_le MAX_COLUMNS n ⟹ TooManyColumns) ∷ [])) place c.len-before.ensures.len in
+    let fine : column_fault (map group_at c.args.columns.now.entries) c.args.card.now.name1 None ≡ None = sym (place_tells c.args.card.now.name1 c.args.columns.now.entries) ∙ sym reported ∙ sym c.in_default.ensures in
     let taken = c.or_insert-items.ensures.value ∙ ap₂ unwrap_or c.in_ok-entry.ensures.value c.new.ensures in
-    subst (λ fault. IfErr c.take_pairs.result (TellsDeckFault fault)) (sym (column_fine (map group_at c.args.columns.now.entries) c.args.card.now.name1 _ fine))
-    (subst (λ items. IfErr c.take_pairs.result (TellsDeckFault (pairs_fault (rows_alone c.args.rows.now) Columns items c.args.count (pairs_of (shown c.args.card.now)))))
+    subst (λ fault. IfErr c.take_pairs.result (ReportsDeckFault fault)) (sym (column_fine (map group_at c.args.columns.now.entries) c.args.card.now.name1 _ fine))
+    (subst (λ items. IfErr c.take_pairs.result (ReportsDeckFault (pairs_fault (rows_alone c.args.rows.now) Columns items c.args.count (pairs_of (viewed c.args.card.now)))))
     (taken ∙ items_found c.args.card.now.name1 c.args.columns.now.entries c.in_ok-entry.ensures.unique) c.take_pairs.ensures.stop)

@@ -1,7 +1,7 @@
 -- The sets so far, and those of the names that are left, are all.
 use Rattle.std.proofs.Common.{◌≡◌, ◌++◌, map}
 use Rattle.problem_definitions.specs.Numbering.{entry_by, group_by}
-use Rattle.deck_parts.specs.Shown.{group_at, row_number}
+use Rattle.deck_parts.specs.Views.{group_at, row_number}
 use Rattle.deck_parts.proofs.groups.value_sets.Given as goal
 
 abbrev pub invariant-loop-name : goal.invariant-loop-name

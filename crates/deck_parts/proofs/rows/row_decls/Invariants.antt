@@ -1,8 +1,8 @@
 -- The rows so far, and those of the names that are left, are all.
 use Rattle.std.proofs.Common.{◌≡◌, ◌++◌, map}
 use Rattle.problem_definitions.specs.Numbering.{row_by}
-use Rattle.deck_parts.specs.Shown.{row_number}
-use Rattle.deck_parts.specs.RowShown.{row_at}
+use Rattle.deck_parts.specs.Views.{row_number}
+use Rattle.deck_parts.specs.RowViewed.{row_at}
 use Rattle.deck_parts.proofs.rows.row_decls.Given as goal
 
 abbrev pub invariant-loop-name : goal.invariant-loop-name

@@ -28,7 +28,7 @@ returns-in_default-clause-best c =
 pub cheaper-requires-clause-best : goal.cheaper-requires-clause-best
 cheaper-requires-clause-best c zero =
     let best = subst (λ (o : Option Candidate). IsBest c.args.lp.now c.args.basis.now (value_at c.args.prices.now) (value_at c.args.row.now) c.args.below (c.args.k - 1) o) c.in-Some.is c.requires.best in
-    brings_apart c.args.lp.now c.args.basis.now (value_at c.args.prices.now) (value_at c.args.row.now) c.args.below c.in-Some.present.q best.candidate.brings_back
+    brings_apart c.args.lp.now c.args.basis.now (value_at c.args.prices.now) (value_at c.args.row.now) c.args.below c.in-Some.present.q best.candidate.restores_feasibility
     (sym best.candidate.is_rate ∙ zero)
 
 pub cheaper-requires-clause-other : goal.cheaper-requires-clause-other

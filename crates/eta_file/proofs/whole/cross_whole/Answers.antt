@@ -2,7 +2,7 @@ use Rattle.std.proofs.Common.{◌≡◌, ◌≤◌, ◌∙◌, sym, ap, length, 
 use Rattle.exact_values.specs.Rational.{ℚ, ◌*ℚ◌, ◌/ℚ◌}
 use Rattle.lp_definitions.specs.LinearProgram.{value_at}
 use Rattle.lp_laws.proofs.Places.{value_at_place}
-use Rattle.whole_vectors.specs.Quotients.{quotients, StandFor}
+use Rattle.whole_vectors.specs.Quotients.{quotients, Represent}
 use Rattle.eta_file.proofs.FileLaws.{some_map}
 use Rattle.eta_file.specs.Entries.{IsEntryWithin, IsWholeOf}
 use Rattle.eta_file.specs.Crossings.{IsCrossed}
@@ -37,7 +37,7 @@ returns c =
     let is_whole : IsWholeOf eta.pivot eta.entries.items w = subst (λ o. IfSome o (IsWholeOf eta.pivot eta.entries.items)) c.in-Some.is c.requires.whole in
     let high : eta.p ≤ length c.reduce.new.numbers = omega (arith, c.requires.places.p_high, c.reduce.auto.numbers) in
     let lead : c.index-out-eta-2.result ≡ value_at c.reduce.new.numbers eta.p = value_at_place c.reduce.new.numbers eta.p c.index-out-eta-2.result c.requires.places.p_low high c.index-out-eta-2.is in
-    some_map c.product.result (λ v. v ≡ e *ℚ by) (λ v. StandFor (IsCrossed eta (quotients c.args.denominator c.args.out.now)) v c.exchange_whole.new.out)
+    some_map c.product.result (λ v. v ≡ e *ℚ by) (λ v. Represent (IsCrossed eta (quotients c.args.denominator c.args.out.now)) v c.exchange_whole.new.out)
     (λ v is_v.
     crossed_whole eta w is_whole c.requires.places.apart c.args.denominator e by c.in_ok-ratio.ratio c.terms-multiple.result.0 c.args.out.now c.reduce.new.numbers c.multiply.new.numbers c.exchange_whole.new.out
     c.in_ok-denominator.ensures (c.in_ok-ratio.ensures ∙ ap (λ x. x /ℚ w.pivot) lead) c.terms-multiple.ensures.product c.terms-multiple.ensures.apart

@@ -2,14 +2,14 @@ use Rattle.std.proofs.Common.{[], refl, ◌∙◌}
 use Rattle.question_definitions.specs.Answers.{Reached}
 use Rattle.walk_definitions.specs.Tests.{verdict_test}
 use Rattle.walk_definitions.specs.Reading.{verdict_in}
-use Rattle.listing_readers.specs.Read.{sheet_shown}
+use Rattle.listing_readers.specs.Read.{sheet_view}
 use Rattle.listing_answers.proofs.Passing.{passes}
 use Rattle.listing_answers.proofs.Claimed.{stated_given, concluded, judged_right}
 use Rattle.listing_answers.proofs.answer.answer_to_path.Goals as goal
 
 pub returns : goal.returns
 returns c limit =
-    let sheet = sheet_shown c.args.sheet in
+    let sheet = sheet_view c.args.sheet in
     let found = rw c.in-Some.is at c.in_ok-stated.ensures in
     let stated = c.in-Some.stated in
     let verdict = found.answer.0 in

@@ -4,7 +4,7 @@ use Rattle.lp_definitions.specs.LinearProgram.{value_at}
 use Rattle.check_definitions.specs.declared.Verdict.{Verdict}
 use Rattle.walk_definitions.specs.Tests.{point_of, solution_test}
 use Rattle.walk_definitions.specs.Reading.{solution_in}
-use Rattle.listing_readers.specs.Read.{sheet_shown}
+use Rattle.listing_readers.specs.Read.{sheet_view}
 use Rattle.listing_answers.specs.Passing.{Stops}
 use Rattle.listing_answers.proofs.Claimed.{tested_right, tested_stops}
 use Rattle.listing_answers.proofs.Solutions.{printed_shows, printed_counted, printed_tested}
@@ -13,11 +13,11 @@ use Rattle.listing_answers.proofs.answer.answer_to_solution.Goals as goal
 pub check_printed-requires-clause-counted : goal.check_printed-requires-clause-counted
 check_printed-requires-clause-counted c =
     let found = rw c.in-Some.is at c.in_ok-lines.ensures in
-    printed_counted (sheet_shown c.args.sheet) c.in-Some.lines found.answer c.in_ok-printed.printed found.shows c.in_ok-printed.ensures
+    printed_counted (sheet_view c.args.sheet) c.in-Some.lines found.answer c.in_ok-printed.printed found.shows c.in_ok-printed.ensures
 
 pub returns-in_err-check_printed : goal.returns-in_err-check_printed
 returns-in_err-check_printed c =
-    let sheet = sheet_shown c.args.sheet in
+    let sheet = sheet_view c.args.sheet in
     let found = rw c.in-Some.is at c.in_ok-lines.ensures in
     let shows = printed_shows sheet c.in-Some.lines found.answer c.in_ok-printed.printed found.shows c.in_ok-printed.ensures in
     let stop = c.in_err-check_printed.field-0.0 in
@@ -27,7 +27,7 @@ returns-in_err-check_printed c =
 
 pub returns : goal.returns
 returns c =
-    let sheet = sheet_shown c.args.sheet in
+    let sheet = sheet_view c.args.sheet in
     let found = rw c.in-Some.is at c.in_ok-lines.ensures in
     let shows = printed_shows sheet c.in-Some.lines found.answer c.in_ok-printed.printed found.shows c.in_ok-printed.ensures in
     record {

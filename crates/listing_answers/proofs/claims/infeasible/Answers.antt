@@ -3,13 +3,13 @@ use Rattle.std.specs.Prelude.{option_map}
 use Rattle.lp_definitions.specs.LinearProgram.{variables}
 use Rattle.listing_definitions.specs.Report.{InfeasibleBy}
 use Rattle.walk_definitions.specs.Tables.{ray_in}
-use Rattle.listing_readers.specs.Read.{sheet_shown}
+use Rattle.listing_readers.specs.Read.{sheet_view}
 use Rattle.listing_answers.proofs.Tables.{multipliers_counted}
 use Rattle.listing_answers.proofs.claims.infeasible.Goals as goal
 
 pub returns-in_default-2 : goal.returns-in_default-2
 returns-in_default-2 c =
-    let sheet = sheet_shown c.args.sheet in
+    let sheet = sheet_view c.args.sheet in
     let head = c.in-Some.ensures in
     let none : ray_in sheet (variables sheet.lp.matrix) c.ray_head.new.cursor ≡ None = rw c.in_default-2.is at c.in_ok-ray.ensures in
     head.reads (λ steps check rest. option_map (λ got. ((InfeasibleBy steps got.0, check), got.1)) (ray_in sheet (variables sheet.lp.matrix) rest))
@@ -17,7 +17,7 @@ returns-in_default-2 c =
 
 pub returns : goal.returns
 returns c =
-    let sheet = sheet_shown c.args.sheet in
+    let sheet = sheet_view c.args.sheet in
     let head = c.in-Some.ensures in
     let read = rw c.in-Some-2.is at c.in_ok-ray.ensures in
     record {

@@ -3,13 +3,13 @@ use Rattle.lp_definitions.specs.LinearProgram.{size, numbers_from}
 use Rattle.walk_definitions.specs.Tables.{pair_slots, table_in}
 use Rattle.listing_readers.specs.declared.tables.Numbers.{Numbers}
 use Rattle.listing_readers.specs.declared.tables.Shape.TheVariants.{Pair}
-use Rattle.listing_readers.specs.Read.{sheet_shown}
+use Rattle.listing_readers.specs.Read.{sheet_view}
 use Rattle.listing_answers.proofs.Tables.{column_is, column_length, lines_counted}
 use Rattle.listing_answers.proofs.claims.read_pair.Goals as goal
 
 pub returns : goal.returns
 returns c =
-    let sheet = sheet_shown c.args.sheet in
+    let sheet = sheet_view c.args.sheet in
     let read = rw c.in-Some.is at c.in_ok-numbers.ensures in
     let numbers = c.in-Some.numbers.items in
     let table = ap (λ n. table_in sheet pair_slots (numbers_from 1 n) c.args.cursor.now) (sym c.number_of_variables-count.ensures.size) ∙ read.1 in

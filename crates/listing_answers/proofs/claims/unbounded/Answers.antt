@@ -3,12 +3,12 @@ use Rattle.std.specs.Prelude.{option_map}
 use Rattle.lp_definitions.specs.LinearProgram.{variables}
 use Rattle.listing_definitions.specs.Report.{UnboundedBy}
 use Rattle.walk_definitions.specs.Tables.{table_in, pair_slots}
-use Rattle.listing_readers.specs.Read.{sheet_shown}
+use Rattle.listing_readers.specs.Read.{sheet_view}
 use Rattle.listing_answers.proofs.claims.unbounded.Goals as goal
 
 pub returns-in_default-2 : goal.returns-in_default-2
 returns-in_default-2 c =
-    let sheet = sheet_shown c.args.sheet in
+    let sheet = sheet_view c.args.sheet in
     let head = c.in-Some.ensures in
     let objective = c.in-Some.head.objective in
     let none : table_in sheet pair_slots (variables sheet.lp.matrix) c.read_head.new.cursor ≡ None = rw c.in_default-2.is at c.in_ok-pair.ensures in
@@ -17,7 +17,7 @@ returns-in_default-2 c =
 
 pub returns : goal.returns
 returns c =
-    let sheet = sheet_shown c.args.sheet in
+    let sheet = sheet_view c.args.sheet in
     let head = c.in-Some.ensures in
     let objective = c.in-Some.head.objective in
     let read = rw c.in-Some-2.is at c.in_ok-pair.ensures in

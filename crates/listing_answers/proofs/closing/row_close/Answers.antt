@@ -1,11 +1,11 @@
-use Rattle.listing_readers.specs.Read.{sheet_shown}
+use Rattle.listing_readers.specs.Read.{sheet_view}
 use Rattle.listing_answers.specs.Closings.{unbounded_in}
 use Rattle.listing_answers.proofs.ClosingFacts.{end_first, end_then}
 use Rattle.listing_answers.proofs.closing.row_close.Goals as goal
 
 pub returns-in-Some : goal.returns-in-Some
-returns-in-Some c = end_first (sheet_shown c.args.sheet) (unbounded_in (sheet_shown c.args.sheet)) c.args.cursor.now c.try_end.new.cursor c.in-Some.value c.in-Some.ensures
+returns-in-Some c = end_first (sheet_view c.args.sheet) (unbounded_in (sheet_view c.args.sheet)) c.args.cursor.now c.try_end.new.cursor c.in-Some.value c.in-Some.ensures
 
 pub returns : goal.returns
 returns c =
-    end_then (sheet_shown c.args.sheet) (unbounded_in (sheet_shown c.args.sheet)) c.args.cursor.now c.try_end.new.cursor c.unbounded_past.new.cursor c.in_default.ensures c.unbounded_past.result c.unbounded_past.ensures
+    end_then (sheet_view c.args.sheet) (unbounded_in (sheet_view c.args.sheet)) c.args.cursor.now c.try_end.new.cursor c.unbounded_past.new.cursor c.in_default.ensures c.unbounded_past.result c.unbounded_past.ensures

@@ -5,14 +5,14 @@ use Rattle.question_definitions.specs.Answers.{Set}
 use Rattle.parametric_request.specs.declared.request.Change.{Change}
 use Rattle.parametric_request.specs.Asking.{changing_of}
 use Rattle.walk_definitions.specs.Tests.{past_test, infeasible_past}
-use Rattle.listing_readers.specs.Read.{sheet_shown}
+use Rattle.listing_readers.specs.Read.{sheet_view}
 use Rattle.listing_answers.specs.Passing.{Judges}
 use Rattle.listing_answers.specs.Closings.{infeasible_test}
 use Rattle.listing_answers.proofs.closing_tests.check_infeasible.Goals as goal
 
 pub returns-in-Set : goal.returns-in-Set
 returns-in-Set c =
-    let sheet = sheet_shown c.args.sheet in
+    let sheet = sheet_view c.args.sheet in
     let request = c.args.request.now in
     let w = value_at c.args.ray.now in
     let result = c.check_past_infeasible.result in

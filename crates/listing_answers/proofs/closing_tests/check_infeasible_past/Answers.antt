@@ -4,7 +4,7 @@ use Rattle.lp_definitions.specs.LinearProgram.{value_at}
 use Rattle.check_definitions.specs.Steps.{in_turn}
 use Rattle.parametric_request.specs.Asking.{changing_of}
 use Rattle.walk_definitions.specs.Tests.{asked}
-use Rattle.listing_readers.specs.Read.{sheet_shown}
+use Rattle.listing_readers.specs.Read.{sheet_view}
 use Rattle.listing_answers.proofs.Passing.{exit_by, then_by, last_by}
 use Rattle.listing_answers.proofs.PastFacts as facts
 use Rattle.listing_answers.proofs.PastFacts.{past_is}
@@ -12,7 +12,7 @@ use Rattle.listing_answers.proofs.closing_tests.check_infeasible_past.Goals as g
 
 pub returns-in_err-judge : goal.returns-in_err-judge
 returns-in_err-judge c =
-    let sheet = sheet_shown c.args.sheet in
+    let sheet = sheet_view c.args.sheet in
     let changing = changing_of c.args.request.now.name c.args.request.now.change in
     let shift = c.args.shift.now in
     let t = c.args.value in
@@ -31,7 +31,7 @@ returns-in_err-judge c =
 
 pub returns-in_err-sum : goal.returns-in_err-sum
 returns-in_err-sum c =
-    let sheet = sheet_shown c.args.sheet in
+    let sheet = sheet_view c.args.sheet in
     let changing = changing_of c.args.request.now.name c.args.request.now.change in
     let shift = c.args.shift.now in
     let t = c.args.value in
@@ -51,7 +51,7 @@ returns-in_err-sum c =
 
 pub returns-in_err-ask : goal.returns-in_err-ask
 returns-in_err-ask c =
-    let sheet = sheet_shown c.args.sheet in
+    let sheet = sheet_view c.args.sheet in
     let changing = changing_of c.args.request.now.name c.args.request.now.change in
     let shift = c.args.shift.now in
     let t = c.args.value in
@@ -72,7 +72,7 @@ returns-in_err-ask c =
 
 pub returns-in_err-fall : goal.returns-in_err-fall
 returns-in_err-fall c =
-    let sheet = sheet_shown c.args.sheet in
+    let sheet = sheet_view c.args.sheet in
     let changing = changing_of c.args.request.now.name c.args.request.now.change in
     let shift = c.args.shift.now in
     let t = c.args.value in
@@ -94,7 +94,7 @@ returns-in_err-fall c =
 
 pub returns : goal.returns
 returns c =
-    let sheet = sheet_shown c.args.sheet in
+    let sheet = sheet_view c.args.sheet in
     let changing = changing_of c.args.request.now.name c.args.request.now.change in
     let shift = c.args.shift.now in
     let t = c.args.value in

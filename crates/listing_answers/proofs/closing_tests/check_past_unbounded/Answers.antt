@@ -3,13 +3,13 @@ use Rattle.exact_values.specs.Tests.{eq_ℚ, lt_ℚ}
 use Rattle.lp_definitions.specs.LinearProgram.{value_at}
 use Rattle.check_definitions.specs.Steps.{in_turn}
 use Rattle.walk_definitions.specs.Tests.{asked, unbounded_past}
-use Rattle.listing_readers.specs.Read.{sheet_shown}
+use Rattle.listing_readers.specs.Read.{sheet_view}
 use Rattle.listing_answers.proofs.Passing.{then_by, last_by, judges_same}
 use Rattle.listing_answers.proofs.closing_tests.check_past_unbounded.Goals as goal
 
 pub returns : goal.returns
 returns c changing =
-    let sheet = sheet_shown c.args.sheet in
+    let sheet = sheet_view c.args.sheet in
     let value = c.args.value in
     let pair = c.args.pair.now in
     let result = c.check_unbounded_past.result in

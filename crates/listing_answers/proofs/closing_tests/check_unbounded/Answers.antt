@@ -4,14 +4,14 @@ use Rattle.question_definitions.specs.Answers.{Row}
 use Rattle.parametric_request.specs.declared.request.Change.{Change}
 use Rattle.parametric_request.specs.Asking.{changing_of}
 use Rattle.walk_definitions.specs.Tests.{past_test, unbounded_past}
-use Rattle.listing_readers.specs.Read.{sheet_shown}
+use Rattle.listing_readers.specs.Read.{sheet_view}
 use Rattle.listing_answers.specs.Passing.{Judges}
 use Rattle.listing_answers.specs.Closings.{unbounded_test}
 use Rattle.listing_answers.proofs.closing_tests.check_unbounded.Goals as goal
 
 pub returns-in-Row : goal.returns-in-Row
 returns-in-Row c =
-    let sheet = sheet_shown c.args.sheet in
+    let sheet = sheet_view c.args.sheet in
     let request = c.args.request.now in
     let pair = c.args.pair.now in
     let result = c.check_past_unbounded.result in

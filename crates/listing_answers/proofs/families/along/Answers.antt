@@ -10,7 +10,7 @@ use Rattle.check_definitions.specs.Steps.{verdict_of}
 use Rattle.simplex_definitions.specs.Chain.{along}
 use Rattle.certificate_check.proofs.Each.{each_left}
 use Rattle.walk_definitions.specs.Tests.{along_steps}
-use Rattle.listing_readers.specs.Read.{sheet_shown}
+use Rattle.listing_readers.specs.Read.{sheet_view}
 use Rattle.listing_answers.specs.Passing.{Stops}
 use Rattle.listing_answers.specs.Making.{IsAlong}
 use Rattle.listing_answers.proofs.Passing.{made_handed, each_stops, each_goes_on, each_ends}
@@ -32,7 +32,7 @@ returns-in_err-next c =
     let in_value : c.loop-i.i < length value = omega (arith, below, c.requires.value_places) in
     let in_rate : c.loop-i.i < length rate = omega (arith, below, c.requires.rate_places) in
     let stop = c.in_err-next.field-0.0 in
-    made_handed {X = Vec Frac Global} (λ made. IsAlong p c.args.theta value rate made.items) (verdict_of (along_steps (sheet_shown c.args.sheet) c.args.theta value rate)) c.from_residual.result stop
+    made_handed {X = Vec Frac Global} (λ made. IsAlong p c.args.theta value rate made.items) (verdict_of (along_steps (sheet_view c.args.sheet) c.args.theta value rate)) c.from_residual.result stop
     (each_stops (along_step c.args.theta value rate) (size p.matrix) c.loop-i.i stop c.loop-i.invariant.left below
     (subst (λ (v : Verdict). Stops stop v)
     (along_same c.args.theta value rate (c.loop-i.i + 1) c.index-value-place.result c.index-rate-place.result (sym (value_next value c.loop-i.i c.index-value-place.result in_value c.index-value-place.is))

@@ -3,7 +3,7 @@ use Rattle.exact_values.specs.Rational.{ℚ}
 use Rattle.lp_definitions.specs.LinearProgram.{value_at, lower_of, upper_of}
 use Rattle.lp_laws.proofs.Places.{value_read}
 use Rattle.check_definitions.specs.Steps.{verdict_of}
-use Rattle.listing_readers.specs.Read.{sheet_shown}
+use Rattle.listing_readers.specs.Read.{sheet_view}
 use Rattle.listing_answers.specs.Making.{moved, row_steps}
 use Rattle.listing_answers.proofs.Passing.{made_handed}
 use Rattle.listing_answers.proofs.Limits.{low_stops, high_stops, row_passes}
@@ -11,7 +11,7 @@ use Rattle.listing_answers.proofs.families.limits_of_row.Goals as goal
 
 pub returns-in_err-lower : goal.returns-in_err-lower
 returns-in_err-lower c =
-    let sheet = sheet_shown c.args.sheet in
+    let sheet = sheet_view c.args.sheet in
     let shift = c.args.shift.now in
     let by = c.index-shift-i.result in
     let is_by : by ≡ value_at shift c.args.i = value_read shift c.args.i by (omega arith) c.index-shift-i.is in
@@ -23,7 +23,7 @@ returns-in_err-lower c =
 
 pub returns-in_err-upper : goal.returns-in_err-upper
 returns-in_err-upper c =
-    let sheet = sheet_shown c.args.sheet in
+    let sheet = sheet_view c.args.sheet in
     let shift = c.args.shift.now in
     let by = c.index-shift-i.result in
     let is_by : by ≡ value_at shift c.args.i = value_read shift c.args.i by (omega arith) c.index-shift-i.is in
@@ -35,7 +35,7 @@ returns-in_err-upper c =
 
 pub returns : goal.returns
 returns c =
-    let sheet = sheet_shown c.args.sheet in
+    let sheet = sheet_view c.args.sheet in
     let shift = c.args.shift.now in
     let by = c.index-shift-i.result in
     let is_by : by ≡ value_at shift c.args.i = value_read shift c.args.i by (omega arith) c.index-shift-i.is in (

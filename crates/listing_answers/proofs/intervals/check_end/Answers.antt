@@ -5,10 +5,10 @@ use Rattle.check_definitions.specs.declared.Verdict.TheVariants.{Checked}
 use Rattle.check_definitions.specs.Steps.{verdict_of, in_turn}
 use Rattle.check_definitions.specs.Checks.{optimal_check}
 use Rattle.simplex_definitions.specs.Chain.{along}
-use Rattle.answer_definitions.specs.Sweeps.{family_of}
+use Rattle.answer_definitions.specs.ParametricRuns.{family_of}
 use Rattle.parametric_request.specs.Asking.{changing_of}
 use Rattle.walk_definitions.specs.Tests.{making_steps, along_steps}
-use Rattle.listing_readers.specs.Read.{sheet_shown}
+use Rattle.listing_readers.specs.Read.{sheet_view}
 use Rattle.listing_answers.specs.Passing.{Stops}
 use Rattle.listing_answers.specs.Intervals.{IsEnd, end_verdict}
 use Rattle.listing_answers.proofs.Passing.{stops_first, stops_next, both_pass, made_handed}
@@ -18,21 +18,21 @@ use Rattle.listing_answers.proofs.intervals.check_end.Goals as goal
 
 pub check_optimal-requires-clause-point_places : goal.check_optimal-requires-clause-point_places
 check_optimal-requires-clause-point_places c =
-    let sheet = sheet_shown c.args.sheet in
+    let sheet = sheet_view c.args.sheet in
     let changing = changing_of c.args.request.now.name c.args.request.now.change in
     ap length c.deref-5.ensures.value ∙ along_counted sheet.lp (along c.args.theta c.deref.result.now c.deref-2.result.now) c.in_ok-point.point.items c.in_ok-point.ensures.1
     ∙ sym (ap size (ap (λ (p : LinearProgram). p.matrix) c.in_ok-program.ensures.1 ∙ family_matrix sheet changing c.args.theta))
 
 pub check_optimal-requires-clause-price_places : goal.check_optimal-requires-clause-price_places
 check_optimal-requires-clause-price_places c =
-    let sheet = sheet_shown c.args.sheet in
+    let sheet = sheet_view c.args.sheet in
     let changing = changing_of c.args.request.now.name c.args.request.now.change in
     ap length c.deref-6.ensures.value ∙ along_counted sheet.lp (along c.args.theta c.deref-3.result.now c.deref-4.result.now) c.in_ok-prices.prices.items c.in_ok-prices.ensures.1
     ∙ sym (ap size (ap (λ (p : LinearProgram). p.matrix) c.in_ok-program.ensures.1 ∙ family_matrix sheet changing c.args.theta))
 
 pub returns-in_err-judge : goal.returns-in_err-judge
 returns-in_err-judge c =
-    let sheet = sheet_shown c.args.sheet in
+    let sheet = sheet_view c.args.sheet in
     let changing = changing_of c.args.request.now.name c.args.request.now.change in
     let theta = c.args.theta in
     let columns = c.args.columns.now in
@@ -55,7 +55,7 @@ returns-in_err-judge c =
 
 pub returns : goal.returns
 returns c =
-    let sheet = sheet_shown c.args.sheet in
+    let sheet = sheet_view c.args.sheet in
     let changing = changing_of c.args.request.now.name c.args.request.now.change in
     let theta = c.args.theta in
     let columns = c.args.columns.now in

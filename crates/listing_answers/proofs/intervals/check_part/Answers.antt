@@ -4,7 +4,7 @@ use Rattle.check_definitions.specs.declared.Verdict.{Verdict}
 use Rattle.check_definitions.specs.Steps.{verdict_of, in_turn}
 use Rattle.parametric_request.specs.Asking.{changing_of}
 use Rattle.walk_definitions.specs.Tests.{asked, keeping_steps}
-use Rattle.listing_readers.specs.Read.{sheet_shown}
+use Rattle.listing_readers.specs.Read.{sheet_view}
 use Rattle.listing_answers.specs.Passing.{Judges}
 use Rattle.listing_answers.specs.Intervals.{end_verdict}
 use Rattle.listing_answers.proofs.Passing.{then_by, last_by}
@@ -13,13 +13,13 @@ use Rattle.listing_answers.proofs.intervals.check_part.Goals as goal
 
 pub check_kept-requires : goal.check_kept-requires
 check_kept-requires c =
-    let sheet = sheet_shown c.args.sheet in
+    let sheet = sheet_view c.args.sheet in
     let changing = changing_of c.args.request.now.name c.args.request.now.change in
     are_ends sheet changing c.args.from c.args.part.now.to c.args.part.now.columns c.requires.counted c.in_ok-start.start c.in_ok-end.end c.in_ok-start.ensures.1 c.in_ok-end.ensures.1
 
 pub returns : goal.returns
 returns c =
-    let sheet = sheet_shown c.args.sheet in
+    let sheet = sheet_view c.args.sheet in
     let changing = changing_of c.args.request.now.name c.args.request.now.change in
     let from = c.args.from in
     let to = c.args.part.now.to in

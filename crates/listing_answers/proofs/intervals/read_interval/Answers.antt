@@ -2,12 +2,12 @@ use Rattle.std.proofs.Common.{◌≡◌, None, refl, ap, ◌∙◌}
 use Rattle.std.specs.Prelude.{option_map}
 use Rattle.lp_definitions.specs.LinearProgram.{variables}
 use Rattle.walk_definitions.specs.Tables.{part_slots, table_in}
-use Rattle.listing_readers.specs.Read.{sheet_shown}
+use Rattle.listing_readers.specs.Read.{sheet_view}
 use Rattle.listing_answers.proofs.intervals.read_interval.Goals as goal
 
 pub returns-in_default-2 : goal.returns-in_default-2
 returns-in_default-2 c =
-    let sheet = sheet_shown c.args.sheet in
+    let sheet = sheet_view c.args.sheet in
     let to = c.in-Some.to in
     let none : table_in sheet part_slots (variables sheet.lp.matrix) c.part_end.new.cursor ≡ None = rw c.in_default-2.is at c.in_ok-columns.ensures in
     c.in-Some.ensures (λ to rest. option_map (λ got. (record { from = c.args.from; to = to; lines = got.0 }, got.1)) (table_in sheet part_slots (variables sheet.lp.matrix) rest))
@@ -15,7 +15,7 @@ returns-in_default-2 c =
 
 pub returns : goal.returns
 returns c =
-    let sheet = sheet_shown c.args.sheet in
+    let sheet = sheet_view c.args.sheet in
     let to = c.in-Some.to in
     let read = rw c.in-Some-2.is at c.in_ok-columns.ensures in
     record {

@@ -4,7 +4,7 @@ use Rattle.check_definitions.specs.declared.Verdict.{Verdict}
 use Rattle.parametric_request.specs.Asking.{changing_of}
 use Rattle.walk_definitions.specs.Tests.{interval_test}
 use Rattle.walk_definitions.specs.Reading.{interval_in}
-use Rattle.listing_readers.specs.Read.{sheet_shown}
+use Rattle.listing_readers.specs.Read.{sheet_view}
 use Rattle.listing_answers.specs.Passing.{Stops}
 use Rattle.listing_answers.proofs.Claimed.{tested_right, tested_stops}
 use Rattle.listing_answers.proofs.Ends.{part_tested}
@@ -12,7 +12,7 @@ use Rattle.listing_answers.proofs.intervals.read_part.Goals as goal
 
 pub returns-in_err-check_part : goal.returns-in_err-check_part
 returns-in_err-check_part c =
-    let sheet = sheet_shown c.args.sheet in
+    let sheet = sheet_view c.args.sheet in
     let changing = changing_of c.args.request.now.name c.args.request.now.change in
     let found = rw c.in-Some.is at c.in_ok-part.ensures in
     let first = nat_eq c.args.number 1 in
@@ -24,7 +24,7 @@ returns-in_err-check_part c =
 
 pub returns : goal.returns
 returns c =
-    let sheet = sheet_shown c.args.sheet in
+    let sheet = sheet_view c.args.sheet in
     let changing = changing_of c.args.request.now.name c.args.request.now.change in
     let found = rw c.in-Some.is at c.in_ok-part.ensures in
     let first = nat_eq c.args.number 1 in

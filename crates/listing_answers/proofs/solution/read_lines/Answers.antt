@@ -2,14 +2,14 @@ use Rattle.std.proofs.Common.{◌+◌, ap, ◌∙◌}
 use Rattle.lp_laws.proofs.Opening.{length-numbers_from}
 use Rattle.answer_definitions.specs.Lines.{row_numbers, column_numbers}
 use Rattle.walk_definitions.specs.Reading.{row_slots, column_slots}
-use Rattle.listing_readers.specs.Read.{taken, sheet_shown}
+use Rattle.listing_readers.specs.Read.{taken, sheet_view}
 use Rattle.listing_answers.proofs.Tables.{table_counted}
 use Rattle.listing_answers.proofs.Solutions.{solution_read}
 use Rattle.listing_answers.proofs.solution.read_lines.Goals as goal
 
 pub returns : goal.returns
 returns c =
-    let sheet = sheet_shown c.args.sheet in
+    let sheet = sheet_view c.args.sheet in
     let rows = rw c.in-Some.is at c.in_ok-rows.ensures in
     let columns = rw c.in-Some-2.is at c.in_ok-columns.ensures in
     let first = c.take_rows_head.new.cursor in

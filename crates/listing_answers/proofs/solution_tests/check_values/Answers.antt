@@ -5,13 +5,13 @@ use Rattle.check_definitions.specs.Steps.{verdict_of, in_turn}
 use Rattle.check_definitions.specs.Checks.{equations, reduced_costs}
 use Rattle.answer_definitions.specs.Lines.{row_numbers}
 use Rattle.walk_definitions.specs.Tests.{slack_steps, best_test}
-use Rattle.listing_readers.specs.Read.{sheet_shown}
+use Rattle.listing_readers.specs.Read.{sheet_view}
 use Rattle.listing_answers.proofs.Passing.{exit_by, then_by, last_by}
 use Rattle.listing_answers.proofs.solution_tests.check_values.Goals as goal
 
 pub returns-in_err-judge : goal.returns-in_err-judge
 returns-in_err-judge c =
-    let sheet = sheet_shown c.args.sheet in
+    let sheet = sheet_view c.args.sheet in
     let z = value_at c.args.point.now in
     let y = value_at c.args.prices.now in
     let slacks = verdict_of (flat_map (slack_steps sheet z (value_at c.args.slacks.now)) (row_numbers sheet.lp)) in
@@ -20,7 +20,7 @@ returns-in_err-judge c =
 
 pub returns-in_err-judge-2 : goal.returns-in_err-judge-2
 returns-in_err-judge-2 c =
-    let sheet = sheet_shown c.args.sheet in
+    let sheet = sheet_view c.args.sheet in
     let z = value_at c.args.point.now in
     let y = value_at c.args.prices.now in
     let slacks = verdict_of (flat_map (slack_steps sheet z (value_at c.args.slacks.now)) (row_numbers sheet.lp)) in
@@ -31,7 +31,7 @@ returns-in_err-judge-2 c =
 
 pub returns-in_err-check_slacks : goal.returns-in_err-check_slacks
 returns-in_err-check_slacks c =
-    let sheet = sheet_shown c.args.sheet in
+    let sheet = sheet_view c.args.sheet in
     let z = value_at c.args.point.now in
     let y = value_at c.args.prices.now in
     let slacks = verdict_of (flat_map (slack_steps sheet z (value_at c.args.slacks.now)) (row_numbers sheet.lp)) in
@@ -42,7 +42,7 @@ returns-in_err-check_slacks c =
 
 pub returns : goal.returns
 returns c =
-    let sheet = sheet_shown c.args.sheet in
+    let sheet = sheet_view c.args.sheet in
     let z = value_at c.args.point.now in
     let y = value_at c.args.prices.now in
     let slacks = verdict_of (flat_map (slack_steps sheet z (value_at c.args.slacks.now)) (row_numbers sheet.lp)) in

@@ -1,7 +1,7 @@
 use Rattle.std.proofs.Common.{None, Some}
 use Rattle.std.specs.Prelude.{codes}
 use Rattle.walk_definitions.specs.Found.{answer_text}
-use Rattle.listing_walk.specs.Ended.{found_shown}
+use Rattle.listing_walk.specs.Ended.{found_view}
 use Rattle.listing_check.specs.declared.status.CheckStatus.TheVariants.{Long}
 use Rattle.listing_check.specs.Statuses.{status_of}
 use Rattle.listing_check.specs.Reads.{found, says}
@@ -14,6 +14,6 @@ returns-then-listing-gt-MAX_LISTING g c =
 
 pub returns-in-Ok : goal.returns-in-Ok
 returns-in-Ok g c =
-    let shown = found_shown c.in-Ok.found in
-    says (answer_text c.args.listing.now (Some shown)) (status_of (Some shown))
-    (found (Some shown) (answer_text c.args.listing.now (Some shown)) tt tt tt tt (λ bytes lines is e. found_answer bytes c.args.listing.now lines shown e c.if-listing-gt-MAX_LISTING.false (c.in-Ok.ensures bytes is))) c.end_found.ensures
+    let viewed = found_view c.in-Ok.found in
+    says (answer_text c.args.listing.now (Some viewed)) (status_of (Some viewed))
+    (found (Some viewed) (answer_text c.args.listing.now (Some viewed)) tt tt tt tt (λ bytes lines is e. found_answer bytes c.args.listing.now lines viewed e c.if-listing-gt-MAX_LISTING.false (c.in-Ok.ensures bytes is))) c.end_found.ensures

@@ -1,6 +1,6 @@
 use Rattle.std.proofs.Common.{subst, Option, List, ℕ}
-use Rattle.job_program.specs.Stops.{ArePrepared, TellsEarlyStop}
-use Rattle.listing_check.proofs.Telling.{tells_too}
+use Rattle.job_program.specs.Stops.{ArePrepared, ReportsEarlyStop}
+use Rattle.listing_check.proofs.Reporting.{tells_too}
 use Rattle.listing_check.proofs.Beginning.{read_failed, read_whole}
 use Rattle.listing_check.proofs.check.check_job.Goals as goal
 
@@ -28,6 +28,6 @@ returns-in-Err-clause-tells g c =
       listing_quiet = λ e. e;
       listing_read = λ e. e;
       listing_same = λ e. e;
-      is_job = λ bytes is. subst (λ (known : Option (List ℕ)). TellsEarlyStop known c.in-Err.stop) is c.in-Err.ensures.stop;
+      is_job = λ bytes is. subst (λ (known : Option (List ℕ)). ReportsEarlyStop known c.in-Err.stop) is c.in-Err.ensures.stop;
       is_listing = λ lines is. is;
     }) g.P.Sink.written g.P.Sink.stopped_at g.P.Sink.faults g.P.Sink.refusals c.check_stopped.result c.check_stopped.ensures.tells

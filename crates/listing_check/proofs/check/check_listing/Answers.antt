@@ -2,7 +2,7 @@ use Rattle.std.proofs.Common.{ap, length}
 use Rattle.listing_check.specs.declared.status.CheckStatus.TheVariants.{Words}
 use Rattle.listing_check.specs.Statuses.{code_of}
 use Rattle.listing_check.specs.Answer.{words_text}
-use Rattle.listing_check.proofs.Telling.{answer_of, why_tells, why_ends, true_listing, without, there_are}
+use Rattle.listing_check.proofs.Reporting.{answer_of, why_tells, why_ends, true_listing, without, there_are}
 use Rattle.listing_check.proofs.check.check_listing.Goals as goal
 
 -- ---- without words

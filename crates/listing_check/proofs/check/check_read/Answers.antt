@@ -3,7 +3,7 @@ use Rattle.listing_check.specs.declared.status.CheckStatus.TheVariants.{ListingF
 use Rattle.listing_check.specs.Answer.{listing_fault_text}
 use Rattle.listing_check.specs.Reads.{listing_fault, says}
 use Rattle.listing_check.proofs.Lengths.{some_of}
-use Rattle.listing_check.proofs.Telling.{tells_too}
+use Rattle.listing_check.proofs.Reporting.{tells_too}
 use Rattle.listing_check.proofs.check.check_read.Goals as goal
 
 pub returns-in-Ok-clause-tells : goal.returns-in-Ok-clause-tells

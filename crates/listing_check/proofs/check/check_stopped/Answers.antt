@@ -1,10 +1,10 @@
 use Rattle.std.proofs.Common.{refl, subst, sym, Some}
-use Rattle.job_program.specs.Stops.{TellsEarlyStop}
+use Rattle.job_program.specs.Stops.{ReportsEarlyStop}
 use Rattle.listing_check.specs.Starting.{IsWhole}
 use Rattle.listing_check.specs.declared.status.CheckStatus.TheVariants.{ReadFault}
 use Rattle.listing_check.specs.Answer.{read_fault_text}
 use Rattle.listing_check.specs.Reads.{job_fault, says}
-use Rattle.listing_check.proofs.Telling.{tells_too}
+use Rattle.listing_check.proofs.Reporting.{tells_too}
 use Rattle.listing_check.proofs.check.check_stopped.Goals as goal
 
 pub returns-in-ReadFault-clause-tells : goal.returns-in-ReadFault-clause-tells
@@ -20,7 +20,7 @@ returns-in-Card-clause-tells g c =
       listing_quiet = λ e. e;
       listing_read = λ e. e;
       listing_same = λ e. absurd e;
-      is_job = λ bytes is. subst (TellsEarlyStop (Some bytes)) c.in-Card.is is;
+      is_job = λ bytes is. subst (ReportsEarlyStop (Some bytes)) c.in-Card.is is;
       is_listing = λ lines is. is;
     }) g.P.Sink.written g.P.Sink.stopped_at g.P.Sink.faults g.P.Sink.refusals c.check_read.result c.check_read.ensures.tells
 
@@ -34,6 +34,6 @@ returns-in-Control-clause-tells g c =
       listing_quiet = λ e. e;
       listing_read = λ e. e;
       listing_same = λ e. absurd e;
-      is_job = λ bytes is. subst (TellsEarlyStop (Some bytes)) c.in-Control.is is;
+      is_job = λ bytes is. subst (ReportsEarlyStop (Some bytes)) c.in-Control.is is;
       is_listing = λ lines is. is;
     }) g.P.Sink.written g.P.Sink.stopped_at g.P.Sink.faults g.P.Sink.refusals c.check_read-in-Control.result c.check_read-in-Control.ensures.tells

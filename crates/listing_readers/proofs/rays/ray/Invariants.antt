@@ -1,9 +1,9 @@
 use Rattle.std.proofs.Common.{◌-◌, ◌≤◌}
 use Rattle.lp_definitions.specs.LinearProgram.{size}
-use Rattle.listing_readers.specs.Read.{sheet_shown}
+use Rattle.listing_readers.specs.Read.{sheet_view}
 use Rattle.listing_readers.proofs.Multipliers.{IsRaySoFar}
 use Rattle.listing_readers.proofs.rays.ray.Given as goal
 
 abbrev pub invariant-loop-k : goal.invariant-loop-k
 invariant-loop-k l =
-    (l.k ≤ l.count) × IsRaySoFar (sheet_shown l.fn.sheet) l.fn.cursor l.k (size l.fn.sheet.lp.now.matrix - l.k) l.cursor l.ray.items
+    (l.k ≤ l.count) × IsRaySoFar (sheet_view l.fn.sheet) l.fn.cursor l.k (size l.fn.sheet.lp.now.matrix - l.k) l.cursor l.ray.items

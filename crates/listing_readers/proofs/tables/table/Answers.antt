@@ -1,7 +1,7 @@
 use Rattle.std.proofs.Common.{◌≡◌, ◌+◌, ◌-◌, ◌∷◌, ◌++◌, [], ℕ, List, subst, subst₂, sym, arith, rules}
 use Rattle.lp_definitions.specs.LinearProgram.{numbers_from}
 use Rattle.listing_readers.specs.declared.tables.Numbers.{Numbers}
-use Rattle.listing_readers.specs.Read.{sheet_shown}
+use Rattle.listing_readers.specs.Read.{sheet_view}
 use Rattle.listing_readers.proofs.Reading.{IsReadSoFar, table_begins, table_goes_on, table_fails, table_ends}
 use Rattle.listing_readers.proofs.tables.table.Goals as goal
 
@@ -11,9 +11,9 @@ loop-i-init c =
     let first : c.args.before + 1 ≡ c.args.before + 0 + 1 = omega arith in
     let left : c.args.count ≡ c.args.count - 0 = omega arith in (
       omega arith,
-      subst (λ (k : ℕ). IsReadSoFar (sheet_shown c.args.sheet) c.args.shape all c.args.cursor.now k (c.args.count - 0) c.args.cursor.now c.new-table.result.items) first
-          (subst₂ (λ (n : ℕ) (items : List Numbers). IsReadSoFar (sheet_shown c.args.sheet) c.args.shape all c.args.cursor.now (c.args.before + 1) n c.args.cursor.now items) left (sym c.new-table.ensures.items)
-          (table_begins (sheet_shown c.args.sheet) c.args.shape (c.args.before + 1) c.args.count c.args.cursor.now)),
+      subst (λ (k : ℕ). IsReadSoFar (sheet_view c.args.sheet) c.args.shape all c.args.cursor.now k (c.args.count - 0) c.args.cursor.now c.new-table.result.items) first
+          (subst₂ (λ (n : ℕ) (items : List Numbers). IsReadSoFar (sheet_view c.args.sheet) c.args.shape all c.args.cursor.now (c.args.before + 1) n c.args.cursor.now items) left (sym c.new-table.ensures.items)
+          (table_begins (sheet_view c.args.sheet) c.args.shape (c.args.before + 1) c.args.count c.args.cursor.now)),
     )
 
 pub line-requires : goal.line-requires
@@ -21,7 +21,7 @@ line-requires c = c.requires.lines (c.args.before + c.loop-i.i + 1) (omega arith
 
 pub returns-in_default : goal.returns-in_default
 returns-in_default c =
-    table_fails (sheet_shown c.args.sheet) c.args.shape (numbers_from (c.args.before + 1) c.args.count) c.args.cursor.now (c.args.before + c.loop-i.i + 1) (c.args.count - c.loop-i.i) c.loop-i.cursor c.line.new.cursor c.loop-i.table.items
+    table_fails (sheet_view c.args.sheet) c.args.shape (numbers_from (c.args.before + 1) c.args.count) c.args.cursor.now (c.args.before + c.loop-i.i + 1) (c.args.count - c.loop-i.i) c.loop-i.cursor c.line.new.cursor c.loop-i.table.items
     c.loop-i.invariant.1 (omega (arith, c.loop-i-test.true)) c.in_default.ensures
 
 pub loop-i-preserved : goal.loop-i-preserved
@@ -31,13 +31,13 @@ loop-i-preserved c =
     let next : c.args.before + c.loop-i.i + 1 + 1 ≡ c.args.before + (c.loop-i.i + 1) + 1 = omega arith in
     let left : c.args.count - c.loop-i.i - 1 ≡ c.args.count - (c.loop-i.i + 1) = omega arith in (
       omega (arith, c.loop-i-test.true),
-      subst (λ (k : ℕ). IsReadSoFar (sheet_shown c.args.sheet) c.args.shape all c.args.cursor.now k (c.args.count - (c.loop-i.i + 1)) c.line.new.cursor c.push.new.self.items) next
-          (subst₂ (λ (n : ℕ) (items : List Numbers). IsReadSoFar (sheet_shown c.args.sheet) c.args.shape all c.args.cursor.now (c.args.before + c.loop-i.i + 1 + 1) n c.line.new.cursor items) left (sym pushed)
-          (table_goes_on (sheet_shown c.args.sheet) c.args.shape all c.args.cursor.now (c.args.before + c.loop-i.i + 1) (c.args.count - c.loop-i.i) c.loop-i.cursor c.line.new.cursor c.loop-i.table.items c.in-Some.numbers
+      subst (λ (k : ℕ). IsReadSoFar (sheet_view c.args.sheet) c.args.shape all c.args.cursor.now k (c.args.count - (c.loop-i.i + 1)) c.line.new.cursor c.push.new.self.items) next
+          (subst₂ (λ (n : ℕ) (items : List Numbers). IsReadSoFar (sheet_view c.args.sheet) c.args.shape all c.args.cursor.now (c.args.before + c.loop-i.i + 1 + 1) n c.line.new.cursor items) left (sym pushed)
+          (table_goes_on (sheet_view c.args.sheet) c.args.shape all c.args.cursor.now (c.args.before + c.loop-i.i + 1) (c.args.count - c.loop-i.i) c.loop-i.cursor c.line.new.cursor c.loop-i.table.items c.in-Some.numbers
           c.loop-i.invariant.1 (omega (arith, c.loop-i-test.true)) c.in-Some.ensures)),
     )
 
 pub returns : goal.returns
 returns c =
-    table_ends (sheet_shown c.args.sheet) c.args.shape (numbers_from (c.args.before + 1) c.args.count) c.args.cursor.now (c.args.before + c.loop-i.i + 1) (c.args.count - c.loop-i.i) c.loop-i.cursor c.loop-i.table.items
+    table_ends (sheet_view c.args.sheet) c.args.shape (numbers_from (c.args.before + 1) c.args.count) c.args.cursor.now (c.args.before + c.loop-i.i + 1) (c.args.count - c.loop-i.i) c.loop-i.cursor c.loop-i.table.items
     c.loop-i.invariant.1 (omega (arith, c.loop-i-test.false))

@@ -2,7 +2,7 @@
 use Rattle.std.proofs.Common.{sym}
 use Rattle.run_definitions.specs.State.{choice_of}
 use Rattle.listing_walk.proofs.Selected.{as_many_rows, as_many_columns, no_change}
-use Rattle.listing_walk.proofs.Shown_walks.{solution_no_setup, solution_not_solved, solution_shown, solution_stopped, selected_now}
+use Rattle.listing_walk.proofs.Views_walks.{solution_no_setup, solution_not_solved, solution_view, solution_stopped, selected_now}
 use Rattle.listing_walk.proofs.solution.show_solution.Goals as goal
 
 pub returns-in_default-clause-walks : goal.returns-in_default-clause-walks
@@ -27,7 +27,7 @@ answer_solution-requires-clause-no_change c =
 
 pub returns-in-Ok-clause-walks : goal.returns-in-Ok-clause-walks
 returns-in-Ok-clause-walks c = λ cards.
-    solution_shown c.args.card cards c.args.machine.now c.args.place.now c.answer_solution.new.place c.in-Some.chosen c.in-Some.is c.in-Some-mark.mark c.in-Some-mark.is c.in-Some-get.problem.now (sym c.in-Some-get.ensures) c.requires.solved
+    solution_view c.args.card cards c.args.machine.now c.args.place.now c.answer_solution.new.place c.in-Some.chosen c.in-Some.is c.in-Some-mark.mark c.in-Some-mark.is c.in-Some-get.problem.now (sym c.in-Some-get.ensures) c.requires.solved
     c.in-Ok.ensures.answered
 
 pub returns-in-Err-clause-walks : goal.returns-in-Err-clause-walks

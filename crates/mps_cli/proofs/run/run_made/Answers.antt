@@ -15,7 +15,7 @@ pub returns-in-Ok-clause-answer : goal.returns-in-Ok-clause-answer
 returns-in-Ok-clause-answer g c =
     let bytes = made_job c.args.size in
     answered_too linear_programming (Made bytes) _ _ (λ e. absurd (omega (arith, e))) (λ e. e) (λ e. e) (λ e. e) _ _ _
-    (c.run_source.ensures.answer (Made bytes) bytes (record { has_bytes = refl; is_told = ap (λ b. Some b) c.in-Ok.ensures; is_read = λ e. absurd (omega (arith, e)) }))
+    (c.run_source.ensures.answer (Made bytes) bytes (record { has_bytes = refl; is_reported = ap (λ b. Some b) c.in-Ok.ensures; is_read = λ e. absurd (omega (arith, e)) }))
 
 pub returns-in-Ok-clause-cause : goal.returns-in-Ok-clause-cause
 returns-in-Ok-clause-cause g c = source_cause _ _ _ _ _ c.run_source.result c.args.size (λ failed. absurd (omega (arith, failed))) c.run_source.ensures.cause

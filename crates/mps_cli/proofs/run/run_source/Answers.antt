@@ -10,7 +10,7 @@ use Rattle.mps_cli.proofs.run.run_source.Goals as goal
 
 pub returns-in-Ok-clause-answer : goal.returns-in-Ok-clause-answer
 returns-in-Ok-clause-answer g c given bytes is =
-    let are = prepared_of bytes c.in-Ok.prepared is.is_told c.in-Ok.ensures.prepared in
+    let are = prepared_of bytes c.in-Ok.prepared is.is_reported c.in-Ok.ensures.prepared in
     answered_too linear_programming given _ _ (λ e. absurd e) (λ e. e) (λ e. e) (λ e. e) _ _ _ (c.run_program.ensures.answer given bytes is.has_bytes are.1 are.0)
 
 pub returns-in-Ok-clause-cause : goal.returns-in-Ok-clause-cause
@@ -19,7 +19,7 @@ returns-in-Ok-clause-cause g c =
 
 pub returns-in-Err-clause-answer : goal.returns-in-Err-clause-answer
 returns-in-Err-clause-answer g c given bytes is =
-    ending_answer linear_programming given _ c.in-Err.stop (may_stop linear_programming given bytes _ _ is.has_bytes is.is_read c.in-Err.stop is.is_told c.in-Err.ensures.stop c.in-Err.ensures.cause)
+    ending_answer linear_programming given _ c.in-Err.stop (may_stop linear_programming given bytes _ _ is.has_bytes is.is_read c.in-Err.stop is.is_reported c.in-Err.ensures.stop c.in-Err.ensures.cause)
     g.P.Sink.written g.P.Sink.stopped_at g.P.Sink.faults g.P.Sink.refusals (g.U.Sink.written c.args.punch.now) c.end_job.result (λ e. e) (λ e. e) c.end_job.ensures
 
 pub returns-in-Err-clause-cause : goal.returns-in-Err-clause-cause

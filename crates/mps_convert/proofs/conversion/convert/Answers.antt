@@ -2,13 +2,13 @@ use Rattle.std.proofs.Common.{ap}
 use Rattle.std.proofs.lemmas.Result.{err_from_is_err_and}
 use Rattle.card_definitions.specs.Cards.{cards_between}
 use Rattle.mps_convert.specs.State.{State}
-use Rattle.mps_convert.specs.Draft_shown.{state_shown}
+use Rattle.mps_convert.specs.Draft_view.{state_view}
 use Rattle.mps_convert.proofs.Whole.{faulty, nothing_read}
 use Rattle.mps_convert.proofs.conversion.convert.Goals as goal
 
 pub read_cards-requires-clause-start : goal.read_cards-requires-clause-start
 read_cards-requires-clause-start c =
-    nothing_read (state_shown c.new-draft.result) c.new-draft.ensures.section c.new-draft.ensures.style c.new-draft.ensures.problem
+    nothing_read (state_view c.new-draft.result) c.new-draft.ensures.section c.new-draft.ensures.style c.new-draft.ensures.problem
 
 pub returns-in_err-read_cards-clause-stop : goal.returns-in_err-read_cards-clause-stop
 returns-in_err-read_cards-clause-stop c =

@@ -4,7 +4,7 @@ use Rattle.exact_values.specs.Tests.{eq_ℚ}
 use Rattle.exact_values.proofs.Tests_laws.{eq_fails_from_apart}
 use Rattle.frac128.specs.Operations.{TermsFit}
 use Rattle.lp_laws.proofs.Values.{clash}
-use Rattle.para_objective.proofs.Movers.{zero_test, opposite_if_zero}
+use Rattle.para_objective.proofs.EnteringVariables.{zero_test, opposite_if_zero}
 use Rattle.para_objective.proofs.breaks.is_zero_at.Goals as goal
 
 pub returns-in-Ok : goal.returns-in-Ok

@@ -1,7 +1,7 @@
 use Rattle.std.proofs.Common.{rules}
 use Rattle.lp_definitions.specs.LinearProgram.{IsLinearProgram}
 use Rattle.basis_values.proofs.TermLaws.{IfErr-map}
-use Rattle.para_objective.proofs.FaceStops.{stops_at_basis, unhindered}
+use Rattle.para_objective.proofs.FaceStops.{stops_at_basis, overflow_free}
 use Rattle.para_objective.proofs.OpeningFacts.{objective_parametric}
 use Rattle.para_objective.proofs.run.para_obj.Goals as goal
 
@@ -34,4 +34,4 @@ returns-clause-truth g c = c.follow.ensures.truth
 pub returns-clause-complete : goal.returns-clause-complete
 returns-clause-complete g c report path goes =
     c.follow.ensures.complete report path
-    (unhindered c.args.lp.now c.args.run.now.row (record { from = c.args.run.now.from; to = c.args.run.now.to; limit = c.args.run.now.limit }) c.args.basis.now (g.R.Rates.waypoints c.args.rates.now) report path goes)
+    (overflow_free c.args.lp.now c.args.run.now.row (record { from = c.args.run.now.from; to = c.args.run.now.to; limit = c.args.run.now.limit }) c.args.basis.now (g.R.Rates.waypoints c.args.rates.now) report path goes)

@@ -8,7 +8,7 @@ use Rattle.exact_values.proofs.Inverse.{one_apart}
 use Rattle.lp_definitions.specs.LinearProgram.{value_at, size}
 use Rattle.lp_laws.proofs.Idle.{right_once}
 use Rattle.whole_vectors.specs.Words.{wholes}
-use Rattle.whole_vectors.specs.Quotients.{StandFor}
+use Rattle.whole_vectors.specs.Quotients.{Represent}
 use Rattle.eta_file.specs.declared.eta.StoredEta.{StoredEta}
 use Rattle.eta_file.proofs.FileLaws.{some_map}
 use Rattle.lp_definitions.specs.RatesEvidence.{sum_from}
@@ -38,7 +38,7 @@ returns-then-sum-eq0 c =
     sym none ∙ idle_quotient (whole c.in_ok-sum.sum) c.in-Some.whole.pivot none ∙ ap neg_ℚ (sym (mul-one (whole c.in_ok-sum.sum /ℚ c.in-Some.whole.pivot))) in
     let d : StoredEta = an_eta c.args.file.now.etas c.args.place c.requires.within in
     let within = p_within c.args.file.now c.size-size.ensures.passed c.args.place c.requires.within d c.eta-eta.result.p c.eta-eta.result.q c.eta-eta.result.entries.now c.eta-eta.ensures.lent in
-    let known : StandFor (IsKnown c.args.file.now (c.args.place + 1) c.args.row) c.args.denominator (wholes cleared) =
+    let known : Represent (IsKnown c.args.file.now (c.args.place + 1) c.args.row) c.args.denominator (wholes cleared) =
     cleared_in_words (IsKnown c.args.file.now (c.args.place + 1) c.args.row) c.args.denominator c.args.out.now (c.eta-eta.result.p - 1) (λ xs v. known_cleared c.args.file.now c.size-size.ensures.passed c.args.place c.requires.within d c.eta-eta.result.p c.eta-eta.result.q c.eta-eta.result.entries.now c.eta-eta.ensures.lent c.args.row xs v) c.requires.known in
     let nought : value_at (wholes cleared) c.eta-eta.result.p ≡ zero_ℚ = reads_cleared c.args.out.now c.eta-eta.result.p within.0 (omega (arith, within.1, c.requires.places)) in
     let first : whole c.in_ok-first.first ≡ value_at (wholes cleared) c.eta-eta.result.q *ℚ c.in-Some.whole.scale =
@@ -61,7 +61,7 @@ returns c =
     let cleared = set c.args.out.now (c.eta-eta.result.p - 1) (pos 0) in
     let d : StoredEta = an_eta c.args.file.now.etas c.args.place c.requires.within in
     let within = p_within c.args.file.now c.size-size.ensures.passed c.args.place c.requires.within d c.eta-eta.result.p c.eta-eta.result.q c.eta-eta.result.entries.now c.eta-eta.ensures.lent in
-    let known : StandFor (IsKnown c.args.file.now (c.args.place + 1) c.args.row) c.args.denominator (wholes cleared) =
+    let known : Represent (IsKnown c.args.file.now (c.args.place + 1) c.args.row) c.args.denominator (wholes cleared) =
     cleared_in_words (IsKnown c.args.file.now (c.args.place + 1) c.args.row) c.args.denominator c.args.out.now (c.eta-eta.result.p - 1) (λ xs v. known_cleared c.args.file.now c.size-size.ensures.passed c.args.place c.requires.within d c.eta-eta.result.p c.eta-eta.result.q c.eta-eta.result.entries.now c.eta-eta.ensures.lent c.args.row xs v) c.requires.known in
     let nought : value_at (wholes cleared) c.eta-eta.result.p ≡ zero_ℚ = reads_cleared c.args.out.now c.eta-eta.result.p within.0 (omega (arith, within.1, c.requires.places)) in
     let first : whole c.in_ok-first.first ≡ value_at (wholes cleared) c.eta-eta.result.q *ℚ c.in-Some.whole.scale =
@@ -74,7 +74,7 @@ returns c =
     length-map c.multiply_words.new.numbers whole ∙ c.multiply_words.auto.numbers ∙ sym (length-map cleared whole) in
     let written = wholes (set c.multiply_words.new.numbers (c.eta-eta.result.p - 1) c.in_ok-made.made) in
     rw (to_z-of_z w64 c.in_ok-made.made (search rules))
-    (some_map c.product.result (λ v. v ≡ c.args.denominator *ℚ c.terms-number.result.1) (λ v. StandFor (IsKnown c.args.file.now c.args.place c.args.row) v written)
+    (some_map c.product.result (λ v. v ≡ c.args.denominator *ℚ c.terms-number.result.1) (λ v. Represent (IsKnown c.args.file.now c.args.place c.args.row) v written)
     (λ v is_v. known_whole c.args.file.now c.size-size.ensures.passed c.args.place c.requires.within c.eta-eta.result.p c.eta-eta.result.q c.eta-eta.result.entries.now c.eta-eta.ensures.lent
     c.in-Some.whole.scale c.in-Some.whole.pivot c.in-Some.whole.entries.now c.in-Some.ensures
     c.args.row c.requires.basic c.size-size.ensures.nonsingular c.args.denominator (wholes cleared) counted known

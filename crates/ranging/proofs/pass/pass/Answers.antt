@@ -3,7 +3,7 @@ use Rattle.lp_definitions.specs.LinearProgram.{value_at, size}
 use Rattle.lp_model.proofs.Stops.{IfOverflow-map}
 use Rattle.ranging.specs.Tables.{AllMet, AllFound}
 use Rattle.ranging.proofs.AtBasis.{found_none}
-use Rattle.ranging.proofs.Shown.{range_refused_later}
+use Rattle.ranging.proofs.Views.{range_refused_later}
 use Rattle.basis_values.proofs.Kept.{kept_same, kept_then}
 use Rattle.ranging.proofs.pass.pass.Goals as goal
 

@@ -5,7 +5,7 @@ use Rattle.lp_model.specs.RatesCalls.{IsRowOf}
 use Rattle.lp_model.proofs.Stops.{IfOverflow-map}
 use Rattle.basis_values.proofs.RatesStops.{row_refused}
 use Rattle.basis_values.proofs.Kept.{kept_by}
-use Rattle.ranging.proofs.Shown.{range_by_point}
+use Rattle.ranging.proofs.Views.{range_by_point}
 use Rattle.ranging.proofs.AtBasis.{within, holds_now, ends_of_row, met_more}
 use Rattle.ranging.proofs.Refused.{limits_refused, ratio_refused}
 use Rattle.ranging.proofs.pass.visit.Goals as goal

@@ -4,7 +4,7 @@ use Rattle.lp_definitions.specs.Basis.{ArePricesOf}
 use Rattle.lp_model.proofs.Stops.{IfOverflow-map}
 use Rattle.ranging.proofs.Complete.{range_answers}
 use Rattle.ranging.proofs.Results.{take_all}
-use Rattle.ranging.proofs.Shown.{range_by_point, range_refused_later}
+use Rattle.ranging.proofs.Views.{range_by_point, range_refused_later}
 use Rattle.basis_values.proofs.Kept.{kept_same, kept_then}
 use Rattle.basis_values.proofs.TermLaws.{IfErr-map}
 use Rattle.ranging.proofs.reporting.range.Goals as goal

@@ -10,10 +10,10 @@ loop-entering-preserved c =
     elim c.if-entering-ge1.branch [
       | then-entering-ge1+then-entering-cols+in_ok-enter w ↦ record {
         rebuilt = subst (λ (g : Inverse). IsRebuilt c.args.old.now.matrix c.args.old.now.basics 0 g) (sym w.new-is) (w.in_ok-enter.ensures.keeps 0 c.loop-entering.invariant.rebuilt);
-        places = ap (λ (xs : List ℚ). length xs) w.room-is ∙ w.in_ok-enter.ensures.places;
+        places = ap (λ (xs : List ℚ). length xs) w.workspace-is ∙ w.in_ok-enter.ensures.places;
       }
       | else-entering-ge1 w ↦ record {
         rebuilt = subst (λ (g : Inverse). IsRebuilt c.args.old.now.matrix c.args.old.now.basics 0 g) (sym w.new-is) c.loop-entering.invariant.rebuilt;
-        places = ap (λ (xs : List ℚ). length xs) w.room-is ∙ c.loop-entering.invariant.places;
+        places = ap (λ (xs : List ℚ). length xs) w.workspace-is ∙ c.loop-entering.invariant.places;
       }
     ]

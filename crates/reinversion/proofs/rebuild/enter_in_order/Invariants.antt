@@ -7,5 +7,5 @@ use Rattle.reinversion.proofs.rebuild.enter_in_order.Given as goal
 abbrev pub invariant-loop-entering : goal.invariant-loop-entering
 invariant-loop-entering l = record {
   rebuilt : IsRebuilt l.old.matrix l.old.basics 0 l.new;
-  places : length l.room ≡ size l.old.matrix;
+  places : length l.workspace ≡ size l.old.matrix;
 }

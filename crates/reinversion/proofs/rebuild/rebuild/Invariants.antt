@@ -7,5 +7,5 @@ use Rattle.reinversion.proofs.rebuild.rebuild.Given as goal
 abbrev pub invariant-loop-c : goal.invariant-loop-c
 invariant-loop-c l = record {
   rebuilt : IsRebuilt l.old.matrix l.old.basics l.c l.new;
-  places : length l.room ≡ size l.old.matrix;
+  places : length l.workspace ≡ size l.old.matrix;
 }

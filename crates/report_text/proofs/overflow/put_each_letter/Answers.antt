@@ -1,7 +1,7 @@
 use Rattle.std.proofs.Common.{◌∙◌, ap}
 use Rattle.std.proofs.lemmas.Result.{err_from_is_err_and}
 use Rattle.job_devices.proofs.TextLemmas.{writes_item, writes_same}
-use Rattle.report_text.specs.Shown.{letters_of}
+use Rattle.report_text.specs.Views.{letters_of}
 use Rattle.report_text.proofs.overflow.put_each_letter.Goals as goal
 
 pub returns-in_err-put_all : goal.returns-in_err-put_all

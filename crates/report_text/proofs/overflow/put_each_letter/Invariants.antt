@@ -1,7 +1,7 @@
 use Rattle.std.proofs.Common.{Ok, take}
 use Rattle.std.specs.List.{flat_map}
 use Rattle.job_devices.specs.Text.{Writes}
-use Rattle.report_text.specs.Shown.{letters_of}
+use Rattle.report_text.specs.Views.{letters_of}
 use Rattle.report_text.proofs.overflow.put_each_letter.Given as goal
 
 abbrev pub invariant-loop-item : goal.invariant-loop-item

@@ -2,7 +2,7 @@ use Rattle.std.proofs.Common.{◌++◌, codes}
 use Rattle.std.specs.List.{flat_map}
 use Rattle.std.proofs.lemmas.Result.{err_from_is_err_and}
 use Rattle.job_devices.proofs.TextLemmas.{writes_then, writes_more}
-use Rattle.report_text.specs.Shown.{letters_of}
+use Rattle.report_text.specs.Views.{letters_of}
 use Rattle.report_text.proofs.overflow.put_letter_line.Goals as goal
 
 pub returns-in_err-put_all : goal.returns-in_err-put_all

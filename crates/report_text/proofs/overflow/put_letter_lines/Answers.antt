@@ -2,7 +2,7 @@ use Rattle.std.proofs.Common.{codes}
 use Rattle.std.proofs.lemmas.Result.{err_from_is_err_and}
 use Rattle.job_devices.proofs.TextLemmas.{writes_then, writes_more}
 use Rattle.listing_definitions.specs.Listing.{basic_letter}
-use Rattle.report_text.specs.Shown.{letter_line}
+use Rattle.report_text.specs.Views.{letter_line}
 use Rattle.report_text.proofs.overflow.put_letter_lines.Goals as goal
 
 pub returns-in_err-put_letter_line : goal.returns-in_err-put_letter_line

@@ -2,7 +2,7 @@ use Rattle.std.proofs.Common.{◌++◌, ◌≡◌, length, arith}
 use Rattle.std.specs.List.{flat_map}
 use Rattle.std.proofs.lemmas.Result.{err_from_is_err_and}
 use Rattle.job_devices.proofs.TextLemmas.{writes_then, writes_more, writes_same}
-use Rattle.report_text.specs.Shown.{letters_of}
+use Rattle.report_text.specs.Views.{letters_of}
 use Rattle.report_text.proofs.Overflows.{letters_in_pieces, no_letters_left}
 use Rattle.report_text.proofs.overflow.put_letters.Goals as goal
 

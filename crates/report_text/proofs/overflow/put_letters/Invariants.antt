@@ -1,7 +1,7 @@
 use Rattle.std.proofs.Common.{◌≡◌, ◌++◌, ℕ, List, Ok, length}
 use Rattle.std.specs.List.{flat_map}
 use Rattle.job_devices.specs.Text.{Writes}
-use Rattle.report_text.specs.Shown.{letters_of}
+use Rattle.report_text.specs.Views.{letters_of}
 use Rattle.report_text.proofs.overflow.put_letters.Given as goal
 
 -- what is written, and the letters that are left, are all letters

@@ -1,7 +1,7 @@
 use Rattle.std.proofs.Common.{◌∙◌, ◌++◌, ap}
 use Rattle.std.specs.List.{flat_map}
 use Rattle.job_devices.proofs.TextLemmas.{writes_same}
-use Rattle.report_text.specs.Shown.{letters_of}
+use Rattle.report_text.specs.Views.{letters_of}
 use Rattle.report_text.proofs.overflow.put_piece.Goals as goal
 
 pub returns-in-Ok : goal.returns-in-Ok

@@ -6,12 +6,12 @@ use Rattle.deck_definitions.specs.Conversion.{fault_by}
 use Rattle.deck_cards.specs.Stops.{Stops}
 use Rattle.revise_definitions.specs.Revision.{revise_card_fault}
 use Rattle.revise_deck.specs.State.{State, state_of}
-use Rattle.revise_deck.specs.Draft_shown.{state_shown}
+use Rattle.revise_deck.specs.Draft_view.{state_view}
 use Rattle.revise_deck.proofs.Ends.{faulty, nothing_read}
 use Rattle.revise_deck.proofs.revision.revise.Goals as goal
 
 pub read_cards-requires-clause-start : goal.read_cards-requires-clause-start
-read_cards-requires-clause-start c = nothing_read (state_shown c.new-draft.result) c.in-Ok.problem c.new-draft.ensures
+read_cards-requires-clause-start c = nothing_read (state_view c.new-draft.result) c.in-Ok.problem c.new-draft.ensures
 
 pub returns-in_err-read_cards-clause-stop : goal.returns-in_err-read_cards-clause-stop
 returns-in_err-read_cards-clause-stop c =

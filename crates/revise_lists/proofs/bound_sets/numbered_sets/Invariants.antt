@@ -3,7 +3,7 @@ use Rattle.std.proofs.Common.{◌≡◌, ◌++◌, map}
 use Rattle.problem_definitions.specs.Names.{number_in}
 use Rattle.problem_definitions.specs.Numbering.{bound_by, group_by}
 use Rattle.problem_definitions.specs.Problem.{group_names}
-use Rattle.deck_parts.specs.Shown.{group_at}
+use Rattle.deck_parts.specs.Views.{group_at}
 use Rattle.revise_lists.proofs.bound_sets.numbered_sets.Given as goal
 
 abbrev pub invariant-loop-name : goal.invariant-loop-name

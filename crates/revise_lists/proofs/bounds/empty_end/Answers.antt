@@ -1,5 +1,5 @@
 use Rattle.std.proofs.Common.{sym}
-use Rattle.revise_lists.specs.Shown.{is_at_end}
+use Rattle.revise_lists.specs.Views.{is_at_end}
 use Rattle.revise_lists.proofs.Slots.{emptied_left, emptied_at, none_left}
 use Rattle.revise_lists.proofs.bounds.empty_end.Goals as goal
 

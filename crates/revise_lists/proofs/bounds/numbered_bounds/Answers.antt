@@ -3,7 +3,7 @@ use Rattle.std.proofs.lemmas.List.{map-append}
 use Rattle.problem_definitions.specs.Names.{number_in}
 use Rattle.problem_definitions.specs.Numbering.{bound_by}
 use Rattle.problem_definitions.specs.Problem.{group_names}
-use Rattle.revise_lists.specs.Shown.{held}
+use Rattle.revise_lists.specs.Views.{held}
 use Rattle.revise_lists.proofs.Slots.{held-more}
 use Rattle.revise_lists.proofs.bounds.numbered_bounds.Goals as goal
 

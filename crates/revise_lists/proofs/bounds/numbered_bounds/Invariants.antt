@@ -3,7 +3,7 @@ use Rattle.std.proofs.Common.{◌≡◌, map, take}
 use Rattle.problem_definitions.specs.Names.{number_in}
 use Rattle.problem_definitions.specs.Numbering.{bound_by}
 use Rattle.problem_definitions.specs.Problem.{group_names}
-use Rattle.revise_lists.specs.Shown.{held}
+use Rattle.revise_lists.specs.Views.{held}
 use Rattle.revise_lists.proofs.bounds.numbered_bounds.Given as goal
 
 abbrev pub invariant-loop-slot : goal.invariant-loop-slot

@@ -2,7 +2,7 @@
 use Rattle.std.proofs.Common.{◌≡◌, ◌++◌, map}
 use Rattle.problem_definitions.specs.Names.{number_in}
 use Rattle.problem_definitions.specs.Numbering.{entry_by}
-use Rattle.revise_lists.specs.Shown.{entry_on}
+use Rattle.revise_lists.specs.Views.{entry_on}
 use Rattle.revise_lists.proofs.entries.numbered_entries.Given as goal
 
 abbrev pub invariant-loop-row : goal.invariant-loop-row

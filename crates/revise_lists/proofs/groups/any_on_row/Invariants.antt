@@ -2,7 +2,7 @@
 use Rattle.std.proofs.Common.{◌≡◌, map}
 use Rattle.std.specs.List.{list_any}
 use Rattle.problem_definitions.specs.Problem.{has_entry}
-use Rattle.deck_parts.specs.Shown.{group_at}
+use Rattle.deck_parts.specs.Views.{group_at}
 use Rattle.revise_lists.proofs.groups.any_on_row.Given as goal
 
 abbrev pub invariant-loop-items : goal.invariant-loop-items

@@ -1,7 +1,7 @@
 -- The count so far, and that of the groups that are left, are that of all, and no count of 64 bits is passed.
 use Rattle.std.proofs.Common.{◌≡◌, ◌+◌, ◌*◌, ◌≤◌, length, map}
-use Rattle.deck_parts.specs.Shown.{group_at}
-use Rattle.revise_lists.specs.Shown.{AreShort}
+use Rattle.deck_parts.specs.Views.{group_at}
+use Rattle.revise_lists.specs.Views.{AreShort}
 use Rattle.revise_lists.proofs.Counted.{total}
 use Rattle.revise_lists.proofs.groups.count_of_all.Given as goal
 

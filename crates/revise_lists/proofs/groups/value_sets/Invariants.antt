@@ -2,7 +2,7 @@
 use Rattle.std.proofs.Common.{◌≡◌, ◌++◌, map}
 use Rattle.problem_definitions.specs.Names.{number_in}
 use Rattle.problem_definitions.specs.Numbering.{entry_by, group_by}
-use Rattle.deck_parts.specs.Shown.{group_at}
+use Rattle.deck_parts.specs.Views.{group_at}
 use Rattle.revise_lists.proofs.groups.value_sets.Given as goal
 
 abbrev pub invariant-loop-name : goal.invariant-loop-name

@@ -1,9 +1,9 @@
 use Rattle.std.proofs.Common.{sym, ◌∙◌}
 use Rattle.deck_definitions.specs.DataCards.{part_pairs_of}
-use Rattle.deck_cards.specs.Shown.{shown}
+use Rattle.deck_cards.specs.Views.{viewed}
 use Rattle.revise_parts.proofs.Faultless.{first_parts}
 use Rattle.revise_parts.proofs.edits.insert_row_of.Goals as goal
 
 pub insert_row_at-requires-clause-parts : goal.insert_row_at-requires-clause-parts
 insert_row_at-requires-clause-parts c =
-    first_parts c.args.card.now.name1 c.args.rows.now (part_pairs_of (shown c.args.card.now)) (c.requires.0 (sym c.goes_on_row.ensures ∙ c.if-goes_on_row.false)) c.requires.1
+    first_parts c.args.card.now.name1 c.args.rows.now (part_pairs_of (viewed c.args.card.now)) (c.requires.0 (sym c.goes_on_row.ensures ∙ c.if-goes_on_row.false)) c.requires.1

@@ -1,14 +1,14 @@
 use Rattle.std.proofs.Common.{ap, rules, sym, ◌∙◌}
 use Rattle.problem_definitions.specs.Names.{Name}
 use Rattle.problem_definitions.specs.Problem.{Problem, has_row, has_combination}
-use Rattle.deck_cards.specs.Shown.{shown}
+use Rattle.deck_cards.specs.Views.{viewed}
 use Rattle.revise_definitions.specs.Tests.{has_type_for, modified_fields_fault}
 use Rattle.revise_parts.proofs.FaultParts.{modify_parts}
 use Rattle.revise_parts.proofs.faults.modified_row_fault.Goals as goal
 
 pub returns : goal.returns
 returns c =
-    let card = shown c.args.card.now in
+    let card = viewed c.args.card.now in
     let rows = ap (λ (p : Problem Name). p.rows) c.seen.view_is in
     modify_parts c.args.seen.now card c.changed_fields_fault.result (search rules)
     (sym (c.has.ensures ∙ ap (λ list. has_row list card.name1) rows) ∙ c.if-not-has.false)

@@ -3,8 +3,8 @@ use Rattle.std.specs.Option.{option_copied}
 use Rattle.deck_definitions.specs.declared.Section.TheVariants.{Rows}
 use Rattle.deck_definitions.specs.DataCards.{part_pairs_of}
 use Rattle.deck_definitions.specs.Tests.{pairs_fault}
-use Rattle.deck_cards.specs.Shown.{shown, pair_shown}
-use Rattle.deck_parts.specs.Shown.{rows_alone}
+use Rattle.deck_cards.specs.Views.{viewed, pair_view}
+use Rattle.deck_parts.specs.Views.{rows_alone}
 use Rattle.revise_parts.proofs.TwoPairs.{pairs_found_two}
 use Rattle.revise_parts.proofs.pairs.parts_fault_of.Goals as goal
 
@@ -16,6 +16,6 @@ returns-in_default c =
 pub returns-in-Some-second_pair : goal.returns-in-Some-second_pair
 returns-in-Some-second_pair c =
     pairs_found_two (rows_alone (take c.args.limit c.args.rows.now)) Rows (unwrap_or (option_copied c.args.parts) []) 0 c.first_of.result c.part_fault_at-fault.result c.part_fault_at-other.result
-    c.stands_on-is_first.result c.is_second_there-is_second.result (pair_shown c.in-Some.first) (pair_shown c.in-Some-second_pair.second) (part_pairs_of (shown c.args.card.now))
+    c.stands_on-is_first.result c.is_second_there-is_second.result (pair_view c.in-Some.first) (pair_view c.in-Some-second_pair.second) (part_pairs_of (viewed c.args.card.now))
     c.first_of.ensures c.part_fault_at-fault.ensures c.stands_on-is_first.ensures c.part_fault_at-other.ensures c.is_second_there-is_second.ensures
     (sym (ap₂ (λ first rest. first ++ rest) c.in-Some.ensures c.in-Some-second_pair.ensures))

@@ -1,8 +1,8 @@
 use Rattle.std.proofs.Common.{[], ◌++◌, take, option_map, ap, ap₂, ◌∙◌, sym}
 use Rattle.std.specs.Option.{option_or}
 use Rattle.deck_definitions.specs.declared.Section.TheVariants.{Rows}
-use Rattle.deck_cards.specs.Shown.{pair_shown}
-use Rattle.deck_parts.specs.Shown.{rows_alone}
+use Rattle.deck_cards.specs.Views.{pair_view}
+use Rattle.deck_parts.specs.Views.{rows_alone}
 use Rattle.revise_definitions.specs.Tests.{puts_fault}
 use Rattle.revise_parts.proofs.TwoPairs.{put_parts}
 use Rattle.revise_parts.proofs.pairs.put_parts_fault_of.Goals as goal
@@ -10,5 +10,5 @@ use Rattle.revise_parts.proofs.pairs.put_parts_fault_of.Goals as goal
 pub returns : goal.returns
 returns c =
     c.first_of.ensures ∙ ap₂ option_or c.put_part_fault_if.ensures c.put_part_fault_if-2.ensures
-    ∙ sym (put_parts (take c.args.limit c.args.rows.now) (option_map pair_shown c.first_part.result) (option_map pair_shown c.second_pair.result))
+    ∙ sym (put_parts (take c.args.limit c.args.rows.now) (option_map pair_view c.first_part.result) (option_map pair_view c.second_pair.result))
     ∙ ap (puts_fault (rows_alone (take c.args.limit c.args.rows.now)) Rows [] 0) (ap₂ (λ first rest. first ++ rest) c.first_part.ensures c.second_pair.ensures)

@@ -1,12 +1,12 @@
 use Rattle.std.proofs.Common.{◌∙◌, ap}
 use Rattle.lp_definitions.specs.Basis.{Basics}
 use Rattle.lp_definitions.specs.Waypoints.{waypoint}
-use Rattle.run_setup.specs.Overflows.{told, no_memory}
+use Rattle.run_setup.specs.Overflows.{reported, no_memory}
 use Rattle.run_setup.proofs.overflow.overflow_at.Goals as goal
 
 pub returns-in-Ok : goal.returns-in-Ok
 returns-in-Ok g c =
-    told c.in-Ok.place (c.in-Ok.ensures
+    reported c.in-Ok.place (c.in-Ok.ensures
     ∙ ap (λ (b : Basics). record { basis = c.args.basis.now; way = waypoint b (g.R.Rates.waypoints c.args.rates.now) c.args.evidence.way }) c.requires.rates.same_basics)
 
 pub returns-in-Err : goal.returns-in-Err

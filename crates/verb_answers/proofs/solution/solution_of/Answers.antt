@@ -2,7 +2,7 @@ use Rattle.std.proofs.lemmas.Result.{err_from_is_err_and}
 use Rattle.lp_definitions.specs.LinearProgram.{value_at}
 use Rattle.lp_definitions.specs.Basis.{basics_of}
 use Rattle.verb_answers.proofs.Refused.{point_stops, slack_stops}
-use Rattle.verb_answers.proofs.SolutionLines.{shown}
+use Rattle.verb_answers.proofs.SolutionLines.{viewed}
 use Rattle.basis_values.proofs.Kept.{kept_then}
 use Rattle.verb_answers.proofs.solution.solution_of.Goals as goal
 use Rattle.lp_laws.proofs.WaypointLaws.{keeps_same}
@@ -10,31 +10,31 @@ use Rattle.lp_laws.proofs.WaypointLaws.{keeps_same}
 pub returns-in_err-point-clause-overflow : goal.returns-in_err-point-clause-overflow
 returns-in_err-point-clause-overflow g c =
     let p = err_from_is_err_and c.from_residual.result c.from_residual.ensures.1 in
-    rw (p.1, p.2) (point_stops c.args.sheet.lp.now c.requires.no_change (g.R.Rates.waypoints c.args.rates.now) (g.R.Rates.waypoints c.args.rates.now) c.args.basis.now (g.R.Rates.waypoints c.point_shown.new.rates)
+    rw (p.1, p.2) (point_stops c.args.sheet.lp.now c.requires.no_change (g.R.Rates.waypoints c.args.rates.now) (g.R.Rates.waypoints c.args.rates.now) c.args.basis.now (g.R.Rates.waypoints c.point_view.new.rates)
     (keeps_same c.args.sheet.lp.now.matrix (basics_of c.args.basis.now) (g.R.Rates.waypoints c.args.rates.now)) c.in_err-point.field-0.0 c.in_err-point.ensures.overflow)
 
 pub returns-in_err-prices-clause-overflow : goal.returns-in_err-prices-clause-overflow
 returns-in_err-prices-clause-overflow g c =
     let p = err_from_is_err_and c.from_residual-in_err-prices.result c.from_residual-in_err-prices.ensures.1 in
-    rw (p.1, p.2) (point_stops c.args.sheet.lp.now c.requires.no_change (g.R.Rates.waypoints c.args.rates.now) (g.R.Rates.waypoints c.point_shown.new.rates) c.args.basis.now (g.R.Rates.waypoints c.prices_shown.new.rates)
-    c.point_shown.ensures.rates.1 c.in_err-prices.field-0.0 c.in_err-prices.ensures.overflow)
+    rw (p.1, p.2) (point_stops c.args.sheet.lp.now c.requires.no_change (g.R.Rates.waypoints c.args.rates.now) (g.R.Rates.waypoints c.point_view.new.rates) c.args.basis.now (g.R.Rates.waypoints c.prices_view.new.rates)
+    c.point_view.ensures.rates.1 c.in_err-prices.field-0.0 c.in_err-prices.ensures.overflow)
 
 pub returns-in_err-prices-clause-rates : goal.returns-in_err-prices-clause-rates
-returns-in_err-prices-clause-rates g c = kept_then c.point_shown.ensures.rates c.prices_shown.ensures.rates
+returns-in_err-prices-clause-rates g c = kept_then c.point_view.ensures.rates c.prices_view.ensures.rates
 
 pub returns-in_err-slack-clause-overflow : goal.returns-in_err-slack-clause-overflow
 returns-in_err-slack-clause-overflow g c =
     let p = err_from_is_err_and c.from_residual-in_err-slack.result c.from_residual-in_err-slack.ensures.1 in
     rw (p.1, p.2) (slack_stops c.args.sheet.lp.now c.args.basis.now (value_at c.in_ok-point.point) (value_at c.in_ok-prices.prices) c.in_ok-point.ensures.point c.in_ok-prices.ensures.prices c.requires.rates.nonsingular
-    (g.R.Rates.waypoints c.args.rates.now) (g.R.Rates.waypoints c.prices_shown.new.rates) c.in_err-slack.field-0.0 (rw c.values.ensures at c.in_err-slack.ensures.refused))
+    (g.R.Rates.waypoints c.args.rates.now) (g.R.Rates.waypoints c.prices_view.new.rates) c.in_err-slack.field-0.0 (rw c.values.ensures at c.in_err-slack.ensures.refused))
 
 pub returns-in_err-slack-clause-rates : goal.returns-in_err-slack-clause-rates
-returns-in_err-slack-clause-rates g c = kept_then c.point_shown.ensures.rates c.prices_shown.ensures.rates
+returns-in_err-slack-clause-rates g c = kept_then c.point_view.ensures.rates c.prices_view.ensures.rates
 
-pub returns-clause-shown : goal.returns-clause-shown
-returns-clause-shown g c =
-    shown c.args.sheet.problem.now c.args.sheet.lp.now c.args.basis.now c.in_ok-point.point c.in_ok-prices.prices c.in_ok-slack.slack.items c.in_ok-point.ensures.point c.in_ok-prices.ensures.prices
+pub returns-clause-viewed : goal.returns-clause-viewed
+returns-clause-viewed g c =
+    viewed c.args.sheet.problem.now c.args.sheet.lp.now c.args.basis.now c.in_ok-point.point c.in_ok-prices.prices c.in_ok-slack.slack.items c.in_ok-point.ensures.point c.in_ok-prices.ensures.prices
     (rw c.values.ensures at c.in_ok-slack.ensures.slacks)
 
 pub returns-clause-rates : goal.returns-clause-rates
-returns-clause-rates g c = kept_then c.point_shown.ensures.rates c.prices_shown.ensures.rates
+returns-clause-rates g c = kept_then c.point_view.ensures.rates c.prices_view.ensures.rates

@@ -6,11 +6,11 @@ use Rattle.exact_values.specs.Rational.{one_ℚ, whole}
 use Rattle.lp_laws.proofs.Idle.{right_once}
 use Rattle.whole_vectors.specs.Words.{wholes}
 use Rattle.whole_vectors.proofs.Numbers.{word_made, word_past}
-use Rattle.whole_vectors.proofs.Over.{products_made, same_told}
+use Rattle.whole_vectors.proofs.Over.{products_made, same_reported}
 use Rattle.whole_vectors.proofs.word_vectors.multiply_words.Goals as goal
 
 pub returns-then-eq : goal.returns-then-eq
-returns-then-eq c = record { each = λ k. right_once _ c.args.by (same_told c.args.by one_ℚ c.whole.result c.eq.result c.eq.ensures c.if-eq.true c.whole.ensures) }
+returns-then-eq c = record { each = λ k. right_once _ c.args.by (same_reported c.args.by one_ℚ c.whole.result c.eq.result c.eq.ensures c.if-eq.true c.whole.ensures) }
 
 pub returns : goal.returns
 returns c =

@@ -9,7 +9,7 @@ use Rattle.control_definitions.specs.Statements.{label_of}
 use Rattle.control_definitions.specs.Arguments.{label_text}
 use Rattle.control_definitions.specs.Compiled.{control_card_fault, fault_at}
 use Rattle.control_compiler.specs.Cards.{statement_said}
-use Rattle.control_compiler.proofs.Places.{twice_told, next_positions}
+use Rattle.control_compiler.proofs.Places.{twice_reported, next_positions}
 use Rattle.control_compiler.proofs.Taking.{faultless}
 use Rattle.control_compiler.proofs.draft.Draft.take.Goals as goal
 
@@ -25,7 +25,7 @@ pub returns-in-Some : goal.returns-in-Some
 returns-in-Some c = λ cards after count.
     ap (option_map (fault_at c.args.number)) (sym (c.in-Some.ensures cards
     (λ good. c.is_placed-is_twice.ensures ∙ ap (λ (label : Option (List ℕ)). option_map_or (λ (name : List ℕ). is_some (lookup (bytes_eq name) c.args.self.now.labels)) label false) (c.label_in-label.ensures.label ∙ ap label_text c.label.ensures.label)
-    ∙ twice_told c.args.self.now.labels cards c.args.card.now after.labels good)
+    ∙ twice_reported c.args.self.now.labels cards c.args.card.now after.labels good)
     (omega (arith, count, c.len-position.ensures)))) ∙ ap Some (sym c.on_card.ensures)
 
 pub returns : goal.returns
@@ -33,7 +33,7 @@ returns c = λ cards after count.
     let is : c.label_in-label.result ≡ label_text (label_of c.args.card.now) = c.label_in-label.ensures.label ∙ ap label_text c.label.ensures.label in
     let none : control_card_fault cards c.args.card.now ≡ None = sym (c.in_default.ensures cards
     (λ good. c.is_placed-is_twice.ensures ∙ ap (λ (label : Option (List ℕ)). option_map_or (λ (name : List ℕ). is_some (lookup (bytes_eq name) c.args.self.now.labels)) label false) is
-    ∙ twice_told c.args.self.now.labels cards c.args.card.now after.labels good)
+    ∙ twice_reported c.args.self.now.labels cards c.args.card.now after.labels good)
     (omega (arith, count, c.len-position.ensures))) in
     let tests = faultless cards c.args.card.now none in (
       none,

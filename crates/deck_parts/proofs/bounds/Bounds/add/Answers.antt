@@ -2,7 +2,7 @@ use Rattle.std.proofs.Common.{sym, subst, ◌∙◌}
 use Rattle.card_definitions.specs.Words.{◌⟹◌}
 use Rattle.problem_definitions.specs.Kinds.{touches_upper, touches_lower}
 use Rattle.deck_definitions.specs.declared.DeckFaultKind.TheVariants.{BoundTwice}
-use Rattle.deck_cards.specs.Told.{TellsDeckFault}
+use Rattle.deck_cards.specs.Reported.{ReportsDeckFault}
 use Rattle.deck_parts.proofs.Touched.{marks_more, found_at_ends}
 use Rattle.deck_parts.proofs.bounds.Bounds.add.Goals as goal
 
@@ -20,5 +20,5 @@ returns-in-Ok-clause-is_new c =
 pub returns-in-Err-clause-stop : goal.returns-in-Err-clause-stop
 returns-in-Err-clause-stop c =
     rw (← c.self.view_is)
-    (subst (λ b. TellsDeckFault (b ⟹ BoundTwice) c.in-Err.stop) (found_at_ends c.args.bound.column c.args.bound.kind c.self.inside.uppers.keys c.self.inside.lowers.keys c.self.inside.items.items c.self.invariant.0 c.self.invariant.1)
+    (subst (λ b. ReportsDeckFault (b ⟹ BoundTwice) c.in-Err.stop) (found_at_ends c.args.bound.column c.args.bound.kind c.self.inside.uppers.keys c.self.inside.lowers.keys c.self.inside.items.items c.self.invariant.0 c.self.invariant.1)
     c.in-Err.ensures.stop)

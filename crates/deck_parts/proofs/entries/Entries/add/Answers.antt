@@ -2,7 +2,7 @@ use Rattle.std.proofs.Common.{[], ◌∷◌, map, sym, ap, ◌∙◌}
 use Rattle.std.proofs.lemmas.List.{map-append}
 use Rattle.card_definitions.specs.Words.{◌⟹◌}
 use Rattle.deck_definitions.specs.declared.DeckFaultKind.TheVariants.{DuplicateEntry}
-use Rattle.deck_parts.specs.Shown.{entry_at}
+use Rattle.deck_parts.specs.Views.{entry_at}
 use Rattle.deck_parts.proofs.Keyed.{entry_is_there, was_there, was_new}
 use Rattle.deck_parts.proofs.entries.Entries.add.Goals as goal
 

@@ -2,7 +2,7 @@ use Rattle.std.proofs.Common.{[], ◌∷◌, map, sym, ap, ◌∙◌}
 use Rattle.std.proofs.lemmas.List.{map-append}
 use Rattle.card_definitions.specs.Words.{◌⟹◌}
 use Rattle.deck_definitions.specs.declared.DeckFaultKind.TheVariants.{DuplicateRow}
-use Rattle.deck_parts.specs.RowShown.{row_at}
+use Rattle.deck_parts.specs.RowViewed.{row_at}
 use Rattle.deck_parts.proofs.Keyed.{row_is_there, was_there, was_new}
 use Rattle.deck_parts.proofs.rows.Rows.add.Goals as goal
 

@@ -14,8 +14,8 @@ loop-entry-init g c = record { each = λ k low high other. sym (minus_nothing (v
 
 pub returns-in_err-out-clause-cost : goal.returns-in_err-out-clause-cost
 returns-in_err-out-clause-cost g c =
-    let room = others_room c.args.entries.now c.loop-entry.entry-index c.entry-item.result c.loop-entry-test.true c.entry-item.is c.args.self.p c.if-entry-self.true in
-    omega (arith, room, c.in_err-out.ensures.cost, c.loop-entry.invariant.cost)
+    let workspace = others_room c.args.entries.now c.loop-entry.entry-index c.entry-item.result c.loop-entry-test.true c.entry-item.is c.args.self.p c.if-entry-self.true in
+    omega (arith, workspace, c.in_err-out.ensures.cost, c.loop-entry.invariant.cost)
 
 pub returns-in_err-out-clause-refused : goal.returns-in_err-out-clause-refused
 returns-in_err-out-clause-refused g c =

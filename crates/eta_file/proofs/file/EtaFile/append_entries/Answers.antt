@@ -39,10 +39,10 @@ invariant_of-self-2 c =
     let eta : StoredEta = record { p = c.args.p; q = c.args.q; pivot = c.args.pivot; entries = c.args.entries; whole = c.in_ok-whole.whole } in
     let pushed : c.push.new.self.items ≡ f.etas ++ (eta ∷ []) = search rules in
     let whole : IfSome c.in_ok-whole.whole (IsWholeOf c.args.pivot c.args.entries.items) = rw c.deref.ensures.value at c.in_ok-whole.ensures in
-    let room : length f.etas < 4294967294 = search rules in
+    let workspace : length f.etas < 4294967294 = search rules in
     rw (pushed, c.exchange.ensures)
     (appended f.matrix f.etas f.basics c.self.invariant c.args.p c.args.q next.leaves next.enters next.direction next.is_direction next.apart
-    eta refl refl next.is_pivot next.are_entries whole room)
+    eta refl refl next.is_pivot next.are_entries whole workspace)
 
 pub returns-clause-ok : goal.returns-clause-ok
 returns-clause-ok c =

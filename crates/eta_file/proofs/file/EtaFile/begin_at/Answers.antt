@@ -1,6 +1,6 @@
 use Rattle.std.proofs.Common.{◌≡◌, ◌≤◌, ◌-◌, length, arith, ◌∙◌, ap}
 use Rattle.lp_definitions.specs.LinearProgram.{size, column}
-use Rattle.whole_vectors.specs.Quotients.{quotients, StandFor}
+use Rattle.whole_vectors.specs.Quotients.{quotients, Represent}
 use Rattle.whole_vectors.proofs.Over.{length-quotients, stand_map}
 use Rattle.eta_file.specs.declared.eta.StoredEta.{StoredEta}
 use Rattle.eta_file.specs.Crossings.{IsLeaving, IsColumnFilled}
@@ -40,7 +40,7 @@ returns-then-first-eq0 c =
     let out = nonbasic_from f.matrix f.etas f.basics c.self.invariant c.args.j c.args.first (rw (← c.self.view_is) at c.requires.none_later) (rw (← c.self.view_is) at c.requires.nonbasic) 0 (omega (arith, c.if-first-eq0.true)) in
     let new = c.begin_whole.new.out in
     rw (← c.self.view_is, c.if-first-eq0.true)
-    (some_map c.begin_whole.result (λ d. StandFor (IsColumnFilled (column f.matrix (c.args.j - f.matrix.rows)) c.args.j) d new) (λ d. StandFor (IsDirectionAfter f 0 c.args.j) d new)
+    (some_map c.begin_whole.result (λ d. Represent (IsColumnFilled (column f.matrix (c.args.j - f.matrix.rows)) c.args.j) d new) (λ d. Represent (IsDirectionAfter f 0 c.args.j) d new)
     (λ d h.
     stand_map (IsColumnFilled (column f.matrix (c.args.j - f.matrix.rows)) c.args.j) (IsDirectionAfter f 0 c.args.j) d new
     (filled f.matrix f.etas f.basics c.self.invariant c.args.j out (quotients d new)) h)
@@ -73,7 +73,7 @@ returns-else-first-eq0 c =
     let own : c.index-eta.result.now.p ≡ c.args.j = ap (λ (x : StoredEta). x.p) c.index-eta.ensures ∙ (rw (← c.self.view_is) at c.requires.left) c.index-eta.result.now c.if-first-eq0.false in
     let new = c.leave_whole.new.out in
     rw (← c.self.view_is)
-    (some_map c.leave_whole.result (λ d. StandFor (IsLeaving c.index-eta.result.now) d new) (λ d. StandFor (IsDirectionAfter f c.args.first c.args.j) d new)
+    (some_map c.leave_whole.result (λ d. Represent (IsLeaving c.index-eta.result.now) d new) (λ d. Represent (IsDirectionAfter f c.args.first c.args.j) d new)
     (λ d h.
     stand_map (IsLeaving c.index-eta.result.now) (IsDirectionAfter f c.args.first c.args.j) d new
     (λ leaving. left f.matrix f.etas f.basics c.self.invariant (c.args.first - 1) c.index-eta.result.now (omega (arith, below, c.if-first-eq0.false)) c.index-eta.ensures

@@ -1,5 +1,5 @@
 use Rattle.std.proofs.Common.{◌+◌, ◌∙◌, length}
-use Rattle.whole_vectors.specs.Quotients.{quotients, StandFor}
+use Rattle.whole_vectors.specs.Quotients.{quotients, Represent}
 use Rattle.whole_vectors.proofs.Over.{length-quotients, stand_map}
 use Rattle.eta_file.specs.Crossings.{IsCrossed}
 use Rattle.eta_file.specs.Inverse.{IsDirectionAfter}
@@ -21,10 +21,10 @@ cross_whole-requires-clause-whole c =
 pub returns : goal.returns
 returns c =
     let f = inverse_of c.self.inside in
-    let direction : StandFor (IsDirectionAfter f c.args.place c.args.j) c.args.denominator c.args.out.now = rw (← c.self.view_is) at c.requires.direction in
+    let direction : Represent (IsDirectionAfter f c.args.place c.args.j) c.args.denominator c.args.out.now = rw (← c.self.view_is) at c.requires.direction in
     rw (← c.self.view_is)
-    (some_map c.cross_whole.result (λ d. StandFor (IsCrossed c.index-eta.result.now (quotients c.args.denominator c.args.out.now)) d c.cross_whole.new.out)
-    (λ d. StandFor (IsDirectionAfter f (c.args.place + 1) c.args.j) d c.cross_whole.new.out)
+    (some_map c.cross_whole.result (λ d. Represent (IsCrossed c.index-eta.result.now (quotients c.args.denominator c.args.out.now)) d c.cross_whole.new.out)
+    (λ d. Represent (IsDirectionAfter f (c.args.place + 1) c.args.j) d c.cross_whole.new.out)
     (λ d h.
     stand_map (IsCrossed c.index-eta.result.now (quotients c.args.denominator c.args.out.now)) (IsDirectionAfter f (c.args.place + 1) c.args.j) d c.cross_whole.new.out
     (crossed f.matrix f.etas f.basics c.self.invariant c.args.place c.index-eta.result.now (rw (← c.self.view_is) at c.requires.within) c.index-eta.ensures

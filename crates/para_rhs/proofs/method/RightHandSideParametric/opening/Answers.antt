@@ -29,7 +29,7 @@ returns-in-Ok-clause-rates g c =
 
 pub returns-clause-stops : goal.returns-clause-stops
 returns-clause-stops g c =
-    rw c.told_at.ensures
+    rw c.reported_at.ensures
     (opening_stops c.args.self.now.lp.now c.args.self.now.shift.now c.args.span.now c.args.basis.now c.primal.new.basis (g.R.Rates.waypoints c.args.rates.now) (g.R.Rates.waypoints c.primal.new.rates) c.requires.fits.no_change
     c.in-Err.stop
     (subst (λ (q : LinearProgram). PrimalStops q c.args.basis.now c.primal.new.basis c.args.span.now.limit (g.R.Rates.waypoints c.args.rates.now) (g.R.Rates.waypoints c.primal.new.rates) c.in-Err.stop)

@@ -4,7 +4,7 @@ use Rattle.std.proofs.lemmas.List.{map-append}
 use Rattle.std.proofs.lemmas.Result.{on_ok_weaker}
 use Rattle.problem_definitions.specs.Names.{Name}
 use Rattle.problem_definitions.specs.Problem.{Bound, has_group}
-use Rattle.deck_parts.specs.Shown.{group_at}
+use Rattle.deck_parts.specs.Views.{group_at}
 use Rattle.revise_lists.proofs.NamedValues.{at_end}
 use Rattle.revise_lists.proofs.bound_sets.BoundSets.add.Goals as goal
 

@@ -1,5 +1,5 @@
 use Rattle.std.proofs.Common.{map, refl, ap, ◌∙◌}
-use Rattle.deck_parts.specs.Shown.{group_at}
+use Rattle.deck_parts.specs.Views.{group_at}
 use Rattle.revise_lists.proofs.NamedValues.{removed}
 use Rattle.revise_lists.proofs.bound_sets.BoundSets.remove.Goals as goal
 

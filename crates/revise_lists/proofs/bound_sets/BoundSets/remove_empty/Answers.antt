@@ -1,7 +1,7 @@
 use Rattle.std.proofs.Common.{rules, not, map, ap, ◌∙◌}
 use Rattle.indexmap.proofs.CallerLemmas.{filter-RetainsPairs}
 use Rattle.card_definitions.specs.Words.{is_empty}
-use Rattle.deck_parts.specs.Shown.{group_at}
+use Rattle.deck_parts.specs.Views.{group_at}
 use Rattle.revise_lists.proofs.Retained.{filled_groups}
 use Rattle.revise_lists.proofs.bound_sets.BoundSets.remove_empty.Goals as goal
 

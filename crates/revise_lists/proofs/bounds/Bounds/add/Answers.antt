@@ -1,7 +1,7 @@
 use Rattle.std.proofs.Common.{Some, [], ◌∷◌, ap, ◌∙◌}
 use Rattle.deck_definitions.specs.Tests.{is_bound_already}
 use Rattle.revise_lists.specs.declared.ends.End.TheVariants.{Upper, Lower}
-use Rattle.revise_lists.specs.Shown.{held}
+use Rattle.revise_lists.specs.Views.{held}
 use Rattle.revise_lists.proofs.Slots.{added, free_ends, held-append}
 use Rattle.revise_lists.proofs.bounds.Bounds.add.Goals as goal
 

@@ -1,4 +1,4 @@
-use Rattle.revise_lists.specs.Shown.{AreNoted}
+use Rattle.revise_lists.specs.Views.{AreNoted}
 use Rattle.revise_lists.specs.declared.ends.End.TheVariants.{Upper, Lower}
 use Rattle.std.proofs.Common.{[], ◌∷◌, ◌++◌, ap, sym, ◌∙◌, subst}
 use Rattle.revise_lists.proofs.Slots.{held_some, held_gap, still_apart}

@@ -3,7 +3,7 @@ use Rattle.std.specs.List.{list_any}
 use Rattle.problem_definitions.specs.Kinds.{touches_lower}
 use Rattle.deck_parts.proofs.Touched.{met_at_ends}
 use Rattle.revise_lists.specs.declared.ends.End.TheVariants.{Upper, Lower}
-use Rattle.revise_lists.specs.Shown.{is_at_end}
+use Rattle.revise_lists.specs.Views.{is_at_end}
 use Rattle.revise_lists.proofs.bounds.Bounds.has_met.Goals as goal
 
 pub returns-then-has_end_if : goal.returns-then-has_end_if

@@ -1,4 +1,4 @@
-use Rattle.revise_lists.specs.Shown.{is_at_end}
+use Rattle.revise_lists.specs.Views.{is_at_end}
 use Rattle.revise_lists.proofs.Slots.{all_kept}
 use Rattle.revise_lists.proofs.bounds.Bounds.remove_end_if.Goals as goal
 

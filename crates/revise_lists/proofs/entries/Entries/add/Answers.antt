@@ -4,7 +4,7 @@ use Rattle.std.proofs.lemmas.List.{map-append}
 use Rattle.std.proofs.lemmas.Result.{on_ok_weaker}
 use Rattle.card_definitions.specs.Numbers.{Decimal}
 use Rattle.problem_definitions.specs.Names.{Name}
-use Rattle.revise_lists.specs.Shown.{entry_on}
+use Rattle.revise_lists.specs.Views.{entry_on}
 use Rattle.revise_lists.proofs.NamedValues.{at_end, entry_is_there}
 use Rattle.revise_lists.proofs.entries.Entries.add.Goals as goal
 

@@ -1,6 +1,6 @@
 use Rattle.std.proofs.Common.{map, ap, ◌∙◌}
 use Rattle.revise_definitions.specs.Edits.{put_entry}
-use Rattle.revise_lists.specs.Shown.{entry_on}
+use Rattle.revise_lists.specs.Views.{entry_on}
 use Rattle.revise_lists.proofs.NamedValues.{entry_put}
 use Rattle.revise_lists.proofs.entries.Entries.put.Goals as goal
 

@@ -1,5 +1,5 @@
 use Rattle.std.proofs.Common.{map, refl, ap, ◌∙◌}
-use Rattle.revise_lists.specs.Shown.{entry_on}
+use Rattle.revise_lists.specs.Views.{entry_on}
 use Rattle.revise_lists.proofs.NamedValues.{removed}
 use Rattle.revise_lists.proofs.entries.Entries.remove.Goals as goal
 

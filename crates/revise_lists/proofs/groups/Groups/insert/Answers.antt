@@ -1,7 +1,7 @@
 use Rattle.std.proofs.Common.{◌+◌, ◌≤◌, map, refl, ap, ◌∙◌, arith}
 use Rattle.indexmap.proofs.SetLemmas.{map-insert}
 use Rattle.problem_definitions.specs.Problem.{has_group}
-use Rattle.deck_parts.specs.Shown.{group_at}
+use Rattle.deck_parts.specs.Views.{group_at}
 use Rattle.deck_parts.proofs.Grouped.{group_is_there}
 use Rattle.revise_lists.proofs.Counted.{count_placed, short_placed, total_fits}
 use Rattle.revise_lists.proofs.groups.Groups.insert.Goals as goal

@@ -1,6 +1,6 @@
 use Rattle.std.proofs.Common.{map, refl, ap, sym, subst, ◌∙◌}
-use Rattle.deck_parts.specs.Shown.{group_at}
-use Rattle.revise_lists.specs.Shown.{AreShort}
+use Rattle.deck_parts.specs.Views.{group_at}
+use Rattle.revise_lists.specs.Views.{AreShort}
 use Rattle.revise_lists.proofs.NamedValues.{removed}
 use Rattle.revise_lists.proofs.Counted.{count_removed, short-removed}
 use Rattle.revise_lists.proofs.groups.Groups.remove.Goals as goal

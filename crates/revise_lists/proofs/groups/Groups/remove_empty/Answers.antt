@@ -1,7 +1,7 @@
 use Rattle.std.proofs.Common.{length, map, ap, sym, subst, ◌∙◌}
 use Rattle.std.specs.List.{sum_by}
-use Rattle.deck_parts.specs.Shown.{group_at}
-use Rattle.revise_lists.specs.Shown.{AreShort}
+use Rattle.deck_parts.specs.Views.{group_at}
+use Rattle.revise_lists.specs.Views.{AreShort}
 use Rattle.revise_lists.proofs.Counted.{total-filled, short-filled}
 use Rattle.revise_lists.proofs.groups.Groups.remove_empty.Goals as goal
 

@@ -1,9 +1,0 @@
-use Rattle.std.specs.Prelude.{IfSome}
-use Rattle.lp_definitions.specs.LinearProgram.{value_at, size}
-use Rattle.simplex_definitions.specs.Moves.{room}
-use Rattle.basis_values.specs.Motions.{motion}
-use Rattle.basis_values.specs.Reach.{Reaches}
-use Rattle.bounded_primal.proofs.stopping.nearest_had.Given as goal
-
-abbrev pub invariant-loop-k : goal.invariant-loop-k
-invariant-loop-k l = IfSome l.nearest (Reaches (room l.lp (value_at l.point) (motion (value_at l.direction) l.up)) (size l.lp.matrix))

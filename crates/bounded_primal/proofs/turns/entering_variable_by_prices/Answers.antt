@@ -1,0 +1,6 @@
+use Rattle.lp_definitions.specs.LinearProgram.{value_at}
+use Rattle.bounded_primal.proofs.FirstWanted.{entering_variable_found}
+use Rattle.bounded_primal.proofs.turns.entering_variable_by_prices.Goals as goal
+
+pub returns-in-Ok-clause-found : goal.returns-in-Ok-clause-found
+returns-in-Ok-clause-found g c = entering_variable_found c.args.lp.now c.args.basis.now (value_at c.prices_of.new.out) c.improving.result c.in-Ok.ensures.prices c.improving.ensures

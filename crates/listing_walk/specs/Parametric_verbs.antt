@@ -1,0 +1,31 @@
+-- The verbs that make a parametric run.
+--     finding_of answer            what was found, in the machine's words
+--     left_by answer machine       the machine after it
+--     IsUnasked stop went          no run is asked for, and the walk goes so
+use Rattle.std.specs.Prelude.{ℕ, [], None}
+use Rattle.run_machine.specs.declared.act.Act.TheVariants as acts
+use Rattle.run_machine.specs.declared.end.End.TheVariants as ends
+use Rattle.run_machine.specs.declared.finding.Finding.{Finding}
+use Rattle.run_machine.specs.declared.finding.Finding.TheVariants.{Ended, RanThrough as Reached}
+use Rattle.run_machine.specs.declared.machine.Machine.{Machine}
+use Rattle.parametric_request.specs.declared.request.RequestStop.{RequestStop}
+use Rattle.parametric_request.specs.declared.request.RequestStop.TheVariants as stops
+use Rattle.listing_answers.specs.declared.answer.ParametricRunAnswer.{ParametricRunAnswer}
+use Rattle.listing_answers.specs.declared.answer.ParametricRunAnswer.TheVariants.{Opened, RanThrough}
+use Rattle.listing_walk.specs.declared.chosen.Chosen.{Chosen}
+use Rattle.listing_walk.specs.declared.place.Place.{Place}
+use Rattle.listing_walk.specs.declared.went.Went.{Went}
+use Rattle.listing_walk.specs.Walking.{Passes}
+
+abbrev pub finding_of : ParametricRunAnswer → Finding
+finding_of (Opened mark) = Ended mark
+finding_of (RanThrough last) = Reached last
+
+-- no mark is left, and the last value stands in XPARAM
+abbrev pub left_by : ParametricRunAnswer → Machine Chosen → Machine Chosen
+left_by (Opened mark) machine = record machine { mark = None }
+left_by (RanThrough last) machine = record machine { cells = record (machine.cells) { xparam = last }; mark = None }
+
+abbrev pub IsUnasked : Machine Chosen → Place → Place → ℕ → RequestStop → Went → Type 0
+IsUnasked machine old new card (stops.Fault fault) went = Passes machine old new (acts.Ends (ends.Verb fault card)) [] went
+IsUnasked machine old new card stops.NoMemory went = ⊥

@@ -1,0 +1,101 @@
+// PARAOBJ and PARARHS.
+ghost use Rattle.std.specs.Prelude.{◌≡◌, ◌+◌, ◌≤◌, ◌<◌, ℕ, List, IfOk, IfSome};
+ghost use Rattle.run_machine.specs.Standing.{AreDemands};
+ghost use Rattle.parametric_request.specs.Asking.{verb_of};
+ghost use Rattle.listing_walk.specs.Parametric_verbs.{finding_of, left_by, IsUnasked};
+ghost use Rattle.listing_walk.specs.Standing.{IsReady, IsSound};
+ghost use Rattle.listing_walk.specs.Walking.{Walks};
+
+use crate::answering::{answer_parametric_run, stop_walk};
+use crate::chosen::Chosen;
+use crate::follow::{fault, finish, refuse};
+use crate::place::Place;
+use crate::selecting::select_present;
+use crate::went::Went;
+use job_devices::NoMemory;
+use listing_answers::ParametricRunAnswer;
+use listing_definitions::VerbFault;
+use listing_tables::Sheet;
+use parametric_request::{ParametricVerb, RequestStop, request_of};
+use run_cells::NumberCell;
+use run_machine::{Finding, Machine, act_of};
+use std::alloc::Global;
+
+// No run is asked for: the run of the program ends with a verb fault.
+fn unasked<'a>(
+    alloc: Global,
+    machine: &Machine<Chosen>,
+    place: &mut Place<'a>,
+    stop: RequestStop,
+    card: u32,
+) -> Result<Went<'a>, NoMemory>
+    requires { place.old.reports < 4294967295 }
+    ensures unasked { IfOk result (IsUnasked machine.now place.old place.new card stop) }
+    ensures few { place.new.reports ≤ place.old.reports + 1 }
+{
+    match stop {
+        RequestStop::Fault(why) => fault(alloc, machine, place, why, card),
+        RequestStop::NoMemory => Err(NoMemory),
+    }
+}
+
+// What was found, in the machine's words.
+fn finding_of(answer: &ParametricRunAnswer) -> Finding
+    ensures { result ≡ finding_of answer.now }
+{
+    match answer {
+        ParametricRunAnswer::Opened(mark) => Finding::Ended(*mark),
+        ParametricRunAnswer::RanThrough(last) => Finding::RanThrough(*last),
+    }
+}
+
+// A run leaves no mark, and its last value in XPARAM.
+fn leave(machine: &mut Machine<Chosen>, answer: &ParametricRunAnswer)
+    ensures { machine.new ≡ left_by answer.now machine.old }
+{
+    machine.mark = None;
+    if let ParametricRunAnswer::RanThrough(last) = answer {
+        machine.cells.move_number(NumberCell::Xparam, *last);
+    }
+}
+
+/// PARAOBJ and PARARHS: selects again by the cells as they stand, and takes the parametric run that is asked for from the listing. Its
+/// last value is left in XPARAM. An opening that isn't optimal goes by the demand of its verdict. Neither leaves a mark.
+pub fn parametric_run<'a>(
+    alloc: Global,
+    machine: &mut Machine<Chosen>,
+    place: &mut Place<'a>,
+    card: u32,
+    verb: ParametricVerb,
+) -> Result<Went<'a>, NoMemory>
+    requires demands { AreDemands machine.old.cells }
+    requires ready { IfSome machine.old.setup (IsReady machine.old.file) }
+    requires few { place.old.reports < 4294967295 }
+    ensures walks { (cards : List (List ℕ)) → IfOk result (Walks (verb_of verb) card cards machine.old machine.new place.old place.new) }
+    ensures sound { (cards : List (List ℕ)) → IsSound cards machine.old → IsSound cards machine.new }
+    ensures few { place.new.reports ≤ place.old.reports + 1 }
+{
+    let Some(chosen) = &machine.setup else {
+        return fault(alloc, machine, place, VerbFault::NoSetup, card);
+    };
+    // a problem stays on file while it is chosen
+    let Some(problem) = machine.file.get(&chosen.name) else {
+        unreachable!();
+    };
+    let lp = match select_present(alloc, problem, &machine.cells, chosen.options) {
+        Ok(lp) => lp,
+        Err(refusal) => return refuse(alloc, machine, place, refusal, card),
+    };
+    let request = match request_of(alloc, problem, &machine.cells, verb) {
+        Ok(request) => request,
+        Err(stop) => return unasked(alloc, machine, place, stop, card),
+    };
+    let sheet = Sheet { problem, lp: &lp };
+    let answer = match answer_parametric_run(alloc, place, sheet, &request) {
+        Ok(answer) => answer,
+        Err(stopped) => return stop_walk(stopped),
+    };
+    leave(machine, &answer);
+    let act = act_of(&machine.cells, card, finding_of(&answer));
+    finish(alloc, place, &act)
+}

@@ -1,0 +1,109 @@
+-- A parametric run is followed: its intervals and its end are true, or the verdict of its opening is.
+use Rattle.std.proofs.Common.{◌≡◌, ℕ, List, [], refl}
+use Rattle.std.specs.Prelude.{Option, Some, None, Ok}
+use Rattle.lp_definitions.specs.LinearProgram.{LinearProgram}
+use Rattle.selection_definitions.specs.Selection.{selected}
+use Rattle.listing_definitions.specs.Report.{PathVerdict, Check, Solved, Parametric}
+use Rattle.question_definitions.specs.Answers.{Sheet, Changing, Row, Set, changing_name, parametric_solver, ParametricRun, OfParametricRun, ParametricRunEnd, Opening, Chained, ParametricRunLimit}
+use Rattle.answer_definitions.specs.ParametricRuns.{sheet_at}
+use Rattle.run_definitions.specs.State.{Present, present_basis, path_of, gone_through, State, choice_of}
+use Rattle.run_definitions.specs.Moves.{Outcome, InAnswer, Move, Asks}
+use Rattle.run_definitions.specs.Verbs.{asks, mark_of, after_parametric_run}
+use Rattle.run_definitions.specs.Run.{counted}
+use Rattle.soundness_laws.specs.ParametricRuns.{ChangesFreely}
+use Rattle.soundness_laws.specs.Truth.{PresentProgram, ReportsOfRun}
+use Rattle.soundness_laws.proofs.ChangeRow.{changes_freely}
+use Rattle.soundness_laws.proofs.Moves.{HasProblem}
+use Rattle.soundness_laws.proofs.Verbs.{IsAskedFor}
+use Rattle.walk_definitions.specs.Reading.{Judged, Right, Fails, Refuses, judged, parametric_run_head, parametric_run_in}
+use Rattle.walk_definitions.specs.Reading as readings
+use Rattle.walk_definitions.specs.Words.{left_after}
+use Rattle.walk_definitions.specs.Walker.{Walker, open_stop, open_pending, open_question, follows, passed, answered}
+use Rattle.reading_laws.specs.Laws.{ReadingLaw}
+use Rattle.judged_laws.specs.Views.{MayChange}
+use Rattle.judged_laws.specs.Views.{IsTrueAtFirst}
+use Rattle.judged_laws.specs.Laws.{JudgedLaws}
+use Rattle.walk_laws.specs.Proved.{ShowsProvedChain, Says}
+use Rattle.walk_laws.proofs.Owing.{Owes, holds_settled}
+use Rattle.walk_laws.proofs.Turns.{never_either, never_stop, never_pending, none_either, nothing_pending, on_unless}
+use Rattle.walk_laws.proofs.Followed.{GoesOn, EndsSo, ComesTo, IsFollowed, follows_on, may_stop, one_says, reads}
+use Rattle.walk_laws.proofs.Answered.{printed_verdict, pays_verdict, program_of, never_made}
+
+may_change : (sheet : Sheet) (changing : Changing) → ChangesFreely sheet changing → MayChange sheet changing
+may_change sheet (Row name) free = free
+may_change sheet (Set name) free = tt
+
+opening_says : (state : State) (changing : Changing) (verdict : PathVerdict) (check : Check) →
+    ReportsOfRun state.setup state.cells (parametric_solver changing) (λ sheet parametric_run. IsTrueAtFirst (sheet_at sheet parametric_run.changing parametric_run.from) verdict) → Says state (Solved (parametric_solver changing) verdict check)
+opening_says state (Row name) verdict check reported = reported
+opening_says state (Set name) verdict check reported = reported
+
+-- no listing shows that a run was stopped at its limit
+never_limited : (sheet : Sheet) (parametric_run : ParametricRun) (rest after : List ℕ) (left : Option (List ℕ)) → parametric_run_in sheet parametric_run rest left ≡ Right ParametricRunLimit after → ⊥
+never_limited sheet parametric_run rest after None e = never_made (λ (claim : readings.Claim). Opening [] claim.0 claim.1) ParametricRunLimit (λ claim same. cc same) _ after e
+never_limited sheet parametric_run rest after (Some left) e = never_made (λ (run : readings.Run). Chained [] run.0 run.1) ParametricRunLimit (λ run same. cc same) _ after e
+
+module _ (reading : ReadingLaw) (truth : JudgedLaws) (Holds : Type 0) (w : Walker) (owed : Owes Holds w.pending w.state.setup w.state.cells) (lawful : HasProblem w.state.setup) where
+  module _ (card : ℕ) (present : Present) (lp : LinearProgram) (parametric_run : ParametricRun) (set : w.state.setup ≡ Some present)
+      (is : selected present.problem (choice_of w.state.cells present.options) ≡ Ok lp) (asked : IsAskedFor w.state present parametric_run) where
+    abbrev sheet : Sheet
+    sheet = record { problem = present.problem; lp = lp }
+
+    abbrev program : PresentProgram w.state.setup w.state.cells
+    program = program_of w.state.setup w.state.cells present lp lawful set is
+
+    abbrev go : ParametricRunEnd → Outcome
+    go = after_parametric_run card parametric_run present (counted w.state)
+
+    abbrev move : Move
+    move = Asks (OfParametricRun parametric_run) sheet (present_basis present) go
+
+    free : MayChange sheet parametric_run.changing
+    free = may_change sheet parametric_run.changing (changes_freely sheet (choice_of w.state.cells present.options) parametric_run.changing program.is_problem is asked.is_part)
+
+    reported : (Tells : Sheet → ParametricRun → Type 0) → Tells sheet parametric_run → ReportsOfRun w.state.setup w.state.cells (parametric_solver parametric_run.changing) Tells
+    reported Tells tells = record {
+      program = program;
+      parametric_run = parametric_run;
+      is_solver = refl;
+      is_part = asked.is_part;
+      is_named = asked.is_named;
+      from_first = asked.from_first;
+      to_last = asked.to_last;
+      tells = tells;
+    }
+
+    parametric_run_comes : (answer : ParametricRunEnd) (rest : List ℕ) → judged (OfParametricRun parametric_run) sheet w.rest ≡ Right answer rest → Holds →
+        ComesTo Holds w card move (follows (record (passed rest 1 w) { pending = None }) (go answer))
+    parametric_run_comes (Opening bases verdict check) rest e holds =
+        let after : State = record (counted w.state) { setup = Some (gone_through bases present); mark = None } in
+        let says : Says w.state (Solved (parametric_solver parametric_run.changing) verdict check) =
+        opening_says w.state parametric_run.changing verdict check (reported (λ sheet parametric_run. IsTrueAtFirst (sheet_at sheet parametric_run.changing parametric_run.from) verdict)
+        (truth.opening parametric_run sheet w.rest rest bases verdict check program.is_linear_program free e)) in
+        follows_on Holds w card move (record (passed rest 1 w) { pending = None }) (go (Opening bases verdict check))
+        (reads Holds w reading card (OfParametricRun parametric_run) sheet (present_basis present) go (Opening bases verdict check) rest (w.rest, rest, e) e
+        (printed_verdict (mark_of verdict) (Solved (parametric_solver parametric_run.changing) verdict check) after) refl
+        (pays_verdict Holds w None (Solved (parametric_solver parametric_run.changing) verdict check) after (holds, one_says Holds w (Solved (parametric_solver parametric_run.changing) verdict check) says) (mark_of verdict)))
+    parametric_run_comes (Chained bases intervals end) rest e holds =
+        follows_on Holds w card move (record (passed rest 1 w) { pending = None }) (go (Chained bases intervals end))
+        (reads Holds w reading card (OfParametricRun parametric_run) sheet (present_basis present) go (Chained bases intervals end) rest (w.rest, rest, e) e refl refl (
+          holds,
+          one_says Holds w (Parametric (parametric_solver parametric_run.changing) (record { from = parametric_run.from; change = changing_name parametric_run.changing; intervals = intervals; end = end }))
+              (reported (ShowsProvedChain (record { from = parametric_run.from; change = changing_name parametric_run.changing; intervals = intervals; end = end }))
+              (record { is_from = refl; is_change = refl; is_true = truth.chain parametric_run sheet w.rest rest bases intervals end program.is_linear_program free e })),
+        ))
+    parametric_run_comes ParametricRunLimit rest e holds = absurd (never_limited sheet parametric_run w.rest rest (left_after (parametric_run_head parametric_run) w.rest) e)
+
+    pub parametric_run_followed : IsFollowed Holds w card (asks (OfParametricRun parametric_run) sheet present go)
+    parametric_run_followed = may_stop Holds w card (InAnswer (OfParametricRun parametric_run) sheet (path_of present)) move (record {
+      comes = on_unless (GoesOn Holds w card move) (EndsSo Holds w card move) (open_question w (OfParametricRun parametric_run) sheet go)
+          (answered w (OfParametricRun parametric_run) sheet go (judged (OfParametricRun parametric_run) sheet w.rest))
+          (never_either (open_stop w) (open_pending w) (never_stop w) (never_pending w.pending))
+          (λ none. by (judged (OfParametricRun parametric_run) sheet w.rest) refl
+          (holds_settled Holds w.pending w.state.setup w.state.cells owed (nothing_pending w.pending (none_either (open_stop w) (open_pending w) none).1)));
+    })
+      where
+        by : (j : Judged ParametricRunEnd) → judged (OfParametricRun parametric_run) sheet w.rest ≡ j → Holds → ComesTo Holds w card move (answered w (OfParametricRun parametric_run) sheet go j)
+        by (Right answer rest) e holds = parametric_run_comes answer rest e holds
+        by Fails e holds = tt
+        by Refuses e holds = tt
