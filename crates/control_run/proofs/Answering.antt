@@ -24,9 +24,10 @@ use Rattle.run_machine.specs.declared.end.End.TheVariants.{Done, Infeasible, Unb
 use Rattle.control_run.specs.declared.status.Status.{Status}
 use Rattle.control_run.specs.declared.status.Status.TheVariants.{PrintFault, PunchFault}
 use Rattle.run_machine.specs.Ends.{end_view}
-use Rattle.control_run.specs.Statuses.{code_of}
-use Rattle.control_run.specs.Finishing.{cut_status, Finishes, FinishesHalted, printed, cut_off}
+use Rattle.control_run.specs.Statuses.{code_of, IsStatusOfRun}
+use Rattle.control_run.specs.Finishing.{cut_status, Finishes, FinishesHalted, failures_in_run, printed, cut_off}
 use Rattle.control_run.specs.Devices.{Counts, counts, IsReported, IsStill}
+use Rattle.control_run.specs.Ended.{IsEndOfRun}
 use Rattle.control_run.proofs.Reported.{none_more, left, stands_still, reported_print, reported_punch}
 use Rattle.control_run.specs.Running.{CanEnd, by_itself, for_memory, for_memory_of_punch, for_punch_fault, punch_end, IsCut, in_report, in_end, RunsTo, IsRunCut, Runs, IsRunAnswer, whole, print_fails, print_wants_memory}
 
@@ -230,3 +231,30 @@ pub job_answered : (S : Solving) (program : Program) (cards : List (List ℕ)) (
 job_answered S program cards failures {failed = failed} {wanted = wanted} {punch_failed = punch_failed} {punch_wanted = punch_wanted} {status = status} {old = old} {new = new} {punch_old = punch_old} {punch_new = punch_new} fails wants punch_fails_too answer job bytes of_job is_program same =
     answer_of S program job failures bytes of_job is_program punch_failed punch_wanted punch_fails_too old new punch_old punch_new fails wants
     (subst (λ (c : List (List ℕ)). IsRunAnswer S program c failed wanted punch_failed punch_wanted status old new punch_old punch_new) same answer)
+
+-- ---- the end of the run
+
+module _ (S : Solving) (program : Program) (cards : List (List ℕ)) {P U : Type 0} (written stopped_at : P → Option (List ℕ)) (faults refusals : P → ℕ)
+    (punch_written punch_stopped_at : U → Option (List ℕ)) (punch_faults punch_refusals : U → ℕ) where
+  ended : {old later : P} {punch_old punch_now : U} {status : Status} → IsFinished S program cards written stopped_at faults refusals punch_written punch_stopped_at punch_faults punch_refusals old later punch_old punch_now status →
+      IsStatusOfRun status → IsEndOfRun S program cards written stopped_at faults refusals old later punch_written punch_stopped_at punch_faults punch_refusals punch_old punch_now status
+  ended {old = old} {later = later} {punch_old = punch_old} {punch_now = punch_now} f own = record {
+    run = f.answer;
+    answer = job_answered S program cards (failures_in_run (Rose (faults old) (faults later)) (Rose (punch_faults punch_old) (punch_faults punch_now)) (Rose (refusals old) (refusals later)))
+        (λ h. h) (λ h. h) (λ h. h) f.answer;
+    print_fault = f.print_fault;
+    punch_fault = f.punch_fault;
+    reported = f.noted.reported;
+    still = (f.noted.print_still, f.noted.punch_still);
+    own = own;
+  }
+
+  pub ended_by_end : {old now later : P} {punch_old punch_now : U} (end : End) {status : Status} → RunsTo S program cards written stopped_at faults refusals old now punch_written punch_stopped_at punch_faults punch_refusals punch_old punch_now (Ok tt) (end_view end) →
+      Finishes written stopped_at faults refusals now later (end_view end) status → IsStatusOfRun status →
+      IsEndOfRun S program cards written stopped_at faults refusals old later punch_written punch_stopped_at punch_faults punch_refusals punch_old punch_now status
+  ended_by_end end r f own = ended (finished_by_end S program cards written stopped_at faults refusals punch_written punch_stopped_at punch_faults punch_refusals end r f) own
+
+  pub ended_by_halt : {old : P} (now : P) {later : P} {punch_old punch_now : U} (h : Halt) {status : Status} → Runs S program cards written stopped_at faults refusals old now punch_written punch_stopped_at punch_faults punch_refusals punch_old punch_now (Err h) →
+      FinishesHalted written stopped_at faults refusals now later h status → IsStatusOfRun status →
+      IsEndOfRun S program cards written stopped_at faults refusals old later punch_written punch_stopped_at punch_faults punch_refusals punch_old punch_now status
+  ended_by_halt now h r f own = ended (finished_by_halt S program cards written stopped_at faults refusals punch_written punch_stopped_at punch_faults punch_refusals now h r f) own

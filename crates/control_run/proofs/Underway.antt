@@ -6,7 +6,6 @@ use Rattle.job_devices.specs.declared.device.WriteStop.TheVariants.{Failed, NoMe
 use Rattle.card_definitions.specs.Prefixes.{IsPrefix}
 use Rattle.job_devices.specs.Text.{Writes}
 use Rattle.card_definitions.specs.Cards.{numbered_cards}
-use Rattle.deck_definitions.specs.Decks.{decks_of}
 use Rattle.deck_definitions.specs.Written.{card_text}
 use Rattle.control_definitions.specs.Program.{Program}
 use Rattle.listing_definitions.specs.Report.{Report}
@@ -45,15 +44,14 @@ module _ (S : Solving) (program : Program) (cards : List (List ℕ)) {P U : Type
     pub punches : Writes {T = Unit {0}} punch_written punch_stopped_at punch_faults punch_refusals punch_old punch_now (Ok tt) (card_text punched)
 
   -- a machine at the start of the run
-  pub underway_first : (print : P) (punch : U) (machine : Machine) (decks_from : ℕ) → drop (decks_from - 1) (numbered_cards cards) ≡ drop (program.decks_from - 1) (numbered_cards cards) →
-      IsSound cards machine → Represents cards machine 1 0 (start (decks_of (drop (decks_from - 1) (numbered_cards cards)))) →
+  pub underway_first : (print : P) (punch : U) (machine : Machine) → IsSound cards machine → Represents cards machine 1 0 (start (decks_after program cards)) →
       IsUnderway print print punch punch machine 1 0
-  underway_first print punch machine decks_from same sound stands = record {
+  underway_first print punch machine sound stands = record {
     sound = sound;
     first = omega arith;
     within = omega arith;
     state = start (decks_after program cards);
-    stands = subst (λ d. Represents cards machine 1 0 (start (decks_of d))) same stands;
+    stands = stands;
     reports = [];
     punched = [];
     reaches = begun;

@@ -4,3 +4,4 @@ pub mod Devices
 pub mod Finishing
 pub mod Running
 pub mod ParametricVerbs
+pub mod Ended

@@ -14,7 +14,7 @@ use crate::solution::show_solution;
 use crate::solving::{SolvingVerb, solve};
 use basis_verbs::{insert_basis, punch_present};
 use card_reader::Cards;
-use control_compiler::{Program, Verb};
+use control_compiler::{Program, Statement, Verb};
 use job_devices::Sink;
 use lp_model::Engine;
 use parametric_request::ParametricVerb;
@@ -22,25 +22,32 @@ use run_machine::{Act, AfterStatement, Halt, Machine};
 use run_setup::{Setup, set_up};
 use std::alloc::Global;
 
-/// Does what the statement of a verb on a card says.
+/// What a run goes by: a compiled program, and the cards of its job.
+#[derive(Clone, Copy)]
+pub struct RunInput<'a> {
+    pub program: &'a Program,
+    pub cards: &'a Cards,
+}
+
+/// Does what a statement says.
 fn execute<E: Engine, P: Sink, U: Sink>(
     alloc: Global,
     machine: &mut Machine<Setup<E>>,
     cards: &Cards,
     print: &mut P,
     punch: &mut U,
-    card: u32,
-    verb: &Verb<u32>,
+    statement: &Statement<u32>,
 ) -> Result<Act, Halt>
     requires sound { IsSound cards.now machine.old }
-    requires verb { IsSoundVerb (viewed verb.now) }
-    ensures acts { Performs linear_programming (viewed verb.now) card
+    requires verb { IsSoundVerb (viewed statement.now.verb) }
+    ensures acts { Performs linear_programming (viewed statement.now.verb) statement.now.card
         P.written P.stopped_at P.faults P.refusals print.old print.new U.written U.stopped_at U.faults U.refusals
         punch.old punch.new
         cards.now machine.old machine.new result }
     ensures sound { IsSound cards.now machine.new }
 {
-    match verb {
+    let card = statement.card;
+    match &statement.verb {
         Verb::Initialz => Ok(machine.initialize()),
         Verb::Title(text) => machine.print_title(print, text),
         Verb::MoveName(cell, name) => Ok(machine.move_name(*cell, *name)),
@@ -68,23 +75,22 @@ fn execute<E: Engine, P: Sink, U: Sink>(
 pub fn step<E: Engine, P: Sink, U: Sink>(
     alloc: Global,
     machine: &mut Machine<Setup<E>>,
-    program: &Program,
-    cards: &Cards,
+    input: RunInput<'_>,
     print: &mut P,
     punch: &mut U,
     position: u32,
 ) -> Result<AfterStatement, Halt>
-    requires valid { IsProgram program.now }
+    requires valid { IsProgram input.program.now }
     requires first { 1 ≤ position }
-    requires within { position ≤ length program.now.statements }
-    requires sound { IsSound cards.now machine.old }
-    ensures steps { Steps linear_programming program.now cards.now
+    requires within { position ≤ length input.program.now.statements }
+    requires sound { IsSound input.cards.now machine.old }
+    ensures steps { Steps linear_programming input.entry.program.now input.entry.cards.now
         P.written P.stopped_at P.faults P.refusals print.old print.new U.written U.stopped_at U.faults U.refusals
         punch.old punch.new
         position machine.old machine.new result }
-    ensures sound { IsSound cards.now machine.new }
+    ensures sound { IsSound input.entry.cards.now machine.new }
 {
-    let next = program.statement(position);
-    let act = execute(alloc, machine, cards, print, punch, next.card, &next.verb)?;
+    let next = input.program.statement(position);
+    let act = execute(alloc, machine, input.cards, print, punch, next)?;
     Ok(act.turn(position))
 }

@@ -1,16 +1,13 @@
 // The run of a program.
-ghost use Rattle.std.specs.Prelude.{◌≡◌, ◌≤◌, ◌-◌, ◌+◌, ℕ, List, length, drop, Some};
-ghost use Rattle.card_definitions.specs.Cards.{cards_of, numbered_cards};
-ghost use Rattle.std.specs.Io.KnownBytes.{Appends};
-ghost use Rattle.job_devices.specs.Causes.{Rose};
-ghost use Rattle.run_definitions.specs.Answer.{Job, bytes_of, IsProgramOf, IsAnswered};
+ghost use Rattle.std.specs.Prelude.{◌≡◌, ◌≤◌, ◌-◌, ◌+◌, length, drop};
+ghost use Rattle.card_definitions.specs.Cards.{numbered_cards};
+ghost use Rattle.run_definitions.specs.State.{start};
 ghost use Rattle.answer_definitions.specs.Real.{linear_programming};
-ghost use Rattle.control_run.specs.Statuses.{code_of, IsStatusOfRun};
-ghost use Rattle.control_run.specs.Devices.{counts, IsReported, IsStill};
-ghost use Rattle.control_run.specs.Finishing.{failures_in_run};
-ghost use Rattle.control_run.specs.Running.{Runs, IsRunAnswer};
+ghost use Rattle.run_setup.specs.Standing.{IsSound, Represents};
+ghost use Rattle.control_run.specs.Running.{decks_after, Runs};
+ghost use Rattle.control_run.specs.Ended.{IsEndOfRun};
 
-use crate::execute::step;
+use crate::execute::{RunInput, step};
 use crate::finish::{finish, finish_halted};
 use crate::status::Status;
 use card_reader::Cards;
@@ -38,28 +35,30 @@ fn first_after(program: &Program, cards: &Cards) -> u32
     program.decks_from().max(1).min(cards.count() + 1)
 }
 
-// Executes the statements of a program until the run ends.
-fn run<E: Engine, P: Sink, U: Sink>(
+// Executes the statements of a program, from the first one until the run ends.
+fn run_statements<E: Engine, P: Sink, U: Sink>(
     alloc: Global,
-    program: &Program,
-    cards: &Cards,
+    machine: &mut Machine<Setup<E>>,
+    input: RunInput<'_>,
     print: &mut P,
     punch: &mut U,
 ) -> Result<End, Halt>
-    ensures { Runs linear_programming program.now cards.now
+    requires sound { IsSound input.cards.now machine.old }
+    requires start { Represents input.cards.now machine.old 1 0
+        (start (decks_after input.program.now input.cards.now)) }
+    ensures { Runs linear_programming input.entry.program.now input.entry.cards.now
         P.written P.stopped_at P.faults P.refusals print.old print.new U.written U.stopped_at U.faults U.refusals
         punch.old punch.new
         result }
 {
-    let mut machine = Machine::<Setup<E>>::new(alloc, first_after(program, cards));
     let mut position = 1;
     let mut executed = 0;
-    while position <= program.count() {
+    while position <= input.program.count() {
         if executed >= MAX_EXECUTED {
             return Ok(End::Statements);
         }
         executed += 1;
-        match step(alloc, &mut machine, program, cards, print, punch, position) {
+        match step(alloc, machine, input, print, punch, position) {
             Ok(AfterStatement::Goes(to)) => position = to,
             Ok(AfterStatement::Ends(end)) => return Ok(end),
             Err(halt) => return Err(halt),
@@ -68,37 +67,21 @@ fn run<E: Engine, P: Sink, U: Sink>(
     Ok(End::Done)
 }
 
-// Runs a program to its end, and prints that end too.
-fn run_to_end<E: Engine, P: Sink, U: Sink>(
+// Runs a program on a machine of its own, until the run ends.
+fn run<E: Engine, P: Sink, U: Sink>(
     alloc: Global,
-    program: &Program,
-    cards: &Cards,
+    input: RunInput<'_>,
     print: &mut P,
     punch: &mut U,
-) -> Status
-    ensures answer { IsRunAnswer linear_programming program.now cards.now
-        (Rose (P.faults print.old) (P.faults print.new))
-        (Rose (P.refusals print.old) (P.refusals print.new))
-        (Rose (U.faults punch.old) (U.faults punch.new))
-        (Rose (U.refusals punch.old) (U.refusals punch.new))
-        (code_of result) (P.written print.old) (P.written print.new)
-        (U.written punch.old) (U.written punch.new) }
-    ensures print_fault { result ≡ Status.PrintFault →
-        Rose (P.faults print.old) (P.faults print.new) }
-    ensures punch_fault { result ≡ Status.PunchFault →
-        Rose (U.faults punch.old) (U.faults punch.new) }
-    ensures reported { IsReported
-        (counts P.faults P.refusals U.faults U.refusals 0 print.old punch.old)
-        (counts P.faults P.refusals U.faults U.refusals 0 print.new punch.new)
-        (code_of result) }
-    ensures still { IsStill P.written P.stopped_at P.faults P.refusals print.old print.new ×
-        IsStill U.written U.stopped_at U.faults U.refusals punch.old punch.new }
-    ensures own { IsStatusOfRun result }
+) -> Result<End, Halt>
+    ensures { Runs linear_programming input.entry.program.now input.entry.cards.now
+        P.written P.stopped_at P.faults P.refusals print.old print.new U.written U.stopped_at U.faults U.refusals
+        punch.old punch.new
+        result }
 {
-    match run::<E, P, U>(alloc, program, cards, print, punch) {
-        Ok(end) => finish(print, &end),
-        Err(halt) => finish_halted(print, halt),
-    }
+    let first = first_after(input.program, input.cards);
+    let mut machine = Machine::<Setup<E>>::new(alloc, first);
+    run_statements(alloc, &mut machine, input, print, punch)
 }
 
 /// Runs a compiled program over the cards of its job, with the rates of any engine: prints the listing, punches the decks, and
@@ -115,36 +98,15 @@ pub fn run_on<E: Engine, P: Sink, U: Sink>(
     print: &mut P,
     punch: &mut U,
 ) -> Status
-    // for any program and any cards
-    ensures run { IsRunAnswer linear_programming program.now cards.now
-        (Rose (P.faults print.old) (P.faults print.new))
-        (Rose (P.refusals print.old) (P.refusals print.new))
-        (Rose (U.faults punch.old) (U.faults punch.new))
-        (Rose (U.refusals punch.old) (U.refusals punch.new))
-        (code_of result) (P.written print.old) (P.written print.new)
-        (U.written punch.old) (U.written punch.new) }
-    // for those of a job
-    ensures answer { (job : Job) (bytes : List ℕ) → bytes_of job ≡ Some bytes →
-        IsProgramOf bytes program.now → cards.now ≡ cards_of bytes →
-        IsAnswered linear_programming job
-        (failures_in_run (Rose (P.faults print.old) (P.faults print.new))
-        (Rose (U.faults punch.old) (U.faults punch.new))
-        (Rose (P.refusals print.old) (P.refusals print.new)))
-        (code_of result) (Appends (P.written print.old) (P.written print.new))
-        (Appends (U.written punch.old) (U.written punch.new)) }
-    ensures print_fault { result ≡ Status.PrintFault →
-        Rose (P.faults print.old) (P.faults print.new) }
-    ensures punch_fault { result ≡ Status.PunchFault →
-        Rose (U.faults punch.old) (U.faults punch.new) }
-    ensures reported { IsReported
-        (counts P.faults P.refusals U.faults U.refusals 0 print.old punch.old)
-        (counts P.faults P.refusals U.faults U.refusals 0 print.new punch.new)
-        (code_of result) }
-    ensures still { IsStill P.written P.stopped_at P.faults P.refusals print.old print.new ×
-        IsStill U.written U.stopped_at U.faults U.refusals punch.old punch.new }
-    ensures own { IsStatusOfRun result }
+    ensures { IsEndOfRun linear_programming program.now cards.now
+        P.written P.stopped_at P.faults P.refusals print.old print.new U.written U.stopped_at U.faults U.refusals
+        punch.old punch.new
+        result }
 {
-    run_to_end::<E, P, U>(alloc, program, cards, print, punch)
+    match run::<E, P, U>(alloc, RunInput { program, cards }, print, punch) {
+        Ok(end) => finish(print, &end),
+        Err(halt) => finish_halted(print, halt),
+    }
 }
 
 /// Runs a compiled program over the cards of its job, with the rates of the product form: prints the listing, punches the decks, and
@@ -161,34 +123,10 @@ pub fn run_program<P: Sink, U: Sink>(
     print: &mut P,
     punch: &mut U,
 ) -> Status
-    // for any program and any cards
-    ensures run { IsRunAnswer linear_programming program.now cards.now
-        (Rose (P.faults print.old) (P.faults print.new))
-        (Rose (P.refusals print.old) (P.refusals print.new))
-        (Rose (U.faults punch.old) (U.faults punch.new))
-        (Rose (U.refusals punch.old) (U.refusals punch.new))
-        (code_of result) (P.written print.old) (P.written print.new)
-        (U.written punch.old) (U.written punch.new) }
-    // for those of a job
-    ensures answer { (job : Job) (bytes : List ℕ) → bytes_of job ≡ Some bytes →
-        IsProgramOf bytes program.now → cards.now ≡ cards_of bytes →
-        IsAnswered linear_programming job
-        (failures_in_run (Rose (P.faults print.old) (P.faults print.new))
-        (Rose (U.faults punch.old) (U.faults punch.new))
-        (Rose (P.refusals print.old) (P.refusals print.new)))
-        (code_of result) (Appends (P.written print.old) (P.written print.new))
-        (Appends (U.written punch.old) (U.written punch.new)) }
-    ensures print_fault { result ≡ Status.PrintFault →
-        Rose (P.faults print.old) (P.faults print.new) }
-    ensures punch_fault { result ≡ Status.PunchFault →
-        Rose (U.faults punch.old) (U.faults punch.new) }
-    ensures reported { IsReported
-        (counts P.faults P.refusals U.faults U.refusals 0 print.old punch.old)
-        (counts P.faults P.refusals U.faults U.refusals 0 print.new punch.new)
-        (code_of result) }
-    ensures still { IsStill P.written P.stopped_at P.faults P.refusals print.old print.new ×
-        IsStill U.written U.stopped_at U.faults U.refusals punch.old punch.new }
-    ensures own { IsStatusOfRun result }
+    ensures { IsEndOfRun linear_programming program.now cards.now
+        P.written P.stopped_at P.faults P.refusals print.old print.new U.written U.stopped_at U.faults U.refusals
+        punch.old punch.new
+        result }
 {
     run_on::<RunEngine, P, U>(alloc, program, cards, print, punch)
 }

@@ -1,28 +1,11 @@
--- The run goes on statement by statement, and ends.
-use Rattle.std.proofs.Common.{arith}
-use Rattle.answer_definitions.specs.Real.{linear_programming}
-use Rattle.control_run.proofs.Underway.{underway_first, underway_goes, underway_ends, underway_over, underway_at_limit, underway_halted}
+-- A machine at the start of the run.
+use Rattle.std.proofs.Common.{List, subst}
+use Rattle.card_definitions.specs.Cards.{Card}
+use Rattle.deck_definitions.specs.Decks.{decks_of}
+use Rattle.run_definitions.specs.State.{start}
+use Rattle.run_setup.specs.Standing.{Represents}
 use Rattle.control_run.proofs.run.run.Goals as goal
 
-pub loop-position-init : goal.loop-position-init
-loop-position-init g c =
-    underway_first linear_programming c.args.program.now c.args.cards.now g.P.Sink.written g.P.Sink.stopped_at g.P.Sink.faults g.P.Sink.refusals g.U.Sink.written g.U.Sink.stopped_at g.U.Sink.faults g.U.Sink.refusals c.args.print.now c.args.punch.now c.new-machine.result c.first_after.result c.first_after.ensures.same
-    (c.new-machine.ensures.sound c.args.cards.now c.first_after.ensures.first c.first_after.ensures.last) (c.new-machine.ensures.start c.args.cards.now)
-
-pub returns-then-executed-ge-MAX_EXECUTED : goal.returns-then-executed-ge-MAX_EXECUTED
-returns-then-executed-ge-MAX_EXECUTED g c =
-    underway_at_limit linear_programming c.args.program.now c.args.cards.now g.P.Sink.written g.P.Sink.stopped_at g.P.Sink.faults g.P.Sink.refusals g.U.Sink.written g.U.Sink.stopped_at g.U.Sink.faults g.U.Sink.refusals c.loop-position.invariant (omega (arith, c.count.ensures.count, c.loop-position-test.true)) (omega arith)
-
-pub loop-position-preserved : goal.loop-position-preserved
-loop-position-preserved g c =
-    underway_goes linear_programming c.args.program.now c.args.cards.now g.P.Sink.written g.P.Sink.stopped_at g.P.Sink.faults g.P.Sink.refusals g.U.Sink.written g.U.Sink.stopped_at g.U.Sink.faults g.U.Sink.refusals c.in-Ok-Goes.field-0 c.in-Ok-Goes.field-0-is c.loop-position.invariant (omega arith) c.step.ensures.sound c.in-Ok-Goes.ensures.steps
-
-pub returns-in-Ok-Ends : goal.returns-in-Ok-Ends
-returns-in-Ok-Ends g c =
-    underway_ends linear_programming c.args.program.now c.args.cards.now g.P.Sink.written g.P.Sink.stopped_at g.P.Sink.faults g.P.Sink.refusals g.U.Sink.written g.U.Sink.stopped_at g.U.Sink.faults g.U.Sink.refusals c.step.new.machine c.in-Ok-Ends.field-0 c.in-Ok-Ends.end c.in-Ok-Ends.field-0-is c.loop-position.invariant (omega arith) c.in-Ok-Ends.ensures.steps
-
-pub returns-in-Err : goal.returns-in-Err
-returns-in-Err g c = underway_halted linear_programming c.args.program.now c.args.cards.now g.P.Sink.written g.P.Sink.stopped_at g.P.Sink.faults g.P.Sink.refusals g.U.Sink.written g.U.Sink.stopped_at g.U.Sink.faults g.U.Sink.refusals c.step.new.print c.step.new.punch c.step.new.machine c.in-Err.halt c.loop-position.invariant (omega arith) c.in-Err.ensures.steps
-
-pub returns : goal.returns
-returns g c = underway_over linear_programming c.args.program.now c.args.cards.now g.P.Sink.written g.P.Sink.stopped_at g.P.Sink.faults g.P.Sink.refusals g.U.Sink.written g.U.Sink.stopped_at g.U.Sink.faults g.U.Sink.refusals c.loop-position.invariant (omega (arith, c.count.ensures.count, c.loop-position-test.false))
+pub run_statements-requires-clause-start : goal.run_statements-requires-clause-start
+run_statements-requires-clause-start g c =
+    subst (λ (cards : List Card). Represents c.args.input.cards.now c.new-machine.result 1 0 (start (decks_of cards))) c.first_after-first.ensures.same (c.new-machine.ensures.start c.args.input.cards.now)

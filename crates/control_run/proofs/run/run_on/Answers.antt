@@ -1,12 +1,9 @@
 use Rattle.answer_definitions.specs.Real.{linear_programming}
-use Rattle.job_devices.specs.Causes.{Rose}
-use Rattle.control_run.specs.Finishing.{failures_in_run}
-use Rattle.control_run.proofs.Answering.{job_answered}
+use Rattle.control_run.proofs.Answering.{ended_by_end, ended_by_halt}
 use Rattle.control_run.proofs.run.run_on.Goals as goal
 
-pub returns-clause-answer : goal.returns-clause-answer
-returns-clause-answer g c = λ job bytes of_job is_program same.
-    job_answered linear_programming c.args.program.now c.args.cards.now
-    (failures_in_run (Rose (g.P.Sink.faults c.args.print.now) (g.P.Sink.faults c.run_to_end.new.print)) (Rose (g.U.Sink.faults c.args.punch.now) (g.U.Sink.faults c.run_to_end.new.punch))
-    (Rose (g.P.Sink.refusals c.args.print.now) (g.P.Sink.refusals c.run_to_end.new.print)))
-    (λ h. h) (λ h. h) (λ h. h) c.run_to_end.ensures.answer job bytes of_job is_program same
+pub returns-in-Ok : goal.returns-in-Ok
+returns-in-Ok g c = ended_by_end linear_programming c.args.program.now c.args.cards.now g.P.Sink.written g.P.Sink.stopped_at g.P.Sink.faults g.P.Sink.refusals g.U.Sink.written g.U.Sink.stopped_at g.U.Sink.faults g.U.Sink.refusals c.in-Ok.end c.in-Ok.ensures c.finish.ensures.finishes c.finish.ensures.own
+
+pub returns-in-Err : goal.returns-in-Err
+returns-in-Err g c = ended_by_halt linear_programming c.args.program.now c.args.cards.now g.P.Sink.written g.P.Sink.stopped_at g.P.Sink.faults g.P.Sink.refusals g.U.Sink.written g.U.Sink.stopped_at g.U.Sink.faults g.U.Sink.refusals _ c.in-Err.halt c.in-Err.ensures c.finish_halted.ensures.finishes c.finish_halted.ensures.own
