@@ -1,12 +1,12 @@
 // Listings as they are, and changed.
 use crate::jobs::JOBS;
 use crate::listings::{Listing, answer_to, first_other};
-use crate::plans::{BLANKS, STORE, TESTPROB, TIES, TWO_SOLUTIONS};
-use crate::refused::{FAR_POINT, GREAT, RANGE_AFTER_PRIMAL, RANGE_REFUSED};
 use crate::parametric_runs::{
     INFEASIBLE_PAST, LAMPS, MILK, RHS_INTERVALS, RHS_POINT, TWO_INTERVALS, UNBOUNDED_OPENING,
 };
-use crate::verdicts::{CONFLICT, UNBOUNDED, INFEASIBLE};
+use crate::plans::{BLANKS, STORE, TESTPROB, TIES, TWO_SOLUTIONS};
+use crate::refused::{FAR_POINT, GREAT, RANGE_AFTER_PRIMAL, RANGE_REFUSED};
+use crate::verdicts::{CONFLICT, INFEASIBLE, UNBOUNDED};
 use std::alloc::Global;
 use std::test::Fail;
 

@@ -12,10 +12,10 @@ mod jobs;
 #[cfg(test)]
 mod listings;
 #[cfg(test)]
+mod parametric_runs;
+#[cfg(test)]
 mod plans;
 #[cfg(test)]
 mod refused;
-#[cfg(test)]
-mod parametric_runs;
 #[cfg(test)]
 mod verdicts;

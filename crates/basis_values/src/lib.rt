@@ -11,8 +11,8 @@ pub mod reach;
 mod wants;
 
 pub use choices::{
-    counted, crossed, entering_variable, is_less, is_minimized, lies_below, may_lower, outside, stands_basic,
-    wrong_price,
+    counted, crossed, entering_variable, is_less, is_minimized, lies_below, may_lower, outside,
+    stands_basic, wrong_price,
 };
 pub use formula::{Formula, plus_product};
 pub use point::point_of;

@@ -478,7 +478,14 @@ fn run<R: Rates>(
     )? {
         None => {
             let point = whole_point(alloc, at, rates)?;
-            Ok(Turn::Ends(unbounded_ending(alloc, at.lp, point, direction.values(), moved.up, at.steps)?))
+            Ok(Turn::Ends(unbounded_ending(
+                alloc,
+                at.lp,
+                point,
+                direction.values(),
+                moved.up,
+                at.steps,
+            )?))
         }
         Some(by) => {
             if at.left == 0 {

@@ -4,12 +4,12 @@
 mod execute;
 mod finish;
 mod parametric;
+mod parametric_run;
 mod ranges;
 mod run;
 mod solution;
 mod solving;
 mod status;
-mod parametric_run;
 
 pub use run::{RunEngine, run_on, run_program};
 pub use status::Status;

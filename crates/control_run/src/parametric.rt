@@ -20,8 +20,8 @@ ghost use Rattle.run_machine.specs.Findings.{ReportsFinding};
 ghost use Rattle.parametric_request.specs.Asking.{verb_of};
 ghost use Rattle.control_run.specs.ParametricVerbs.{refusal_of, parametric_run_view, Serves, StopsParametricRun, ParametricRunFinds, ParametricRuns, IsRunOverflow, value_left, cells_left};
 
-use crate::solving::mark_of;
 use crate::parametric_run::{ParametricRun, run_of};
+use crate::solving::mark_of;
 use bounded_primal::PrimalStop;
 use frac128::{Frac, Refused};
 use job_devices::Sink;

@@ -73,7 +73,12 @@ pub fn rate_by_column(file: &EtaFile, i: u32, k: u32, workspace: &mut [Frac]) ->
 }
 
 /// Fills `out` with the rates of the basic `i`, by the column of each nonbasic, with room for it. It takes no memory.
-fn row_by_columns(file: &EtaFile, i: u32, out: &mut [Frac], workspace: &mut [Frac]) -> Result<(), Stop>
+fn row_by_columns(
+    file: &EtaFile,
+    i: u32,
+    out: &mut [Frac],
+    workspace: &mut [Frac],
+) -> Result<(), Stop>
     requires basic { IsBasic file.now.matrix file.now.basics i }
     requires places { length out.old ≡ size file.now.matrix }
     requires workspace { length workspace.old ≡ size file.now.matrix }

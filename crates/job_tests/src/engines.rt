@@ -1,7 +1,7 @@
 // The machine over more than one engine: the listing and the status of a job do not depend on what keeps the rates.
 use crate::no_memory::Starved;
-use crate::rows::{PLANS, RANGES, Row};
 use crate::parametric_runs::PARAMETRIC;
+use crate::rows::{PLANS, RANGES, Row};
 use card_reader::read_job;
 use control_compiler::compile;
 use control_run::{RunEngine, Status, run_on};
@@ -54,7 +54,10 @@ fn the_table_of_rates_runs_jobs(rt: HostRuntime) -> Result<(), Fail> {
 fn the_engine_of_runs_runs_jobs(rt: HostRuntime) -> Result<(), Fail> {
     assert_eq!(rt; first_unreported::<RunEngine>(rt.alloc(), &PLANS)?, None);
     assert_eq!(rt; first_unreported::<RunEngine>(rt.alloc(), &RANGES)?, None);
-    assert_eq!(rt; first_unreported::<RunEngine>(rt.alloc(), &PARAMETRIC)?, None);
+    assert_eq!(rt;
+        first_unreported::<RunEngine>(rt.alloc(), &PARAMETRIC)?,
+        None
+    );
     Ok(())
 }
 

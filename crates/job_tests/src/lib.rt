@@ -16,10 +16,10 @@ mod jobs;
 #[cfg(test)]
 mod no_memory;
 #[cfg(test)]
+mod parametric_runs;
+#[cfg(test)]
 mod rows;
 #[cfg(test)]
 mod runs;
-#[cfg(test)]
-mod parametric_runs;
 #[cfg(test)]
 mod words;

@@ -1,11 +1,11 @@
 // Jobs without words over devices that don't fail.
 use crate::bases::BASES;
 use crate::jobs::answer_of;
+use crate::parametric_runs::PARAMETRIC;
 use crate::rows::{
     CONTROL_FAULTS, DECK_FAULTS, DECKS, DeckRow, OVERFLOWS, PLANS, RANGES, REVISIONS, Row,
     VERB_FAULTS, VERDICTS,
 };
-use crate::parametric_runs::PARAMETRIC;
 use std::alloc::Global;
 use std::test::Fail;
 

@@ -11,11 +11,12 @@ mod families;
 mod intervals;
 mod judging;
 mod openings;
+mod parametric_runs;
 mod solution;
 mod solution_tests;
-mod parametric_runs;
 mod words;
 
 pub use answer::{
-    Conclusion, Stop, ParametricRunAnswer, answer_to_path, answer_to_solution, answer_to_parametric_run,
+    Conclusion, ParametricRunAnswer, Stop, answer_to_parametric_run, answer_to_path,
+    answer_to_solution,
 };

@@ -19,7 +19,8 @@ use crate::went::Went;
 use frac128::Frac;
 use job_devices::NoMemory;
 use listing_answers::{
-    Conclusion, Stop, ParametricRunAnswer, answer_to_path, answer_to_solution, answer_to_parametric_run,
+    Conclusion, ParametricRunAnswer, Stop, answer_to_parametric_run, answer_to_path,
+    answer_to_solution,
 };
 use listing_definitions::{Mark, Solver};
 use listing_tables::Sheet;

@@ -10,6 +10,7 @@ mod execute;
 mod follow;
 mod found;
 mod inserting;
+mod parametric_runs;
 mod place;
 mod reporting;
 mod selecting;
@@ -17,7 +18,6 @@ mod setup;
 mod solution;
 mod solving;
 mod statements;
-mod parametric_runs;
 mod went;
 
 pub use course::{closes, walk};

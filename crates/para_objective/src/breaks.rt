@@ -36,7 +36,13 @@ fn may_move(lp: &Lp, basis: &Basis, theta: Frac, price: Frac, rate: Frac, k: u32
 }
 
 /// The least-numbered of those that may move, from the prices and the rates of the change row.
-fn entering_variable_by(lp: &Lp, basis: &Basis, prices: &[Frac], change: &[Frac], theta: Frac) -> Option<u32>
+fn entering_variable_by(
+    lp: &Lp,
+    basis: &Basis,
+    prices: &[Frac],
+    change: &[Frac],
+    theta: Frac,
+) -> Option<u32>
     requires counted { length basis.now ≡ size lp.now.matrix }
     requires prices { length prices.now ≡ size lp.now.matrix }
     requires places { length change.now ≡ size lp.now.matrix }

@@ -3,7 +3,7 @@
 use crate::breaks::face_entering_variable;
 use crate::reaching::reach;
 use crate::rows::fill_rows;
-use crate::turns::{unbounded_end, rises, stopper_of};
+use crate::turns::{rises, stopper_of, unbounded_end};
 use bounded_primal::{PrimalStop, primal};
 use frac128::Frac;
 use lp_model::{Basis, Change, Lp, Outcome, ParaPart, Point, Rates, Stop};

@@ -7,9 +7,9 @@ mod limits;
 mod method;
 mod parts;
 mod reaching;
+mod reported;
 mod run;
 mod slopes;
-mod reported;
 mod turns;
 
 pub use breaks::{Leaver, face_leaver};

@@ -4,7 +4,7 @@ use crate::breaks::face_leaver;
 use crate::limits::program_at;
 use crate::reaching::reach;
 use crate::reported::reported_at;
-use crate::turns::{entering, returning, infeasible_end};
+use crate::turns::{entering, infeasible_end, returning};
 use bounded_primal::{PrimalStop, point_of, prices_of, primal};
 use frac128::Frac;
 use lp_model::{Basis, Lp, Outcome, ParaPart, Point, Rates, Stop};

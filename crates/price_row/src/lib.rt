@@ -114,7 +114,15 @@ impl PriceRow {
             return Ok(found);
         }
         multipliers(file, i, &mut self.multipliers, &mut self.workspace)?;
-        fill_to_wanted(file, i, &self.multipliers, wanted, up, out, &mut self.workspace)
+        fill_to_wanted(
+            file,
+            i,
+            &self.multipliers,
+            wanted,
+            up,
+            out,
+            &mut self.workspace,
+        )
     }
 }
 
