@@ -1,11 +1,10 @@
 -- A run that is underway, and what each statement makes of it.
-use Rattle.std.proofs.Common.{◌≡◌, ℕ, ◌+◌, ◌-◌, ◌≤◌, ◌<◌, List, [], ◌++◌, Option, Ok, Err, drop, length, refl, sym, subst, arith}
+use Rattle.std.proofs.Common.{◌≡◌, ℕ, ◌+◌, ◌≤◌, ◌<◌, List, [], ◌++◌, Option, Ok, Err, length, refl, sym, subst, arith}
 use Rattle.job_devices.proofs.TextLemmas.{Appends-then, writes_then, writes_same, writes_nothing}
 use Rattle.job_devices.specs.declared.device.WriteStop.{WriteStop}
 use Rattle.job_devices.specs.declared.device.WriteStop.TheVariants.{Failed, NoMemory}
 use Rattle.card_definitions.specs.Prefixes.{IsPrefix}
 use Rattle.job_devices.specs.Text.{Writes}
-use Rattle.card_definitions.specs.Cards.{numbered_cards}
 use Rattle.deck_definitions.specs.Written.{card_text}
 use Rattle.control_definitions.specs.Program.{Program}
 use Rattle.listing_definitions.specs.Report.{Report}

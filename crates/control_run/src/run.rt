@@ -109,13 +109,7 @@ pub fn run_on<E: Engine, P: Sink, U: Sink>(
     }
 }
 
-/// Runs a compiled program over the cards of its job, with the rates of the product form: prints the listing, punches the decks, and
-/// answers how the run ended, as `run_on` does.
-///
-/// A run ends by itself; where memory is wanted, or a write to the punch fails, the listing ends with that, if it can. After a
-/// fault of the print, or where the print itself runs out of memory, nothing more is printed. After a fault of the punch, or where it
-/// runs out of memory, nothing more is punched: it has gained all that was punched so far, and a prefix of the deck in hand. The
-/// status reports whichever of these came.
+/// Runs a compiled program over the cards of its job as `run_on` does, with the rates of the product form.
 pub fn run_program<P: Sink, U: Sink>(
     alloc: Global,
     program: &Program,

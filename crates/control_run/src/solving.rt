@@ -133,27 +133,34 @@ fn follow_dual<P: Sink, R: Rates>(
     }
 }
 
-// Follows the path of a verb from a basis, within the limit that the cells give it, and prints its verdict.
+// The path that is followed: that of a verb, within the limit that the cells give it.
+#[derive(Clone, Copy)]
+struct PathRequest<'a> {
+    verb: SolvingVerb,
+    cells: &'a Cells,
+}
+
+// Follows a path from a basis, and prints its verdict.
 fn follow<P: Sink, R: Rates>(
     alloc: Global,
     sheet: Sheet<'_>,
     basis: &mut Basis,
     rates: &mut R,
-    verb: SolvingVerb,
-    cells: &Cells,
+    path: PathRequest<'_>,
     print: &mut P,
 ) -> Result<Finding, Halt>
     requires sheet { IsSheet sheet }
     requires lawful { IsLinearProgram sheet.lp.now }
     requires no_change { sheet.lp.now.change ≡ None }
     requires rates { HasRates (R.matrix rates.old) (R.basics rates.old) sheet.lp.now basis.old }
-    ensures tells { ReportsFinding (PathFinds (solver_of verb) (sheet_view sheet.entry) basis.old basis.new
-        (limit_of verb cells.now) (R.waypoints rates.old) (R.waypoints rates.new))
+    ensures tells { ReportsFinding (PathFinds (solver_of path.entry.verb) (sheet_view sheet.entry) basis.old basis.new
+        (limit_of path.entry.verb path.entry.cells.now) (R.waypoints rates.old) (R.waypoints rates.new))
         P.written P.stopped_at P.faults P.refusals print.old print.new result }
     ensures rates { HasRates (R.matrix rates.new) (R.basics rates.new)
         sheet.entry.lp.now basis.new }
 {
-    match verb {
+    let cells = path.cells;
+    match path.verb {
         SolvingVerb::Primal => follow_primal(alloc, sheet, basis, rates, cells.limit(), print),
         SolvingVerb::Dual => {
             follow_dual(alloc, sheet, basis, rates, cells.steps_allowed(), print)
@@ -196,8 +203,7 @@ fn find<E: Engine, P: Sink>(
         sheet,
         &mut setup.basis,
         &mut setup.engine,
-        verb,
-        cells,
+        PathRequest { verb, cells },
         print,
     )
 }
