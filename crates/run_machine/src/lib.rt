@@ -6,13 +6,11 @@
 mod act;
 mod bcdout;
 mod cells;
-mod convert;
 mod end;
 mod ending;
 mod finding;
 mod kept;
 mod machine;
-mod revise;
 mod selecting;
 mod taking;
 mod title;

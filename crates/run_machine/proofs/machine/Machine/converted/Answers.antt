@@ -1,6 +1,6 @@
 -- What CONVERT finds.
 use Rattle.run_machine.proofs.Filing.{finds_no_deck, finds_a_deck}
-use Rattle.run_machine.proofs.machine.Machine.described.Goals as goal
+use Rattle.run_machine.proofs.machine.Machine.converted.Goals as goal
 
 pub returns-in_default : goal.returns-in_default
 returns-in_default g c =
