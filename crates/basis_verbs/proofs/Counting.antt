@@ -1,11 +1,12 @@
 -- Basic columns are counted one by one.
-use Rattle.std.proofs.Common.{◌≡◌, ℕ, suc, ◌+◌, Bool, true, false, List, [], ◌∷◌, ◌++◌, cond, length, filter, refl, sym, ap, ◌∙◌, arith}
+use Rattle.std.proofs.Common.{◌≡◌, ℕ, suc, ◌+◌, ◌-◌, ◌≤◌, Bool, true, false, List, [], ◌∷◌, ◌++◌, cond, length, filter, refl, sym, ap, subst, ◌∙◌, arith}
 use Rattle.std.proofs.lemmas.List.{append-nil}
 use Rattle.std.proofs.lemmas.List.Elements.{filter-append}
 use Rattle.lp_definitions.specs.LinearProgram.{LinearProgram, numbers_from}
-use Rattle.lp_definitions.specs.Basis.{is_basic, status_of}
+use Rattle.lp_definitions.specs.Basis.{is_basic, is_in, basics_of, status_of}
 use Rattle.lp_definitions.specs.declared.Status.{Status}
 use Rattle.lp_laws.proofs.Opening.{numbers_from-append}
+use Rattle.lp_laws.proofs.Uniqueness.{is_in-basics_of}
 
 -- the basic columns among the first of them
 abbrev pub basics_so_far : LinearProgram → List Status → ℕ → List ℕ
@@ -31,8 +32,23 @@ module _ (lp : LinearProgram) (s : List Status) (c column : ℕ) (place : lp.row
   by_status : (b : Bool) → is_basic (status_of s column) ≡ b → length (basics_so_far lp s (c + 1)) ≡ length (basics_so_far lp s c) + cond b 1 0
   by_status b is = one_more lp s c ∙ ap (λ (k : ℕ). length (basics_so_far lp s c) + cond (is_basic (status_of s k)) 1 0) place ∙ ap (λ (m : Bool). length (basics_so_far lp s c) + cond m 1 0) is
 
-  pub not_counted : is_basic (status_of s column) ≡ false → length (basics_so_far lp s (c + 1)) ≡ length (basics_so_far lp s c)
+  not_counted : is_basic (status_of s column) ≡ false → length (basics_so_far lp s (c + 1)) ≡ length (basics_so_far lp s c)
   not_counted out = by_status false out ∙ omega arith
 
-  pub counted_in : is_basic (status_of s column) ≡ true → length (basics_so_far lp s (c + 1)) ≡ length (basics_so_far lp s c) + 1
+  counted_in : is_basic (status_of s column) ≡ true → length (basics_so_far lp s (c + 1)) ≡ length (basics_so_far lp s c) + 1
   counted_in basic = by_status true basic
+
+-- the same, where k variables were gone through, of which the rows come first
+module _ (lp : LinearProgram) (s : List Status) (k count : ℕ) (past : lp.rows ≤ k) (within : k + 1 ≤ length s) (so_far : count ≡ length (basics_so_far lp s (k - lp.rows))) where
+  one_column_more : k - lp.rows + 1 ≡ k + 1 - lp.rows
+  one_column_more = omega arith
+
+  pub counted_next : is_in (basics_of s) (k + 1) ≡ true → count + 1 ≡ length (basics_so_far lp s (k + 1 - lp.rows))
+  counted_next basic =
+      let is = counted_in lp s (k - lp.rows) (k + 1) (omega (arith, past)) (sym (is_in-basics_of s (k + 1) (omega arith) within) ∙ basic) in
+      subst (λ n. count + 1 ≡ length (basics_so_far lp s n)) one_column_more (omega (arith, so_far, is))
+
+  pub passed_next : is_in (basics_of s) (k + 1) ≡ false → count ≡ length (basics_so_far lp s (k + 1 - lp.rows))
+  passed_next out =
+      let is = not_counted lp s (k - lp.rows) (k + 1) (omega (arith, past)) (sym (is_in-basics_of s (k + 1) (omega arith) within) ∙ out) in
+      subst (λ n. count ≡ length (basics_so_far lp s n)) one_column_more (omega (arith, so_far, is))

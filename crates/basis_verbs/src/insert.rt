@@ -113,13 +113,11 @@ fn basic_count(lp: &Lp, basis: &Basis) -> u32
     requires { length basis.now ≡ size lp.now.matrix }
     ensures { result ≡ length (basic_columns lp.now basis.now) }
 {
-    let _size = lp.number_of_variables();
     let mut count = 0;
-    for c in 0..lp.cols {
-        if !stands_basic(basis, lp.rows + c + 1) {
-            continue;
+    for k in lp.rows..lp.number_of_variables() {
+        if stands_basic(basis, k + 1) {
+            count += 1;
         }
-        count += 1;
     }
     count
 }
