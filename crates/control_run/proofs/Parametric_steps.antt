@@ -49,7 +49,7 @@ use Rattle.control_run.proofs.Selected_again.{name_kept, options_kept, basis_kep
 use Rattle.run_machine.specs.declared.selecting.Refusal.{Refusal}
 use Rattle.run_machine.specs.declared.selecting.Refusal.TheVariants.{Fault, NoMemory}
 use Rattle.run_machine.specs.declared.selecting.Refusal.TheVariants as refusal
-use Rattle.control_run.specs.declared.parametric_run.ParametricRun.{ParametricRun as OwnParametricRun}
+use Rattle.control_run.specs.declared.requested_run.ParametricRun.{ParametricRun as OwnParametricRun}
 use Rattle.parametric_request.specs.declared.request.ParametricVerb.{ParametricVerb}
 use Rattle.run_machine.specs.Choosing.{IsUnselected}
 use Rattle.run_machine.specs.Ends.{place_view}

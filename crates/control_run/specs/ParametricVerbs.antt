@@ -44,8 +44,8 @@ use Rattle.parametric_request.specs.declared.request.Change.TheVariants as chang
 use Rattle.parametric_request.specs.declared.request.RequestStop.{RequestStop}
 use Rattle.parametric_request.specs.declared.request.RequestStop.TheVariants as stops
 use Rattle.parametric_request.specs.Asking.{IsAsked, IsAskFault, ServesChange}
-use Rattle.control_run.specs.declared.parametric_run.ParametricRun.{ParametricRun as OwnParametricRun}
-use Rattle.control_run.specs.declared.parametric_run.ParametricRun.TheVariants as own
+use Rattle.control_run.specs.declared.requested_run.ParametricRun.{ParametricRun as OwnParametricRun}
+use Rattle.control_run.specs.declared.requested_run.ParametricRun.TheVariants as own
 use Rattle.run_machine.specs.Choosing.{HasSelectionFault, HasSelectionOverflow}
 use Rattle.run_machine.specs.Ends.{place_view}
 use Rattle.run_setup.specs.Overflows.{IsOverflowAt}

@@ -8,7 +8,7 @@ ghost use Rattle.run_machine.specs.Statements.{IsSoundVerb};
 ghost use Rattle.run_setup.specs.Statements.{Performs};
 ghost use Rattle.control_run.specs.Running.{Steps};
 
-use crate::parametric::parametric_run;
+use crate::parametric::show_parametric_run;
 use crate::ranges::show_ranges;
 use crate::solution::show_solution;
 use crate::solving::{SolvingVerb, solve};
@@ -62,8 +62,8 @@ fn execute<E: Engine, P: Sink, U: Sink>(
         Verb::Solution => show_solution(alloc, machine, print, card),
         Verb::Revise => machine.revise(alloc, cards, print, card),
         Verb::Ranging => show_ranges(alloc, machine, print, card),
-        Verb::Paraobj => parametric_run(alloc, machine, print, card, ParametricVerb::Paraobj),
-        Verb::Pararhs => parametric_run(alloc, machine, print, card, ParametricVerb::Pararhs),
+        Verb::Paraobj => show_parametric_run(alloc, machine, print, card, ParametricVerb::Paraobj),
+        Verb::Pararhs => show_parametric_run(alloc, machine, print, card, ParametricVerb::Pararhs),
         Verb::Bcdout => machine.punch_problem(print, punch, card),
         Verb::Punch => punch_present(alloc, machine, print, punch, card),
         Verb::Insert => insert_basis(alloc, machine, cards, print, card),

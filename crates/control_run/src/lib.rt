@@ -4,8 +4,8 @@
 mod execute;
 mod finish;
 mod parametric;
-mod parametric_run;
 mod ranges;
+mod requested_run;
 mod run;
 mod solution;
 mod solving;

@@ -20,7 +20,7 @@ ghost use Rattle.run_machine.specs.Findings.{ReportsFinding};
 ghost use Rattle.parametric_request.specs.Asking.{verb_of};
 ghost use Rattle.control_run.specs.ParametricVerbs.{refusal_of, parametric_run_view, Serves, StopsParametricRun, ParametricRunFinds, ParametricRuns, IsRunOverflow, value_left, cells_left};
 
-use crate::parametric_run::{ParametricRun, run_of};
+use crate::requested_run::{ParametricRun, run_of};
 use crate::solving::mark_of;
 use bounded_primal::PrimalStop;
 use frac128::{Frac, Refused};
@@ -268,7 +268,7 @@ fn leave_value(cells: &mut Cells, finding: &Finding)
 /// The statement is refused where there is no setup, where the cells select nothing, where XCHROW names no N row or XCHCOL no
 /// right-hand side set, and where XPARMAX isn't set or is less than XPARAM. It ends the run where the run along the parameter goes on
 /// past the limit of steps, and where an operation is refused. Where there is no memory, nothing is printed.
-pub fn parametric_run<E: Engine, P: Sink>(
+pub fn show_parametric_run<E: Engine, P: Sink>(
     alloc: Global,
     machine: &mut Machine<Setup<E>>,
     print: &mut P,

@@ -93,14 +93,14 @@ returns-in-Ranging-clause-acts g c =
 pub returns-in-Paraobj-clause-acts : goal.returns-in-Paraobj-clause-acts
 returns-in-Paraobj-clause-acts g c =
     rw c.in-Paraobj.is
-    (punches_nothing g.U.Sink.written g.U.Sink.stopped_at g.U.Sink.faults g.U.Sink.refusals c.args.punch.now IsPresent (Gives linear_programming) program.Paraobj c.args.statement.now.card g.P.Sink.written g.P.Sink.stopped_at g.P.Sink.faults g.P.Sink.refusals c.args.print.now c.parametric_run.new.print c.args.cards.now c.args.machine.now c.parametric_run.new.machine c.parametric_run.result
-    (c.parametric_run.ensures.acts c.args.cards.now))
+    (punches_nothing g.U.Sink.written g.U.Sink.stopped_at g.U.Sink.faults g.U.Sink.refusals c.args.punch.now IsPresent (Gives linear_programming) program.Paraobj c.args.statement.now.card g.P.Sink.written g.P.Sink.stopped_at g.P.Sink.faults g.P.Sink.refusals c.args.print.now c.show_parametric_run.new.print c.args.cards.now c.args.machine.now c.show_parametric_run.new.machine c.show_parametric_run.result
+    (c.show_parametric_run.ensures.acts c.args.cards.now))
 
 pub returns-in-Pararhs-clause-acts : goal.returns-in-Pararhs-clause-acts
 returns-in-Pararhs-clause-acts g c =
     rw c.in-Pararhs.is
-    (punches_nothing g.U.Sink.written g.U.Sink.stopped_at g.U.Sink.faults g.U.Sink.refusals c.args.punch.now IsPresent (Gives linear_programming) program.Pararhs c.args.statement.now.card g.P.Sink.written g.P.Sink.stopped_at g.P.Sink.faults g.P.Sink.refusals c.args.print.now c.parametric_run-in-Pararhs.new.print c.args.cards.now c.args.machine.now c.parametric_run-in-Pararhs.new.machine c.parametric_run-in-Pararhs.result
-    (c.parametric_run-in-Pararhs.ensures.acts c.args.cards.now))
+    (punches_nothing g.U.Sink.written g.U.Sink.stopped_at g.U.Sink.faults g.U.Sink.refusals c.args.punch.now IsPresent (Gives linear_programming) program.Pararhs c.args.statement.now.card g.P.Sink.written g.P.Sink.stopped_at g.P.Sink.faults g.P.Sink.refusals c.args.print.now c.show_parametric_run-in-Pararhs.new.print c.args.cards.now c.args.machine.now c.show_parametric_run-in-Pararhs.new.machine c.show_parametric_run-in-Pararhs.result
+    (c.show_parametric_run-in-Pararhs.ensures.acts c.args.cards.now))
 
 pub returns-in-Bcdout-clause-acts : goal.returns-in-Bcdout-clause-acts
 returns-in-Bcdout-clause-acts g c =

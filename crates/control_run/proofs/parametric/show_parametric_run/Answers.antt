@@ -4,7 +4,7 @@ use Rattle.std.proofs.lemmas.Result.{err_from_is_err_and}
 use Rattle.control_run.proofs.Keeping.{sound_cleared, sound_run_through}
 use Rattle.run_setup.proofs.Present.{ready_of}
 use Rattle.control_run.proofs.Parametric_comes.{parametric_run_no_setup, parametric_run_found, parametric_run_cut}
-use Rattle.control_run.proofs.parametric.parametric_run.Goals as goal
+use Rattle.control_run.proofs.parametric.show_parametric_run.Goals as goal
 
 pub returns-in_default-clause-acts : goal.returns-in_default-clause-acts
 returns-in_default-clause-acts g c = λ cards. rw c.act.ensures (parametric_run_no_setup c.args.verb c.args.card g.P.Sink.written g.P.Sink.stopped_at g.P.Sink.faults g.P.Sink.refusals cards c.args.machine.now c.args.print.now c.in_default.is)
