@@ -6,6 +6,7 @@ ghost use Rattle.lp_definitions.specs.LinearProgram.{value_at, on_row};
 ghost use Rattle.lp_definitions.specs.RatesEvidence.{Names};
 ghost use Rattle.eta_file.specs.Entries.{sum_rate, others, IsEntryWithin, AreApart, AreDistinctRows, IsRowWithin};
 ghost use Rattle.eta_file.specs.Crossings.{IsWithinPlaces, IsSubtracted, IsCrossed, IsScaled, IsLeaving, IsColumnFilled, AreZero, NoneLater, LeftAt};
+ghost use Rattle.eta_file.specs.Formulas.{number_of, basic_of, nonbasic_of};
 ghost use Rattle.eta_file.specs.Refusals.{IsRefusal, IsRestRefused, SubtractRefused, CrossRefused, ScaleRefused, LeaveRefused};
 
 use crate::eta::{EtaEntry, StoredEta};
@@ -13,6 +14,60 @@ use crate::steps::Steps;
 use frac128::{Frac, Op, Refused};
 use lp_model::{Entry, Evidence};
 use std::sync::ledger::Ledger;
+
+/// A formula of an exchange, with the basic `i` and the nonbasic `j` that it is of besides the leaver and the entering variable.
+#[derive(Clone, Copy)]
+enum ExchangeFormula {
+    /// The rate of the leaver at `j` over the pivot.
+    Quotient { j: u32 },
+    /// That quotient times the rate of `i` at the entering variable.
+    Product { i: u32, j: u32 },
+    /// The rate of `i` at `j` less that product.
+    Difference { i: u32, j: u32 },
+    /// 1 over the pivot.
+    Reciprocal,
+    /// That reciprocal times the rate of `i` at the entering variable.
+    Multiple { i: u32 },
+}
+
+impl ExchangeFormula {
+    /// The number by which a listing names it.
+    fn number(self) -> u8
+        ensures { result ≡ number_of self }
+    {
+        match self {
+            ExchangeFormula::Quotient { .. } => 1,
+            ExchangeFormula::Product { .. } => 2,
+            ExchangeFormula::Difference { .. } => 3,
+            ExchangeFormula::Reciprocal => 4,
+            ExchangeFormula::Multiple { .. } => 5,
+        }
+    }
+
+    /// The basic that it is of, or 0.
+    fn basic(self) -> u32
+        ensures { result ≡ basic_of self }
+    {
+        match self {
+            ExchangeFormula::Product { i, .. }
+            | ExchangeFormula::Difference { i, .. }
+            | ExchangeFormula::Multiple { i } => i,
+            ExchangeFormula::Quotient { .. } | ExchangeFormula::Reciprocal => 0,
+        }
+    }
+
+    /// The nonbasic that it is of, or 0.
+    fn nonbasic(self) -> u32
+        ensures { result ≡ nonbasic_of self }
+    {
+        match self {
+            ExchangeFormula::Quotient { j }
+            | ExchangeFormula::Product { j, .. }
+            | ExchangeFormula::Difference { j, .. } => j,
+            ExchangeFormula::Reciprocal | ExchangeFormula::Multiple { .. } => 0,
+        }
+    }
+}
 
 /// An eta on the way of a column: the number of the set before it, and its exchange.
 #[derive(Clone, Copy)]
@@ -24,19 +79,20 @@ struct Crossing {
 
 impl Crossing {
     /// The evidence that a formula is refused at the set before the eta.
-    fn evidence(self, formula: u8, i: u32, j: u32, refused: Refused) -> Evidence
-        ensures names { Names result formula self.p self.q i j 0 }
+    fn evidence(self, formula: ExchangeFormula, refused: Refused) -> Evidence
+        ensures names { Names result (number_of formula) self.p self.q (basic_of formula)
+            (nonbasic_of formula) 0 }
         ensures way { result.way ≡ self.way }
         ensures no_theta { result.theta ≡ zero_ℚ }
         ensures refused { result.refused ≡ refused }
     {
         Evidence {
-            formula,
+            formula: formula.number(),
             way: self.way,
             p: self.p,
             q: self.q,
-            i,
-            j,
+            i: formula.basic(),
+            j: formula.nonbasic(),
             term: 0,
             theta: Frac::whole(0),
             refused,
@@ -57,8 +113,7 @@ impl Crossing {
         ensures cost { steps.new ≡ steps.old + 1 }
     {
         steps.tick();
-        lead.div(pivot)
-            .map_err(|refused| self.evidence(1, 0, j, refused))
+        lead.div(pivot).map_err(|refused| self.evidence(ExchangeFormula::Quotient { j }, refused))
     }
 
     /// 1 over the pivot.
@@ -70,8 +125,7 @@ impl Crossing {
     {
         steps.tick();
         let one = Frac::whole(1);
-        one.div(pivot)
-            .map_err(|refused| self.evidence(4, 0, 0, refused))
+        one.div(pivot).map_err(|refused| self.evidence(ExchangeFormula::Reciprocal, refused))
     }
 
     /// The reciprocal times the rate of `i` at the entering variable.
@@ -88,9 +142,10 @@ impl Crossing {
         ensures cost { steps.new ≡ steps.old + 1 }
     {
         steps.tick();
-        reciprocal
-            .mul(rate)
-            .map_err(|refused| self.evidence(5, i, 0, refused))
+        reciprocal.mul(rate).map_err(|refused| self.evidence(
+            ExchangeFormula::Multiple { i },
+            refused,
+        ))
     }
 
     /// The quotient times the rate of `i` at the entering variable.
@@ -99,9 +154,10 @@ impl Crossing {
         ensures refused { IfErr result (IsRefusal self.way 2 self.p self.q i j Op.Mul
             quotient factor) }
     {
-        quotient
-            .mul(factor)
-            .map_err(|refused| self.evidence(2, i, j, refused))
+        quotient.mul(factor).map_err(|refused| self.evidence(
+            ExchangeFormula::Product { i, j },
+            refused,
+        ))
     }
 
     /// The rate of `i` at `j` less such a product.
@@ -110,8 +166,10 @@ impl Crossing {
         ensures refused { IfErr result (IsRefusal self.way 3 self.p self.q i j Op.Sub
             rate product) }
     {
-        rate.sub(product)
-            .map_err(|refused| self.evidence(3, i, j, refused))
+        rate.sub(product).map_err(|refused| self.evidence(
+            ExchangeFormula::Difference { i, j },
+            refused,
+        ))
     }
 
     /// The rate at `j` of the basic of an entry without its part along the entering variable's direction. Where the product or the
