@@ -3,4 +3,5 @@ pub mod Placed
 pub mod Lines
 pub mod Opening
 pub mod Table
+pub mod Formulas
 pub mod Refusals

@@ -5,6 +5,7 @@ ghost use Rattle.exact_values.specs.Rational.{ℚ, zero_ℚ, one_ℚ, ◌-ℚ◌
 ghost use Rattle.lp_definitions.specs.LinearProgram.{value_at};
 ghost use Rattle.lp_definitions.specs.RatesEvidence.{Names};
 ghost use Rattle.rates_dense.specs.Lines.{IsFilled, quotient_at, AreNumbers, AreChanged, IsFilledAt, IsTakenOver, entering_rate, staying_rate, IsBlankLine, IsWritten, IsUnchanged, SameRates, IsReady, IsCommitted};
+ghost use Rattle.rates_dense.specs.Formulas.{number_of};
 ghost use Rattle.rates_dense.specs.Refusals.{IsRefusal, IsDifferenceRefused, QuotientRefused, StayingRefused};
 
 use frac128::{Frac, Op, Refused};
@@ -61,6 +62,36 @@ pub struct Exchange {
     pub q: u32,
 }
 
+/// A formula of an exchange.
+#[derive(Clone, Copy)]
+enum ExchangeFormula {
+    /// The rate of the leaver at `j` over the pivot.
+    Quotient,
+    /// That quotient times the rate of `i` at the entering variable.
+    Product,
+    /// The rate of `i` at `j` less that product.
+    Difference,
+    /// 1 over the pivot.
+    Reciprocal,
+    /// That reciprocal times the rate of `i` at the entering variable.
+    Multiple,
+}
+
+impl ExchangeFormula {
+    /// The number by which a listing names it.
+    fn number(self) -> u8
+        ensures { result ≡ number_of self }
+    {
+        match self {
+            ExchangeFormula::Quotient => 1,
+            ExchangeFormula::Product => 2,
+            ExchangeFormula::Difference => 3,
+            ExchangeFormula::Reciprocal => 4,
+            ExchangeFormula::Multiple => 5,
+        }
+    }
+}
+
 /// An exchange of `p` for `q`, and the rate of `i` at `j` that it changes.
 #[derive(Clone, Copy)]
 struct Cell {
@@ -72,14 +103,14 @@ struct Cell {
 
 impl Cell {
     /// The evidence that a formula is refused at the present basics.
-    fn evidence(self, formula: u8, refused: Refused) -> Evidence
-        ensures names { Names result formula self.p self.q self.i self.j 0 }
+    fn evidence(self, formula: ExchangeFormula, refused: Refused) -> Evidence
+        ensures names { Names result (number_of formula) self.p self.q self.i self.j 0 }
         ensures present { result.way ≡ 0 }
         ensures no_theta { result.theta ≡ zero_ℚ }
         ensures refused { result.refused ≡ refused }
     {
         Evidence {
-            formula,
+            formula: formula.number(),
             way: 0,
             p: self.p,
             q: self.q,
@@ -104,7 +135,7 @@ impl Cell {
         if let Some(quotient) = by_unit(rate, pivot) {
             return Ok(quotient);
         }
-        rate.div(pivot).map_err(|refused| self.evidence(1, refused))
+        rate.div(pivot).map_err(|refused| self.evidence(ExchangeFormula::Quotient, refused))
     }
 
     /// 1 over the pivot.
@@ -115,7 +146,7 @@ impl Cell {
             one_ℚ pivot) }
     {
         let one = Frac::whole(1);
-        one.div(pivot).map_err(|refused| self.evidence(4, refused))
+        one.div(pivot).map_err(|refused| self.evidence(ExchangeFormula::Reciprocal, refused))
     }
 
     /// The rate at the leaver: the quotient there, times the rate at the entering variable.
@@ -127,9 +158,7 @@ impl Cell {
         if let Some(multiple) = product_by_unit(quotient, factor) {
             return Ok(multiple);
         }
-        quotient
-            .mul(factor)
-            .map_err(|refused| self.evidence(5, refused))
+        quotient.mul(factor).map_err(|refused| self.evidence(ExchangeFormula::Multiple, refused))
     }
 
     /// The quotient times the rate at the entering variable.
@@ -143,7 +172,7 @@ impl Cell {
         }
         quotient
             .mul(factor)
-            .map_err(|refused| self.evidence(2, refused))
+            .map_err(|refused| self.evidence(ExchangeFormula::Product, refused))
     }
 
     /// A rate less such a product.
@@ -155,8 +184,7 @@ impl Cell {
         if rate.is_zero() {
             return Ok(product.neg());
         }
-        rate.sub(product)
-            .map_err(|refused| self.evidence(3, refused))
+        rate.sub(product).map_err(|refused| self.evidence(ExchangeFormula::Difference, refused))
     }
 
     /// A rate without its part along the entering variable's direction, by the plain operations.
