@@ -5,7 +5,6 @@ ghost use Rattle.exact_values.specs.Rational.{zero_ℚ};
 ghost use Rattle.affine_laws.specs.Ends.{IsTightened};
 ghost use Rattle.frac128.specs.declared.Op.TheVariants.{Div};
 ghost use Rattle.lp_definitions.specs.LinearProgram.{size, value_at, IsVariable, IsLinearProgram};
-ghost use Rattle.lp_definitions.specs.RatesEvidence.{Names};
 ghost use Rattle.lp_definitions.specs.Basis.{Basics, IsPointOf};
 ghost use Rattle.simplex_laws.specs.Laws.{IsNonsingularBasis};
 ghost use Rattle.simplex_definitions.specs.RhsRun.{shift_of, IsSlope};
@@ -17,7 +16,7 @@ ghost use Rattle.para_rhs.specs.Refusals.{RunRefused};
 use crate::limits::{Side, is_upper, limit_on, number_of, shift_of};
 use affine_laws::{Bound, End, Ends, tightened};
 use basis_values::Formula;
-use frac128::{Frac, Refused};
+use frac128::Frac;
 use lp_model::{Basis, Evidence, Lp};
 
 /// Formula 6 or 18 of the basic `i`.
@@ -100,26 +99,6 @@ fn bound(approach: &Approach, k: u32) -> Bound
     }
 }
 
-/// Evidence of the refused quotient of the basic `i` and its limit of this number.
-fn evidence(i: u32, term: u32, refused: Refused) -> Evidence
-    ensures names { Names result 18 0 0 i 0 term }
-    ensures no_way { result.way ≡ 0 }
-    ensures no_theta { result.theta ≡ zero_ℚ }
-    ensures refused { result.refused ≡ refused }
-{
-    Evidence {
-        formula: 18,
-        way: 0,
-        p: 0,
-        q: 0,
-        i,
-        j: 0,
-        term,
-        theta: Frac::whole(0),
-        refused,
-    }
-}
-
 /// The ends with the bound of `k`, whose closing isn't 0.
 fn with_bound(ends: Ends, approach: &Approach, k: u32) -> Result<Ends, Evidence>
     requires { approach.now.closing ≢ zero_ℚ }
@@ -130,7 +109,7 @@ fn with_bound(ends: Ends, approach: &Approach, k: u32) -> Result<Ends, Evidence>
 {
     match tightened(ends, &bound(approach, k)) {
         Ok(now) => Ok(now),
-        Err(refused) => Err(evidence(k, number_of(approach.side), refused)),
+        Err(refused) => Err(formula(18, k, number_of(approach.side)).evidence(refused)),
     }
 }
 
