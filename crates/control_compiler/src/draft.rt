@@ -6,6 +6,7 @@ ghost use Rattle.control_compiler.specs.declared.stop.CompileStop.TheVariants.{N
 ghost use Rattle.std.specs.Option.{option_map_or};
 ghost use Rattle.std.specs.Map.{lookup};
 ghost use Rattle.card_definitions.specs.Cards.{Card};
+ghost use Rattle.control_definitions.specs.declared.TheConstants.{MAX_STATEMENTS};
 
 use crate::labels::Labels;
 use crate::stop::CompileStop;
@@ -71,7 +72,7 @@ impl Draft {
 
     /// Takes one more card of the program, and says whether it is PEND.
     pub fn take(&mut self, number: u32, card: &[u8]) -> Result<bool, CompileStop>
-        requires { length self.old.statements.items ≤ 5000 }
+        requires { length self.old.statements.items ≤ MAX_STATEMENTS }
         ensures { (cards : List Card) → IsAfter cards self.old → length cards ≡ length
             self.old.statements.items + 1 → Takes result cards
             (record { number = number; bytes = card.now }) self.new }

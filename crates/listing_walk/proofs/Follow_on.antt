@@ -157,9 +157,6 @@ module _ (machine : Machine Chosen) (old new : Place) (act : Act) (text : List �
 
 -- ---- with the tests by their results
 
-pub both : {a b x y z : Bool} → z ≡ (x || y) → x ≡ a → y ≡ b → z ≡ (a || b)
-both e f g = e ∙ (λ i. f i || g i)
-
 module _ (machine : Machine Chosen) (old : Place) (act : Act) (text : List ℕ) (looks clears : Bool) (is_looks : looks ≡ (ends_run act || is_loud text)) (is_clears : clears ≡ (ends_run act || is_none machine.mark)) where
   -- what is open, by these tests
   open_so : (x : Option walks.Found) → ((w : walks.Walker) → Faces old w → x ≡ open_by looks clears w) → (w : walks.Walker) → Faces old w → x ≡ open_by (ends_run act || is_loud text) (ends_run act || is_none machine.mark) w

@@ -1,5 +1,5 @@
 // What follows a statement.
-ghost use Rattle.std.specs.Prelude.{◌≡◌, ◌+◌, ◌≤◌, ◌<◌, ◌||◌, [], IfOk};
+ghost use Rattle.std.specs.Prelude.{◌≡◌, ◌+◌, ◌≤◌, ◌<◌, [], IfOk};
 ghost use Rattle.run_machine.specs.declared.act.Act.TheVariants as acts;
 ghost use Rattle.run_machine.specs.declared.end.End.TheVariants as ends;
 ghost use Rattle.listing_walk.specs.Walking.{ends_run, Finishes, Passes, Refuses};
@@ -22,13 +22,6 @@ fn ends_run(act: &Act) -> bool
         Act::Next | Act::Jump(_) => false,
         Act::Ends(_) => true,
     }
-}
-
-// One of two holds.
-fn either(a: bool, b: bool) -> bool
-    ensures { result ≡ (a || b) }
-{
-    a || b
 }
 
 /// Goes on as an act says, once the report is passed. An end is due in a line of its own.
@@ -59,8 +52,8 @@ pub fn follow<'a>(
     ensures few { place.new.reports ≤ place.old.reports + 1 }
 {
     let ends = ends_run(act);
-    let looks = either(ends, is_loud(text));
-    let clears = either(ends, machine.mark.is_none());
+    let looks = ends || is_loud(text);
+    let clears = ends || machine.mark.is_none();
     if let Some(found) = place.open_here(looks, clears) {
         return Ok(Went::Finds(found));
     }

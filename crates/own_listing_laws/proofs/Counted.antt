@@ -14,6 +14,7 @@ use Rattle.lp_definitions.specs.LinearProgram.{LinearProgram, size}
 use Rattle.problem_definitions.specs.Problem.{Problem}
 use Rattle.problem_definitions.specs.Valid.{IsProblem}
 use Rattle.control_definitions.specs.declared.ControlFault.{ControlFault}
+use Rattle.control_definitions.specs.declared.TheConstants.{MAX_STEPS}
 use Rattle.control_definitions.specs.Program.{Verb, Initialz, Title, MoveName, MoveNumber, MoveLimit, Mvadr, Goto, Convert, Setup, Primal, Dual, Revise, Ranging, Paraobj, Pararhs, Solution, Bcdout, Punch, Insert, Exit, Statement, Program, verb_by}
 use Rattle.control_definitions.specs.Statements.{statement_of, verb_word, Arguments, Without, With, Malformed, arguments_of}
 use Rattle.control_definitions.specs.Arguments.{quoted_name, title_argument, number_argument, steps_of, steps_argument, limit_argument, label_text, setup_arguments}
@@ -39,15 +40,15 @@ then_holds : {X Y : Type 0} (P : Y → Type 0) (f : X → Option Y) (o : Option 
 then_holds P f None holds = tt
 then_holds P f (Some x) holds = holds x
 
-million : (n : ℕ) → n ≤ 1000000 → n ≤ 4294967295
-million n small = omega (arith, small)
+steps_count : (n : ℕ) → n ≤ MAX_STEPS → n ≤ max_count
+steps_count n small = omega (arith, small)
 
 steps_small : (z : ℤ) (d : ℕ) → IfSome (steps_of z d) (λ steps. steps ≤ max_count)
 steps_small (negsuc n) d = tt
-steps_small (pos n) d = by (d == 1) (nat_le n 1000000) refl
+steps_small (pos n) d = by (d == 1) (nat_le n MAX_STEPS) refl
   where
-    by : (a b : Bool) → nat_le n 1000000 ≡ b → IfSome (if a && b then Some n else None) (λ steps. steps ≤ max_count)
-    by true true e = million n (leb-true n 1000000 e)
+    by : (a b : Bool) → nat_le n MAX_STEPS ≡ b → IfSome (if a && b then Some n else None) (λ steps. steps ≤ max_count)
+    by true true e = steps_count n (leb-true n MAX_STEPS e)
     by true false e = tt
     by false b e = tt
 

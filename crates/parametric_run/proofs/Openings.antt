@@ -1,5 +1,5 @@
 -- What the opening path comes to, in the words of runs.
-use Rattle.std.proofs.Common.{◌≡◌, ℕ, ◌≤◌, List, [], length, subst}
+use Rattle.std.proofs.Common.{◌≡◌, ℕ, ◌≤◌, List, [], length, refl, subst}
 use Rattle.exact_values.specs.Rational.{ℚ}
 use Rattle.lp_definitions.specs.LinearProgram.{Matrix, LinearProgram}
 use Rattle.lp_definitions.specs.Basis.{Basics}
@@ -18,6 +18,12 @@ IsFailed (Optimal steps point prices) = ⊥
 IsFailed (Crossed k) = Unit {0}
 IsFailed (Infeasible steps ray) = Unit {0}
 IsFailed (Unbounded steps point direction) = Unit {0}
+
+pub failed_by : (outcome : Outcome) → ((steps : ℕ) (point prices : List ℚ) → outcome ≡ Optimal steps point prices → ⊥) → IsFailed outcome
+failed_by (Optimal steps point prices) other = other steps point prices refl
+failed_by (Crossed k) other = tt
+failed_by (Infeasible steps ray) other = tt
+failed_by (Unbounded steps point direction) other = tt
 
 pub failure_by : (steps : ℕ) (ending : PathEnding) (outcome : Outcome) → outcome ≡ outcome_of steps ending → IsFailed outcome → IsFailure ending
 failure_by steps (EndsOptimal z y) outcome e failed = subst IsFailed e failed

@@ -5,7 +5,6 @@ ghost use Rattle.exact_values.specs.Rational.{◌≤ℚ◌};
 ghost use Rattle.lp_definitions.specs.declared.Status.{Status};
 ghost use Rattle.basis_values.specs.Calls.{HasRates};
 ghost use Rattle.simplex_definitions.specs.Chain.{RunReport};
-ghost use Rattle.simplex_definitions.specs.Counts.{last_count};
 ghost use Rattle.parametric_run.specs.Chains.{MethodEnds, MethodStops, MethodFollows, MethodOverflowFree};
 ghost use Rattle.parametric_run.specs.Complete.{IsRunOrMemory};
 ghost use Rattle.parametric_run.specs.Programs.{IsParametric};
@@ -16,14 +15,6 @@ use crate::method::{Opened, Parametric, Span};
 use bounded_primal::PrimalStop;
 use lp_model::{Basis, Outcome, ParaReport, Rates};
 use std::alloc::Global;
-
-/// The limit of steps, which is a count of 32 bits.
-fn limit_of(span: &Span) -> u32
-    ensures small { span.now.limit ≤ last_count }
-    ensures limit { result ≡ span.now.limit }
-{
-    span.limit
-}
 
 /// A parametric run. The opening path goes from the basis to the end of the path of the linear program at the first value. Where that
 /// is optimal, the intervals follow, each as far as its basis stays optimal; at a breakpoint the face steps are taken until none is left.
@@ -56,7 +47,6 @@ pub fn follow<M: Parametric, R: Rates>(
         MethodOverflowFree (M.problem method.now) span.now basis.old (R.waypoints rates.old) report path →
         IsRunOrMemory basis.old report path basis.new result }
 {
-    let limit = limit_of(span);
     let outcome = method.opening(alloc, span, basis, rates)?;
     match outcome {
         Outcome::Optimal {
@@ -66,23 +56,11 @@ pub fn follow<M: Parametric, R: Rates>(
         } => {
             let opened = Opened {
                 point,
-                left: limit - steps,
+                left: span.limit - steps,
             };
             let chain = chain(alloc, method, span, basis, rates, &opened)?;
             Ok(ParaReport::Run(chain))
         }
-        Outcome::Crossed { k } => Ok(ParaReport::Opening(Outcome::Crossed { k })),
-        Outcome::Infeasible { steps, ray } => {
-            Ok(ParaReport::Opening(Outcome::Infeasible { steps, ray }))
-        }
-        Outcome::Unbounded {
-            steps,
-            point,
-            direction,
-        } => Ok(ParaReport::Opening(Outcome::Unbounded {
-            steps,
-            point,
-            direction,
-        })),
+        failed => Ok(ParaReport::Opening(failed)),
     }
 }

@@ -149,35 +149,42 @@ pub fn still_prices(alloc: Global, lp: &Lp) -> Result<Prices, NoMemory>
     Ok(Prices::new(values))
 }
 
-// Makes the step `by` of `q` along this direction: the basis, the rates and the point go over to the next basis.
+// A variable that moves, and what stops it.
+#[derive(Clone, Copy)]
+struct StoppedMove<'a> {
+    q: u32,
+    by: &'a Stopper,
+}
+
+// Makes the step along this direction: the basis, the rates and the point go over to the next basis.
 fn step_along<R: Rates>(
     lp: &Lp,
     basis: &mut Basis,
     rates: &mut R,
     point: &mut [Frac],
     direction: &SparseVector,
-    q: u32,
-    by: &Stopper,
+    stopped: &StoppedMove<'_>,
 ) -> Result<(), Stop>
     requires rates { HasRates (R.matrix rates.old) (R.basics rates.old) lp.now basis.old }
     requires places { length point.old ≡ size lp.now.matrix }
     requires direction_places { length direction.now ≡ size lp.now.matrix }
     requires point { IsPointOf lp.now basis.old (value_at point.old) }
-    requires nonbasic { IsNonbasic lp.now.matrix (basics_of basis.old) q }
-    requires direction { IsDirectionOf lp.now.matrix (basics_of basis.old) q
+    requires nonbasic { IsNonbasic lp.now.matrix (basics_of basis.old) stopped.now.q }
+    requires direction { IsDirectionOf lp.now.matrix (basics_of basis.old) stopped.now.q
         (value_at direction.now) }
-    requires pivot { value_at direction.now by.now.p ≢ zero_ℚ }
-    requires step { IsStepBy lp.now basis.old (value_at point.old) (value_at direction.now) q
-        by.now }
-    ensures basis { OnOk result (basis.new ≡ after basis.old (move_by q by.now)) }
+    requires pivot { value_at direction.now stopped.now.by.now.p ≢ zero_ℚ }
+    requires step { IsStepBy lp.now basis.old (value_at point.old) (value_at direction.now)
+        stopped.now.q stopped.now.by.now }
+    ensures basis { OnOk result (basis.new ≡ after basis.old (move_by stopped.now.q stopped.now.by.now)) }
     ensures point { OnOk result (IsPointOf lp.now basis.new (value_at point.new)) }
     ensures unchanged { OnErr result (basis.new ≡ basis.old) }
     ensures rates { HasRates (R.matrix rates.new) (R.basics rates.new) lp.now basis.new }
     ensures waypoints { KeepsWaypoints lp.now.matrix (basics_of basis.old) (R.waypoints rates.old)
         (basics_of basis.new) (R.waypoints rates.new) }
-    ensures overflow { StepOverflow result lp.now basis.old q by.now (R.waypoints rates.old)
+    ensures overflow { StepOverflow result lp.now basis.old stopped.now.q stopped.now.by.now (R.waypoints rates.old)
         (R.waypoints rates.new) }
 {
+    let StoppedMove { q, by } = *stopped;
     let step = Move { q, by, direction };
     match step_over(lp, basis, rates, point, &step, Kept::All) {
         Ok(_) => Ok(()),
@@ -214,5 +221,5 @@ pub fn take_step_in<R: Rates>(
         direction,
         ..
     } = workspace;
-    step_along(lp, basis, rates, point, direction, q, by)
+    step_along(lp, basis, rates, point, direction, &StoppedMove { q, by })
 }

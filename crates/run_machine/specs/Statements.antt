@@ -7,6 +7,7 @@ use Rattle.std.specs.Prelude.{◌≡◌, ℕ, ◌≤◌, List, [], Option, Resul
 use Rattle.job_devices.specs.declared.device.WriteStop.{WriteStop}
 use Rattle.job_devices.specs.Text.{Writes}
 use Rattle.control_definitions.specs.Program.{Verb, MoveLimit, Mvadr, Goto}
+use Rattle.control_definitions.specs.declared.TheConstants.{MAX_STEPS}
 use Rattle.problem_file.specs.Filed.{Filed}
 use Rattle.run_definitions.specs.State.{Present, State}
 use Rattle.run_definitions.specs.Moves.{Gain, Nothing, punched_by, gain_text, Outcome, Ends, gain_of, next, jump, Move}
@@ -19,9 +20,9 @@ use Rattle.run_machine.specs.declared.machine.Machine.{Machine}
 use Rattle.run_machine.specs.Ends.{end_view}
 use Rattle.run_machine.specs.Standing.{Represents}
 
--- positions count from 1, and a verb may be allowed 1,000,000 steps
+-- positions count from 1, and a verb may be allowed MAX_STEPS steps
 abbrev pub IsSoundVerb : Verb ℕ → Type 0
-IsSoundVerb (MoveLimit limit) = IfSome limit (λ steps. steps ≤ 1000000)
+IsSoundVerb (MoveLimit limit) = IfSome limit (λ steps. steps ≤ MAX_STEPS)
 IsSoundVerb (Mvadr demand position) = 1 ≤ position
 IsSoundVerb (Goto position) = 1 ≤ position
 IsSoundVerb _ = Unit {0}

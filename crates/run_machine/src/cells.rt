@@ -1,6 +1,7 @@
 // The statements that set cells and demands, and those that choose the next statement.
 ghost use Rattle.std.specs.Prelude.{◌≡◌, ◌≤◌, ℕ, List, IfSome};
 ghost use Rattle.control_definitions.specs.Program as program;
+ghost use Rattle.control_definitions.specs.declared.TheConstants.{MAX_STEPS};
 ghost use Rattle.run_definitions.specs.Verbs.{mark_after};
 ghost use Rattle.run_definitions.specs.Moves.{Settles};
 ghost use Rattle.run_machine.specs.Standing.{IsSound};
@@ -68,7 +69,7 @@ impl<S: Kept> Machine<S> {
 
     /// MOVE of the number of steps that a verb may take, or of no limit on them.
     pub fn move_limit(&mut self, limit: Option<u32>) -> Act
-        requires { IfSome limit (λ steps. steps ≤ 1000000) }
+        requires { IfSome limit (λ steps. steps ≤ MAX_STEPS) }
         ensures acts { (card : ℕ) → Decides S.shows Settles (program.MoveLimit limit) card
             self.old self.new result }
         ensures sound { (cards : List (List ℕ)) → IsSound S.ready S.solved cards self.old →

@@ -1,19 +1,36 @@
 -- What is open comes first, and then the text.
-use Rattle.listing_walk.proofs.Follow_on.{both, is_none_by, passes_open_by, passes_wrong_by, passes_on_by}
+use Rattle.std.proofs.Common.{◌≡◌, ◌||◌, ◌∙◌, sym, ap}
+use Rattle.std.specs.Prelude.{is_none}
+use Rattle.listing_walk.specs.Walking.{is_loud, ends_run}
+use Rattle.listing_walk.proofs.Follow_on.{is_none_by, passes_open_by, passes_wrong_by, passes_on_by}
+use Rattle.listing_walk.proofs.follow.follow.Goals.{After-open_here, then-ends, else-ends, then-ends-2, else-ends-2}
 use Rattle.listing_walk.proofs.follow.follow.Goals as goal
+
+-- the tests of what is open here
+looks_is : (c : After-open_here) → c.if-ends.looks ≡ (ends_run c.args.act.now || is_loud c.args.text.now)
+looks_is c = elim c.if-ends.branch [
+  | then-ends w ↦ w.looks-is ∙ w.if-ends.true ∙ ap (λ b. b || is_loud c.args.text.now) (sym w.if-ends.true ∙ c.ends_run-ends.ensures)
+  | else-ends w ↦ w.looks-is ∙ w.is_loud-looks.ensures ∙ ap (λ b. b || is_loud c.args.text.now) (sym w.if-ends.false ∙ c.ends_run-ends.ensures)
+]
+
+clears_is : (c : After-open_here) → c.if-ends-2.clears ≡ (ends_run c.args.act.now || is_none c.args.machine.now.mark)
+clears_is c = elim c.if-ends-2.branch [
+  | then-ends-2 w ↦ w.clears-is ∙ w.if-ends-2.true ∙ ap (λ b. b || is_none c.args.machine.now.mark) (sym w.if-ends-2.true ∙ c.ends_run-ends.ensures)
+  | else-ends-2 w ↦ w.clears-is ∙ is_none_by c.args.machine.now.mark w.is_none-clears.result w.is_none-clears.ensures ∙ ap (λ b. b || is_none c.args.machine.now.mark) (sym w.if-ends-2.false ∙ c.ends_run-ends.ensures)
+]
 
 pub returns-in-Some-clause-passes : goal.returns-in-Some-clause-passes
 returns-in-Some-clause-passes c =
-    passes_open_by c.args.machine.now c.args.place.now c.args.act.now c.args.text.now c.either-looks.result c.either-clears.result (both c.either-looks.ensures c.ends_run-ends.ensures c.is_loud.ensures)
-    (both c.either-clears.ensures c.ends_run-ends.ensures (is_none_by c.args.machine.now.mark c.is_none.result c.is_none.ensures)) c.args.place.now c.in-Some.found c.in-Some.ensures
+    passes_open_by c.args.machine.now c.args.place.now c.args.act.now c.args.text.now c.if-ends.looks c.if-ends-2.clears (looks_is (goal.at.returns-in-Some-clause-passes c).After-open_here)
+    (clears_is (goal.at.returns-in-Some-clause-passes c).After-open_here) c.args.place.now c.in-Some.found c.in-Some.ensures
 
 pub returns-then-not-pass-clause-passes : goal.returns-then-not-pass-clause-passes
 returns-then-not-pass-clause-passes c =
-    passes_wrong_by c.args.machine.now c.args.place.now c.args.act.now c.args.text.now c.either-looks.result c.either-clears.result (both c.either-looks.ensures c.ends_run-ends.ensures c.is_loud.ensures)
-    (both c.either-clears.ensures c.ends_run-ends.ensures (is_none_by c.args.machine.now.mark c.is_none.result c.is_none.ensures)) c.in_default.ensures c.pass.new.self c.left-rest.result c.left-rest.ensures c.pass.result c.if-not-pass.true c.pass.ensures.taken c.pass.new.self
+    passes_wrong_by c.args.machine.now c.args.place.now c.args.act.now c.args.text.now c.if-ends.looks c.if-ends-2.clears (looks_is (goal.at.returns-then-not-pass-clause-passes c).After-open_here)
+    (clears_is (goal.at.returns-then-not-pass-clause-passes c).After-open_here) c.in_default.ensures c.pass.new.self c.left-rest.result c.left-rest.ensures c.pass.result c.if-not-pass.true c.pass.ensures.taken c.pass.new.self
 
 pub returns-clause-passes : goal.returns-clause-passes
 returns-clause-passes c =
-    passes_on_by c.args.machine.now c.args.place.now c.args.act.now c.args.text.now c.either-looks.result c.either-clears.result (both c.either-looks.ensures c.ends_run-ends.ensures c.is_loud.ensures)
-    (both c.either-clears.ensures c.ends_run-ends.ensures (is_none_by c.args.machine.now.mark c.is_none.result c.is_none.ensures)) c.in_default.ensures c.pass.new.self c.finish.new.place c.pass.result c.if-not-pass.false c.pass.ensures.taken c.pass.ensures.pending c.pass.ensures.reports
+    passes_on_by c.args.machine.now c.args.place.now c.args.act.now c.args.text.now c.if-ends.looks c.if-ends-2.clears (looks_is (goal.at.returns-clause-passes c).After-open_here)
+    (clears_is (goal.at.returns-clause-passes c).After-open_here) c.in_default.ensures c.pass.new.self c.finish.new.place c.pass.result c.if-not-pass.false c.pass.ensures.taken c.pass.ensures.pending c.pass.ensures.reports
     c.finish.result c.finish.ensures.finishes
