@@ -73,7 +73,7 @@ fn with_value_sets(count: u32, sets: &[ValueSet]) -> u32
 {
     let mut total = count;
     for set in sets {
-        total = added(total, set.items.len());
+        total = added(total, set.entries.len());
     }
     total
 }

@@ -256,7 +256,7 @@ fn put_value_set<P: Sink>(punch: &mut P, rows: &[RowDecl], set: &ValueSet) -> Re
     ensures { Writes P.written P.stopped_at P.faults P.refusals punch.old punch.new result
         (entry_lines (map (λ row. row.name) rows.now) set.now) }
 {
-    put_entries(punch, rows, set.name, &set.items)
+    put_entries(punch, rows, set.name, &set.entries)
 }
 
 fn put_value_sets<P: Sink>(

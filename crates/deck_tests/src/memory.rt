@@ -37,7 +37,7 @@ fn counts(problem: &Problem) -> (usize, usize, usize) {
             0usize,
             |count, column| count.saturating_add(column.entries.len()),
         ),
-        sides.fold(0usize, |count, set| count.saturating_add(set.items.len())),
+        sides.fold(0usize, |count, set| count.saturating_add(set.entries.len())),
         bounds.fold(0usize, |count, set| count.saturating_add(set.items.len())),
     )
 }

@@ -40,7 +40,7 @@ fn the_sets_of_testprob_are_numbered(rt: HostRuntime) -> Result<(), Fail> {
     let bound = set.items.last().ok_or("a bound")?;
     assert_eq!(rt; (set.items.len(), bound.column), (3, 2));
     let side = problem.rhs().first().ok_or("a set")?;
-    assert_eq!(rt; (problem.rhs().len(), side.items.len()), (1, 3));
+    assert_eq!(rt; (problem.rhs().len(), side.entries.len()), (1, 3));
     Ok(())
 }
 
@@ -66,7 +66,7 @@ fn blanks_in_front_and_inside_belong_to_names(rt: HostRuntime) -> Result<(), Fai
     assert_eq!(rt; column.name.bytes(), b" X".as_slice());
     let set = problem.rhs().first().ok_or("a set")?;
     assert_eq!(rt; set.name.bytes(), b"".as_slice());
-    let item = set.items.first().ok_or("an item")?;
+    let item = set.entries.first().ok_or("an item")?;
     assert_eq!(rt; item.row, 2);
     Ok(())
 }

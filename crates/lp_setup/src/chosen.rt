@@ -104,7 +104,7 @@ pub fn values_named<'a>(sets: &'a [ValueSet], name: &Name) -> Option<&'a [DeckEn
         (items.now ≡ items_of name.now sets.now)) }
 {
     let set = value_set(sets, name)?;
-    Some(&set.items)
+    Some(&set.entries)
 }
 
 /// The items of the first set of right-hand sides, or none.
@@ -112,7 +112,7 @@ fn first_rhs(sets: &[ValueSet]) -> &[DeckEntry]
     ensures { result.now ≡ items_of_rhs sets.now None }
 {
     match sets {
-        [set, ..] => &set.items,
+        [set, ..] => &set.entries,
         [] => &[],
     }
 }

@@ -140,9 +140,9 @@ impl DeckDraft {
         ensures { IfOk result (λ problem. problem ≡ numbered (problem_named name self.now)) }
     {
         let rows = self.rows.decls(self.alloc)?;
-        let columns = self.columns.columns(self.alloc, &self.rows)?;
-        let rhs = self.rhs.sets(self.alloc, &self.rows)?;
-        let ranges = self.ranges.sets(self.alloc, &self.rows)?;
+        let columns = self.columns.numbered(self.alloc, &self.rows)?;
+        let rhs = self.rhs.numbered(self.alloc, &self.rows)?;
+        let ranges = self.ranges.numbered(self.alloc, &self.rows)?;
         let bounds = self.bounds.numbered(self.alloc, &self.columns)?;
         Ok(Problem::new(name, rows, columns, rhs, ranges, bounds))
     }

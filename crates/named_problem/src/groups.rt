@@ -30,7 +30,7 @@ use deck_fields::{CardStop, DataCard, is_blank};
 use indexmap::IndexMap;
 use name_table::Name;
 use problem_definitions::{MAX_COLUMNS, MAX_ROWS};
-use problem_file::{ColumnDecl, NoMemory, ValueSet};
+use problem_file::{EntryGroup, NoMemory};
 use std::alloc::{AllocError, Global};
 use std::marker::Model;
 
@@ -333,22 +333,13 @@ impl Groups {
         number_from(&self.groups, place, name)
     }
 
-    /// The groups as columns with the numbers of their rows.
-    pub fn columns(&self, alloc: Global, rows: &Rows) -> Result<Vec<ColumnDecl>, NoMemory>
+    /// The groups with the numbers of their rows.
+    pub fn numbered(&self, alloc: Global, rows: &Rows) -> Result<Vec<EntryGroup>, NoMemory>
         requires { length rows.now ≤ MAX_ROWS }
-        ensures { IfOk result (λ columns. columns.items ≡ map
+        ensures { IfOk result (λ list. list.items ≡ map
             (group_by (entry_by (row_number rows.now))) self.now) }
     {
-        column_decls(alloc, rows, &self.groups)
-    }
-
-    /// The groups as sets with the numbers of their rows.
-    pub fn sets(&self, alloc: Global, rows: &Rows) -> Result<Vec<ValueSet>, NoMemory>
-        requires { length rows.now ≤ MAX_ROWS }
-        ensures { IfOk result (λ sets. sets.items ≡ map (group_by
-            (entry_by (row_number rows.now))) self.now) }
-    {
-        value_sets(alloc, rows, &self.groups)
+        numbered_groups(alloc, rows, &self.groups)
     }
 
     /// Puts a group of a new name at this place, or at the end where there are fewer.
@@ -516,44 +507,23 @@ impl Groups {
     }
 }
 
-// Columns with the numbers of their rows.
-fn column_decls(
+// Groups with the numbers of their rows.
+fn numbered_groups(
     alloc: Global,
     rows: &Rows,
     groups: &IndexMap<Name, Entries>,
-) -> Result<Vec<ColumnDecl>, NoMemory>
+) -> Result<Vec<EntryGroup>, NoMemory>
     requires { length rows.now ≤ MAX_ROWS }
-    ensures { IfOk result (λ columns. columns.items ≡ map (group_by
-        (entry_by (row_number rows.now))) (map group_at groups.now.entries)) }
+    ensures { IfOk result (λ list. list.items ≡ map (group_by (entry_by (row_number rows.now)))
+        (map group_at groups.now.entries)) }
 {
-    let mut columns = Vec::new(alloc);
+    let mut list = Vec::new(alloc);
     for (name, entries) in groups {
-        let column = ColumnDecl {
+        let group = EntryGroup {
             name: *name,
             entries: entries.numbered(alloc, rows)?,
         };
-        columns.push(column).map_err(|_| NoMemory)?;
+        list.push(group).map_err(|_| NoMemory)?;
     }
-    Ok(columns)
-}
-
-// Sets with the numbers of their rows.
-fn value_sets(
-    alloc: Global,
-    rows: &Rows,
-    groups: &IndexMap<Name, Entries>,
-) -> Result<Vec<ValueSet>, NoMemory>
-    requires { length rows.now ≤ MAX_ROWS }
-    ensures { IfOk result (λ sets. sets.items ≡ map (group_by (entry_by (row_number rows.now)))
-        (map group_at groups.now.entries)) }
-{
-    let mut sets = Vec::new(alloc);
-    for (name, entries) in groups {
-        let set = ValueSet {
-            name: *name,
-            items: entries.numbered(alloc, rows)?,
-        };
-        sets.push(set).map_err(|_| NoMemory)?;
-    }
-    Ok(sets)
+    Ok(list)
 }

@@ -33,7 +33,7 @@ impl RowDecl {
     }
 }
 
-/// A number on a row: an entry of a column, or an item of a right-hand side or range set.
+/// A number on a row: an entry of a column, or of a set of right-hand sides or of ranges.
 #[derive(Clone, Copy, Debug)]
 pub struct DeckEntry {
     pub row: u32,
@@ -51,37 +51,27 @@ impl Model for DeckEntry {
     ghost inverse = { λ entry. record { row = entry.row; value = entry.value } };
 }
 
-/// A column with its entries, in deck order.
+/// A name with its entries, in deck order: a column, or a set of right-hand sides or of ranges.
 #[derive(Debug, Drop)]
-pub struct ColumnDecl {
+pub struct EntryGroup {
     pub name: Name,
     pub entries: Vec<DeckEntry>,
 }
 
-impl Model for ColumnDecl {
+impl Model for EntryGroup {
     ghost use Rattle.std.specs.Prelude.{ℕ};
     ghost use Rattle.problem_definitions.specs.Problem.{Entry, Group};
 
     ghost Value = { Group (Entry ℕ) };
 
-    ghost view = { λ column. record { name = column.name; items = column.entries.items } };
+    ghost view = { λ group. record { name = group.name; items = group.entries.items } };
 }
 
-/// A set of right-hand sides or of ranges with its items, in deck order.
-#[derive(Debug, Drop)]
-pub struct ValueSet {
-    pub name: Name,
-    pub items: Vec<DeckEntry>,
-}
+/// A column with its entries.
+pub type ColumnDecl = EntryGroup;
 
-impl Model for ValueSet {
-    ghost use Rattle.std.specs.Prelude.{ℕ};
-    ghost use Rattle.problem_definitions.specs.Problem.{Entry, Group};
-
-    ghost Value = { Group (Entry ℕ) };
-
-    ghost view = { λ set. record { name = set.name; items = set.items.items } };
-}
+/// A set of right-hand sides or of ranges with its entries.
+pub type ValueSet = EntryGroup;
 
 /// A bound on a column. The value is there exactly where the type takes one: for `Up`, `Lo` and `Fx`.
 #[derive(Clone, Copy, Debug)]

@@ -8,7 +8,7 @@ ghost use Rattle.revise_deck.specs.Different.{AreDifferentEntries, AreDifferentB
 use deck_fields::name_in;
 use name_table::Name;
 use named_problem::{BoundSets, Bounds, Entries, Groups, NamedBound, NamedProblem, OnRow, Rows};
-use problem_file::{BoundItem, BoundSet, ColumnDecl, DeckEntry, Problem, RowDecl, ValueSet};
+use problem_file::{BoundItem, BoundSet, ColumnDecl, DeckEntry, EntryGroup, Problem, RowDecl};
 use std::alloc::{AllocError, Global};
 
 // The name of the row of this number, from 1, or the empty name.
@@ -90,34 +90,20 @@ fn named_bounds(
     Ok(list)
 }
 
-// Columns with the names of their rows.
-fn named_columns(
+// Columns or sets with the names of their rows.
+fn named_groups(
     alloc: Global,
     rows: &[RowDecl],
-    columns: &[ColumnDecl],
+    groups: &[EntryGroup],
 ) -> Result<Groups, AllocError>
     requires { AreDifferentGroups AreDifferentEntries (map (group_by
-        (entry_by (name_at (map (λ row. row.name) rows.now)))) columns.now) }
+        (entry_by (name_at (map (λ row. row.name) rows.now)))) groups.now) }
     ensures { IfOk result (λ list. list ≡ map (group_by
-        (entry_by (name_at (map (λ row. row.name) rows.now)))) columns.now) }
+        (entry_by (name_at (map (λ row. row.name) rows.now)))) groups.now) }
 {
     let mut list = Groups::new(alloc);
-    for column in columns {
-        list.add(column.name, named_entries(alloc, rows, &column.entries)?)?;
-    }
-    Ok(list)
-}
-
-// Sets with the names of their rows.
-fn named_sets(alloc: Global, rows: &[RowDecl], sets: &[ValueSet]) -> Result<Groups, AllocError>
-    requires { AreDifferentGroups AreDifferentEntries (map (group_by
-        (entry_by (name_at (map (λ row. row.name) rows.now)))) sets.now) }
-    ensures { IfOk result (λ list. list ≡ map (group_by
-        (entry_by (name_at (map (λ row. row.name) rows.now)))) sets.now) }
-{
-    let mut list = Groups::new(alloc);
-    for set in sets {
-        list.add(set.name, named_entries(alloc, rows, &set.items)?)?;
+    for group in groups {
+        list.add(group.name, named_entries(alloc, rows, &group.entries)?)?;
     }
     Ok(list)
 }
@@ -180,9 +166,9 @@ pub fn named(alloc: Global, problem: &Problem) -> Result<NamedProblem, AllocErro
     Ok(NamedProblem {
         name: problem.name(),
         rows: named_rows(alloc, rows)?,
-        columns: named_columns(alloc, rows, columns)?,
-        rhs: named_sets(alloc, rows, problem.rhs())?,
-        ranges: named_sets(alloc, rows, problem.ranges())?,
+        columns: named_groups(alloc, rows, columns)?,
+        rhs: named_groups(alloc, rows, problem.rhs())?,
+        ranges: named_groups(alloc, rows, problem.ranges())?,
         bounds: named_bound_sets(alloc, columns, problem.bounds())?,
     })
 }

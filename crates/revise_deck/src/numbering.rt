@@ -15,9 +15,9 @@ pub fn renumbered(alloc: Global, problem: &NamedProblem, name: Name) -> Result<P
     ensures { IfOk result (λ made. made ≡ numbered (record problem.now { name = name })) }
 {
     let rows = problem.rows.decls(alloc)?;
-    let columns = problem.columns.columns(alloc, &problem.rows)?;
-    let rhs = problem.rhs.sets(alloc, &problem.rows)?;
-    let ranges = problem.ranges.sets(alloc, &problem.rows)?;
+    let columns = problem.columns.numbered(alloc, &problem.rows)?;
+    let rhs = problem.rhs.numbered(alloc, &problem.rows)?;
+    let ranges = problem.ranges.numbered(alloc, &problem.rows)?;
     let bounds = problem.bounds.numbered(alloc, &problem.columns)?;
     Ok(Problem::new(name, rows, columns, rhs, ranges, bounds))
 }

@@ -2,7 +2,7 @@ use card_reader::{Cards, read_job};
 use deck_fields::{DeckFault, DeckFaultKind, DeckStop};
 use job_devices::SureSource;
 use mps_convert::convert;
-use problem_file::{BoundSet, ColumnDecl, DeckEntry, Problem, RowDecl, ValueSet};
+use problem_file::{BoundSet, DeckEntry, EntryGroup, Problem, RowDecl};
 use revise_deck::revise;
 use std::alloc::Global;
 use std::test::Fail;
@@ -66,11 +66,11 @@ pub fn text_of(alloc: Global, problem: &Problem) -> Result<Vec<u8>, Fail> {
     let mut text = Vec::new(alloc);
     put_rows(&mut text, problem.rows())?;
     text.push(b'/')?;
-    put_columns(&mut text, problem.columns())?;
+    put_groups(&mut text, problem.columns())?;
     text.push(b'/')?;
-    put_sets(&mut text, problem.rhs())?;
+    put_groups(&mut text, problem.rhs())?;
     text.push(b'/')?;
-    put_sets(&mut text, problem.ranges())?;
+    put_groups(&mut text, problem.ranges())?;
     text.push(b'/')?;
     put_bounds(&mut text, problem.bounds())?;
     Ok(text)
@@ -85,18 +85,10 @@ fn put_rows(text: &mut Vec<u8>, rows: &[RowDecl]) -> Result<(), Fail> {
     Ok(())
 }
 
-fn put_columns(text: &mut Vec<u8>, columns: &[ColumnDecl]) -> Result<(), Fail> {
-    for column in columns {
-        text.extend_from_slice(column.name.bytes())?;
-        put_entries(text, &column.entries)?;
-    }
-    Ok(())
-}
-
-fn put_sets(text: &mut Vec<u8>, sets: &[ValueSet]) -> Result<(), Fail> {
-    for set in sets {
-        text.extend_from_slice(set.name.bytes())?;
-        put_entries(text, &set.items)?;
+fn put_groups(text: &mut Vec<u8>, groups: &[EntryGroup]) -> Result<(), Fail> {
+    for group in groups {
+        text.extend_from_slice(group.name.bytes())?;
+        put_entries(text, &group.entries)?;
     }
     Ok(())
 }

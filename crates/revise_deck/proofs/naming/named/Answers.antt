@@ -11,7 +11,7 @@ pub returns : goal.returns
 returns c =
     named_by_parts c.args.problem.now c.rows-rows.result.now c.columns-columns.result.now c.rhs.result.now c.ranges-2.result.now c.bounds.result.now c.name.result
     c.name.ensures.name c.rows-rows.ensures.rows c.columns-columns.ensures.columns c.rhs.ensures.rhs c.ranges-2.ensures.ranges c.bounds.ensures.bounds
-    _ _ _ _ _ c.in_ok-named_rows.ensures c.in_ok-named_columns.ensures c.in_ok-named_sets.ensures c.in_ok-named_sets-2.ensures c.in_ok-named_bound_sets.ensures
+    _ _ _ _ _ c.in_ok-named_rows.ensures c.in_ok-named_groups.ensures c.in_ok-named_groups-2.ensures c.in_ok-named_groups-3.ensures c.in_ok-named_bound_sets.ensures
 
 -- the entries of groups differ, by the names of these rows, and the bounds of sets, by the names of these columns
 abbrev differ : List (Row ℕ) → List (Group (Entry ℕ)) → Type 0
@@ -23,16 +23,16 @@ bounds_differ columns sets = AreDifferentGroups AreDifferentBounds (map (group_b
 pub named_rows-requires : goal.named_rows-requires
 named_rows-requires c = subst (λ (rows : List (Row ℕ)). AreDifferentRows (map (row_by (name_at (map (λ row. row.name) rows))) rows)) (sym c.rows-rows.ensures.rows) (different_rows c.args.problem.now c.rows-rows.ensures.is_problem)
 
-pub named_columns-requires : goal.named_columns-requires
-named_columns-requires c =
+pub named_groups-requires : goal.named_groups-requires
+named_groups-requires c =
     subst (λ rows. differ rows c.columns-columns.result.now) (sym c.rows-rows.ensures.rows) (subst (differ c.args.problem.now.rows) (sym c.columns-columns.ensures.columns) (different_columns c.args.problem.now c.rows-rows.ensures.is_problem))
 
-pub named_sets-requires : goal.named_sets-requires
-named_sets-requires c =
+pub named_groups-requires-2 : goal.named_groups-requires-2
+named_groups-requires-2 c =
     subst (λ rows. differ rows c.rhs.result.now) (sym c.rows-rows.ensures.rows) (subst (differ c.args.problem.now.rows) (sym c.rhs.ensures.rhs) (different_rhs c.args.problem.now c.rows-rows.ensures.is_problem))
 
-pub named_sets-requires-2 : goal.named_sets-requires-2
-named_sets-requires-2 c =
+pub named_groups-requires-3 : goal.named_groups-requires-3
+named_groups-requires-3 c =
     subst (λ rows. differ rows c.ranges-2.result.now) (sym c.rows-rows.ensures.rows) (subst (differ c.args.problem.now.rows) (sym c.ranges-2.ensures.ranges) (different_ranges c.args.problem.now c.rows-rows.ensures.is_problem))
 
 pub named_bound_sets-requires : goal.named_bound_sets-requires
