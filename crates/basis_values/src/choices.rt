@@ -20,23 +20,12 @@ pub fn counted(value: Frac, up: bool) -> Frac
     if up { value } else { value.neg() }
 }
 
-/// Whether both limits are there, and the lower one is above the upper one.
-fn crosses(lp: &Lp, k: u32) -> bool
-    requires { IsVariable lp.now.matrix k }
-    ensures { result ≡ is_crossed lp.now k }
-{
-    match (lp.lower_limit(k), lp.upper_limit(k)) {
-        (Some(lower), Some(upper)) => upper.is_less(lower),
-        _ => false,
-    }
-}
-
 /// The least-numbered variable whose lower limit is above its upper one.
 pub fn crossed(lp: &Lp) -> Option<u32>
     ensures { result ≡ least lp.now (is_crossed lp.now) }
 {
     for k in 0..lp.number_of_variables() {
-        if crosses(lp, k + 1) {
+        if lp.is_crossed(k + 1) {
             return Some(k + 1);
         }
     }
