@@ -1,6 +1,5 @@
 pub mod Entries
 pub mod Crossings
-pub mod Formulas
 pub mod Refusals
 pub mod Prefixes
 pub mod Inverse

@@ -6,68 +6,14 @@ ghost use Rattle.lp_definitions.specs.LinearProgram.{value_at, on_row};
 ghost use Rattle.lp_definitions.specs.RatesEvidence.{Names};
 ghost use Rattle.eta_file.specs.Entries.{sum_rate, others, IsEntryWithin, AreApart, AreDistinctRows, IsRowWithin};
 ghost use Rattle.eta_file.specs.Crossings.{IsWithinPlaces, IsSubtracted, IsCrossed, IsScaled, IsLeaving, IsColumnFilled, AreZero, NoneLater, LeftAt};
-ghost use Rattle.eta_file.specs.Formulas.{number_of, basic_of, nonbasic_of};
+ghost use Rattle.lp_model.specs.Formulas.{number_of, basic_of, nonbasic_of};
 ghost use Rattle.eta_file.specs.Refusals.{IsRefusal, IsRestRefused, SubtractRefused, CrossRefused, ScaleRefused, LeaveRefused};
 
 use crate::eta::{EtaEntry, StoredEta};
 use crate::steps::Steps;
 use frac128::{Frac, Op, Refused};
-use lp_model::{Entry, Evidence};
+use lp_model::{Entry, Evidence, ExchangeFormula};
 use std::sync::ledger::Ledger;
-
-/// A formula of an exchange, with the basic `i` and the nonbasic `j` that it is of besides the leaver and the entering variable.
-#[derive(Clone, Copy)]
-enum ExchangeFormula {
-    /// The rate of the leaver at `j` over the pivot.
-    Quotient { j: u32 },
-    /// That quotient times the rate of `i` at the entering variable.
-    Product { i: u32, j: u32 },
-    /// The rate of `i` at `j` less that product.
-    Difference { i: u32, j: u32 },
-    /// 1 over the pivot.
-    Reciprocal,
-    /// That reciprocal times the rate of `i` at the entering variable.
-    Multiple { i: u32 },
-}
-
-impl ExchangeFormula {
-    /// The number by which a listing names it.
-    fn number(self) -> u8
-        ensures { result ≡ number_of self }
-    {
-        match self {
-            ExchangeFormula::Quotient { .. } => 1,
-            ExchangeFormula::Product { .. } => 2,
-            ExchangeFormula::Difference { .. } => 3,
-            ExchangeFormula::Reciprocal => 4,
-            ExchangeFormula::Multiple { .. } => 5,
-        }
-    }
-
-    /// The basic that it is of, or 0.
-    fn basic(self) -> u32
-        ensures { result ≡ basic_of self }
-    {
-        match self {
-            ExchangeFormula::Product { i, .. }
-            | ExchangeFormula::Difference { i, .. }
-            | ExchangeFormula::Multiple { i } => i,
-            ExchangeFormula::Quotient { .. } | ExchangeFormula::Reciprocal => 0,
-        }
-    }
-
-    /// The nonbasic that it is of, or 0.
-    fn nonbasic(self) -> u32
-        ensures { result ≡ nonbasic_of self }
-    {
-        match self {
-            ExchangeFormula::Quotient { j }
-            | ExchangeFormula::Product { j, .. }
-            | ExchangeFormula::Difference { j, .. } => j,
-            ExchangeFormula::Reciprocal | ExchangeFormula::Multiple { .. } => 0,
-        }
-    }
-}
 
 /// An eta on the way of a column: the number of the set before it, and its exchange.
 #[derive(Clone, Copy)]
@@ -86,17 +32,7 @@ impl Crossing {
         ensures no_theta { result.theta ≡ zero_ℚ }
         ensures refused { result.refused ≡ refused }
     {
-        Evidence {
-            formula: formula.number(),
-            way: self.way,
-            p: self.p,
-            q: self.q,
-            i: formula.basic(),
-            j: formula.nonbasic(),
-            term: 0,
-            theta: Frac::whole(0),
-            refused,
-        }
+        formula.evidence(self.way, self.p, self.q, refused)
     }
 
     /// The rate of the leaver at `j` over the pivot.

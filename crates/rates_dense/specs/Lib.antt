@@ -3,5 +3,4 @@ pub mod Placed
 pub mod Lines
 pub mod Opening
 pub mod Table
-pub mod Formulas
 pub mod Refusals

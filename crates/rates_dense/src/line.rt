@@ -5,11 +5,11 @@ ghost use Rattle.exact_values.specs.Rational.{ℚ, zero_ℚ, one_ℚ, ◌-ℚ◌
 ghost use Rattle.lp_definitions.specs.LinearProgram.{value_at};
 ghost use Rattle.lp_definitions.specs.RatesEvidence.{Names};
 ghost use Rattle.rates_dense.specs.Lines.{IsFilled, quotient_at, AreNumbers, AreChanged, IsFilledAt, IsTakenOver, entering_rate, staying_rate, IsBlankLine, IsWritten, IsUnchanged, SameRates, IsReady, IsCommitted};
-ghost use Rattle.rates_dense.specs.Formulas.{number_of};
+ghost use Rattle.lp_model.specs.Formulas.{number_of, basic_of, nonbasic_of};
 ghost use Rattle.rates_dense.specs.Refusals.{IsRefusal, IsDifferenceRefused, QuotientRefused, StayingRefused};
 
 use frac128::{Frac, Op, Refused};
-use lp_model::{Evidence, NoMemory};
+use lp_model::{Evidence, ExchangeFormula, NoMemory};
 use std::alloc::Global;
 
 /// The rates of a basic variable: a place for each variable, with 0 at the basics. `next` is workspace for those that an exchange changes.
@@ -62,71 +62,23 @@ pub struct Exchange {
     pub q: u32,
 }
 
-/// A formula of an exchange.
-#[derive(Clone, Copy)]
-enum ExchangeFormula {
-    /// The rate of the leaver at `j` over the pivot.
-    Quotient,
-    /// That quotient times the rate of `i` at the entering variable.
-    Product,
-    /// The rate of `i` at `j` less that product.
-    Difference,
-    /// 1 over the pivot.
-    Reciprocal,
-    /// That reciprocal times the rate of `i` at the entering variable.
-    Multiple,
-}
-
-impl ExchangeFormula {
-    /// The number by which a listing names it.
-    fn number(self) -> u8
-        ensures { result ≡ number_of self }
-    {
-        match self {
-            ExchangeFormula::Quotient => 1,
-            ExchangeFormula::Product => 2,
-            ExchangeFormula::Difference => 3,
-            ExchangeFormula::Reciprocal => 4,
-            ExchangeFormula::Multiple => 5,
-        }
-    }
-}
-
-/// An exchange of `p` for `q`, and the rate of `i` at `j` that it changes.
-#[derive(Clone, Copy)]
-struct Cell {
-    p: u32,
-    q: u32,
-    i: u32,
-    j: u32,
-}
-
-impl Cell {
+impl Exchange {
     /// The evidence that a formula is refused at the present basics.
     fn evidence(self, formula: ExchangeFormula, refused: Refused) -> Evidence
-        ensures names { Names result (number_of formula) self.p self.q self.i self.j 0 }
+        ensures names { Names result (number_of formula) self.p self.q (basic_of formula)
+            (nonbasic_of formula) 0 }
         ensures present { result.way ≡ 0 }
         ensures no_theta { result.theta ≡ zero_ℚ }
         ensures refused { result.refused ≡ refused }
     {
-        Evidence {
-            formula: formula.number(),
-            way: 0,
-            p: self.p,
-            q: self.q,
-            i: self.i,
-            j: self.j,
-            term: 0,
-            theta: Frac::whole(0),
-            refused,
-        }
+        formula.evidence(0, self.p, self.q, refused)
     }
 
-    /// A rate of the leaver over the pivot.
-    fn quotient(self, rate: Frac, pivot: Frac) -> Result<Frac, Evidence>
+    /// The rate of the leaver at `j` over the pivot.
+    fn quotient(self, j: u32, rate: Frac, pivot: Frac) -> Result<Frac, Evidence>
         requires { pivot ≢ zero_ℚ }
         ensures value { IfOk result (λ quotient. quotient ≡ rate /ℚ pivot) }
-        ensures refused { IfErr result (IsRefusal 1 self.p self.q self.i self.j Op.Div rate pivot) }
+        ensures refused { IfErr result (IsRefusal 1 self.p self.q 0 j Op.Div rate pivot) }
         ensures needed { OnErr result (rate ≢ zero_ℚ) }
     {
         if rate.is_zero() {
@@ -135,81 +87,98 @@ impl Cell {
         if let Some(quotient) = by_unit(rate, pivot) {
             return Ok(quotient);
         }
-        rate.div(pivot).map_err(|refused| self.evidence(ExchangeFormula::Quotient, refused))
+        rate.div(pivot).map_err(|refused| self.evidence(ExchangeFormula::Quotient { j }, refused))
     }
 
     /// 1 over the pivot.
     fn reciprocal(self, pivot: Frac) -> Result<Frac, Evidence>
         requires { pivot ≢ zero_ℚ }
         ensures value { IfOk result (λ quotient. quotient ≡ one_ℚ /ℚ pivot) }
-        ensures refused { IfErr result (IsRefusal 4 self.p self.q self.i self.j Op.Div
-            one_ℚ pivot) }
+        ensures refused { IfErr result (IsRefusal 4 self.p self.q 0 0 Op.Div one_ℚ pivot) }
     {
         let one = Frac::whole(1);
         one.div(pivot).map_err(|refused| self.evidence(ExchangeFormula::Reciprocal, refused))
     }
 
-    /// The rate at the leaver: the quotient there, times the rate at the entering variable.
-    fn multiple(self, quotient: Frac, factor: Frac) -> Result<Frac, Evidence>
+    /// The rate of `i` at the leaver: the quotient there, times the rate at the entering variable.
+    fn multiple(self, i: u32, quotient: Frac, factor: Frac) -> Result<Frac, Evidence>
         ensures value { IfOk result (λ rate. rate ≡ quotient *ℚ factor) }
-        ensures refused { IfErr result (IsRefusal 5 self.p self.q self.i self.j Op.Mul
-            quotient factor) }
+        ensures refused { IfErr result (IsRefusal 5 self.p self.q i 0 Op.Mul quotient factor) }
     {
         if let Some(multiple) = product_by_unit(quotient, factor) {
             return Ok(multiple);
         }
-        quotient.mul(factor).map_err(|refused| self.evidence(ExchangeFormula::Multiple, refused))
+        quotient.mul(factor).map_err(|refused| self.evidence(
+            ExchangeFormula::Multiple { i },
+            refused,
+        ))
     }
 
-    /// The quotient times the rate at the entering variable.
-    fn product(self, quotient: Frac, factor: Frac) -> Result<Frac, Evidence>
+    /// The quotient at `j` times the rate of `i` at the entering variable.
+    fn product(self, i: u32, j: u32, quotient: Frac, factor: Frac) -> Result<Frac, Evidence>
         ensures value { IfOk result (λ product. product ≡ quotient *ℚ factor) }
-        ensures refused { IfErr result (IsRefusal 2 self.p self.q self.i self.j Op.Mul
-            quotient factor) }
+        ensures refused { IfErr result (IsRefusal 2 self.p self.q i j Op.Mul quotient factor) }
     {
         if let Some(product) = product_by_unit(quotient, factor) {
             return Ok(product);
         }
-        quotient
-            .mul(factor)
-            .map_err(|refused| self.evidence(ExchangeFormula::Product, refused))
+        quotient.mul(factor).map_err(|refused| self.evidence(
+            ExchangeFormula::Product { i, j },
+            refused,
+        ))
     }
 
-    /// A rate less such a product.
-    fn difference(self, rate: Frac, product: Frac) -> Result<Frac, Evidence>
+    /// The rate of `i` at `j` less such a product.
+    fn difference(self, i: u32, j: u32, rate: Frac, product: Frac) -> Result<Frac, Evidence>
         ensures value { IfOk result (λ difference. difference ≡ rate -ℚ product) }
-        ensures refused { IfErr result (IsRefusal 3 self.p self.q self.i self.j Op.Sub
-            rate product) }
+        ensures refused { IfErr result (IsRefusal 3 self.p self.q i j Op.Sub rate product) }
     {
         if rate.is_zero() {
             return Ok(product.neg());
         }
-        rate.sub(product).map_err(|refused| self.evidence(ExchangeFormula::Difference, refused))
+        rate.sub(product).map_err(|refused| self.evidence(
+            ExchangeFormula::Difference { i, j },
+            refused,
+        ))
     }
 
-    /// A rate without its part along the entering variable's direction, by the plain operations.
-    fn plain_rest(self, rate: Frac, quotient: Frac, factor: Frac) -> Result<Frac, Evidence>
+    /// The rate of `i` at `j` without its part along the entering variable's direction, by the plain operations.
+    fn plain_rest(
+        self,
+        i: u32,
+        j: u32,
+        rate: Frac,
+        quotient: Frac,
+        factor: Frac,
+    ) -> Result<Frac, Evidence>
         ensures value { IfOk result (λ rest. rest ≡ rate -ℚ quotient *ℚ factor) }
-        ensures refused { IfErr result (IsDifferenceRefused self.p self.q self.i self.j rate
+        ensures refused { IfErr result (IsDifferenceRefused self.p self.q i j rate
             quotient factor) }
     {
         if quotient.is_zero() {
             return Ok(rate);
         }
-        let product = self.product(quotient, factor)?;
-        self.difference(rate, product)
+        let product = self.product(i, j, quotient, factor)?;
+        self.difference(i, j, rate, product)
     }
 
     /// The same, also where only the plain operations are refused.
-    fn rest(self, rate: Frac, quotient: Frac, factor: Frac) -> Result<Frac, Evidence>
+    fn rest(
+        self,
+        i: u32,
+        j: u32,
+        rate: Frac,
+        quotient: Frac,
+        factor: Frac,
+    ) -> Result<Frac, Evidence>
         ensures value { IfOk result (λ rest. rest ≡ rate -ℚ quotient *ℚ factor) }
-        ensures refused { IfErr result (IsDifferenceRefused self.p self.q self.i self.j rate
+        ensures refused { IfErr result (IsDifferenceRefused self.p self.q i j rate
             quotient factor) }
     {
         if let Some(rest) = rest_by_unit(rate, quotient, factor) {
             return Ok(rest);
         }
-        match self.plain_rest(rate, quotient, factor) {
+        match self.plain_rest(i, j, rate, quotient, factor) {
             Ok(rest) => Ok(rest),
             Err(evidence) => match rate.sub_product(quotient, factor) {
                 Some(rest) => Ok(rest),
@@ -248,9 +217,9 @@ pub fn fill_quotients(
             continue;
         }
         quotients[k] = if j == p {
-            Cell { p, q, i: 0, j: 0 }.reciprocal(pivot)?
+            exchange.reciprocal(pivot)?
         } else {
-            Cell { p, q, i: 0, j }.quotient(*rate, pivot)?
+            exchange.quotient(j, *rate, pivot)?
         };
         changed[count] = j;
         count += 1;
@@ -305,9 +274,9 @@ fn fill_staying(
         next[place] = if j == q {
             Frac::whole(0)
         } else if j == p {
-            Cell { p, q, i, j: 0 }.multiple(quotient, factor)?
+            exchange.multiple(i, quotient, factor)?
         } else {
-            Cell { p, q, i, j }.rest(rate, quotient, factor)?
+            exchange.rest(i, j, rate, quotient, factor)?
         };
     }
     Ok(())

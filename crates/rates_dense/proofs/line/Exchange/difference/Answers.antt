@@ -1,5 +1,5 @@
 use Rattle.std.proofs.Common.{◌∙◌, refl}
-use Rattle.rates_dense.proofs.line.Cell.difference.Goals as goal
+use Rattle.rates_dense.proofs.line.Exchange.difference.Goals as goal
 use Rattle.lp_laws.proofs.Idle.{left_difference}
 
 pub returns-then-is_zero-clause-value : goal.returns-then-is_zero-clause-value

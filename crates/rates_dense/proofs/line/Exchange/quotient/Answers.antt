@@ -1,5 +1,5 @@
 use Rattle.std.proofs.Common.{refl}
-use Rattle.rates_dense.proofs.line.Cell.quotient.Goals as goal
+use Rattle.rates_dense.proofs.line.Exchange.quotient.Goals as goal
 use Rattle.lp_laws.proofs.Idle.{left_nothing_over}
 
 pub returns-then-is_zero-clause-value : goal.returns-then-is_zero-clause-value

@@ -3,8 +3,8 @@
 --     basic_of f       the basic that the formula is of, besides the leaver, or 0
 --     nonbasic_of f    the nonbasic that the formula is of, besides the entering variable, or 0
 use Rattle.std.specs.Prelude.{ℕ}
-use Rattle.eta_file.specs.declared.carry.ExchangeFormula.{ExchangeFormula}
-use Rattle.eta_file.specs.declared.carry.ExchangeFormula.TheVariants.{Quotient, Product, Difference, Reciprocal, Multiple}
+use Rattle.lp_model.specs.declared.exchange_formula.ExchangeFormula.{ExchangeFormula}
+use Rattle.lp_model.specs.declared.exchange_formula.ExchangeFormula.TheVariants.{Quotient, Product, Difference, Reciprocal, Multiple}
 
 abbrev pub number_of : ExchangeFormula → ℕ
 number_of (Quotient j) = 1
