@@ -14,7 +14,7 @@ use Rattle.frac128.specs.Operations.{refuses}
 use Rattle.frac128.specs.declared.Op.TheVariants.{Div}
 use Rattle.frac128.specs.declared.Refused.{Refused}
 use Rattle.affine_laws.specs.declared.tightening.Bound.{Bound}
-use Rattle.affine_laws.specs.declared.tightening.End.{End}
+use Rattle.affine_laws.specs.declared.tightening.Endpoint.{Endpoint}
 use Rattle.affine_laws.specs.declared.tightening.Ends.{Ends}
 
 abbrev pub MeetsBy : Bool → ℚ → ℚ → Type 0
@@ -28,7 +28,7 @@ Meets b x = MeetsBy b.at_most (x *ℚ b.slope) b.number
 abbrev pub is_high : Bound → Bool
 is_high b = if lt_ℚ zero_ℚ b.slope then b.at_most else not b.at_most
 
-abbrev pub end_of : Bound → End
+abbrev pub end_of : Bound → Endpoint
 end_of b = record { value = b.number /ℚ b.slope; by = b.by; which = b.which }
 
 abbrev pub IsOnSide : Bool → ℚ → ℚ → Type 0
@@ -36,17 +36,17 @@ IsOnSide true end x = x ≤ℚ end
 IsOnSide false end x = end ≤ℚ x
 
 -- an end that is not there is no bound
-abbrev pub IsBefore : Bool → Option End → ℚ → Type 0
+abbrev pub IsBefore : Bool → Option Endpoint → ℚ → Type 0
 IsBefore high end x = IfSome end (λ e. IsOnSide high e.value x)
 
 abbrev pub IsBetweenEnds : Ends → ℚ → Type 0
 IsBetweenEnds ends x = IsBefore false ends.low x × IsBefore true ends.high x
 
-abbrev pub IsEither : Bound → Option End → Option End → Type 0
+abbrev pub IsEither : Bound → Option Endpoint → Option Endpoint → Type 0
 IsEither b before now = (now ≡ before) ⊎ (now ≡ Some (end_of b))
 
 -- an end that keeps x where the earlier one and the bound do
-pub record IsNearer (high : Bool) (b : Bound) (before now : Option End) : Type 0 where
+pub record IsNearer (high : Bool) (b : Bound) (before now : Option Endpoint) : Type 0 where
   pub exact : (x : ℚ) → IsBefore high now x ↔ (IsBefore high before x × Meets b x)
   pub either : IsEither b before now
 

@@ -8,7 +8,7 @@ use frac128::{Frac, Refused};
 
 /// An end of an interval, and the numbers of the bound that it comes from.
 #[derive(Clone, Copy, Debug)]
-pub struct End {
+pub struct Endpoint {
     pub value: Frac,
     pub by: u32,
     pub which: u32,
@@ -17,8 +17,8 @@ pub struct End {
 /// The ends of an interval. None means that there is no end on that side.
 #[derive(Clone, Copy, Debug)]
 pub struct Ends {
-    pub low: Option<End>,
-    pub high: Option<End>,
+    pub low: Option<Endpoint>,
+    pub high: Option<Endpoint>,
 }
 
 /// A bound on a number: `slope` times it is at most `number`, or at least. `by` and `which` say whose bound it is.
@@ -70,13 +70,13 @@ fn keeps_below(bound: &Bound) -> bool
 }
 
 /// The end that the bound makes.
-fn made_by(bound: &Bound) -> Result<End, Refused>
+fn made_by(bound: &Bound) -> Result<Endpoint, Refused>
     requires { bound.now.slope ≢ zero_ℚ }
     ensures value { IfOk result (λ made. made ≡ end_of bound.now) }
     ensures refused { IfErr result (IsRefused bound.now) }
 {
     let value = bound.number.div(bound.slope)?;
-    Ok(End {
+    Ok(Endpoint {
         value,
         by: bound.by,
         which: bound.which,
@@ -95,7 +95,7 @@ fn is_within(high: bool, first: Frac, second: Frac) -> bool
 
 /// The nearer of an end and that of a bound. A product decides where it can be made, and else the quotient. The product of an end
 /// of 0 is never refused: where 0 meets the bound, no quotient is made.
-fn nearer(kept: Option<End>, high: bool, bound: &Bound) -> Result<Option<End>, Refused>
+fn nearer(kept: Option<Endpoint>, high: bool, bound: &Bound) -> Result<Option<Endpoint>, Refused>
     requires slope { bound.now.slope ≢ zero_ℚ }
     requires side { high ≡ is_high bound.now }
     ensures nearer { IfOk result (IsNearer high bound.now kept) }

@@ -14,7 +14,7 @@ ghost use Rattle.para_rhs.specs.Reach.{side_ahead, bound_of, IsApproachOf, limit
 ghost use Rattle.para_rhs.specs.Refusals.{RunRefused};
 
 use crate::limits::{Side, is_upper, limit_on, number_of, shift_of};
-use affine_laws::{Bound, End, Ends, tightened};
+use affine_laws::{Bound, Endpoint, Ends, tightened};
 use basis_values::Formula;
 use frac128::Frac;
 use lp_model::{Basis, Evidence, Lp};
@@ -169,7 +169,7 @@ fn ends_by(
 {
     let mut ends = Ends {
         low: None,
-        high: Some(End {
+        high: Some(Endpoint {
             value: max,
             by: 0,
             which: 0,
