@@ -17,7 +17,7 @@ use Rattle.question_definitions.specs.Answers.{Sheet, Changing}
 use Rattle.answer_definitions.specs.ParametricRuns.{family_of}
 use Rattle.walk_definitions.specs.Tests.{along_steps, keeps_limit, keeping_steps, part_test, interval_test}
 use Rattle.listing_answers.specs.declared.intervals.Columns.{Columns}
-use Rattle.listing_answers.specs.declared.intervals.End.{End}
+use Rattle.listing_answers.specs.declared.intervals.IntervalEnd.{IntervalEnd}
 use Rattle.listing_answers.specs.declared.intervals.Part.{Part}
 use Rattle.listing_answers.specs.Intervals.{Counted, IsPart, IsEnd, AreEnds, kept_steps, part_verdict}
 use Rattle.listing_answers.proofs.Claimed.{family_matrix}
@@ -78,7 +78,7 @@ part_tested sheet changing is_first max from part interval shows =
 
 -- ---- at both ends
 
-module _ (sheet : Sheet) (changing : Changing) (from to : ℚ) (columns : Columns) (counted : Counted sheet.lp columns) (start end : End) (first : IsEnd sheet changing from columns start) (last : IsEnd sheet changing to columns end) where
+module _ (sheet : Sheet) (changing : Changing) (from to : ℚ) (columns : Columns) (counted : Counted sheet.lp columns) (start end : IntervalEnd) (first : IsEnd sheet changing from columns start) (last : IsEnd sheet changing to columns end) where
   first_matrix : start.program.matrix ≡ sheet.lp.matrix
   first_matrix = ap (λ (p : LinearProgram). p.matrix) first.program ∙ family_matrix sheet changing from
 
