@@ -136,26 +136,26 @@ settles_by : (pending : Pending) (objective : ℚ) (check : Check) → says_chec
     walks.settles (record { rest = pending.rest.now; objective = pending.objective; check = check }) objective ≡ settled_by pending objective
 settles_by pending objective check same = ap (λ (b : Bool). if eq_ℚ pending.objective objective then b else false) same
 
-abbrev turn_settled : walks.Turn → Pending → Bool → walks.Turn
+abbrev turn_settled : walks.WalkTurn → Pending → Bool → walks.WalkTurn
 turn_settled turn pending b = if b then turn else walks.Finds (walks.Wrong pending.rest.now)
 
-is_settled : (w : walks.Walker) (pending : Pending) (viewed : Option walks.Pending) (objective : ℚ) (turn : walks.Turn) → ShowsPending (Some pending) viewed → walks.settled w viewed objective turn ≡ turn_settled turn pending (settled_by pending objective)
+is_settled : (w : walks.Walker) (pending : Pending) (viewed : Option walks.Pending) (objective : ℚ) (turn : walks.WalkTurn) → ShowsPending (Some pending) viewed → walks.settled w viewed objective turn ≡ turn_settled turn pending (settled_by pending objective)
 is_settled w pending viewed objective turn shows =
     ap (λ (p : Option walks.Pending). walks.settled w p objective turn) shows.1 ∙ ap (turn_settled turn pending) (settles_by pending objective shows.0 shows.2)
 
-by_none : (turn : walks.Turn) (pending : Pending) (b : Bool) → None ≡ (if b then None else Some (Wrong pending.rest)) → turn_settled turn pending b ≡ turn
+by_none : (turn : walks.WalkTurn) (pending : Pending) (b : Bool) → None ≡ (if b then None else Some (Wrong pending.rest)) → turn_settled turn pending b ≡ turn
 by_none turn pending true h = refl
 by_none turn pending false h = absurd (cc h)
 
-by_some : (turn : walks.Turn) (pending : Pending) (found : Found) (b : Bool) → Some found ≡ (if b then None else Some (Wrong pending.rest)) → turn_settled turn pending b ≡ walks.Finds (found_view found)
+by_some : (turn : walks.WalkTurn) (pending : Pending) (found : Found) (b : Bool) → Some found ≡ (if b then None else Some (Wrong pending.rest)) → turn_settled turn pending b ≡ walks.Finds (found_view found)
 by_some turn pending found true h = absurd (cc h)
 by_some turn pending found false h = ap (λ (x : Found). walks.Finds (found_view x)) (sym (same_Some found (Wrong pending.rest) h))
 
-settled_none : (w : walks.Walker) (pending : Option Pending) (viewed : Option walks.Pending) (objective : ℚ) (turn : walks.Turn) → ShowsPending pending viewed → IsSettling pending objective None → walks.settled w viewed objective turn ≡ turn
+settled_none : (w : walks.Walker) (pending : Option Pending) (viewed : Option walks.Pending) (objective : ℚ) (turn : walks.WalkTurn) → ShowsPending pending viewed → IsSettling pending objective None → walks.settled w viewed objective turn ≡ turn
 settled_none w None viewed objective turn shows is = ap (λ (p : Option walks.Pending). walks.settled w p objective turn) shows
 settled_none w (Some pending) viewed objective turn shows is = is_settled w pending viewed objective turn shows ∙ by_none turn pending (settled_by pending objective) is
 
-settled_some : (w : walks.Walker) (pending : Option Pending) (viewed : Option walks.Pending) (objective : ℚ) (turn : walks.Turn) (found : Found) → ShowsPending pending viewed → IsSettling pending objective (Some found) →
+settled_some : (w : walks.Walker) (pending : Option Pending) (viewed : Option walks.Pending) (objective : ℚ) (turn : walks.WalkTurn) (found : Found) → ShowsPending pending viewed → IsSettling pending objective (Some found) →
     walks.settled w viewed objective turn ≡ walks.Finds (found_view found)
 settled_some w None viewed objective turn found shows is = absurd (cc is)
 settled_some w (Some pending) viewed objective turn found shows is = is_settled w pending viewed objective turn shows ∙ by_some turn pending found (settled_by pending objective) is

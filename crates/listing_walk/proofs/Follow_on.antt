@@ -152,7 +152,7 @@ module _ (machine : Machine Chosen) (old new : Place) (act : Act) (text : List �
           pending = subst (λ (p : Option Pending). ShowsPending p w.pending) (sym kept) f.pending;
           reports = ap (λ n. w.reports + n) count ∙ ap (λ n. n + one_if (is_loud text)) f.reports ∙ sym counted;
         } in
-        subst (λ (t : walks.Turn). Comes t cards machine position executed new w') (sym (turn_taken w card move cards position executed gain f plain o same ∙ ap (walks.taken w o.outcome) there))
+        subst (λ (t : walks.WalkTurn). Comes t cards machine position executed new w') (sym (turn_taken w card move cards position executed gain f plain o same ∙ ap (walks.taken w o.outcome) there))
         (finishes v o.outcome cards machine position executed gain faces o.is_outcome)
 
 -- ---- with the tests by their results

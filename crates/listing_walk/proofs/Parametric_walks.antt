@@ -218,13 +218,13 @@ module _ (verb : ParametricVerb) (card : ℕ) (cards : List (List ℕ)) (machine
 
           -- by the answer
           ends_by : (x : ParametricRunAnswer) (act : Act) → act ≡ act_of (left_by x machine).cells card (finding_of x) → (w' : Went) → Finishes mid new act w' → (position executed : ℕ) (state : State) (opening : Basis) (steps : List Basis) →
-              machines.Represents IsView cards machine position executed state → (turn : walks.Turn) (v : walks.Walker) (answer : ParametricRunEnd) →
+              machines.Represents IsView cards machine position executed state → (turn : walks.WalkTurn) (v : walks.Walker) (answer : ParametricRunEnd) →
               turn ≡ walks.follows v (after_parametric_run card parametric_run (present_with problem chosen.options opening steps) state answer) → Faces mid v → IsParametricRunAnswer x answer → Comes turn cards (left_by x machine) position executed new w'
           ends_by (Opened mark) act is_act w' finishes position executed state opening steps s turn v (Opening bases verdict check) is faces e =
               let present = present_with problem chosen.options opening steps in
               let outcome : Outcome = after_parametric_run card parametric_run present state (Opening bases verdict check) in
               let comes = verdict_comes card cards (left_by (Opened mark) machine) position executed (Solved (parametric_solver parametric_run.changing) verdict check) (then_open state present bases) (stands_open mark s opening steps bases) machine.cells demands s.cells (mark_of verdict) in
-              subst (λ (t : walks.Turn). Comes t cards (left_by (Opened mark) machine) position executed new w') (sym is)
+              subst (λ (t : walks.WalkTurn). Comes t cards (left_by (Opened mark) machine) position executed new w') (sym is)
               (finishes v outcome cards (left_by (Opened mark) machine) position executed (Prints (Solved (parametric_solver parametric_run.changing) verdict check)) faces
               (subst (λ (a : Act). IsOutcome outcome cards (left_by (Opened mark) machine) position executed (Prints (Solved (parametric_solver parametric_run.changing) verdict check)) a)
               (ap (λ (m : Mark). act_of machine.cells card (Ended m)) (sym e) ∙ sym is_act) comes))
@@ -235,7 +235,7 @@ module _ (verb : ParametricVerb) (card : ℕ) (cards : List (List ℕ)) (machine
               let report = Parametric (parametric_solver parametric_run.changing) (record { from = parametric_run.from; change = changing_name parametric_run.changing; intervals = intervals; end = end }) in
               let outcome : Outcome = after_parametric_run card parametric_run present state (Chained bases intervals end) in
               let stands = subst (λ (x : ℚ). machines.Represents IsView cards (left_by (RanThrough last) machine) position executed (then_run_through state present bases x)) e (stands_run_through last s opening steps bases) in
-              subst (λ (t : walks.Turn). Comes t cards (left_by (RanThrough last) machine) position executed new w') (sym is)
+              subst (λ (t : walks.WalkTurn). Comes t cards (left_by (RanThrough last) machine) position executed new w') (sym is)
               (finishes v outcome cards (left_by (RanThrough last) machine) position executed (Prints report) faces
               (subst (λ (a : Act). IsOutcome outcome cards (left_by (RanThrough last) machine) position executed (Prints report) a) (sym is_act) (then_run_through state present bases (last_value end), refl, stands)))
           ends_by (RanThrough last) act is_act w' finishes position executed state opening steps s turn v (Opening bases verdict check) is faces e = absurd e

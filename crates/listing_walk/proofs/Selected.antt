@@ -76,7 +76,7 @@ pub selected_move : (card : ℕ) (found : Result LinearProgram SelectionFault) (
 selected_move card found go lp ok = ap (λ r. or_selection_fault card r go) ok
 
 module _ (w : walks.Walker) (problem : Problem ℕ) (choice : Choice) (move : Move) where
-  abbrev by_made : Bool → walks.Turn
+  abbrev by_made : Bool → walks.WalkTurn
   by_made made = walks.unless_found (walks.opened w move) (if not made || walks.refuses_selection move then walks.Finds (walks.Unchecked w.rest) else walks.due w move)
 
   -- no operation of a selection is refused

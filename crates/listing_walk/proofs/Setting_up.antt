@@ -143,7 +143,7 @@ module _ (card : ℕ) (cards : List (List ℕ)) (machine : Machine Chosen) (opti
         let is_problem : problem_of state.cells.xpbname state.file ≡ Some o.problem =
         problem_view s (λ (c : Cells). c.xpbname) (Some o.problem) (filed_by machine.cells.xpbname machine.file opened.chosen.name (Some o.problem) o.is_named o.is_filed) in
         let outcome : Outcome = outcome_of o.problem options opened.chosen.lp state in
-        subst (λ (t : walks.Turn). Comes t cards machine_after position executed new went)
+        subst (λ (t : walks.WalkTurn). Comes t cards machine_after position executed new went)
         (sym (ap (walks.walk_move w) (set_up_move card options state o.problem opened.chosen.lp is_problem made.is_selected) ∙ made_turn w o.problem (choice_of state.cells options) (Does outcome) made.is_made))
         (passes w card (Does outcome) cards position executed (Prints (SetUp o.problem.name options.sense)) f refl
         (after_setup o.problem options opened.chosen.lp state, refl, stands_set_up s)

@@ -13,7 +13,7 @@ use Rattle.run_definitions.specs.Moves.{Gain, Nothing, Prints, Punches, printed_
 use Rattle.run_definitions.specs.Verbs.{or_deck_fault}
 use Rattle.walk_definitions.specs.Words.{left_after}
 use Rattle.listing_walk.specs.Walking.{open_by, is_loud, one_if}
-use Rattle.walk_definitions.specs.Walker.{Walker, Found, Unchecked, Turn, Finds, open_stop, open_pending, open_outcome, opened, refuses_selection, unless_found, taken, due, walk_move}
+use Rattle.walk_definitions.specs.Walker.{Walker, Found, Unchecked, WalkTurn, Finds, open_stop, open_pending, open_outcome, opened, refuses_selection, unless_found, taken, due, walk_move}
 
 -- ---- a move that asks nothing
 
@@ -28,16 +28,16 @@ settled_due w card (MayStop refusals move) outcome e = settled_due w card move o
 settled_due w card (Asks question sheet s go) outcome e = absurd e
 
 -- what such a move comes to
-abbrev pub settled_turn : Walker → Outcome → Turn
+abbrev pub settled_turn : Walker → Outcome → WalkTurn
 settled_turn w outcome = unless_found (open_outcome w outcome) (taken w outcome (left_after (gain_text (gain_of outcome)) w.rest))
 
-abbrev choose : Walker → Move → Option Found → Bool → Turn → Turn
+abbrev choose : Walker → Move → Option Found → Bool → WalkTurn → WalkTurn
 choose w move found refused turn = unless_found found (if refused then Finds (Unchecked w.rest) else turn)
 
 pub settled : (w : Walker) (card : ℕ) (move : Move) (outcome : Outcome) → Settles card move outcome → refuses_selection move ≡ false → walk_move w move ≡ settled_turn w outcome
 settled w card move outcome e plain =
     ap (λ (b : Bool). choose w move (opened w move) b (due w move)) plain ∙ ap (λ (found : Option Found). unless_found found (due w move)) (settled_open w card move outcome e) ∙
-    ap (λ (turn : Turn). unless_found (open_outcome w outcome) turn) (settled_due w card move outcome e)
+    ap (λ (turn : WalkTurn). unless_found (open_outcome w outcome) turn) (settled_due w card move outcome e)
 
 -- where a selection is refused
 pub settled_refused : (w : Walker) (card : ℕ) (move : Move) (outcome : Outcome) → Settles card move outcome → refuses_selection move ≡ true → walk_move w move ≡ unless_found (open_outcome w outcome) (Finds (Unchecked w.rest))

@@ -180,5 +180,5 @@ module _ (verb : Verb ℕ) (card : ℕ) (go : State → Present → LinearProgra
         Comes (walks.walk_move w (go state (present_with problem chosen.options opening steps) lp)) cards after position executed new w') → Walks verb card cards machine after old new w'
     made_walks lp made after w' comes = λ position executed state w s f.
         let p = present_at s chosen is_setup problem on_file in
-        subst (λ (t : walks.Turn). Comes t cards after position executed new w') (sym (ap (walks.walk_move w) (is_move state) ∙ made_here card cards machine s (go state) chosen problem p w lp made))
+        subst (λ (t : walks.WalkTurn). Comes t cards after position executed new w') (sym (ap (walks.walk_move w) (is_move state) ∙ made_here card cards machine s (go state) chosen problem p w lp made))
         (comes position executed state w p.opening p.steps s f p.is_viewed)

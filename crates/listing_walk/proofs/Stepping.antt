@@ -36,7 +36,7 @@ counted_stands s = record {
 
 -- ---- the turn
 
-abbrev turn_by : Program → walks.Walker → Bool → Bool → walks.Turn
+abbrev turn_by : Program → walks.Walker → Bool → Bool → walks.WalkTurn
 turn_by program w over more =
     if over then walks.closes w (Ended 0) else if more then walks.walk_statement w (slice_get program.statements (w.state.position - 1)) else walks.closes w StatementLimit
 

@@ -110,12 +110,12 @@ module _ (verb : SolvingVerb) (card : ℕ) (cards : List (List ℕ)) (machine : 
         }
 
         ends_by : (w' : Went) → Finishes mid new act w' → (position executed : ℕ) (state : State) (present : Present) → present.problem ≡ problem → present.options ≡ chosen.options → machines.Represents IsView cards machine position executed state →
-            (turn : walks.Turn) (v : walks.Walker) (answer : PathEnd) → turn ≡ walks.follows v (after_path (solver_of verb) card present state answer) → Faces mid v → IsMarked mark answer → Comes turn cards (machine_with mark) position executed new w'
+            (turn : walks.WalkTurn) (v : walks.Walker) (answer : PathEnd) → turn ≡ walks.follows v (after_path (solver_of verb) card present state answer) → Faces mid v → IsMarked mark answer → Comes turn cards (machine_with mark) position executed new w'
         ends_by w' finishes position executed state present same options s turn v (Reached bases verdict check) is faces e =
             let then : State = record state { setup = Some (gone_through bases present); mark = Some (mark_of verdict) } in
             let t : machines.Represents IsView cards (machine_with mark) position executed then = stands_after s present same options bases (mark_of verdict) e in
             let comes = verdict_comes card cards (machine_with mark) position executed (Solved (solver_of verb) verdict check) then t machine.cells demands s.cells (mark_of verdict) in
-            subst (λ (x : walks.Turn). Comes x cards (machine_with mark) position executed new w') (sym is)
+            subst (λ (x : walks.WalkTurn). Comes x cards (machine_with mark) position executed new w') (sym is)
             (finishes v (after_path (solver_of verb) card present state (Reached bases verdict check)) cards (machine_with mark) position executed (Prints (Solved (solver_of verb) verdict check)) faces
             (subst (λ (a : Act). IsOutcome (after_path (solver_of verb) card present state (Reached bases verdict check)) cards (machine_with mark) position executed (Prints (Solved (solver_of verb) verdict check)) a)
             (ap (λ (m : Mark). act_of machine.cells card (Ended m)) (sym e) ∙ sym is_act) comes))

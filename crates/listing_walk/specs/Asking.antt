@@ -51,11 +51,11 @@ abbrev pub IsSettling : Option Pending → ℚ → Option Found → Type 0
 IsSettling None objective found = found ≡ None
 IsSettling (Some pending) objective found = found ≡ (if settled_by pending objective then None else Some (Wrong pending.rest))
 
-abbrev pub asked_turn : walks.Walker → (question : Question) → Sheet → (Answer question → Outcome) → walks.Turn
+abbrev pub asked_turn : walks.Walker → (question : Question) → Sheet → (Answer question → Outcome) → walks.WalkTurn
 asked_turn w question sheet go = walks.unless_found (walks.open_question w question sheet go) (walks.answered w question sheet go (judged question sheet w.rest))
 
 -- an answer of which this holds was taken, and the walk goes on with it from a walker that stands here
-pub record IsTaken (question : Question) (Holds : Answer question → Type 0) (new : Place) (turn : walks.Turn) (go : Answer question → Outcome) : Type 0 where
+pub record IsTaken (question : Question) (Holds : Answer question → Type 0) (new : Place) (turn : walks.WalkTurn) (go : Answer question → Outcome) : Type 0 where
   pub answer : Answer question
   pub walker : walks.Walker
   pub is_turn : turn ≡ walks.follows walker (go answer)

@@ -51,7 +51,7 @@ ends_run (acts.Ends end) = true
 -- ---- what comes
 
 -- the walk goes on with a walker that stands here, or it ends
-abbrev pub Comes : walks.Turn → List (List ℕ) → Machine Chosen → ℕ → ℕ → Place → Went → Type 0
+abbrev pub Comes : walks.WalkTurn → List (List ℕ) → Machine Chosen → ℕ → ℕ → Place → Went → Type 0
 Comes turn cards machine position executed place Next = (v : walks.Walker) × (turn ≡ walks.Walks v) × Represents cards machine (position + 1) executed place v
 Comes turn cards machine position executed place (Jump to) = (v : walks.Walker) × (turn ≡ walks.Walks v) × Represents cards machine to executed place v × (1 ≤ to)
 Comes turn cards machine position executed place (Finds found) = turn ≡ walks.Finds (found_view found)
@@ -109,7 +109,7 @@ Walks verb card cards old new place_old place_new went =
     Comes (walks.walk_move w (verb_move verb card state)) cards new position executed place_new went
 
 -- the statement at a position
-abbrev pub ComesTo : walks.Turn → List (List ℕ) → Machine Chosen → ℕ → Place → Onward → Type 0
+abbrev pub ComesTo : walks.WalkTurn → List (List ℕ) → Machine Chosen → ℕ → Place → Onward → Type 0
 ComesTo turn cards machine executed place (onward.Goes to) = (v : walks.Walker) × (turn ≡ walks.Walks v) × Represents cards machine to executed place v × (1 ≤ to)
 ComesTo turn cards machine executed place (onward.Finds found) = turn ≡ walks.Finds (found_view found)
 

@@ -25,7 +25,7 @@ use Rattle.soundness_laws.proofs.Filed.{job_reaching}
 use Rattle.determinism_laws.specs.Laws.{IsOverflow, HasEvidence}
 use Rattle.determinism_laws.proofs.Stops.{statement_evidence}
 use Rattle.walk_definitions.specs.Forms.{is_ranges, is_punched}
-use Rattle.walk_definitions.specs.Walker.{Walker, Found, Attested, Unchecked, Turn, Finds, open_if, open_stop, open_pending, is_inserted_by, open_question, opened, refuses_selection, unless_found, closes, due, walk_move, walk_statement, turn}
+use Rattle.walk_definitions.specs.Walker.{Walker, Found, Attested, Unchecked, WalkTurn, Finds, open_if, open_stop, open_pending, is_inserted_by, open_question, opened, refuses_selection, unless_found, closes, due, walk_move, walk_statement, turn}
 use Rattle.walk_definitions.specs.Found.{Comes, first_walker, of_cards, of_control, of_walk}
 use Rattle.walk_definitions.specs.Found.{Reaches as IsCome}
 use Rattle.reading_laws.specs.Laws.{ReadingLaw}
@@ -68,7 +68,7 @@ never_opened w (Asks question sheet s go) = never_asked w question sheet go
 
 -- ---- the statement by which a walk ends attested
 
-is_due : (o : Option Found) (refused : Bool) (rest : List ℕ) (turn : Turn) (count : ℕ) → NeverAttests o → unless_found o (if refused then Finds (Unchecked rest) else turn) ≡ Finds (Attested count) → refused ≡ false
+is_due : (o : Option Found) (refused : Bool) (rest : List ℕ) (turn : WalkTurn) (count : ℕ) → NeverAttests o → unless_found o (if refused then Finds (Unchecked rest) else turn) ≡ Finds (Attested count) → refused ≡ false
 is_due None false rest turn count never e = refl
 is_due None true rest turn count never e = absurd (cc e)
 is_due (Some found) refused rest turn count never e =

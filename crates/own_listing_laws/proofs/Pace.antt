@@ -35,7 +35,7 @@ use Rattle.walk_definitions.specs.Words.{left_after, max_count}
 use Rattle.walk_definitions.specs.Forms.{is_open_stop, is_ranges, is_punched}
 use Rattle.walk_definitions.specs.Tables.{begins_table_line}
 use Rattle.walk_definitions.specs.Reading.{judged}
-use Rattle.walk_definitions.specs.Walker.{Pending, Walker, Found, Open, Unchecked, Turn, Walks, Finds, open_if, open_stop, pending_found, open_pending, open_outcome, is_inserted_by, open_question, opened, refuses_selection, ended, unless_found, closes, follows, passed, taken, answered, due, walk_move}
+use Rattle.walk_definitions.specs.Walker.{Pending, Walker, Found, Open, Unchecked, WalkTurn, Walks, Finds, open_if, open_stop, pending_found, open_pending, open_outcome, is_inserted_by, open_question, opened, refuses_selection, ended, unless_found, closes, follows, passed, taken, answered, due, walk_move}
 use Rattle.walk_definitions.proofs.Texts.{stands}
 use Rattle.own_listing_laws.specs.Fitting.{ReportFits, StopFits}
 use Rattle.own_listing_laws.specs.Laws.{IsNotWrong}
@@ -79,17 +79,17 @@ pub record KeepsPace (w : Walker) (s : State) (more : List ℕ) : Type 0 where
 
 -- ---- turns
 
-abbrev pub Lands : Outcome → List ℕ → Turn → Type 0
+abbrev pub Lands : Outcome → List ℕ → WalkTurn → Type 0
 Lands outcome more (Finds found) = IsNotWrong found
 Lands (Goes gain after) more (Walks v) = KeepsPace v after more
 Lands (Ends gain ending) more (Walks v) = ⊥
 
 -- found, and not wrong
-abbrev pub IsFoundRight : Turn → Type 0
+abbrev pub IsFoundRight : WalkTurn → Type 0
 IsFoundRight (Walks v) = ⊥
 IsFoundRight (Finds found) = IsNotWrong found
 
-pub lands_right : (outcome : Outcome) (more : List ℕ) (turn : Turn) → IsFoundRight turn → Lands outcome more turn
+pub lands_right : (outcome : Outcome) (more : List ℕ) (turn : WalkTurn) → IsFoundRight turn → Lands outcome more turn
 lands_right outcome more (Walks v) right = absurd right
 lands_right outcome more (Finds found) right = right
 
@@ -223,7 +223,7 @@ module _ (w : Walker) where
   -- ---- an operation may be refused
 
   module _ (card : ℕ) (walked run : Move) (refusals others : Refusals) (followed : IsFollowed card walked run) where
-    refused_too : (outcome : Outcome) (more : List ℕ) (o : Option Found) (refused other : Bool) (turn : Turn) → Lands outcome more (unless_found o (if other then Finds (Unchecked w.rest) else turn)) →
+    refused_too : (outcome : Outcome) (more : List ℕ) (o : Option Found) (refused other : Bool) (turn : WalkTurn) → Lands outcome more (unless_found o (if other then Finds (Unchecked w.rest) else turn)) →
         Lands outcome more (unless_found o (if refused || other then Finds (Unchecked w.rest) else turn))
     refused_too outcome more (Some found) refused other turn lands = lands
     refused_too outcome more None true other turn lands = tt

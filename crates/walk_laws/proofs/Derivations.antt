@@ -39,7 +39,7 @@ use Rattle.run_definitions.specs.Run.{max_executed, counted}
 use Rattle.walk_definitions.specs.Words.{left_after}
 use Rattle.walk_definitions.specs.Tests.{point_of}
 use Rattle.walk_definitions.specs.Reading.{Judged, Right, Fails, Refuses, judged}
-use Rattle.walk_definitions.specs.Walker.{Pending, Walker, Found, Wrong, Unchecked, Turn, Walks, Finds, open_stop, open_pending, opened, refuses_selection, ended, unless_found, closes, follows, passed, taken, settles, settled, noted, settling, answered, due, walk_move, walk_statement, turn}
+use Rattle.walk_definitions.specs.Walker.{Pending, Walker, Found, Wrong, Unchecked, WalkTurn, Walks, Finds, open_stop, open_pending, opened, refuses_selection, ended, unless_found, closes, follows, passed, taken, settles, settled, noted, settling, answered, due, walk_move, walk_statement, turn}
 
 -- the state after has so many statements executed
 abbrev pub Counts : ℕ → Outcome → Type 0
@@ -155,11 +155,11 @@ verb_counts Exit card state = tt
 -- ---- turns
 
 -- so has the state to which a turn walks
-abbrev pub CountsTurn : ℕ → Turn → Type 0
+abbrev pub CountsTurn : ℕ → WalkTurn → Type 0
 CountsTurn n (Walks w) = w.state.executed ≡ n
 CountsTurn n (Finds found) = Unit {0}
 
-unless_counts : (n : ℕ) (o : Option Found) (turn : Turn) → CountsTurn n turn → CountsTurn n (unless_found o turn)
+unless_counts : (n : ℕ) (o : Option Found) (turn : WalkTurn) → CountsTurn n turn → CountsTurn n (unless_found o turn)
 unless_counts n None turn counts = counts
 unless_counts n (Some found) turn counts = tt
 
@@ -174,7 +174,7 @@ taken_counts : (n : ℕ) (w : Walker) (outcome : Outcome) (o : Option (List ℕ)
 taken_counts n w outcome None counts = tt
 taken_counts n w outcome (Some rest) counts = follows_counts n (passed rest (length (printed_by (gain_of outcome))) w) outcome counts
 
-settled_counts : (n : ℕ) (w : Walker) (o : Option Pending) (objective : ℚ) (turn : Turn) → CountsTurn n turn → CountsTurn n (settled w o objective turn)
+settled_counts : (n : ℕ) (w : Walker) (o : Option Pending) (objective : ℚ) (turn : WalkTurn) → CountsTurn n turn → CountsTurn n (settled w o objective turn)
 settled_counts n w None objective turn counts = counts
 settled_counts n w (Some pending) objective turn counts = by (settles pending objective)
   where
@@ -182,7 +182,7 @@ settled_counts n w (Some pending) objective turn counts = by (settles pending ob
     by true = counts
     by false = tt
 
-settling_counts : (n : ℕ) (w : Walker) (question : Question) (sheet : Sheet) (answer : Answer question) (turn : Turn) → CountsTurn n turn → CountsTurn n (settling w question sheet answer turn)
+settling_counts : (n : ℕ) (w : Walker) (question : Question) (sheet : Sheet) (answer : Answer question) (turn : WalkTurn) → CountsTurn n turn → CountsTurn n (settling w question sheet answer turn)
 settling_counts n w (OfSolution Optimal) sheet lines turn counts = settled_counts n w w.pending (point_of sheet lines sheet.lp.objective) turn counts
 settling_counts n w (OfSolution Infeasible) sheet lines turn counts = counts
 settling_counts n w (OfSolution Unbounded) sheet lines turn counts = counts
@@ -227,7 +227,7 @@ turn_counts program w = by (nat_lt (length program.statements) w.state.position)
 -- ---- what closes
 
 -- a turn finds something
-pub record HasFound (turn : Turn) : Type 0 where
+pub record HasFound (turn : WalkTurn) : Type 0 where
   pub found : Found
   pub is : turn ≡ Finds found
 

@@ -23,7 +23,7 @@ use Rattle.run_definitions.specs.Moves.{Gain, Nothing, Prints, Punches, printed_
 use Rattle.run_definitions.specs.Verbs.{or_deck_fault, or_selection_fault, selects}
 use Rattle.walk_definitions.specs.Words.{left_after}
 use Rattle.walk_definitions.specs.Reading.{Right, judged}
-use Rattle.walk_definitions.specs.Walker.{Pending, Walker, Found, Turn, Finds, Unchecked, open_outcome, opened, refuses_selection, unless_found, follows, passed, taken, noted, due, walk_move}
+use Rattle.walk_definitions.specs.Walker.{Pending, Walker, Found, WalkTurn, Finds, Unchecked, open_outcome, opened, refuses_selection, unless_found, follows, passed, taken, noted, due, walk_move}
 use Rattle.walk_definitions.proofs.Texts.{is_text}
 use Rattle.reading_laws.specs.Laws.{ReadingLaw, reported}
 use Rattle.walk_laws.specs.Proved.{attested, Says}
@@ -53,7 +53,7 @@ module _ (Holds : Type 0) (w : Walker) where
     pub counted : count ≡ w.reports + length (printed_by gain)
     pub holds : Holds × All (Says w.state) (printed_by gain)
 
-  abbrev pub ComesTo : ℕ → Move → Turn → Type 0
+  abbrev pub ComesTo : ℕ → Move → WalkTurn → Type 0
   ComesTo card move turn = On (GoesOn card move) (EndsSo card move) turn
 
   pub record IsFollowed (card : ℕ) (move : Move) : Type 0 where
@@ -84,13 +84,13 @@ module _ (Holds : Type 0) (w : Walker) where
 
   -- ---- an operation may be refused
 
-  refused_too : (card : ℕ) (move : Move) (o : Option Found) (refused other : Bool) (turn : Turn) → ComesTo card move (unless_found o (if other then Finds (Unchecked w.rest) else turn)) →
+  refused_too : (card : ℕ) (move : Move) (o : Option Found) (refused other : Bool) (turn : WalkTurn) → ComesTo card move (unless_found o (if other then Finds (Unchecked w.rest) else turn)) →
       ComesTo card move (unless_found o (if refused || other then Finds (Unchecked w.rest) else turn))
   refused_too card move (Some found) refused other turn comes = comes
   refused_too card move None true other turn comes = tt
   refused_too card move None false other turn comes = comes
 
-  move_stops : (card : ℕ) (refusals : Refusals) (move : Move) (turn : Turn) → ComesTo card move turn → ComesTo card (MayStop refusals move) turn
+  move_stops : (card : ℕ) (refusals : Refusals) (move : Move) (turn : WalkTurn) → ComesTo card move turn → ComesTo card (MayStop refusals move) turn
   move_stops card refusals move turn comes =
       on_map (GoesOn card move) (GoesOn card (MayStop refusals move)) (EndsSo card move) (EndsSo card (MayStop refusals move))
       (λ v on. record { gain = on.gain; gives = inl on.gives; text = on.text; counted = on.counted; owes = on.owes })
