@@ -26,7 +26,7 @@ use Rattle.walk_definitions.specs.Forms.{is_inserted}
 use Rattle.walk_definitions.specs.Walker as walks
 use Rattle.listing_walk.specs.declared.chosen.Chosen.{Chosen}
 use Rattle.listing_walk.specs.declared.found.Found.{Found}
-use Rattle.listing_walk.specs.declared.place.Place.{Place}
+use Rattle.listing_walk.specs.declared.place.ListingPlace.{ListingPlace}
 use Rattle.listing_walk.specs.declared.selecting.Unselected.{Unselected}
 use Rattle.listing_walk.specs.declared.selecting.Unselected.TheVariants as unselected
 use Rattle.listing_walk.specs.declared.went.Went.{Went}
@@ -53,7 +53,7 @@ unfolding verb_move
 inserting_move card state = refl
 
 -- the end by a fault of a deck
-deck_faulted : (cards : List (List ℕ)) (machine : Machine Chosen) (old new : Place) (fault : DeckFault) (card : ℕ) (w' : Went) → Passes machine old new (acts.Ends (ends.Deck fault)) [] w' →
+deck_faulted : (cards : List (List ℕ)) (machine : Machine Chosen) (old new : ListingPlace) (fault : DeckFault) (card : ℕ) (w' : Went) → Passes machine old new (acts.Ends (ends.Deck fault)) [] w' →
     (w : walks.Walker) (move : Move) (position executed : ℕ) → Faces old w → move ≡ Does (stops (deck_stop fault)) → Comes (walks.walk_move w move) cards machine position executed new w'
 deck_faulted cards machine old new fault card w' passes w move position executed f is =
     subst (λ (m : Move). Comes (walks.walk_move w m) cards machine position executed new w') (sym is)
@@ -78,10 +78,10 @@ pub taken_by : (cards : List (List ℕ)) (machine : Machine Chosen) (wanted : Op
 taken_by cards machine wanted same deck is = ap (λ (n : Option Name). deck_taken n (decks_of (drop (machine.decks_from - 1) (numbered_cards cards)))) (sym same) ∙ is
 
 -- its line stands, or doesn't, in what is left
-pub line_by : (cards : List (List ℕ)) (place : Place) (deck : Option Deck) (rest : List ℕ) → rest ≡ place.cursor → (stands : Bool) → stands ≡ is_line_of cards deck rest → stands ≡ is_line_of cards deck place.cursor
+pub line_by : (cards : List (List ℕ)) (place : ListingPlace) (deck : Option Deck) (rest : List ℕ) → rest ≡ place.cursor → (stands : Bool) → stands ≡ is_line_of cards deck rest → stands ≡ is_line_of cards deck place.cursor
 line_by cards place deck rest same stands is = is ∙ ap (is_line_of cards deck) same
 
-module _ (card : ℕ) (cards : List (List ℕ)) (machine : Machine Chosen) (old new : Place) where
+module _ (card : ℕ) (cards : List (List ℕ)) (machine : Machine Chosen) (old new : ListingPlace) where
   pub insert_no_setup : machine.setup ≡ None → (result : Result Went NoMemory) → IfOk result (Passes machine old new (acts.Ends (ends.Verb NoSetup card)) []) → IfOk result (Walks Insert card cards machine machine old new)
   insert_no_setup = no_setup_walks Insert card (insert_move card) (inserting_move card) cards machine old new
 

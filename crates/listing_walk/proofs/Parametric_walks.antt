@@ -46,7 +46,7 @@ use Rattle.listing_walk.specs.declared.answering.Stopped.{Stopped}
 use Rattle.listing_walk.specs.declared.answering.Stopped.TheVariants as stops
 use Rattle.listing_walk.specs.declared.chosen.Chosen.{Chosen}
 use Rattle.listing_walk.specs.declared.found.Found.{Found}
-use Rattle.listing_walk.specs.declared.place.Place.{Place}
+use Rattle.listing_walk.specs.declared.place.ListingPlace.{ListingPlace}
 use Rattle.listing_walk.specs.declared.selecting.Unselected.{Unselected}
 use Rattle.listing_walk.specs.declared.went.Went.{Went}
 use Rattle.listing_walk.specs.declared.went.Went.TheVariants as went
@@ -131,7 +131,7 @@ parametric_move Pararhs card state = refl
 
 -- ---- the verb in the walk
 
-module _ (verb : ParametricVerb) (card : ℕ) (cards : List (List ℕ)) (machine : Machine Chosen) (old new : Place) where
+module _ (verb : ParametricVerb) (card : ℕ) (cards : List (List ℕ)) (machine : Machine Chosen) (old new : ListingPlace) where
   pub parametric_no_setup : machine.setup ≡ None → (result : Result Went NoMemory) → IfOk result (Passes machine old new (acts.Ends (ends.Verb NoSetup card)) []) → IfOk result (Walks (verb_of verb) card cards machine machine old new)
   parametric_no_setup = no_setup_walks (verb_of verb) card (tested_move verb card) (parametric_move verb card) cards machine old new
 
@@ -183,7 +183,7 @@ module _ (verb : ParametricVerb) (card : ℕ) (cards : List (List ℕ)) (machine
         parametric_stopped after stops.NoMemory answered (Ok w') is = absurd is
         parametric_stopped after stops.NoMemory answered (Err stop) is = tt
 
-        module _ (demands : AreDemands machine.cells) (mid : Place) where
+        module _ (demands : AreDemands machine.cells) (mid : ListingPlace) where
           abbrev then_open : State → Present → List Basis → State
           then_open state present bases = record state { setup = Some (gone_through bases present); mark = None }
 

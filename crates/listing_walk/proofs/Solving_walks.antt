@@ -32,7 +32,7 @@ use Rattle.run_machine.specs.Standing as machines
 use Rattle.walk_definitions.specs.Walker as walks
 use Rattle.listing_walk.specs.declared.chosen.Chosen.{Chosen}
 use Rattle.listing_walk.specs.declared.found.Found.{Found}
-use Rattle.listing_walk.specs.declared.place.Place.{Place}
+use Rattle.listing_walk.specs.declared.place.ListingPlace.{ListingPlace}
 use Rattle.listing_walk.specs.declared.selecting.Unselected.{Unselected}
 use Rattle.listing_walk.specs.declared.selecting.Unselected.TheVariants as unselected
 use Rattle.listing_walk.specs.declared.went.Went.{Went}
@@ -119,7 +119,7 @@ module _ (card : ℕ) (cards : List (List ℕ)) (machine : Machine Chosen) {posi
         (k.lp, ap (walks.walk_move w) (selected_here k.lp k.is_selected) ∙ refused_turn w problem (choice state.cells) (go present k.lp) k.is_refused)
 
     -- an operation of the selection is refused
-    pub refused_here : (opens : (w : walks.Walker) (lp : LinearProgram) → walks.opened w (go present lp) ≡ open_by true true w) → IsRefused problem (choice machine.cells) → (found : Found) (place : Place) → IsUnchecked place found →
+    pub refused_here : (opens : (w : walks.Walker) (lp : LinearProgram) → walks.opened w (go present lp) ≡ open_by true true w) → IsRefused problem (choice machine.cells) → (found : Found) (place : ListingPlace) → IsUnchecked place found →
         (w : walks.Walker) → Faces place w → walks.walk_move w (selecting card state go) ≡ walks.Finds (found_view found)
     refused_here opens refused found place u w f =
         let k : IsRefused problem (choice state.cells) = subst (λ (c : Cells). IsRefused problem (choice c)) (sym s.cells) refused in
@@ -142,7 +142,7 @@ module _ (card : ℕ) (cards : List (List ℕ)) (machine : Machine Chosen) (posi
 
 -- ---- a verb that selects again, in the walk
 
-module _ (verb : Verb ℕ) (card : ℕ) (go : State → Present → LinearProgram → Move) (is_move : (state : State) → verb_move verb card state ≡ selecting card state (go state)) (cards : List (List ℕ)) (machine : Machine Chosen) (old new : Place) where
+module _ (verb : Verb ℕ) (card : ℕ) (go : State → Present → LinearProgram → Move) (is_move : (state : State) → verb_move verb card state ≡ selecting card state (go state)) (cards : List (List ℕ)) (machine : Machine Chosen) (old new : ListingPlace) where
   fault_walks : (fault : VerbFault) → ((position executed : ℕ) (state : State) → machines.Represents IsView cards machine position executed state → verb_move verb card state ≡ fault_stop fault card) → (result : Result Went NoMemory) →
       IfOk result (Passes machine old new (acts.Ends (ends.Verb fault card)) []) → IfOk result (Walks verb card cards machine machine old new)
   fault_walks fault is (Ok w') passes = λ position executed state w s f. faulted cards machine old new fault card w' passes w (verb_move verb card state) position executed f (is position executed state s)

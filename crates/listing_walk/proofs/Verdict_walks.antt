@@ -30,7 +30,7 @@ use Rattle.listing_walk.specs.declared.answering.Stopped.TheVariants as stops
 use Rattle.listing_walk.specs.declared.answering.Stopped.TheVariants.{Finds}
 use Rattle.listing_walk.specs.declared.selecting.Unselected.{Unselected}
 use Rattle.listing_walk.specs.declared.found.Found.{Found}
-use Rattle.listing_walk.specs.declared.place.Place.{Place}
+use Rattle.listing_walk.specs.declared.place.ListingPlace.{ListingPlace}
 use Rattle.listing_walk.specs.declared.solving.SolvingVerb.{SolvingVerb}
 use Rattle.listing_walk.specs.declared.solving.SolvingVerb.TheVariants.{Primal, Dual}
 use Rattle.listing_walk.specs.declared.went.Went.{Went}
@@ -58,7 +58,7 @@ unfolding verb_move
 solving_move Primal card state = refl
 solving_move Dual card state = refl
 
-module _ (verb : SolvingVerb) (card : ℕ) (cards : List (List ℕ)) (machine : Machine Chosen) (old new : Place) where
+module _ (verb : SolvingVerb) (card : ℕ) (cards : List (List ℕ)) (machine : Machine Chosen) (old new : ListingPlace) where
   pub solving_no_setup : machine.setup ≡ None → (result : Result Went NoMemory) → IfOk result (Passes machine old new (acts.Ends (ends.Verb NoSetup card)) []) → IfOk result (Walks (verb_of verb) card cards machine machine old new)
   solving_no_setup = no_setup_walks (verb_of verb) card (path_move verb card) (solving_move verb card) cards machine old new
 
@@ -91,7 +91,7 @@ module _ (verb : SolvingVerb) (card : ℕ) (cards : List (List ℕ)) (machine : 
       abbrev pub machine_with : Mark → Machine Chosen
       machine_with mark = record machine { setup = Some (record chosen { lp = lp }); mark = Some mark }
 
-      module _ (demands : AreDemands machine.cells) (mark : Mark) (mid : Place) (answered : (limit : Option ℕ) → Answered (OfPath (solver_of verb) limit) (record { problem = problem; lp = lp }) old mid IsMarked (Ok mark))
+      module _ (demands : AreDemands machine.cells) (mark : Mark) (mid : ListingPlace) (answered : (limit : Option ℕ) → Answered (OfPath (solver_of verb) limit) (record { problem = problem; lp = lp }) old mid IsMarked (Ok mark))
           (act : Act) (is_act : act ≡ act_of machine.cells card (Ended mark)) where
         after_state : Present → State → Mark → List Basis → State
         after_state present state m bases = record state { setup = Some (gone_through bases present); mark = Some m }

@@ -24,7 +24,7 @@ use Rattle.listing_walk.specs.declared.answering.Stopped.{Stopped}
 use Rattle.listing_walk.specs.declared.answering.Stopped.TheVariants as stops
 use Rattle.listing_walk.specs.declared.chosen.Chosen.{Chosen}
 use Rattle.listing_walk.specs.declared.found.Found.{Found}
-use Rattle.listing_walk.specs.declared.place.Place.{Place}
+use Rattle.listing_walk.specs.declared.place.ListingPlace.{ListingPlace}
 use Rattle.listing_walk.specs.declared.went.Went.{Went}
 use Rattle.listing_walk.specs.declared.went.Went.TheVariants as went
 use Rattle.listing_walk.specs.Standing.{IsView, IsSolved}
@@ -38,7 +38,7 @@ use Rattle.listing_walk.proofs.Solving_walks.{present_with, present_at, none_at,
 -- ---- faults
 
 -- a statement that is a verb fault
-pub fault_walks : (verb : Verb ℕ) (card : ℕ) (cards : List (List ℕ)) (machine : Machine Chosen) (old new : Place) (fault : VerbFault) →
+pub fault_walks : (verb : Verb ℕ) (card : ℕ) (cards : List (List ℕ)) (machine : Machine Chosen) (old new : ListingPlace) (fault : VerbFault) →
     ((position executed : ℕ) (state : State) → machines.Represents IsView cards machine position executed state → verb_move verb card state ≡ fault_stop fault card) → (result : Result Went NoMemory) →
     IfOk result (Passes machine old new (acts.Ends (ends.Verb fault card)) []) → IfOk result (Walks verb card cards machine machine old new)
 fault_walks verb card cards machine old new fault is (Ok w') passes = λ position executed state w s f.
@@ -92,7 +92,7 @@ solution_move : (card : ℕ) (state : State) → verb_move SolutionVerb card sta
 unfolding verb_move
 solution_move card state = refl
 
-module _ (card : ℕ) (cards : List (List ℕ)) (machine : Machine Chosen) (old new : Place) where
+module _ (card : ℕ) (cards : List (List ℕ)) (machine : Machine Chosen) (old new : ListingPlace) where
   pub solution_no_setup : machine.setup ≡ None → (result : Result Went NoMemory) → IfOk result (Passes machine old new (acts.Ends (ends.Verb NoSetup card)) []) → IfOk result (Walks SolutionVerb card cards machine machine old new)
   solution_no_setup none = fault_walks SolutionVerb card cards machine old new NoSetup (λ position executed state s. solution_move card state ∙ showing_none card cards machine s (lines_move card state) none)
 

@@ -20,7 +20,7 @@ use Rattle.listing_walk.specs.declared.answering.Stopped.TheVariants.{Finds, NoM
 use Rattle.listing_walk.specs.declared.found.Found.{Found}
 use Rattle.listing_walk.specs.declared.found.Found.TheVariants.{Wrong, Unchecked}
 use Rattle.listing_walk.specs.declared.place.Pending.{Pending}
-use Rattle.listing_walk.specs.declared.place.Place.{Place}
+use Rattle.listing_walk.specs.declared.place.ListingPlace.{ListingPlace}
 use Rattle.listing_walk.specs.declared.went.Went.{Went}
 use Rattle.listing_walk.specs.declared.went.Went.TheVariants as went
 use Rattle.listing_walk.specs.Ended.{found_view}
@@ -55,14 +55,14 @@ abbrev pub asked_turn : walks.Walker → (question : Question) → Sheet → (An
 asked_turn w question sheet go = walks.unless_found (walks.open_question w question sheet go) (walks.answered w question sheet go (judged question sheet w.rest))
 
 -- an answer of which this holds was taken, and the walk goes on with it from a walker that stands here
-pub record IsTaken (question : Question) (Holds : Answer question → Type 0) (new : Place) (turn : walks.WalkTurn) (go : Answer question → Outcome) : Type 0 where
+pub record IsTaken (question : Question) (Holds : Answer question → Type 0) (new : ListingPlace) (turn : walks.WalkTurn) (go : Answer question → Outcome) : Type 0 where
   pub answer : Answer question
   pub walker : walks.Walker
   pub is_turn : turn ≡ walks.follows walker (go answer)
   pub faces : Faces new walker
   pub holds : Holds answer
 
-abbrev pub Answered : {X : Type 0} → (question : Question) → Sheet → Place → Place → (X → Answer question → Type 0) → Result X Stopped → Type 0
+abbrev pub Answered : {X : Type 0} → (question : Question) → Sheet → ListingPlace → ListingPlace → (X → Answer question → Type 0) → Result X Stopped → Type 0
 Answered question sheet old new Holds (Ok x) = (w : walks.Walker) (go : Answer question → Outcome) → Faces old w → IsTaken question (Holds x) new (asked_turn w question sheet go) go
 Answered question sheet old new Holds (Err (Finds found)) = (w : walks.Walker) (go : Answer question → Outcome) → Faces old w → asked_turn w question sheet go ≡ walks.Finds (found_view found)
 Answered question sheet old new Holds (Err NoMemory) = Unit {0}
