@@ -13,7 +13,7 @@ use Rattle.check_definitions.specs.declared.Verdict.{Verdict}
 use Rattle.check_definitions.specs.Steps.{Step}
 use Rattle.simplex_definitions.specs.Chain.{along}
 use Rattle.listing_definitions.specs.Numbers.{digits, rational_text}
-use Rattle.listing_definitions.specs.Report.{Line, Interval}
+use Rattle.listing_definitions.specs.Report.{Line, ParametricInterval}
 use Rattle.question_definitions.specs.Answers.{Sheet, Changing}
 use Rattle.answer_definitions.specs.ParametricRuns.{family_of}
 use Rattle.walk_definitions.specs.Words.{Parsed, with_text, with_word, fraction_in}
@@ -27,12 +27,12 @@ abbrev pub part_head : ℕ → ℚ → List ℕ
 part_head number from = codes "INTERVAL " ++ (digits number ++ (codes " FROM " ++ (rational_text from ++ codes " TO ")))
 
 -- whatever is read after it
-abbrev pub part_end_in : ℕ → ℚ → (ℚ → List ℕ → Parsed Interval) → List ℕ → Parsed Interval
+abbrev pub part_end_in : ℕ → ℚ → (ℚ → List ℕ → Parsed ParametricInterval) → List ℕ → Parsed ParametricInterval
 part_end_in number from next = with_text (part_head number from) (with_word fraction_in (λ to. with_text (codes "\n") (λ rest. next to rest)))
 
 abbrev pub IsPartEnd : ℕ → ℚ → List ℕ → List ℕ → Option ℚ → Type 0
-IsPartEnd number from old new None = (next : ℚ → List ℕ → Parsed Interval) → part_end_in number from next old ≡ None
-IsPartEnd number from old new (Some to) = (next : ℚ → List ℕ → Parsed Interval) → part_end_in number from next old ≡ next to new
+IsPartEnd number from old new None = (next : ℚ → List ℕ → Parsed ParametricInterval) → part_end_in number from next old ≡ None
+IsPartEnd number from old new (Some to) = (next : ℚ → List ℕ → Parsed ParametricInterval) → part_end_in number from next old ≡ next to new
 
 -- a value, a price and their rates for each variable
 pub record Counted (p : LinearProgram) (columns : Columns) : Type 0 where
@@ -52,7 +52,7 @@ abbrev pub AreColumnsRead : Sheet → List ℕ → List ℕ → Option Columns �
 AreColumnsRead sheet old new None = table_in sheet part_slots (variables sheet.lp.matrix) old ≡ None
 AreColumnsRead sheet old new (Some columns) = (lines : List Line) × (table_in sheet part_slots (variables sheet.lp.matrix) old ≡ Some (lines, new)) × AreColumns sheet columns lines
 
-pub record IsPart (sheet : Sheet) (from : ℚ) (part : Part) (interval : Interval) : Type 0 where
+pub record IsPart (sheet : Sheet) (from : ℚ) (part : Part) (interval : ParametricInterval) : Type 0 where
   pub begins : interval.from ≡ from
   pub ends : interval.to ≡ part.to
   pub columns : AreColumns sheet part.columns interval.lines

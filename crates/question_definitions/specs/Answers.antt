@@ -12,7 +12,7 @@ use Rattle.problem_definitions.specs.Problem.{Problem}
 use Rattle.listing_definitions.specs.declared.Mark.{Mark}
 use Rattle.listing_definitions.specs.declared.Solver.{Solver}
 use Rattle.listing_definitions.specs.declared.Solver.TheVariants.{Paraobj, Pararhs}
-use Rattle.listing_definitions.specs.Report.{Line, SolutionLines, RangeLines, PathVerdict, Check, Interval, ChainEnd}
+use Rattle.listing_definitions.specs.Report.{Line, SolutionLines, RangeLines, PathVerdict, Check, ParametricInterval, ChainEnd}
 
 -- a basis says where each variable stands
 abbrev pub Basis : Type 0
@@ -53,7 +53,7 @@ pub data PathEnd : Type 0 where
 -- hasn't ended within its limit.
 pub data ParametricRunEnd : Type 0 where
   Opening : List Basis → PathVerdict → Check → ParametricRunEnd
-  Chained : List Basis → List Interval → ChainEnd → ParametricRunEnd
+  Chained : List Basis → List ParametricInterval → ChainEnd → ParametricRunEnd
   ParametricRunLimit : ParametricRunEnd
 
 -- What comes of a basis that a deck gives: its inverse is there; or it is singular, and these lines show a dependency of its columns.
