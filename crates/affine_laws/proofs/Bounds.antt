@@ -11,7 +11,7 @@ use Rattle.exact_values.proofs.Ring_laws.{mul_comm}
 use Rattle.exact_values.proofs.Tests_laws.{lt_from_test, le_from_lt_fails}
 use Rattle.exact_values.proofs.Signs.{neg_above}
 use Rattle.affine_laws.specs.Ends.{MeetsBy, Meets, is_high, end_of, IsOnSide, IsBefore, IsNearer, IsTightened}
-use Rattle.affine_laws.specs.declared.tightening.Bound.{Bound}
+use Rattle.affine_laws.specs.declared.tightening.ProductBound.{ProductBound}
 use Rattle.affine_laws.specs.declared.tightening.Endpoint.{Endpoint}
 use Rattle.affine_laws.specs.declared.tightening.Ends.{Ends}
 
@@ -38,7 +38,7 @@ down_to b x q negative = (
     from_product h = le_by_one h (by_ring3 b x q (λ b x q. q ⊗ b ≐ x ⊗ b ⊕ (x ⊗ opposite b ⊖ q ⊗ opposite b)) refl)
 
 -- a bound is met on one side of its end
-meets_side : (b : Bound) → b.slope ≢ zero_ℚ → (x : ℚ) → Meets b x ↔ IsOnSide (is_high b) (b.number /ℚ b.slope) x
+meets_side : (b : ProductBound) → b.slope ≢ zero_ℚ → (x : ℚ) → Meets b x ↔ IsOnSide (is_high b) (b.number /ℚ b.slope) x
 meets_side b apart x = subst (λ n. MeetsBy b.at_most (x *ℚ b.slope) n ↔ IsOnSide (is_high b) (b.number /ℚ b.slope) x) (div-mul_cancel b.number b.slope apart) (at (lt_ℚ zero_ℚ b.slope) refl b.at_most)
   where
     negative : lt_ℚ zero_ℚ b.slope ≡ false → b.slope <ℚ zero_ℚ
@@ -69,7 +69,7 @@ side_total false p q h = at (lt_or_le q p)
     at (inl lt) = absurd (h (le_of_lt lt))
     at (inr le) = le
 
-module _ (high : Bool) (b : Bound) (apart : b.slope ≢ zero_ℚ) (side : high ≡ is_high b) where
+module _ (high : Bool) (b : ProductBound) (apart : b.slope ≢ zero_ℚ) (side : high ≡ is_high b) where
   meets_here : (x : ℚ) → Meets b x ↔ IsOnSide high (b.number /ℚ b.slope) x
   meets_here x = subst (λ h. Meets b x ↔ IsOnSide h (b.number /ℚ b.slope) x) (sym side) (meets_side b apart x)
 
@@ -106,14 +106,14 @@ module _ (high : Bool) (b : Bound) (apart : b.slope ≢ zero_ℚ) (side : high �
 
 -- ---- an interval
 
-pub high_tightened : (ends : Ends) (b : Bound) (high : Option Endpoint) → IsNearer true b ends.high high → IsTightened ends b (record { low = ends.low; high = high })
+pub high_tightened : (ends : Ends) (b : ProductBound) (high : Option Endpoint) → IsNearer true b ends.high high → IsTightened ends b (record { low = ends.low; high = high })
 high_tightened ends b high near = record {
   exact = λ x. (λ h. let k = (near.exact x).0 h.1 in ((h.0, k.0), k.1), λ h. (h.0.0, (near.exact x).1 (h.0.1, h.1)));
   low = inl refl;
   high = near.either;
 }
 
-pub low_tightened : (ends : Ends) (b : Bound) (low : Option Endpoint) → IsNearer false b ends.low low → IsTightened ends b (record { low = low; high = ends.high })
+pub low_tightened : (ends : Ends) (b : ProductBound) (low : Option Endpoint) → IsNearer false b ends.low low → IsTightened ends b (record { low = low; high = ends.high })
 low_tightened ends b low near = record {
   exact = λ x. (λ h. let k = (near.exact x).0 h.0 in ((k.0, h.1), k.1), λ h. ((near.exact x).1 (h.0.0, h.1), h.0.1));
   low = near.either;

@@ -23,7 +23,7 @@ pub struct Ends {
 
 /// A bound on a number: `slope` times it is at most `number`, or at least. `by` and `which` say whose bound it is.
 #[derive(Clone, Copy, Debug)]
-pub struct Bound {
+pub struct ProductBound {
     pub at_most: bool,
     pub slope: Frac,
     pub number: Frac,
@@ -49,7 +49,7 @@ fn meets(at_most: bool, product: Frac, number: Frac) -> bool
 }
 
 /// Whether the product of `x` and the slope can be made and meets the bound.
-fn holds_at(bound: &Bound, x: Frac) -> bool
+fn holds_at(bound: &ProductBound, x: Frac) -> bool
     ensures { IsTrue result → Meets bound.now x }
 {
     match x.mul(bound.slope) {
@@ -59,7 +59,7 @@ fn holds_at(bound: &Bound, x: Frac) -> bool
 }
 
 /// Whether the bound keeps a number below an end.
-fn keeps_below(bound: &Bound) -> bool
+fn keeps_below(bound: &ProductBound) -> bool
     ensures { result ≡ is_high bound.now }
 {
     if Frac::whole(0).compare(bound.slope).is_lt() {
@@ -70,7 +70,7 @@ fn keeps_below(bound: &Bound) -> bool
 }
 
 /// The end that the bound makes.
-fn made_by(bound: &Bound) -> Result<Endpoint, Refused>
+fn made_by(bound: &ProductBound) -> Result<Endpoint, Refused>
     requires { bound.now.slope ≢ zero_ℚ }
     ensures value { IfOk result (λ made. made ≡ end_of bound.now) }
     ensures refused { IfErr result (IsRefused bound.now) }
@@ -95,7 +95,7 @@ fn is_within(high: bool, first: Frac, second: Frac) -> bool
 
 /// The nearer of an end and that of a bound. A product decides where it can be made, and else the quotient. The product of an end
 /// of 0 is never refused: where 0 meets the bound, no quotient is made.
-fn nearer(kept: Option<Endpoint>, high: bool, bound: &Bound) -> Result<Option<Endpoint>, Refused>
+fn nearer(kept: Option<Endpoint>, high: bool, bound: &ProductBound) -> Result<Option<Endpoint>, Refused>
     requires slope { bound.now.slope ≢ zero_ℚ }
     requires side { high ≡ is_high bound.now }
     ensures nearer { IfOk result (IsNearer high bound.now kept) }
@@ -116,7 +116,7 @@ fn nearer(kept: Option<Endpoint>, high: bool, bound: &Bound) -> Result<Option<En
 }
 
 /// The interval of those numbers between the ends that meet the bound. It stops only where the quotient of the bound is refused.
-pub fn tightened(ends: Ends, bound: &Bound) -> Result<Ends, Refused>
+pub fn tightened(ends: Ends, bound: &ProductBound) -> Result<Ends, Refused>
     requires { bound.now.slope ≢ zero_ℚ }
     ensures tightened { IfOk result (IsTightened ends bound.now) }
     ensures refused { IfErr result (IsRefused bound.now) }

@@ -8,7 +8,7 @@ use Rattle.exact_values.proofs.Ring.{by_ring2, by_ring3, number, ◌⊕◌, ◌�
 use Rattle.exact_values.proofs.Order.{le_by_one}
 use Rattle.exact_values.proofs.Inverse.{zero_or_not}
 use Rattle.affine_laws.specs.Ends.{MeetsBy, IsBetweenEnds, IsTightened, IsRefused}
-use Rattle.affine_laws.specs.declared.tightening.Bound.{Bound}
+use Rattle.affine_laws.specs.declared.tightening.ProductBound.{ProductBound}
 use Rattle.affine_laws.specs.declared.tightening.Endpoint.{Endpoint}
 use Rattle.affine_laws.specs.declared.tightening.Ends.{Ends}
 use Rattle.sensitivity_laws.specs.Changes.{SidesHold, value_sides}
@@ -50,7 +50,7 @@ one_distance at_most far n rate i which ends now is h = record {
   };
 }
 
-pub refused_quotient : (b : Bound) (r : Refused) (e : Evidence) (f : Formula) → Names e f.number f.p f.q f.i f.j f.term → e.way ≡ 0 → e.theta ≡ f.theta → e.refused ≡ r → IsRefused b r
+pub refused_quotient : (b : ProductBound) (r : Refused) (e : Evidence) (f : Formula) → Names e f.number f.p f.q f.i f.j f.term → e.way ≡ 0 → e.theta ≡ f.theta → e.refused ≡ r → IsRefused b r
     → IsRefusal f Div b.number b.slope e
 refused_quotient b r e f names no_way is_theta is h = record {
   names = names;

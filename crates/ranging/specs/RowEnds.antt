@@ -7,7 +7,7 @@
 use Rattle.std.specs.Prelude.{◌≡◌, ◌≢◌, ◌↔◌, ◌⊎◌, ℕ, ◌≤◌, Bool, true, not, List, Option, Some, IfSome}
 use Rattle.exact_values.specs.Rational.{ℚ, zero_ℚ, neg_ℚ, ◌/ℚ◌}
 use Rattle.affine_laws.specs.Ends.{Meets, IsBetweenEnds, IsEither}
-use Rattle.affine_laws.specs.declared.tightening.Bound.{Bound}
+use Rattle.affine_laws.specs.declared.tightening.ProductBound.{ProductBound}
 use Rattle.affine_laws.specs.declared.tightening.Endpoint.{Endpoint}
 use Rattle.affine_laws.specs.declared.tightening.Ends.{Ends}
 use Rattle.sensitivity_laws.specs.Changes.{Sides, SidesHold, sign_sides}
@@ -26,7 +26,7 @@ abbrev pub keeps_below : Sense → Bool → Bool
 keeps_below Min rising = rising
 keeps_below Max rising = not rising
 
-abbrev pub rate_bound : Sense → Bool → ℚ → ℚ → ℕ → Bound
+abbrev pub rate_bound : Sense → Bool → ℚ → ℚ → ℕ → ProductBound
 rate_bound s rising price rate j = record { at_most = keeps_below s rising; slope = rate; number = price; by = j; which = 0 }
 
 abbrev pub worth : Sense → Vector → Vector
@@ -40,7 +40,7 @@ abbrev pub RatesStayTo : LinearProgram → List Status → Vector → Vector →
 RatesStayTo p s prices row n x = (k : ℕ) → 1 ≤ k → k ≤ n → SidesHold (sides_of p s (prices k) (row k) k) x
 
 -- the ends now keep what the earlier ones keep and the bound, if it is one
-pub record IsTightenedIf (may : Bool) (ends : Ends) (b : Bound) (now : Ends) : Type 0 where
+pub record IsTightenedIf (may : Bool) (ends : Ends) (b : ProductBound) (now : Ends) : Type 0 where
   pub exact : (y : ℚ) → IsBetweenEnds now y ↔ (IsBetweenEnds ends y × (may ≡ true → Meets b y))
   pub low : IsEither b ends.low now.low
   pub high : IsEither b ends.high now.high
