@@ -19,7 +19,7 @@ use Rattle.control_definitions.specs.Cells.{Cells}
 use Rattle.listing_definitions.specs.declared.VerbFault.{VerbFault}
 use Rattle.listing_definitions.specs.Report.{Report}
 use Rattle.listing_definitions.specs.Ending.{Ending, Overflow, OverflowStop}
-use Rattle.question_definitions.specs.Answers.{Basis, Sheet, Question, Answer, OfPunch, OfInstall, InstallEnd, Installed, DependsBy}
+use Rattle.question_definitions.specs.Answers.{Basis, Sheet, Question, AnswerTo, OfPunch, OfInstall, InstallEnd, Installed, DependsBy}
 use Rattle.question_definitions.specs.Solving.{IsRight}
 use Rattle.answer_definitions.specs.Bases.{IsInstalled}
 use Rattle.answer_definitions.specs.Real.{linear_programming}
@@ -41,7 +41,7 @@ record Leads (Fact : Outcome → Type 0) (card : ℕ) (move : Move) : Type 0 whe
   by : (outcome : Outcome) → Gives linear_programming card move outcome → Fact outcome
 
 module _ (Fact : Outcome → Type 0) (card : ℕ) where
-  asked : (question : Question) (sheet : Sheet) (s : Basis) (go : Answer question → Outcome) → ((answer : Answer question) → IsRight linear_programming question sheet s answer → Fact (go answer)) →
+  asked : (question : Question) (sheet : Sheet) (s : Basis) (go : AnswerTo question → Outcome) → ((answer : AnswerTo question) → IsRight linear_programming question sheet s answer → Fact (go answer)) →
       Leads Fact card (Asks question sheet s go)
   asked question sheet s go holds = record { by = λ outcome given. subst Fact (sym given.2) (holds given.0 given.1) }
 

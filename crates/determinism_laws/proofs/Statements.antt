@@ -20,7 +20,7 @@ use Rattle.selection_definitions.specs.Selection.{selected}
 use Rattle.listing_definitions.specs.declared.Mark.{Mark}
 use Rattle.listing_definitions.specs.declared.VerbFault.{VerbFault}
 use Rattle.listing_definitions.specs.Report.{Report, Converted, Revised, Solution, Ranges}
-use Rattle.question_definitions.specs.Answers.{Basis, Changing, ParametricRun, Question, Answer, OfPath, OfSolution, OfRanges, OfParametricRun, OfPunch, OfInstall}
+use Rattle.question_definitions.specs.Answers.{Basis, Changing, ParametricRun, Question, AnswerTo, OfPath, OfSolution, OfRanges, OfParametricRun, OfPunch, OfInstall}
 use Rattle.question_definitions.specs.Solving.{Solving}
 use Rattle.run_definitions.specs.State.{Present, present_basis, State, problem_of, choice_of}
 use Rattle.run_definitions.specs.Moves.{Outcome, Refusals, Move, Does, MayStop, or_fault}
@@ -100,7 +100,7 @@ module _ (S : Solving) where
   }
 
   -- a question at the present basis of what is selected of the setup
-  asked : (question : Question) (present : Present) (state : State) (lp : LinearProgram) (go : Answer question → Outcome) → HasOneAnswer S question → HasProblem state.setup → Knows state →
+  asked : (question : Question) (present : Present) (state : State) (lp : LinearProgram) (go : AnswerTo question → Outcome) → HasOneAnswer S question → HasProblem state.setup → Knows state →
       state.setup ≡ Some present → selected present.problem (choice_of state.cells present.options) ≡ Ok lp → Suits question (record { problem = present.problem; lp = lp }) (present_basis present) →
       IsOnce S (asks question (record { problem = present.problem; lp = lp }) present go)
   asked question present state lp go one lawful knows e is suits = record {
@@ -129,7 +129,7 @@ module _ (S : Solving) where
         asked (OfInstall s) present state lp _ (one s) lawful knows e is
         (lawful_basis present.problem lp taken.0 s (selected_has_names present.problem (choice_of state.cells present.options) lp is) read)))))
 
-    showing_once : (present : Present) (question : Question) (report : Answer question → Report) → HasOneAnswer S question → state.setup ≡ Some present →
+    showing_once : (present : Present) (question : Question) (report : AnswerTo question → Report) → HasOneAnswer S question → state.setup ≡ Some present →
         ((lp : LinearProgram) → selected present.problem (choice_of state.cells present.options) ≡ Ok lp → Suits question (record { problem = present.problem; lp = lp }) (present_basis present)) →
         IsOnce S (shows_present card state present question report)
     showing_once present question report one e suits =

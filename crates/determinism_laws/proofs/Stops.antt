@@ -24,7 +24,7 @@ use Rattle.listing_definitions.specs.declared.Solver.TheVariants.{Primal as ByPr
 use Rattle.listing_definitions.specs.declared.VerbFault.{VerbFault}
 use Rattle.listing_definitions.specs.Report.{Report, Converted, Revised, Solved, Solution, Ranges}
 use Rattle.listing_definitions.specs.Ending.{Overflow, Ending, Ended, WordsRefused, ControlStop, VerbStop, SingularStop, PriceStop, DeckStop, CardStop, LimitStop, StatementLimit, OverflowStop, ReadFault, PrintFault, PunchFault, Memory}
-use Rattle.question_definitions.specs.Answers.{Basis, Changing, parametric_solver, ParametricRun, Question, Answer, OfSolution, OfRanges, PathEnd, Reached, PathLimit, PricesWrong, ParametricRunEnd, Opening, Chained, ParametricRunLimit, InstallEnd, Installed, DependsBy}
+use Rattle.question_definitions.specs.Answers.{Basis, Changing, parametric_solver, ParametricRun, Question, AnswerTo, OfSolution, OfRanges, PathEnd, Reached, PathLimit, PricesWrong, ParametricRunEnd, Opening, Chained, ParametricRunLimit, InstallEnd, Installed, DependsBy}
 use Rattle.question_definitions.specs.Solving.{Solving}
 use Rattle.run_definitions.specs.State.{Present, gone_through, State, problem_of, choice_of}
 use Rattle.run_definitions.specs.Moves.{Gain, Outcome, Goes, Ends, Refusals, Move, Does, MayStop, Asks, Gives, or_fault}
@@ -67,7 +67,7 @@ IsOther (Ends gain ending) = IsOtherEnding ending
 abbrev DoesOther : Move → Type 0
 DoesOther (Does outcome) = IsOther outcome
 DoesOther (MayStop refusals move) = DoesOther move
-DoesOther (Asks question sheet s go) = (answer : Answer question) → IsOther (go answer)
+DoesOther (Asks question sheet s go) = (answer : AnswerTo question) → IsOther (go answer)
 
 record NeverStops (move : Move) : Type 0 where
   other : DoesOther move
@@ -159,7 +159,7 @@ module _ (card : ℕ) (state : State) where
       unless_deck_fault (basis_reading present.problem lp taken.0) _ (λ s.
       record { other = after_install_other card lp s taken present state }))))
 
-  showing_never : (present : Present) (question : Question) (report : Answer question → Report) → NeverStops (shows_present card state present question report)
+  showing_never : (present : Present) (question : Question) (report : AnswerTo question → Report) → NeverStops (shows_present card state present question report)
   showing_never present question report = unless_selection_fault card (selected present.problem (choice_of state.cells present.options)) _ (λ lp. record { other = λ lines. tt })
 
   shows_never : NeverStops (shows card state)

@@ -23,7 +23,7 @@ use Rattle.listing_definitions.specs.declared.Mark.{Mark}
 use Rattle.listing_definitions.specs.declared.Solver.{Solver}
 use Rattle.listing_definitions.specs.Report.{SolutionLines, RangeLines, Report}
 use Rattle.listing_definitions.specs.Ending.{Place, Overflow, Ending, OverflowStop}
-use Rattle.question_definitions.specs.Answers.{Basis, Sheet, ParametricRun, Question, Answer, OfPath, OfSolution, OfRanges, OfParametricRun, OfPunch, OfInstall, PathEnd}
+use Rattle.question_definitions.specs.Answers.{Basis, Sheet, ParametricRun, Question, AnswerTo, OfPath, OfSolution, OfRanges, OfParametricRun, OfPunch, OfInstall, PathEnd}
 use Rattle.question_definitions.specs.Solving.{Solving, IsRight}
 use Rattle.answer_definitions.specs.Verdicts.{IsSolved, IsDualSolved}
 use Rattle.answer_definitions.specs.Sections.{IsSolutionOf, IsRanged}
@@ -58,7 +58,7 @@ pub record IsAsked (question : Question) (sheet : Sheet) (s : Basis) : Type 0 wh
 
 -- Where the question is asked so, it has one right answer at most.
 abbrev pub HasOneAnswer : Solving → Question → Type 0
-HasOneAnswer S question = (sheet : Sheet) (s : Basis) (a b : Answer question) →
+HasOneAnswer S question = (sheet : Sheet) (s : Basis) (a b : AnswerTo question) →
     IsAsked question sheet s → IsRight S question sheet s a → IsRight S question sheet s b → a ≡ b
 
 -- So it is with each question that PRIMAL, DUAL, SOLUTION, RANGE, PARAOBJ, PARARHS, PUNCH and INSERT ask.
@@ -75,7 +75,7 @@ pub record AnswersOnce (S : Solving) : Type 0 where
 abbrev pub AsksOnce : Solving → Move → Type 0
 AsksOnce S (Does outcome) = Unit {0}
 AsksOnce S (MayStop refusals move) = AsksOnce S move
-AsksOnce S (Asks question sheet s go) = (a b : Answer question) →
+AsksOnce S (Asks question sheet s go) = (a b : AnswerTo question) →
     IsRight S question sheet s a → IsRight S question sheet s b → a ≡ b
 
 -- a stop for an overflow

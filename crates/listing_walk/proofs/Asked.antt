@@ -10,7 +10,7 @@ use Rattle.listing_definitions.specs.declared.Mark.{Mark}
 use Rattle.listing_definitions.specs.declared.Mark.TheVariants as marks
 use Rattle.listing_definitions.specs.declared.Solver.{Solver}
 use Rattle.listing_definitions.specs.Report.{PathVerdict, OptimalAt, CrossedAt, InfeasibleBy, UnboundedBy, Check, SolutionLines}
-use Rattle.question_definitions.specs.Answers.{Sheet, Question, OfPath, OfSolution, OfParametricRun, ParametricRun, Answer, PathEnd, Reached, PathLimit, PricesWrong}
+use Rattle.question_definitions.specs.Answers.{Sheet, Question, OfPath, OfSolution, OfParametricRun, ParametricRun, AnswerTo, PathEnd, Reached, PathLimit, PricesWrong}
 use Rattle.run_definitions.specs.Moves.{Outcome}
 use Rattle.run_definitions.specs.Verbs.{mark_of}
 use Rattle.walk_definitions.specs.Tests.{says_checked, point_of}
@@ -74,23 +74,23 @@ pends_none rest (UnboundedBy steps value lines) check conclusion e other = refl
 -- ---- where an answer comes
 
 module _ (question : Question) (sheet : Sheet) (old : ListingPlace) (open_there : walks.Walker → Option walks.Found)
-    (opens : (w : walks.Walker) (go : Answer question → Outcome) → walks.open_question w question sheet go ≡ open_there w) where
+    (opens : (w : walks.Walker) (go : AnswerTo question → Outcome) → walks.open_question w question sheet go ≡ open_there w) where
   -- what is open comes first
-  pub found_open : (found : Found) → ((w : walks.Walker) → Faces old w → option_map found_view (Some found) ≡ open_there w) → (w : walks.Walker) (go : Answer question → Outcome) → Faces old w →
+  pub found_open : (found : Found) → ((w : walks.Walker) → Faces old w → option_map found_view (Some found) ≡ open_there w) → (w : walks.Walker) (go : AnswerTo question → Outcome) → Faces old w →
       asked_turn w question sheet go ≡ walks.Finds (found_view found)
   found_open found there_is w go f =
       ap (λ (x : Option walks.Found). walks.unless_found x (walks.answered w question sheet go (judged question sheet w.rest))) (opens w go ∙ sym (there_is w f))
 
   module _ (none : (w : walks.Walker) → Faces old w → None ≡ open_there w) where
     -- then the answer
-    pub turn_answered : (w : walks.Walker) (go : Answer question → Outcome) → Faces old w → (given : Judged (Answer question)) → judged question sheet old.cursor ≡ given →
+    pub turn_answered : (w : walks.Walker) (go : AnswerTo question → Outcome) → Faces old w → (given : Judged (AnswerTo question)) → judged question sheet old.cursor ≡ given →
         asked_turn w question sheet go ≡ walks.answered w question sheet go given
     turn_answered w go f given is =
         ap (λ (x : Option walks.Found). walks.unless_found x (walks.answered w question sheet go (judged question sheet w.rest))) (opens w go ∙ sym (none w f)) ∙
         ap (λ (rest : List ℕ). walks.answered w question sheet go (judged question sheet rest)) f.rest ∙ ap (walks.answered w question sheet go) is
 
     -- it isn't right, or an operation of its test is refused
-    pub stopped_answered : {X Y : Type 0} (Shows : X → Answer question → Type 0) (Holds : Y → Answer question → Type 0) (new : ListingPlace) (cursor : List ℕ) (stop : Stop) (rest : Bor (List ℕ)) → rest.now ≡ old.cursor →
+    pub stopped_answered : {X Y : Type 0} (Shows : X → AnswerTo question → Type 0) (Holds : Y → AnswerTo question → Type 0) (new : ListingPlace) (cursor : List ℕ) (stop : Stop) (rest : Bor (List ℕ)) → rest.now ≡ old.cursor →
         Taken Shows (judged question sheet old.cursor) cursor (Err stop) → Answered question sheet old new Holds (Err (stopped_by stop rest))
     stopped_answered Shows Holds new cursor stops.Wrong rest here taken = λ w go f. turn_answered w go f Fails taken ∙ ap (λ (left : List ℕ). walks.Finds (walks.Wrong left)) (f.rest ∙ sym here)
     stopped_answered Shows Holds new cursor stops.Unchecked rest here taken = λ w go f. turn_answered w go f Refuses taken ∙ ap (λ (left : List ℕ). walks.Finds (walks.Unchecked left)) (f.rest ∙ sym here)

@@ -17,7 +17,7 @@ use Rattle.listing_definitions.specs.declared.Mark.TheVariants.{Optimal, Infeasi
 use Rattle.listing_definitions.specs.declared.VerbFault.{VerbFault}
 use Rattle.listing_definitions.specs.Report.{Report}
 use Rattle.listing_definitions.specs.Ending.{Ending, PriceStop, LimitStop, OverflowStop}
-use Rattle.question_definitions.specs.Answers.{Basis, Sheet, Question, Answer}
+use Rattle.question_definitions.specs.Answers.{Basis, Sheet, Question, AnswerTo}
 use Rattle.question_definitions.specs.Solving.{Solving, IsRight}
 use Rattle.run_definitions.specs.State.{Present, State}
 use Rattle.run_definitions.specs.Moves.{Gain, Prints, printed_by, Outcome, Goes, Ends, gain_of, stops, Refusals, Move, Does, MayStop, Asks, Gives, or_fault}
@@ -92,8 +92,8 @@ module _ (S : Solving) (Speaks : State → Report → Type 0) (Open : Type 0) (a
       stopping a b (inl gives) (inl given) speaks says unstopped = alike.by a b gives given speaks says unstopped
       stopping a b (inl gives) (inr stop) speaks says unstopped = absurd (unstopped (_, stop.3))
 
-  pub asked : (question : Question) (sheet : Sheet) (s t : Basis) (go on : Answer question → Outcome) →
-      ((x y : Answer question) → IsRight S question sheet s x → IsRight attested question sheet t y → All (Speaks at) (printed_by (gain_of (go x))) → All (Says other) (printed_by (gain_of (on y))) →
+  pub asked : (question : Question) (sheet : Sheet) (s t : Basis) (go on : AnswerTo question → Outcome) →
+      ((x y : AnswerTo question) → IsRight S question sheet s x → IsRight attested question sheet t y → All (Speaks at) (printed_by (gain_of (go x))) → All (Says other) (printed_by (gain_of (on y))) →
       AlikeOrStopped Open (go x) (on y)) → IsAlike (Asks question sheet s go) (Asks question sheet t on)
   asked question sheet s t go on alike = record {
     by = λ a b first second speaks says unstopped.

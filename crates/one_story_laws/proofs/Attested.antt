@@ -13,7 +13,7 @@ use Rattle.listing_definitions.specs.Report.{Report}
 use Rattle.listing_definitions.specs.Ending.{Ending, Ended, StatementLimit, ControlStop, CardStop}
 use Rattle.listing_definitions.specs.Text.{report_text}
 use Rattle.listing_definitions.specs.Listing.{ending_text, reports_text}
-use Rattle.question_definitions.specs.Answers.{Sheet, Question, OfPath, OfSolution, OfRanges, OfParametricRun, OfPunch, OfInstall, Answer, Installed}
+use Rattle.question_definitions.specs.Answers.{Sheet, Question, OfPath, OfSolution, OfRanges, OfParametricRun, OfPunch, OfInstall, AnswerTo, Installed}
 use Rattle.run_definitions.specs.State.{State}
 use Rattle.run_definitions.specs.Moves.{Gain, printed_by, punched_by, Outcome, Ends, InSelection, InAnswer, Move, Does, MayStop, Asks, Gives}
 use Rattle.run_definitions.specs.Verbs.{verb_move}
@@ -51,7 +51,7 @@ no_evidence (Asks question sheet s go) e evidence = evidence
 
 -- ---- what is open isn't attested
 
-never_asked : (w : Walker) (question : Question) (sheet : Sheet) (go : Answer question → Outcome) → NeverAttests (open_question w question sheet go)
+never_asked : (w : Walker) (question : Question) (sheet : Sheet) (go : AnswerTo question → Outcome) → NeverAttests (open_question w question sheet go)
 never_asked w (OfSolution mark) sheet go = never_stop w
 never_asked w OfRanges sheet go = never_either (open_stop w) (open_if (is_ranges w.rest) w) (never_stop w) (never_if (is_ranges w.rest) w)
 never_asked w OfPunch sheet go = never_either (open_stop w) (open_if (is_punched sheet.problem.name w.rest) w) (never_stop w) (never_if (is_punched sheet.problem.name w.rest) w)

@@ -24,7 +24,7 @@ use Rattle.listing_definitions.specs.declared.Solver.TheVariants.{Primal as ByPr
 use Rattle.listing_definitions.specs.declared.VerbFault.{VerbFault}
 use Rattle.listing_definitions.specs.Report.{Report, Converted, Revised, Solved, Solution}
 use Rattle.listing_definitions.specs.Ending.{Ending}
-use Rattle.question_definitions.specs.Answers.{Basis, Sheet, Changing, parametric_solver, ParametricRun, Question, OfPath, OfSolution, OfRanges, OfParametricRun, OfPunch, OfInstall, Answer, PathEnd, Reached, PathLimit, PricesWrong, ParametricRunEnd, Opening, Chained, ParametricRunLimit}
+use Rattle.question_definitions.specs.Answers.{Basis, Sheet, Changing, parametric_solver, ParametricRun, Question, OfPath, OfSolution, OfRanges, OfParametricRun, OfPunch, OfInstall, AnswerTo, PathEnd, Reached, PathLimit, PricesWrong, ParametricRunEnd, Opening, Chained, ParametricRunLimit}
 use Rattle.question_definitions.specs.Solving.{IsRight}
 use Rattle.run_definitions.specs.State.{Present, gone_through, State, problem_of, choice_of}
 use Rattle.run_definitions.specs.Moves.{printed_by, Outcome, Goes, Ends, gain_of, Refusals, Move, Does, MayStop, Asks, Gives, or_fault}
@@ -68,7 +68,7 @@ module _ (card : ℕ) where
       stopping given (inl gives) = shows.by given gives
       stopping given (inr stop) = subst NoneOf (sym stop.3) nothing
 
-  asked : (question : Question) (sheet : Sheet) (s : Basis) (go : Answer question → Outcome) → ((answer : Answer question) → IsRight attested question sheet s answer → NoneOf (go answer)) →
+  asked : (question : Question) (sheet : Sheet) (s : Basis) (go : AnswerTo question → Outcome) → ((answer : AnswerTo question) → IsRight attested question sheet s answer → NoneOf (go answer)) →
       ShowsNone (Asks question sheet s go)
   asked question sheet s go none = record { by = λ given a. subst NoneOf (sym a.2) (none a.0 a.1) }
 

@@ -23,7 +23,7 @@ use Rattle.listing_definitions.specs.declared.VerbFault.{VerbFault}
 use Rattle.listing_definitions.specs.Report.{Report}
 use Rattle.listing_definitions.specs.Ending.{Overflow, Ending, OverflowStop}
 use Rattle.listing_definitions.specs.Listing.{ending_text}
-use Rattle.question_definitions.specs.Answers.{Basis, Sheet, Question, OfPath, OfSolution, OfRanges, OfParametricRun, OfPunch, OfInstall, Answer, Installed}
+use Rattle.question_definitions.specs.Answers.{Basis, Sheet, Question, OfPath, OfSolution, OfRanges, OfParametricRun, OfPunch, OfInstall, AnswerTo, Installed}
 use Rattle.question_definitions.specs.Solving.{IsRight}
 use Rattle.answer_definitions.specs.Verdicts.{found}
 use Rattle.answer_definitions.specs.Real.{linear_programming}
@@ -140,7 +140,7 @@ never_outcome w (Goes Nothing after) = never_unmarked (is_none after.mark) w.pen
 never_outcome w (Goes (Prints report) after) = never_either (open_stop w) (if is_none after.mark then open_pending w else None) (never_stop w) (never_unmarked (is_none after.mark) w.pending)
 never_outcome w (Goes (Punches report cards) after) = never_either (open_stop w) (if is_none after.mark then open_pending w else None) (never_stop w) (never_unmarked (is_none after.mark) w.pending)
 
-never_question : (w : Walker) (question : Question) (sheet : Sheet) (go : Answer question → Outcome) → IsNeverWrong (open_question w question sheet go)
+never_question : (w : Walker) (question : Question) (sheet : Sheet) (go : AnswerTo question → Outcome) → IsNeverWrong (open_question w question sheet go)
 never_question w (OfSolution mark) sheet go = never_stop w
 never_question w OfRanges sheet go = never_either (open_stop w) (open_if (is_ranges w.rest) w) (never_stop w) (never_if (is_ranges w.rest) w)
 never_question w OfPunch sheet go = never_either (open_stop w) (open_if (is_punched sheet.problem.name w.rest) w) (never_stop w) (never_if (is_punched sheet.problem.name w.rest) w)
@@ -308,7 +308,7 @@ module _ (w : Walker) where
 
   -- ---- questions
 
-  question_looks : (question : Question) (sheet : Sheet) (go : Answer question → Outcome) → is_open_stop w.rest ≡ true → open_question w question sheet go ≡ Some (Open w.rest)
+  question_looks : (question : Question) (sheet : Sheet) (go : AnswerTo question → Outcome) → is_open_stop w.rest ≡ true → open_question w question sheet go ≡ Some (Open w.rest)
   question_looks (OfSolution mark) sheet go is = ap (λ b. open_if b w) is
   question_looks OfRanges sheet go is = stop_first _ is
   question_looks OfPunch sheet go is = stop_first _ is
@@ -316,11 +316,11 @@ module _ (w : Walker) where
   question_looks (OfPath solver limit) sheet go is = stop_first _ is
   question_looks (OfParametricRun parametric_run) sheet go is = stop_first _ is
 
-  module _ (card : ℕ) (question : Question) (sheet : Sheet) (s t : Basis) (go own : Answer question → Outcome) where
-    abbrev pub LandsAnswered : Answer question → List ℕ → Type 0
+  module _ (card : ℕ) (question : Question) (sheet : Sheet) (s t : Basis) (go own : AnswerTo question → Outcome) where
+    abbrev pub LandsAnswered : AnswerTo question → List ℕ → Type 0
     LandsAnswered answer more = Lands (own answer) more (answered w question sheet go (judged question sheet w.rest))
 
-    pub asked_lands : (card ≤ max_count → (answer : Answer question) (more : List ℕ) → IsRight linear_programming question sheet t answer → IsDue w (own answer) more → open_question w question sheet go ≡ None → LandsAnswered answer more) →
+    pub asked_lands : (card ≤ max_count → (answer : AnswerTo question) (more : List ℕ) → IsRight linear_programming question sheet t answer → IsDue w (own answer) more → open_question w question sheet go ≡ None → LandsAnswered answer more) →
         IsFollowed card (Asks question sheet s go) (Asks question sheet t own)
     asked_lands lands = record {
       matched = λ small. record {
@@ -331,7 +331,7 @@ module _ (w : Walker) where
       looks = question_looks question sheet go;
     }
       where
-        by : card ≤ max_count → (answer : Answer question) (more : List ℕ) → IsRight linear_programming question sheet t answer → IsDue w (own answer) more → (o : Option Found) → open_question w question sheet go ≡ o → IsNeverWrong o →
+        by : card ≤ max_count → (answer : AnswerTo question) (more : List ℕ) → IsRight linear_programming question sheet t answer → IsDue w (own answer) more → (o : Option Found) → open_question w question sheet go ≡ o → IsNeverWrong o →
             Lands (own answer) more (unless_found o (answered w question sheet go (judged question sheet w.rest)))
         by small answer more right given (Some what) is never = never
         by small answer more right given None is never = lands small answer more right given is

@@ -72,10 +72,10 @@ pub data Question : Type 0 where
   OfPunch : Question
   OfInstall : Basis → Question
 
-abbrev pub Answer : Question → Type 0
-Answer (OfPath solver limit) = PathEnd
-Answer (OfSolution mark) = SolutionLines
-Answer OfRanges = RangeLines
-Answer (OfParametricRun parametric_run) = ParametricRunEnd
-Answer OfPunch = List (List ℕ)
-Answer (OfInstall basis) = InstallEnd
+abbrev pub AnswerTo : Question → Type 0
+AnswerTo (OfPath solver limit) = PathEnd
+AnswerTo (OfSolution mark) = SolutionLines
+AnswerTo OfRanges = RangeLines
+AnswerTo (OfParametricRun parametric_run) = ParametricRunEnd
+AnswerTo OfPunch = List (List ℕ)
+AnswerTo (OfInstall basis) = InstallEnd

@@ -10,7 +10,7 @@ use Rattle.lp_definitions.specs.declared.Evidence.{Evidence}
 use Rattle.problem_definitions.specs.Problem.{Problem}
 use Rattle.selection_definitions.specs.Choice.{Choice}
 use Rattle.selection_definitions.specs.Refusals.{IsSelectionRefusal}
-use Rattle.question_definitions.specs.Answers.{Basis, Sheet, Question, Answer}
+use Rattle.question_definitions.specs.Answers.{Basis, Sheet, Question, AnswerTo}
 use Rattle.question_definitions.specs.Solving.{Solving, IsRight}
 use Rattle.listing_definitions.specs.declared.VerbFault.{VerbFault}
 use Rattle.listing_definitions.specs.Report.{Report}
@@ -73,7 +73,7 @@ pub data Refusals : Type 0 where
 pub data Move : Type 0 where
   Does : Outcome → Move
   MayStop : Refusals → Move → Move
-  Asks : (question : Question) → Sheet → Basis → (Answer question → Outcome) → Move
+  Asks : (question : Question) → Sheet → Basis → (AnswerTo question → Outcome) → Move
 
 -- an operation of the selection that is refused; it is made before there is a basis
 abbrev pub SelectionOverflows : Problem ℕ → Choice → Evidence → Option Place → Type 0
@@ -92,7 +92,7 @@ StopsBy card Holds outcome =
 abbrev pub Gives : Solving → ℕ → Move → Outcome → Type 0
 Gives S card (Does outcome) given = given ≡ outcome
 Gives S card (MayStop refusals move) given = Gives S card move given ⊎ StopsBy card (Shows S refusals) given
-Gives S card (Asks question sheet s go) given = (answer : Answer question) × IsRight S question sheet s answer × (given ≡ go answer)
+Gives S card (Asks question sheet s go) given = (answer : AnswerTo question) × IsRight S question sheet s answer × (given ≡ go answer)
 
 -- What a move comes to, whatever is right of linear programming: it asks nothing, and isn't stopped by an overflow.
 abbrev pub Settles : ℕ → Move → Outcome → Type 0

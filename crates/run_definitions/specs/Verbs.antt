@@ -32,7 +32,7 @@ use Rattle.listing_definitions.specs.declared.VerbFault.{VerbFault}
 use Rattle.listing_definitions.specs.declared.VerbFault.TheVariants.{DeckNotFound, NoProblem, NoSetup, NotSolved, NotOptimal, NoChangeRow, NoChangeSet, NoParmax, ParmaxBelow, NoObjective, ObjectiveNotFree, NoRhsSet, NoRangeSet, NoBoundSet}
 use Rattle.listing_definitions.specs.Report.{SolutionLines, RangeLines, PathVerdict, OptimalAt, CrossedAt, InfeasibleBy, UnboundedBy, Report, Titled, Filed, Converted, Revised, SetUp, BcdOut, BasisOut, Inserted, Solved, Solution, Ranges, Parametric, ChainEnd, EndsAt, UnboundedPast, InfeasiblePast}
 use Rattle.listing_definitions.specs.Ending.{Place, Ending, Ended, VerbStop, SingularStop, PriceStop, DeckStop, LimitStop}
-use Rattle.question_definitions.specs.Answers.{Basis, Sheet, Changing, Row, Set, changing_name, parametric_solver, ParametricRun, Question, Answer, OfPath, OfSolution, OfRanges, OfParametricRun, OfPunch, OfInstall, PathEnd, Reached, PathLimit, PricesWrong, ParametricRunEnd, Opening, Chained, ParametricRunLimit, InstallEnd, Installed, DependsBy}
+use Rattle.question_definitions.specs.Answers.{Basis, Sheet, Changing, Row, Set, changing_name, parametric_solver, ParametricRun, Question, AnswerTo, OfPath, OfSolution, OfRanges, OfParametricRun, OfPunch, OfInstall, PathEnd, Reached, PathLimit, PricesWrong, ParametricRunEnd, Opening, Chained, ParametricRunLimit, InstallEnd, Installed, DependsBy}
 use Rattle.control_definitions.specs.Cells.{default_cells, move_name, move_number, move_limit, steps_allowed, set_demand}
 use Rattle.run_definitions.specs.State.{Present, present_basis, path_of, gone_through, State, problem_of, choice_of}
 use Rattle.run_definitions.specs.Moves.{Nothing, Prints, Punches, Outcome, Ends, next, jump, stops, InSelection, InAnswer, Move, Does, MayStop, Asks, or_fault}
@@ -203,7 +203,7 @@ mark_after Xrhs mark = None
 mark_after _ mark = mark
 
 -- a question at the present basis: the statement may stop with an overflow of its own formulas, or goes on by the answer
-abbrev pub asks : (question : Question) → Sheet → Present → (Answer question → Outcome) → Move
+abbrev pub asks : (question : Question) → Sheet → Present → (AnswerTo question → Outcome) → Move
 asks question sheet present go = MayStop (InAnswer question sheet (path_of present)) (Asks question sheet (present_basis present) go)
 
 -- the basis where the path ends becomes the present one, and the verdict is printed and leaves a mark
@@ -223,7 +223,7 @@ solves solver limit card state =
 
 -- SOLUTION and RANGE speak of the linear program that PRIMAL solved: since then the mark stands, so that the present cells select
 -- it again, without a fault.
-abbrev pub shows_present : ℕ → State → Present → (question : Question) → (Answer question → Report) → Move
+abbrev pub shows_present : ℕ → State → Present → (question : Question) → (AnswerTo question → Report) → Move
 shows_present card state present question report =
     or_selection_fault card (selected present.problem (choice_of state.cells present.options)) (λ lp.
     let sheet : Sheet = record { problem = present.problem; lp = lp } in

@@ -34,7 +34,7 @@ use Rattle.listing_definitions.specs.declared.Solver.{Solver}
 use Rattle.listing_definitions.specs.declared.Solver.TheVariants.{Primal as ByPrimal, Dual as ByDual}
 use Rattle.listing_definitions.specs.declared.VerbFault.{VerbFault}
 use Rattle.listing_definitions.specs.Report.{Report, Converted, Revised, Solution, Ranges}
-use Rattle.question_definitions.specs.Answers.{Basis, Sheet, Changing, ParametricRun, Question, Answer, OfPath, OfSolution, OfRanges, OfParametricRun, OfPunch, OfInstall, PathEnd, Reached, PathLimit, PricesWrong, ParametricRunEnd, Opening, Chained, ParametricRunLimit, InstallEnd, Installed, DependsBy}
+use Rattle.question_definitions.specs.Answers.{Basis, Sheet, Changing, ParametricRun, Question, AnswerTo, OfPath, OfSolution, OfRanges, OfParametricRun, OfPunch, OfInstall, PathEnd, Reached, PathLimit, PricesWrong, ParametricRunEnd, Opening, Chained, ParametricRunLimit, InstallEnd, Installed, DependsBy}
 use Rattle.question_definitions.specs.Solving.{Solving}
 use Rattle.control_definitions.specs.Cells.{Cells, move_name, move_number, steps_allowed, set_demand}
 use Rattle.run_definitions.specs.State.{Present, gone_through, State, problem_of, choice_of}
@@ -80,7 +80,7 @@ may_stop S card refusals move led = record { by = at }
     at given (inl gives) = led.by given gives
     at given (inr stop) = subst Leads (sym stop.3) tt
 
-answered : (S : Solving) (card : ℕ) (question : Question) (sheet : Sheet) (s : Basis) (go : Answer question → Outcome) → ((answer : Answer question) → Leads (go answer)) → IsLed S card (Asks question sheet s go)
+answered : (S : Solving) (card : ℕ) (question : Question) (sheet : Sheet) (s : Basis) (go : AnswerTo question → Outcome) → ((answer : AnswerTo question) → Leads (go answer)) → IsLed S card (Asks question sheet s go)
 answered S card question sheet s go leads = record { by = λ given a. subst Leads (sym a.2) (leads a.0) }
 
 unless_fault : {X : Type 0} (S : Solving) (card : ℕ) (fault : VerbFault) (o : Option X) (go : X → Move) → ((x : X) → o ≡ Some x → IsLed S card (go x)) → IsLed S card (or_fault card fault o go)
@@ -215,7 +215,7 @@ module _ (S : Solving) where
       selecting S card present.problem _ _ (λ lp.
       may_stop S card _ _ (answered S card (OfPath solver limit) _ _ _ (pathed solver card present state lawful (lawful.setup present e)))))
 
-  showing_led : (card : ℕ) (state : State) (present : Present) (question : Question) (report : Answer question → Report) → AreLawful state →
+  showing_led : (card : ℕ) (state : State) (present : Present) (question : Question) (report : AnswerTo question → Report) → AreLawful state →
       IsLed S card (shows_present card state present question report)
   showing_led card state present question report lawful =
       unless_selection_fault S card (selected present.problem (choice_of state.cells present.options)) _ (λ lp.

@@ -18,7 +18,7 @@ use Rattle.selection_definitions.specs.Selection.{selected}
 use Rattle.listing_definitions.specs.declared.Mark.{Mark}
 use Rattle.listing_definitions.specs.declared.Mark.TheVariants.{Optimal}
 use Rattle.listing_definitions.specs.declared.VerbFault.{VerbFault}
-use Rattle.question_definitions.specs.Answers.{Basis, Sheet, Question, Answer}
+use Rattle.question_definitions.specs.Answers.{Basis, Sheet, Question, AnswerTo}
 use Rattle.question_definitions.specs.Solving.{Solving, IsRight}
 use Rattle.run_definitions.specs.State.{Present, present_basis, State}
 use Rattle.run_definitions.specs.Moves.{Gain, Nothing, Prints, Punches, Outcome, Goes, Ends, Refusals, Move, Does, MayStop, Asks, Gives, or_fault}
@@ -95,8 +95,8 @@ may_stop S at card refusals move kept = record { by = gives_so }
     gives_so given (inl gives) = kept.by given gives
     gives_so given (inr stop) = subst (Keeps at) (sym stop.3) (tt, tt)
 
-pub answered : (S : Solving) (at : State) (card : ℕ) (question : Question) (sheet : Sheet) (s : Basis) (go : Answer question → Outcome) →
-    ((answer : Answer question) → IsRight S question sheet s answer → Keeps at (go answer)) → IsKept S at card (Asks question sheet s go)
+pub answered : (S : Solving) (at : State) (card : ℕ) (question : Question) (sheet : Sheet) (s : Basis) (go : AnswerTo question → Outcome) →
+    ((answer : AnswerTo question) → IsRight S question sheet s answer → Keeps at (go answer)) → IsKept S at card (Asks question sheet s go)
 answered S at card question sheet s go kept = record { by = λ given a. subst (Keeps at) (sym a.2) (kept a.0 a.1) }
 
 pub unless_fault : {X : Type 0} (S : Solving) (at : State) (card : ℕ) (fault : VerbFault) (o : Option X) (go : X → Move) → ((x : X) → o ≡ Some x → IsKept S at card (go x)) → IsKept S at card (or_fault card fault o go)

@@ -16,7 +16,7 @@ use Rattle.listing_definitions.specs.Numbers.{digits, rational_text}
 use Rattle.listing_definitions.specs.Report.{Number, limit_value, PathVerdict, OptimalAt, CrossedAt, InfeasibleBy, UnboundedBy, Check, SolutionLines, RangeLines, ParametricInterval, ChainEnd, EndsAt, UnboundedPast, InfeasiblePast}
 use Rattle.listing_definitions.specs.Report as reports
 use Rattle.listing_definitions.specs.Text.{solver_text, mark_text}
-use Rattle.question_definitions.specs.Answers.{Sheet, changing_name, parametric_solver, ParametricRun, Question, OfPath, OfSolution, OfRanges, OfParametricRun, OfPunch, OfInstall, Answer, Reached, ParametricRunEnd, Opening, Chained}
+use Rattle.question_definitions.specs.Answers.{Sheet, changing_name, parametric_solver, ParametricRun, Question, OfPath, OfSolution, OfRanges, OfParametricRun, OfPunch, OfInstall, AnswerTo, Reached, ParametricRunEnd, Opening, Chained}
 use Rattle.answer_definitions.specs.Lines.{row_numbers, column_numbers}
 use Rattle.answer_definitions.specs.ParametricRuns.{sheet_at}
 use Rattle.walk_definitions.specs.Words.{Parsed, left_after, with_text, with_word, fraction_in, count_in, max_count}
@@ -160,7 +160,7 @@ module _ (sheet : Sheet) (parametric_run : ParametricRun) where
   parametric_run_in rest (Some after) = judged_map (λ run. Chained [] run.0 run.1) (run_in after 1 parametric_run.from after)
 
 -- the answer to a question, as the listing has it; those of RANGE, PUNCH and INSERT can't be computed without a basis
-abbrev pub judged : (question : Question) → Sheet → List ℕ → Judged (Answer question)
+abbrev pub judged : (question : Question) → Sheet → List ℕ → Judged (AnswerTo question)
 judged (OfPath solver limit) sheet rest =
     judged_map (λ claim. Reached [] claim.0 claim.1) (tested (λ claim. verdict_test sheet claim.0 claim.1) (verdict_in sheet solver rest))
 judged (OfSolution mark) sheet rest = tested (solution_test sheet mark) (solution_in sheet mark rest)

@@ -13,7 +13,7 @@ use Rattle.listing_definitions.specs.declared.Mark.TheVariants.{Optimal}
 use Rattle.listing_definitions.specs.Report.{Check, Inserted, PathVerdict, OptimalAt}
 use Rattle.listing_definitions.specs.Ending.{Ending, Ended, StatementLimit}
 use Rattle.listing_definitions.specs.Listing.{ending_text}
-use Rattle.question_definitions.specs.Answers.{Sheet, Question, OfPath, OfSolution, OfRanges, OfParametricRun, OfPunch, OfInstall, Answer, Reached, PathLimit, PricesWrong, Installed}
+use Rattle.question_definitions.specs.Answers.{Sheet, Question, OfPath, OfSolution, OfRanges, OfParametricRun, OfPunch, OfInstall, AnswerTo, Reached, PathLimit, PricesWrong, Installed}
 use Rattle.run_definitions.specs.State.{State}
 use Rattle.run_definitions.specs.Moves.{Nothing, Prints, printed_by, gain_text, gain_of, Outcome, Goes, Ends, InSelection, InAnswer, Move, Does, MayStop, Asks}
 use Rattle.run_definitions.specs.Verbs.{verb_move}
@@ -77,7 +77,7 @@ is_inserted_by outcome rest = false
 
 -- Where a further verdict comes, and where INSERT clears the mark. The walk goes past no report of RANGE, PUNCH and INSERT; RANGE and PUNCH
 -- leave what is pending as it is.
-abbrev pub open_question : Walker → (question : Question) → Sheet → (Answer question → Outcome) → Option Found
+abbrev pub open_question : Walker → (question : Question) → Sheet → (AnswerTo question → Outcome) → Option Found
 open_question w (OfSolution mark) sheet go = open_stop w
 open_question w OfRanges sheet go = option_or (open_stop w) (open_if (is_ranges w.rest) w)
 open_question w OfPunch sheet go = option_or (open_stop w) (open_if (is_punched sheet.problem.name w.rest) w)
@@ -141,7 +141,7 @@ settled w None objective turn = turn
 settled w (Some pending) objective turn = if settles pending objective then turn else Finds (Wrong pending.rest)
 
 -- what an answer leaves pending, and what it settles
-abbrev pub noted : Walker → (question : Question) → Sheet → Answer question → Option Pending
+abbrev pub noted : Walker → (question : Question) → Sheet → AnswerTo question → Option Pending
 noted w (OfPath solver limit) sheet (Reached bases verdict check) = pending_after w.rest verdict check
 noted w (OfPath solver limit) sheet PathLimit = None
 noted w (OfPath solver limit) sheet (PricesWrong j) = None
@@ -152,11 +152,11 @@ noted w OfPunch sheet cards = w.pending
 noted w (OfInstall basis) sheet end = None
 noted w (OfParametricRun parametric_run) sheet end = None
 
-abbrev pub settling : Walker → (question : Question) → Sheet → Answer question → WalkTurn → WalkTurn
+abbrev pub settling : Walker → (question : Question) → Sheet → AnswerTo question → WalkTurn → WalkTurn
 settling w (OfSolution Optimal) sheet lines turn = settled w w.pending (point_of sheet lines sheet.lp.objective) turn
 settling w question sheet answer turn = turn
 
-abbrev pub answered : Walker → (question : Question) → Sheet → (Answer question → Outcome) → Judged (Answer question) → WalkTurn
+abbrev pub answered : Walker → (question : Question) → Sheet → (AnswerTo question → Outcome) → Judged (AnswerTo question) → WalkTurn
 answered w question sheet go Fails = Finds (Wrong w.rest)
 answered w question sheet go Refuses = Finds (Unchecked w.rest)
 answered w question sheet go (Right answer rest) =

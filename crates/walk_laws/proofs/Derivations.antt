@@ -31,7 +31,7 @@ use Rattle.listing_definitions.specs.Report.{Report, Solved}
 use Rattle.listing_definitions.specs.Report as reports
 use Rattle.listing_definitions.specs.Ending.{Ending, Ended, StatementLimit}
 use Rattle.listing_definitions.specs.Listing.{ending_text}
-use Rattle.question_definitions.specs.Answers.{Basis, Sheet, Changing, parametric_solver, ParametricRun, Question, OfPath, OfSolution, OfRanges, OfParametricRun, OfPunch, OfInstall, Answer, PathEnd, Reached, PathLimit, PricesWrong, ParametricRunEnd, Opening, Chained, ParametricRunLimit, InstallEnd, Installed, DependsBy}
+use Rattle.question_definitions.specs.Answers.{Basis, Sheet, Changing, parametric_solver, ParametricRun, Question, OfPath, OfSolution, OfRanges, OfParametricRun, OfPunch, OfInstall, AnswerTo, PathEnd, Reached, PathLimit, PricesWrong, ParametricRunEnd, Opening, Chained, ParametricRunLimit, InstallEnd, Installed, DependsBy}
 use Rattle.run_definitions.specs.State.{Present, gone_through, State, problem_of, choice_of}
 use Rattle.run_definitions.specs.Moves.{printed_by, gain_text, gain_of, Outcome, Goes, Ends, InSelection, Move, Does, MayStop, Asks, or_fault}
 use Rattle.run_definitions.specs.Verbs.{or_deck_fault, or_selection_fault, selects, mark_of, demanded, by_verdict, change_row, change_set, not_less, after_path, solves, shows_present, if_optimal, after_parametric_run, parametric_runs, after_install, verb_move}
@@ -50,7 +50,7 @@ Counts n (Ends gain ending) = Unit {0}
 abbrev pub KeepsCount : ℕ → Move → Type 0
 KeepsCount n (Does outcome) = Counts n outcome
 KeepsCount n (MayStop refusals move) = KeepsCount n move
-KeepsCount n (Asks question sheet s go) = (answer : Answer question) → Counts n (go answer)
+KeepsCount n (Asks question sheet s go) = (answer : AnswerTo question) → Counts n (go answer)
 
 with_value : {X : Type 0} (n card : ℕ) (fault : VerbFault) (o : Option X) (go : X → Move) → ((x : X) → KeepsCount n (go x)) → KeepsCount n (or_fault card fault o go)
 with_value n card fault None go keeps = tt
@@ -101,7 +101,7 @@ solves_counts solver limit card state =
     with_value state.executed card NoSetup state.setup _ (λ present.
     with_selection state.executed card present.problem (choice_of state.cells present.options) _ (λ lp. path_counts solver card present state))
 
-present_counts : (card : ℕ) (state : State) (present : Present) (question : Question) (report : Answer question → Report) → KeepsCount state.executed (shows_present card state present question report)
+present_counts : (card : ℕ) (state : State) (present : Present) (question : Question) (report : AnswerTo question → Report) → KeepsCount state.executed (shows_present card state present question report)
 present_counts card state present question report = with_program state.executed card (selected present.problem (choice_of state.cells present.options)) _ (λ lp answer. refl)
 
 parametric_runs_count : (card : ℕ) (fault : VerbFault) (change : Problem ℕ → Name → Option Changing) (moved : Option Name) (state : State) → KeepsCount state.executed (parametric_runs card fault change moved state)
@@ -182,7 +182,7 @@ settled_counts n w (Some pending) objective turn counts = by (settles pending ob
     by true = counts
     by false = tt
 
-settling_counts : (n : ℕ) (w : Walker) (question : Question) (sheet : Sheet) (answer : Answer question) (turn : WalkTurn) → CountsTurn n turn → CountsTurn n (settling w question sheet answer turn)
+settling_counts : (n : ℕ) (w : Walker) (question : Question) (sheet : Sheet) (answer : AnswerTo question) (turn : WalkTurn) → CountsTurn n turn → CountsTurn n (settling w question sheet answer turn)
 settling_counts n w (OfSolution Optimal) sheet lines turn counts = settled_counts n w w.pending (point_of sheet lines sheet.lp.objective) turn counts
 settling_counts n w (OfSolution Infeasible) sheet lines turn counts = counts
 settling_counts n w (OfSolution Unbounded) sheet lines turn counts = counts
@@ -192,7 +192,7 @@ settling_counts n w (OfParametricRun parametric_run) sheet answer turn counts = 
 settling_counts n w OfPunch sheet answer turn counts = counts
 settling_counts n w (OfInstall basis) sheet answer turn counts = counts
 
-answered_counts : (n : ℕ) (w : Walker) (question : Question) (sheet : Sheet) (go : Answer question → Outcome) (j : Judged (Answer question)) → ((answer : Answer question) → Counts n (go answer)) → CountsTurn n (answered w question sheet go j)
+answered_counts : (n : ℕ) (w : Walker) (question : Question) (sheet : Sheet) (go : AnswerTo question → Outcome) (j : Judged (AnswerTo question)) → ((answer : AnswerTo question) → Counts n (go answer)) → CountsTurn n (answered w question sheet go j)
 answered_counts n w question sheet go Fails counts = tt
 answered_counts n w question sheet go Refuses counts = tt
 answered_counts n w question sheet go (Right answer rest) counts =

@@ -17,7 +17,7 @@ use Rattle.listing_definitions.specs.declared.VerbFault.{VerbFault}
 use Rattle.listing_definitions.specs.Report.{Report}
 use Rattle.listing_definitions.specs.Ending.{Ending}
 use Rattle.listing_definitions.specs.Listing.{ending_text, reports_text}
-use Rattle.question_definitions.specs.Answers.{Basis, Sheet, Question, Answer}
+use Rattle.question_definitions.specs.Answers.{Basis, Sheet, Question, AnswerTo}
 use Rattle.question_definitions.specs.Solving.{IsRight}
 use Rattle.run_definitions.specs.Moves.{Gain, Nothing, Prints, Punches, printed_by, gain_text, Outcome, Goes, Ends, gain_of, stops, Refusals, InSelection, InAnswer, Move, Does, MayStop, Asks, Gives, or_fault}
 use Rattle.run_definitions.specs.Verbs.{or_deck_fault, or_selection_fault, selects}
@@ -159,7 +159,7 @@ module _ (Holds : Type 0) (w : Walker) where
   one_says report says = All-cons (Says w.state) report [] says (All-nil (Says w.state))
 
   -- the listing has the answer's report
-  pub reads : ReadingLaw → (card : ℕ) (question : Question) (sheet : Sheet) (s : Basis) (go : Answer question → Outcome) (answer : Answer question) (rest : List ℕ) →
+  pub reads : ReadingLaw → (card : ℕ) (question : Question) (sheet : Sheet) (s : Basis) (go : AnswerTo question → Outcome) (answer : AnswerTo question) (rest : List ℕ) →
       IsRight attested question sheet s answer → judged question sheet w.rest ≡ Right answer rest → printed_by (gain_of (go answer)) ≡ reported question answer → length (reported question answer) ≡ 1 →
       Pays (noted w question sheet answer) (go answer) → Leads card (Asks question sheet s go) (record (passed rest 1 w) { pending = noted w question sheet answer }) (go answer)
   reads reading card question sheet s go answer rest right is prints one pays = record {
