@@ -34,7 +34,7 @@ use Rattle.question_definitions.specs.Answers.{Basis, Sheet, OfInstall, Installe
 use Rattle.answer_definitions.specs.Lines.{ray_lines}
 use Rattle.answer_definitions.specs.Real.{linear_programming}
 use Rattle.run_definitions.specs.State.{Present, State, choice_of}
-use Rattle.run_definitions.specs.Moves.{Prints, Outcome, next, stops, Move, Gives, or_fault}
+use Rattle.run_definitions.specs.Moves.{Prints, Outcome, next, stops, StatementMove, Gives, or_fault}
 use Rattle.run_definitions.specs.Verbs.{or_deck_fault, deck_stop, asks, after_install, selects_present, verb_move}
 use Rattle.run_machine.specs.declared.act.Act.TheVariants as act
 use Rattle.run_machine.specs.declared.act.Halt.{Halt}
@@ -61,7 +61,7 @@ use Rattle.basis_verbs.specs.Inserting.{Found, IsBasisOf, IsDeckEnd, IsGiven, ov
 use Rattle.basis_verbs.proofs.Selecting.{setup_gone, viewed, present, selected_gives, fault_gives, overflow_gives}
 
 -- what INSERT does with what is selected
-abbrev go : ℕ → State → Present → LinearProgram → Move
+abbrev go : ℕ → State → Present → LinearProgram → StatementMove
 go card state present lp =
     or_fault card DeckNotFound (deck_taken state.cells.xdata state.decks) (λ taken.
     or_deck_fault (basis_reading present.problem lp taken.0) (λ s.
@@ -72,10 +72,10 @@ begins : (card : ℕ) (state : State) (outcome : Outcome) → Gives linear_progr
 unfolding linear_programming verb_move
 begins card state outcome g = g
 
-gives_read : {X : Type 0} (card : ℕ) (read : Result X DeckFault) (move : X → Move) (x : X) (outcome : Outcome) → read ≡ Ok x → Gives linear_programming card (move x) outcome → Gives linear_programming card (or_deck_fault read move) outcome
+gives_read : {X : Type 0} (card : ℕ) (read : Result X DeckFault) (move : X → StatementMove) (x : X) (outcome : Outcome) → read ≡ Ok x → Gives linear_programming card (move x) outcome → Gives linear_programming card (or_deck_fault read move) outcome
 gives_read card read move x outcome ok g = subst (λ r. Gives linear_programming card (or_deck_fault r move) outcome) (sym ok) g
 
-gives_deck_fault : {X : Type 0} (card : ℕ) (read : Result X DeckFault) (move : X → Move) (fault : DeckFault) → read ≡ Err fault → Gives linear_programming card (or_deck_fault read move) (stops (deck_stop fault))
+gives_deck_fault : {X : Type 0} (card : ℕ) (read : Result X DeckFault) (move : X → StatementMove) (fault : DeckFault) → read ≡ Err fault → Gives linear_programming card (or_deck_fault read move) (stops (deck_stop fault))
 gives_deck_fault card read move fault err = subst (λ r. Gives linear_programming card (or_deck_fault r move) (stops (deck_stop fault))) (sym err) refl
 
 -- the waypoints have no other columns than those of the basis

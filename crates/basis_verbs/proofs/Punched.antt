@@ -18,7 +18,7 @@ use Rattle.listing_definitions.specs.Text.{report_text}
 use Rattle.question_definitions.specs.Answers.{Basis, OfPunch}
 use Rattle.answer_definitions.specs.Real.{linear_programming}
 use Rattle.run_definitions.specs.State.{Present, present_basis, State, choice_of}
-use Rattle.run_definitions.specs.Moves.{Punches, Outcome, next, Move, Asks, Gives, or_fault}
+use Rattle.run_definitions.specs.Moves.{Punches, Outcome, next, StatementMove, Asks, Gives, or_fault}
 use Rattle.run_definitions.specs.Verbs.{max_counted, selects_present, verb_move}
 use Rattle.run_machine.specs.declared.act.Act.TheVariants.{Next}
 use Rattle.run_machine.specs.declared.act.Halt.TheVariants as halt
@@ -33,7 +33,7 @@ use Rattle.run_machine.proofs.Punching.{punches_nothing, wrote, stopped}
 use Rattle.basis_verbs.proofs.Selecting.{without_setup, viewed, selected_gives, unselected}
 
 -- what PUNCH does with what is selected
-abbrev go : State → Present → LinearProgram → Move
+abbrev go : State → Present → LinearProgram → StatementMove
 go state present lp =
     Asks OfPunch (record { problem = present.problem; lp = lp }) (present_basis present) (λ cards.
     next (Punches (BasisOut present.problem.name (min (length cards) max_counted)) cards) state)

@@ -12,7 +12,7 @@ use Rattle.listing_definitions.specs.declared.VerbFault.TheVariants.{NoSetup}
 use Rattle.listing_definitions.specs.Ending as endings
 use Rattle.answer_definitions.specs.Real.{linear_programming}
 use Rattle.run_definitions.specs.State.{Present, State, choice_of}
-use Rattle.run_definitions.specs.Moves.{Outcome, stops, InSelection, SelectionOverflows, Move, MayStop, Gives, or_fault}
+use Rattle.run_definitions.specs.Moves.{Outcome, stops, InSelection, SelectionOverflows, StatementMove, MayStop, Gives, or_fault}
 use Rattle.run_definitions.specs.Verbs.{or_selection_fault, selects_present, verb_move}
 use Rattle.run_machine.specs.declared.selecting.Refusal.{Refusal}
 use Rattle.run_machine.specs.declared.selecting.Refusal.TheVariants.{Fault, Overflow, NoMemory}
@@ -30,12 +30,12 @@ pub setup_gone : (cards : List (List ℕ)) (machine : Machine) → machine.setup
 setup_gone cards machine none {state = state} s = subst (λ (kept : Option Setup). ShowsSetup machine.file kept state.setup) none s.setup
 
 -- what the statement does with a setup, and with what is selected
-module _ (verb : Verb ℕ) (card : ℕ) (go : State → Present → LinearProgram → Move)
+module _ (verb : Verb ℕ) (card : ℕ) (go : State → Present → LinearProgram → StatementMove)
     (begins : (state : State) (outcome : Outcome) → Gives linear_programming card (or_fault card NoSetup state.setup (λ present. selects_present card state present (go state present))) outcome → Gives linear_programming card (verb_move verb card state) outcome) where
-  abbrev pub selecting_move : State → Present → LinearProgram → Move
+  abbrev pub selecting_move : State → Present → LinearProgram → StatementMove
   selecting_move state present lp = MayStop (InSelection present.problem (choice_of state.cells present.options)) (go state present lp)
 
-  abbrev pub with_setup : State → Present → Move
+  abbrev pub with_setup : State → Present → StatementMove
   with_setup state present = or_selection_fault card (selected present.problem (choice_of state.cells present.options)) (selecting_move state present)
 
   pub without_setup : {P : Type 0} (written stopped_at : P → Option (List ℕ)) (faults refusals : P → ℕ) (cards : List (List ℕ)) (machine : Machine) (print : P) → machine.setup ≡ None →

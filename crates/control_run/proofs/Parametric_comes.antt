@@ -17,7 +17,7 @@ use Rattle.answer_definitions.specs.Real.{linear_programming}
 use Rattle.answer_definitions.specs.ParametricRuns.{IsParametricRun}
 use Rattle.answer_definitions.specs.Evidence.{OverflowsAt}
 use Rattle.run_definitions.specs.State.{Present, State, choice_of, gone_through}
-use Rattle.run_definitions.specs.Moves.{Gain, punched_by, Outcome, stops, Move, MayStop, Gives, or_fault, InSelection, SelectionOverflows}
+use Rattle.run_definitions.specs.Moves.{Gain, punched_by, Outcome, stops, StatementMove, MayStop, Gives, or_fault, InSelection, SelectionOverflows}
 use Rattle.run_definitions.specs.Verbs.{mark_of, last_value, not_less, or_selection_fault, asks, after_parametric_run, verb_move}
 use Rattle.run_machine.specs.declared.act.Act.{Act}
 use Rattle.run_machine.specs.declared.act.Halt.{Halt}
@@ -59,25 +59,25 @@ sheet_of present lp = record { problem = present.problem; lp = lp }
 
 module _ (verb : ParametricVerb) (card : ℕ) (state : State) (present : Present) where
   -- the run from the present basis
-  abbrev run_move : LinearProgram → ParametricRun → Move
+  abbrev run_move : LinearProgram → ParametricRun → StatementMove
   run_move lp parametric_run = asks (OfParametricRun parametric_run) (sheet_of present lp) present (after_parametric_run card parametric_run present state)
 
-  abbrev up_to : LinearProgram → Changing → ℚ → Move
+  abbrev up_to : LinearProgram → Changing → ℚ → StatementMove
   up_to lp changing to = run_move lp (record { changing = changing; from = state.cells.xparam; to = to; limit = steps_allowed state.cells })
 
-  abbrev with_last : LinearProgram → Changing → ℚ → Move
+  abbrev with_last : LinearProgram → Changing → ℚ → StatementMove
   with_last lp changing last = or_fault card ParmaxBelow (not_less state.cells.xparam last) (up_to lp changing)
 
-  abbrev with_change : LinearProgram → Changing → Move
+  abbrev with_change : LinearProgram → Changing → StatementMove
   with_change lp changing = or_fault card NoParmax state.cells.xparmax (with_last lp changing)
 
-  abbrev tested_move : LinearProgram → Move
+  abbrev tested_move : LinearProgram → StatementMove
   tested_move lp = or_fault card (change_fault verb) (option_and_then (change_of verb present.problem) (name_moved verb state.cells)) (with_change lp)
 
-  abbrev parametric_run_move : LinearProgram → Move
+  abbrev parametric_run_move : LinearProgram → StatementMove
   parametric_run_move lp = MayStop (InSelection present.problem (choice_of state.cells present.options)) (tested_move lp)
 
-  abbrev with_setup : Move
+  abbrev with_setup : StatementMove
   with_setup = or_selection_fault card (selected present.problem (choice_of state.cells present.options)) parametric_run_move
 
   asked_gives : (lp : LinearProgram) (parametric_run : ParametricRun) → IsAsked verb present.problem state.cells parametric_run → (outcome : Outcome) → Gives linear_programming card (run_move lp parametric_run) outcome → Gives linear_programming card (tested_move lp) outcome

@@ -30,7 +30,7 @@ use Rattle.listing_tables.specs.declared.sheet.Sheet.{Sheet as OwnSheet}
 use Rattle.verb_answers.specs.Answers.{sheet_view}
 use Rattle.verb_answers.specs.Stops.{RangesRefused}
 use Rattle.run_definitions.specs.State.{Present, State, choice_of, present_basis, path_of}
-use Rattle.run_definitions.specs.Moves.{Gain, Nothing, Prints, punched_by, Outcome, next, stops, InAnswer, Move, MayStop, Asks, Gives, or_fault}
+use Rattle.run_definitions.specs.Moves.{Gain, Nothing, Prints, punched_by, Outcome, next, stops, InAnswer, StatementMove, MayStop, Asks, Gives, or_fault}
 use Rattle.run_definitions.specs.Verbs.{if_optimal, or_selection_fault, verb_move}
 use Rattle.run_machine.specs.declared.act.Act.{Act}
 use Rattle.run_machine.specs.declared.act.Halt.{Halt}
@@ -111,16 +111,16 @@ module _ (card : ℕ) (state : State) where
   abbrev printed : RangeLines → Outcome
   printed lines = next (Prints (Ranges lines)) state
 
-  abbrev go_view : Present → LinearProgram → Move
+  abbrev go_view : Present → LinearProgram → StatementMove
   go_view present lp = MayStop (InAnswer OfRanges (sheet_of present lp) (path_of present)) (Asks OfRanges (sheet_of present lp) (present_basis present) printed)
 
-  abbrev go_optimal : Present → Mark → Move
+  abbrev go_optimal : Present → Mark → StatementMove
   go_optimal present mark = or_selection_fault card (selected present.problem (choice_of state.cells present.options)) (go_view present)
 
-  abbrev go_marked : Present → Mark → Move
+  abbrev go_marked : Present → Mark → StatementMove
   go_marked present mark = or_fault card verb_fault.NotOptimal (if_optimal mark) (go_optimal present)
 
-  abbrev go_set_up : Present → Move
+  abbrev go_set_up : Present → StatementMove
   go_set_up present = or_fault card verb_fault.NotSolved state.mark (go_marked present)
 
   range_gives : (outcome : Outcome) → Gives linear_programming card (or_fault card verb_fault.NoSetup state.setup go_set_up) outcome → Gives linear_programming card (verb_move Ranging card state) outcome

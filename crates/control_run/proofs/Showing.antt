@@ -27,7 +27,7 @@ use Rattle.listing_tables.specs.declared.sheet.Sheet.{Sheet as OwnSheet}
 use Rattle.verb_answers.specs.Answers.{sheet_view}
 use Rattle.verb_answers.specs.Stops.{SolutionRefused}
 use Rattle.run_definitions.specs.State.{Present, State, choice_of, present_basis, path_of}
-use Rattle.run_definitions.specs.Moves.{Gain, Nothing, Prints, punched_by, Outcome, next, stops, InAnswer, Move, MayStop, Asks, Gives, or_fault}
+use Rattle.run_definitions.specs.Moves.{Gain, Nothing, Prints, punched_by, Outcome, next, stops, InAnswer, StatementMove, MayStop, Asks, Gives, or_fault}
 use Rattle.run_definitions.specs.Verbs.{or_selection_fault, verb_move}
 use Rattle.run_machine.specs.declared.act.Act.{Act}
 use Rattle.run_machine.specs.declared.act.Halt.{Halt}
@@ -121,13 +121,13 @@ module _ (card : ℕ) (state : State) where
   abbrev printed : Mark → SolutionLines → Outcome
   printed mark lines = next (Prints (Solution mark lines)) state
 
-  abbrev go_view : Present → Mark → LinearProgram → Move
+  abbrev go_view : Present → Mark → LinearProgram → StatementMove
   go_view present mark lp = MayStop (InAnswer (OfSolution mark) (sheet_of present lp) (path_of present)) (Asks (OfSolution mark) (sheet_of present lp) (present_basis present) (printed mark))
 
-  abbrev go_marked : Present → Mark → Move
+  abbrev go_marked : Present → Mark → StatementMove
   go_marked present mark = or_selection_fault card (selected present.problem (choice_of state.cells present.options)) (go_view present mark)
 
-  abbrev go_set_up : Present → Move
+  abbrev go_set_up : Present → StatementMove
   go_set_up present = or_fault card verb_fault.NotSolved state.mark (go_marked present)
 
   solution_gives : (outcome : Outcome) → Gives linear_programming card (or_fault card verb_fault.NoSetup state.setup go_set_up) outcome → Gives linear_programming card (verb_move SolutionVerb card state) outcome

@@ -29,7 +29,7 @@ use Rattle.answer_definitions.specs.Verdicts.{IsSolved, IsDualSolved}
 use Rattle.answer_definitions.specs.Sections.{IsSolutionOf, IsRanged}
 use Rattle.answer_definitions.specs.Real.{linear_programming}
 use Rattle.run_definitions.specs.State.{State}
-use Rattle.run_definitions.specs.Moves.{Outcome, stops, Move, Does, MayStop, Asks, Shows, Gives}
+use Rattle.run_definitions.specs.Moves.{Outcome, stops, StatementMove, Does, MayStop, Asks, Shows, Gives}
 use Rattle.run_definitions.specs.Verbs.{verb_move}
 use Rattle.run_definitions.specs.Run.{max_executed, counted, Step}
 use Rattle.run_definitions.specs.Answer.{IsJobRun, IsSoFar}
@@ -72,7 +72,7 @@ pub record AnswersOnce (S : Solving) : Type 0 where
 
 -- If a move asks a question, this has one right answer at most, about the linear program and at the
 -- basis at which it is asked.
-abbrev pub AsksOnce : Solving → Move → Type 0
+abbrev pub AsksOnce : Solving → StatementMove → Type 0
 AsksOnce S (Does outcome) = Unit {0}
 AsksOnce S (MayStop refusals move) = AsksOnce S move
 AsksOnce S (Asks question sheet s go) = (a b : AnswerTo question) →
@@ -104,7 +104,7 @@ pub record Continues (reports others : List Report) (cards other_cards : List (L
   pub are_cards : other_cards ≡ cards ++ more_cards
 
 -- Evidence holds that an operation of a move doesn't fit.
-abbrev pub HasEvidence : Solving → Move → Type 0
+abbrev pub HasEvidence : Solving → StatementMove → Type 0
 HasEvidence S (Does outcome) = ⊥
 HasEvidence S (MayStop refusals move) =
     ((evidence : Evidence) × (place : Option Place) × Shows S refusals evidence place) ⊎
@@ -167,7 +167,7 @@ pub record AnswerLaws : Type 0 where
 -- most; and so a run is a function.
 pub record RunFunctions : Type 0 where
   pub answers : AnswerLaws
-  pub moves : (card : ℕ) (move : Move) (a b : Outcome) → AsksOnce linear_programming move →
+  pub moves : (card : ℕ) (move : StatementMove) (a b : Outcome) → AsksOnce linear_programming move →
       Gives linear_programming card move a → Gives linear_programming card move b →
       IsSameOrStop a b
   pub answered : AnswersOnce linear_programming

@@ -7,7 +7,7 @@ use Rattle.listing_readers.specs.Read.{taken}
 use Rattle.listing_definitions.specs.declared.Mark.{Mark}
 use Rattle.listing_definitions.specs.Ending.{Ending}
 use Rattle.run_definitions.specs.State.{State}
-use Rattle.run_definitions.specs.Moves.{Gain, printed_by, gain_text, Outcome, Ends, gain_of, next, jump, Move, Settles}
+use Rattle.run_definitions.specs.Moves.{Gain, printed_by, gain_text, Outcome, Ends, gain_of, next, jump, StatementMove, Settles}
 use Rattle.run_machine.specs.declared.act.Act.{Act}
 use Rattle.run_machine.specs.declared.act.Act.TheVariants as acts
 use Rattle.run_machine.specs.declared.end.End.{End}
@@ -72,7 +72,7 @@ finished_ends old new end ending found same closes = λ v outcome cards machine 
 
 module _ (machine : Machine Chosen) (act : Act) (text : List ℕ) where
   -- the outcome of a move that comes to an act
-  record IsOf (w : walks.Walker) (card : ℕ) (move : Move) (cards : List (List ℕ)) (position executed : ℕ) (gain : Gain) : Type 0 where
+  record IsOf (w : walks.Walker) (card : ℕ) (move : StatementMove) (cards : List (List ℕ)) (position executed : ℕ) (gain : Gain) : Type 0 where
     outcome : Outcome
     settles : Settles card move outcome
     is_outcome : IsOutcome outcome cards machine position executed gain act
@@ -89,7 +89,7 @@ opens_jump : (machine : Machine Chosen) (text : List ℕ) (w : walks.Walker) (ga
 opens_jump machine text w gain to after same mark =
     open_goes w gain (record after { position = to }) ∙ ap (λ (t : List ℕ). open_by (is_loud t) (is_none after.mark) w) same ∙ ap (λ (m : Option Mark). open_by (is_loud text) (is_none m) w) mark
 
-outcome_of : (machine : Machine Chosen) (act : Act) (text : List ℕ) (w : walks.Walker) (card : ℕ) (move : Move) (cards : List (List ℕ)) (position executed : ℕ) (gain : Gain) →
+outcome_of : (machine : Machine Chosen) (act : Act) (text : List ℕ) (w : walks.Walker) (card : ℕ) (move : StatementMove) (cards : List (List ℕ)) (position executed : ℕ) (gain : Gain) →
     Follows IsView Settles card move cards machine position executed gain act → gain_text gain ≡ text → IsOf machine act text w card move cards position executed gain
 outcome_of machine acts.Next text w card move cards position executed gain f same = record {
   outcome = next gain f.0;
@@ -124,7 +124,7 @@ module _ (machine : Machine Chosen) (old new : ListingPlace) (act : Act) (text :
 
   module _ (none : (w : walks.Walker) → Faces old w → None ≡ open_by (ends_run act || is_loud text) (ends_run act || is_none machine.mark) w) where
     -- nothing is open
-    turn_taken : (w : walks.Walker) (card : ℕ) (move : Move) (cards : List (List ℕ)) (position executed : ℕ) (gain : Gain) → Faces old w → walks.refuses_selection move ≡ false → (o : IsOf machine act text w card move cards position executed gain) →
+    turn_taken : (w : walks.Walker) (card : ℕ) (move : StatementMove) (cards : List (List ℕ)) (position executed : ℕ) (gain : Gain) → Faces old w → walks.refuses_selection move ≡ false → (o : IsOf machine act text w card move cards position executed gain) →
         gain_text gain ≡ text → walks.walk_move w move ≡ walks.taken w o.outcome (left_after text old.cursor)
     turn_taken w card move cards position executed gain f plain o same =
         settled w card move o.outcome o.settles plain ∙

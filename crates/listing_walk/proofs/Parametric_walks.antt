@@ -20,7 +20,7 @@ use Rattle.listing_definitions.specs.Report.{Solved, Parametric}
 use Rattle.question_definitions.specs.Answers.{Basis, Sheet, Changing, changing_name, parametric_solver, ParametricRun, OfParametricRun, ParametricRunEnd, Opening, Chained, ParametricRunLimit}
 use Rattle.answer_definitions.specs.ParametricRuns.{shifts_of}
 use Rattle.run_definitions.specs.State.{Present, State, choice_of, gone_through}
-use Rattle.run_definitions.specs.Moves.{Prints, Outcome, Move, or_fault}
+use Rattle.run_definitions.specs.Moves.{Prints, Outcome, StatementMove, or_fault}
 use Rattle.run_definitions.specs.Verbs.{asks, after_parametric_run, mark_of, last_value, not_less, verb_move}
 use Rattle.run_machine.specs.declared.act.Act.{Act}
 use Rattle.run_machine.specs.declared.act.Act.TheVariants as acts
@@ -79,19 +79,19 @@ sheet_of present lp = record { problem = present.problem; lp = lp }
 
 module _ (verb : ParametricVerb) (card : ℕ) (state : State) (present : Present) where
   -- the run from the present basis
-  abbrev run_move : LinearProgram → ParametricRun → Move
+  abbrev run_move : LinearProgram → ParametricRun → StatementMove
   run_move lp parametric_run = asks (OfParametricRun parametric_run) (sheet_of present lp) present (after_parametric_run card parametric_run present state)
 
-  abbrev up_to : LinearProgram → Changing → ℚ → Move
+  abbrev up_to : LinearProgram → Changing → ℚ → StatementMove
   up_to lp changing to = run_move lp (record { changing = changing; from = state.cells.xparam; to = to; limit = steps_allowed state.cells })
 
-  abbrev with_last : LinearProgram → Changing → ℚ → Move
+  abbrev with_last : LinearProgram → Changing → ℚ → StatementMove
   with_last lp changing last = or_fault card ParmaxBelow (not_less state.cells.xparam last) (up_to lp changing)
 
-  abbrev with_change : LinearProgram → Changing → Move
+  abbrev with_change : LinearProgram → Changing → StatementMove
   with_change lp changing = or_fault card NoParmax state.cells.xparmax (with_last lp changing)
 
-  abbrev tested_move : LinearProgram → Move
+  abbrev tested_move : LinearProgram → StatementMove
   tested_move lp = or_fault card (change_fault verb) (option_and_then (change_of verb present.problem) (name_moved verb state.cells)) (with_change lp)
 
   asked_move : (lp : LinearProgram) (parametric_run : ParametricRun) → IsAsked verb present.problem state.cells parametric_run → tested_move lp ≡ run_move lp parametric_run
@@ -114,7 +114,7 @@ module _ (verb : ParametricVerb) (card : ℕ) (state : State) (present : Present
       fault_move card ParmaxBelow (not_less state.cells.xparam last) (up_to lp changing) less)
 
 -- what is open is the same at each end of the tests
-opens_fault : {X : Type 0} (w : walks.Walker) (card : ℕ) (fault : VerbFault) (found : Option X) (go : X → Move) → ((x : X) → walks.opened w (go x) ≡ open_by true true w) → walks.opened w (or_fault card fault found go) ≡ open_by true true w
+opens_fault : {X : Type 0} (w : walks.Walker) (card : ℕ) (fault : VerbFault) (found : Option X) (go : X → StatementMove) → ((x : X) → walks.opened w (go x) ≡ open_by true true w) → walks.opened w (or_fault card fault found go) ≡ open_by true true w
 opens_fault w card fault None go h = refl
 opens_fault w card fault (Some x) go h = h x
 

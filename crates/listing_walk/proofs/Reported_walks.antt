@@ -15,7 +15,7 @@ use Rattle.listing_definitions.specs.declared.VerbFault.TheVariants.{NoSetup, No
 use Rattle.listing_definitions.specs.Report.{Ranges, BasisOut, RangeLines}
 use Rattle.question_definitions.specs.Answers.{OfRanges, OfPunch}
 use Rattle.run_definitions.specs.State.{Present, present_basis, State, choice_of}
-use Rattle.run_definitions.specs.Moves.{Prints, Punches, next, Move, Asks, or_fault}
+use Rattle.run_definitions.specs.Moves.{Prints, Punches, next, StatementMove, Asks, or_fault}
 use Rattle.run_definitions.specs.Verbs.{max_counted, asks, shows_present, if_optimal, verb_move}
 use Rattle.run_machine.specs.declared.act.Act.TheVariants as acts
 use Rattle.run_machine.specs.declared.end.End.TheVariants as ends
@@ -46,7 +46,7 @@ at_line place stands made found h tests is w f =
 
 -- ---- RANGE
 
-abbrev range_move : ℕ → State → Present → Mark → Move
+abbrev range_move : ℕ → State → Present → Mark → StatementMove
 range_move card state present mark = or_fault card NotOptimal (if_optimal mark) (λ optimal. shows_present card state present OfRanges Ranges)
 
 ranging_move : (card : ℕ) (state : State) → verb_move Ranging card state ≡ showing card state (range_move card state)
@@ -97,7 +97,7 @@ module _ (card : ℕ) (cards : List (List ℕ)) (machine : Machine Chosen) (old 
 
 -- ---- PUNCH
 
-abbrev punch_move : ℕ → State → Present → LinearProgram → Move
+abbrev punch_move : ℕ → State → Present → LinearProgram → StatementMove
 punch_move card state present lp =
     Asks OfPunch (record { problem = present.problem; lp = lp }) (present_basis present) (λ cards. next (Punches (BasisOut present.problem.name (min (length cards) max_counted)) cards) state)
 

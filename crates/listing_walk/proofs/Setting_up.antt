@@ -14,7 +14,7 @@ use Rattle.listing_definitions.specs.Report.{SetUp}
 use Rattle.listing_definitions.specs.Text.{report_text}
 use Rattle.listing_definitions.specs.Ending.{VerbStop}
 use Rattle.run_definitions.specs.State.{Present, State, problem_of, choice_of}
-use Rattle.run_definitions.specs.Moves.{Nothing, Prints, Outcome, next, stops, InSelection, Move, Does, MayStop}
+use Rattle.run_definitions.specs.Moves.{Nothing, Prints, Outcome, next, stops, InSelection, StatementMove, Does, MayStop}
 use Rattle.run_definitions.specs.Verbs.{or_selection_fault, verb_move}
 use Rattle.run_machine.specs.declared.act.Act.TheVariants as acts
 use Rattle.run_machine.specs.declared.end.End.TheVariants as ends
@@ -51,9 +51,9 @@ filed_none wanted file none = rw none refl
 
 -- a move that is a verb fault
 pub faulted : (cards : List (List ℕ)) (machine : Machine Chosen) (old new : ListingPlace) (fault : VerbFault) (card : ℕ) (went : Went) → Passes machine old new (acts.Ends (ends.Verb fault card)) [] went →
-    (w : walks.Walker) (move : Move) (position executed : ℕ) → Faces old w → move ≡ Does (stops (VerbStop (record { fault = fault; card = card }))) → Comes (walks.walk_move w move) cards machine position executed new went
+    (w : walks.Walker) (move : StatementMove) (position executed : ℕ) → Faces old w → move ≡ Does (stops (VerbStop (record { fault = fault; card = card }))) → Comes (walks.walk_move w move) cards machine position executed new went
 faulted cards machine old new fault card went passes w move position executed f is =
-    subst (λ (m : Move). Comes (walks.walk_move w m) cards machine position executed new went) (sym is)
+    subst (λ (m : StatementMove). Comes (walks.walk_move w m) cards machine position executed new went) (sym is)
     (passes w card (Does (stops (VerbStop (record { fault = fault; card = card })))) cards position executed Nothing f refl refl refl)
 
 -- ---- what SETUP comes to
@@ -68,10 +68,10 @@ abbrev outcome_of : Problem ℕ → SetupOptions → LinearProgram → State →
 outcome_of problem options lp state = next (Prints (SetUp problem.name options.sense)) (after_setup problem options lp state)
 
 module _ (card : ℕ) (options : SetupOptions) (state : State) where
-  abbrev go_selected : Problem ℕ → LinearProgram → Move
+  abbrev go_selected : Problem ℕ → LinearProgram → StatementMove
   go_selected problem lp = MayStop (InSelection problem (choice_of state.cells options)) (Does (outcome_of problem options lp state))
 
-  abbrev go_found : Problem ℕ → Move
+  abbrev go_found : Problem ℕ → StatementMove
   go_found problem = or_selection_fault card (selected problem (choice_of state.cells options)) (go_selected problem)
 
   no_problem_move : problem_of state.cells.xpbname state.file ≡ None → verb_move (SetupVerb options) card state ≡ Does (stops (VerbStop (record { fault = NoProblem; card = card })))

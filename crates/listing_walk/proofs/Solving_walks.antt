@@ -17,7 +17,7 @@ use Rattle.listing_definitions.specs.Report.{Report}
 use Rattle.listing_definitions.specs.Ending as endings
 use Rattle.question_definitions.specs.Answers.{Basis}
 use Rattle.run_definitions.specs.State.{Present, State, choice_of}
-use Rattle.run_definitions.specs.Moves.{Prints, Ends, stops, InSelection, Move, Does, MayStop, or_fault}
+use Rattle.run_definitions.specs.Moves.{Prints, Ends, stops, InSelection, StatementMove, Does, MayStop, or_fault}
 use Rattle.run_definitions.specs.Verbs.{selects_present, by_verdict, demanded, verb_move}
 use Rattle.run_machine.specs.declared.act.Act.TheVariants as acts
 use Rattle.run_machine.specs.declared.end.End.{End}
@@ -79,13 +79,13 @@ stays_on_file file kept chosen is h none = let on = (ready_of file kept chosen i
 
 -- ---- a verb that selects again
 
-abbrev pub selecting : ℕ → State → (Present → LinearProgram → Move) → Move
+abbrev pub selecting : ℕ → State → (Present → LinearProgram → StatementMove) → StatementMove
 selecting card state go = or_fault card NoSetup state.setup (λ present. selects_present card state present (go present))
 
-abbrev pub fault_stop : VerbFault → ℕ → Move
+abbrev pub fault_stop : VerbFault → ℕ → StatementMove
 fault_stop fault card = Does (stops (endings.VerbStop (record { fault = fault; card = card })))
 
-module _ (card : ℕ) (cards : List (List ℕ)) (machine : Machine Chosen) {position executed : ℕ} {state : State} (s : machines.Represents IsView cards machine position executed state) (go : Present → LinearProgram → Move) where
+module _ (card : ℕ) (cards : List (List ℕ)) (machine : Machine Chosen) {position executed : ℕ} {state : State} (s : machines.Represents IsView cards machine position executed state) (go : Present → LinearProgram → StatementMove) where
   pub no_setup_move : machine.setup ≡ None → selecting card state go ≡ fault_stop NoSetup card
   no_setup_move none = fault_move card NoSetup state.setup (λ (present : Present). selects_present card state present (go present)) (none_at s none)
 
@@ -142,7 +142,7 @@ module _ (card : ℕ) (cards : List (List ℕ)) (machine : Machine Chosen) (posi
 
 -- ---- a verb that selects again, in the walk
 
-module _ (verb : Verb ℕ) (card : ℕ) (go : State → Present → LinearProgram → Move) (is_move : (state : State) → verb_move verb card state ≡ selecting card state (go state)) (cards : List (List ℕ)) (machine : Machine Chosen) (old new : ListingPlace) where
+module _ (verb : Verb ℕ) (card : ℕ) (go : State → Present → LinearProgram → StatementMove) (is_move : (state : State) → verb_move verb card state ≡ selecting card state (go state)) (cards : List (List ℕ)) (machine : Machine Chosen) (old new : ListingPlace) where
   fault_walks : (fault : VerbFault) → ((position executed : ℕ) (state : State) → machines.Represents IsView cards machine position executed state → verb_move verb card state ≡ fault_stop fault card) → (result : Result Went NoMemory) →
       IfOk result (Passes machine old new (acts.Ends (ends.Verb fault card)) []) → IfOk result (Walks verb card cards machine machine old new)
   fault_walks fault is (Ok w') passes = λ position executed state w s f. faulted cards machine old new fault card w' passes w (verb_move verb card state) position executed f (is position executed state s)

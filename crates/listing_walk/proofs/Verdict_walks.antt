@@ -13,7 +13,7 @@ use Rattle.listing_definitions.specs.declared.VerbFault.TheVariants.{NoSetup}
 use Rattle.listing_definitions.specs.Report.{Solved}
 use Rattle.question_definitions.specs.Answers.{Basis, Sheet, OfPath, PathEnd, Reached, PathLimit, PricesWrong}
 use Rattle.run_definitions.specs.State.{Present, State, choice_of, gone_through}
-use Rattle.run_definitions.specs.Moves.{Prints, Move}
+use Rattle.run_definitions.specs.Moves.{Prints, StatementMove}
 use Rattle.run_definitions.specs.Verbs.{asks, after_path, mark_of, verb_move}
 use Rattle.run_machine.specs.declared.act.Act.{Act}
 use Rattle.run_machine.specs.declared.act.Act.TheVariants as acts
@@ -50,7 +50,7 @@ abbrev sheet_of : Present → LinearProgram → Sheet
 sheet_of present lp = record { problem = present.problem; lp = lp }
 
 -- the path of a verb
-abbrev path_move : SolvingVerb → ℕ → State → Present → LinearProgram → Move
+abbrev path_move : SolvingVerb → ℕ → State → Present → LinearProgram → StatementMove
 path_move verb card state present lp = asks (OfPath (solver_of verb) (limit_of verb state.cells)) (sheet_of present lp) present (after_path (solver_of verb) card present state)
 
 solving_move : (verb : SolvingVerb) (card : ℕ) (state : State) → verb_move (verb_of verb) card state ≡ selecting card state (path_move verb card state)

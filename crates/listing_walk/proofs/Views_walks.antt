@@ -13,7 +13,7 @@ use Rattle.listing_definitions.specs.declared.VerbFault.TheVariants.{NoSetup, No
 use Rattle.listing_definitions.specs.Report.{SolutionLines, Solution}
 use Rattle.question_definitions.specs.Answers.{Sheet, OfSolution}
 use Rattle.run_definitions.specs.State.{Present, State, choice_of}
-use Rattle.run_definitions.specs.Moves.{Prints, Outcome, next, Move, or_fault}
+use Rattle.run_definitions.specs.Moves.{Prints, Outcome, next, StatementMove, or_fault}
 use Rattle.run_definitions.specs.Verbs.{asks, shows_present, verb_move}
 use Rattle.run_machine.specs.declared.act.Act.TheVariants as acts
 use Rattle.run_machine.specs.declared.end.End.TheVariants as ends
@@ -54,10 +54,10 @@ some_at {machine = machine} {state = state} s chosen is =
 
 -- ---- verbs that show what is solved
 
-abbrev pub showing : ℕ → State → (Present → Mark → Move) → Move
+abbrev pub showing : ℕ → State → (Present → Mark → StatementMove) → StatementMove
 showing card state go = or_fault card NoSetup state.setup (λ present. or_fault card NotSolved state.mark (go present))
 
-module _ (card : ℕ) (cards : List (List ℕ)) (machine : Machine Chosen) {position executed : ℕ} {state : State} (s : machines.Represents IsView cards machine position executed state) (go : Present → Mark → Move) where
+module _ (card : ℕ) (cards : List (List ℕ)) (machine : Machine Chosen) {position executed : ℕ} {state : State} (s : machines.Represents IsView cards machine position executed state) (go : Present → Mark → StatementMove) where
   pub showing_none : machine.setup ≡ None → showing card state go ≡ fault_stop NoSetup card
   showing_none none = fault_move card NoSetup state.setup (λ (present : Present). or_fault card NotSolved state.mark (go present)) (none_at s none)
 
@@ -85,7 +85,7 @@ selected_now machine chosen is_setup mark is_mark problem on_file solved = solve
 abbrev sheet_of : Present → LinearProgram → Sheet
 sheet_of present lp = record { problem = present.problem; lp = lp }
 
-abbrev lines_move : ℕ → State → Present → Mark → Move
+abbrev lines_move : ℕ → State → Present → Mark → StatementMove
 lines_move card state present mark = shows_present card state present (OfSolution mark) (Solution mark)
 
 solution_move : (card : ℕ) (state : State) → verb_move SolutionVerb card state ≡ showing card state (lines_move card state)

@@ -6,7 +6,7 @@ use Rattle.std.specs.Prelude.{◌≡◌, ℕ, ◌+◌, ◌≤◌, ◌<◌, Bool,
 use Rattle.std.specs.Option.{option_or}
 use Rattle.control_definitions.specs.Program.{Verb, Program}
 use Rattle.run_definitions.specs.State.{State}
-use Rattle.run_definitions.specs.Moves.{Outcome, Move, Does, Gain, Settles, gain_text}
+use Rattle.run_definitions.specs.Moves.{Outcome, StatementMove, Does, Gain, Settles, gain_text}
 use Rattle.run_definitions.specs.Verbs.{verb_move}
 use Rattle.run_machine.specs.declared.act.Act.{Act}
 use Rattle.run_machine.specs.declared.act.Act.TheVariants as acts
@@ -69,7 +69,7 @@ Finishes old new act went =
 -- a move that asks nothing, and comes to an act with this text
 abbrev pub Passes : Machine Chosen → ListingPlace → ListingPlace → Act → List ℕ → Went → Type 0
 Passes machine old new act text went =
-    (w : walks.Walker) (card : ℕ) (move : Move) (cards : List (List ℕ)) (position executed : ℕ) (gain : Gain) → Faces old w → walks.refuses_selection move ≡ false →
+    (w : walks.Walker) (card : ℕ) (move : StatementMove) (cards : List (List ℕ)) (position executed : ℕ) (gain : Gain) → Faces old w → walks.refuses_selection move ≡ false →
     Follows IsView Settles card move cards machine position executed gain act → gain_text gain ≡ text → Comes (walks.walk_move w move) cards machine position executed new went
 
 -- an operation is refused here, where a stop and what is pending come first

@@ -20,7 +20,7 @@ use Rattle.listing_definitions.specs.Ending.{Ending, PriceStop, LimitStop, Overf
 use Rattle.question_definitions.specs.Answers.{Basis, Sheet, Question, AnswerTo}
 use Rattle.question_definitions.specs.Solving.{Solving, IsRight}
 use Rattle.run_definitions.specs.State.{Present, State}
-use Rattle.run_definitions.specs.Moves.{Gain, Prints, printed_by, Outcome, Goes, Ends, gain_of, stops, Refusals, Move, Does, MayStop, Asks, Gives, or_fault}
+use Rattle.run_definitions.specs.Moves.{Gain, Prints, printed_by, Outcome, Goes, Ends, gain_of, stops, Refusals, StatementMove, Does, MayStop, Asks, Gives, or_fault}
 use Rattle.run_definitions.specs.Verbs.{or_deck_fault, or_selection_fault, selects, demanded, by_verdict}
 use Rattle.determinism_laws.specs.Laws.{IsOverflowStop}
 use Rattle.walk_laws.specs.Proved.{attested, Says}
@@ -74,7 +74,7 @@ by_verdict_alike Unbounded report other state left right same setups = demanded_
 -- ---- moves
 
 module _ (S : Solving) (Speaks : State → Report → Type 0) (Open : Type 0) (at other : State) (card : ℕ) where
-  pub record IsAlike (first second : Move) : Type 0 where
+  pub record IsAlike (first second : StatementMove) : Type 0 where
     pub by : (a b : Outcome) → Gives S card first a → Gives attested card second b → All (Speaks at) (printed_by (gain_of a)) → All (Says other) (printed_by (gain_of b)) →
         (IsOverflowStop b → ⊥) → AlikeOrStopped Open a b
 
@@ -83,7 +83,7 @@ module _ (S : Solving) (Speaks : State → Report → Type 0) (Open : Type 0) (a
     by = λ x y first second speaks says unstopped. inl (subst (λ (o : Outcome). Alike o y) (sym first) (subst (λ (o : Outcome). Alike a o) (sym second) alike));
   }
 
-  pub may_stop : (refusals others : Refusals) (first second : Move) → IsAlike first second → IsAlike (MayStop refusals first) (MayStop others second)
+  pub may_stop : (refusals others : Refusals) (first second : StatementMove) → IsAlike first second → IsAlike (MayStop refusals first) (MayStop others second)
   may_stop refusals others first second alike = record { by = stopping }
     where
       stopping : (a b : Outcome) → Gives S card (MayStop refusals first) a → Gives attested card (MayStop others second) b → All (Speaks at) (printed_by (gain_of a)) →
@@ -102,19 +102,19 @@ module _ (S : Solving) (Speaks : State → Report → Type 0) (Open : Type 0) (a
         (subst (λ (o : Outcome). All (Says other) (printed_by (gain_of o))) second.2 says)));
   }
 
-  pub unless_fault : {X : Type 0} (fault : VerbFault) (o : Option X) (go on : X → Move) → ((x : X) → o ≡ Some x → IsAlike (go x) (on x)) → IsAlike (or_fault card fault o go) (or_fault card fault o on)
+  pub unless_fault : {X : Type 0} (fault : VerbFault) (o : Option X) (go on : X → StatementMove) → ((x : X) → o ≡ Some x → IsAlike (go x) (on x)) → IsAlike (or_fault card fault o go) (or_fault card fault o on)
   unless_fault fault None go on alike = does _ _ (tt, refl)
   unless_fault fault (Some x) go on alike = alike x refl
 
-  pub unless_deck_fault : {X : Type 0} (r : Result X DeckFault) (go on : X → Move) → ((x : X) → r ≡ Ok x → IsAlike (go x) (on x)) → IsAlike (or_deck_fault r go) (or_deck_fault r on)
+  pub unless_deck_fault : {X : Type 0} (r : Result X DeckFault) (go on : X → StatementMove) → ((x : X) → r ≡ Ok x → IsAlike (go x) (on x)) → IsAlike (or_deck_fault r go) (or_deck_fault r on)
   unless_deck_fault (Err fault) go on alike = does _ _ (tt, refl)
   unless_deck_fault (Ok x) go on alike = alike x refl
 
-  pub unless_selection_fault : (r : Result LinearProgram SelectionFault) (go on : LinearProgram → Move) → ((lp : LinearProgram) → r ≡ Ok lp → IsAlike (go lp) (on lp)) →
+  pub unless_selection_fault : (r : Result LinearProgram SelectionFault) (go on : LinearProgram → StatementMove) → ((lp : LinearProgram) → r ≡ Ok lp → IsAlike (go lp) (on lp)) →
       IsAlike (or_selection_fault card r go) (or_selection_fault card r on)
   unless_selection_fault (Err fault) go on alike = does _ _ (tt, refl)
   unless_selection_fault (Ok lp) go on alike = alike lp refl
 
-  pub selecting : (problem : Problem ℕ) (choice : Choice) (go on : LinearProgram → Move) → ((lp : LinearProgram) → selected problem choice ≡ Ok lp → IsAlike (go lp) (on lp)) →
+  pub selecting : (problem : Problem ℕ) (choice : Choice) (go on : LinearProgram → StatementMove) → ((lp : LinearProgram) → selected problem choice ≡ Ok lp → IsAlike (go lp) (on lp)) →
       IsAlike (selects card problem choice go) (selects card problem choice on)
   selecting problem choice go on alike = unless_selection_fault (selected problem choice) _ _ (λ lp is. may_stop _ _ (go lp) (on lp) (alike lp is))

@@ -15,7 +15,7 @@ use Rattle.listing_definitions.specs.Text.{report_text}
 use Rattle.listing_definitions.specs.Listing.{ending_text, reports_text}
 use Rattle.question_definitions.specs.Answers.{Sheet, Question, OfPath, OfSolution, OfRanges, OfParametricRun, OfPunch, OfInstall, AnswerTo, Installed}
 use Rattle.run_definitions.specs.State.{State}
-use Rattle.run_definitions.specs.Moves.{Gain, printed_by, punched_by, Outcome, Ends, InSelection, InAnswer, Move, Does, MayStop, Asks, Gives}
+use Rattle.run_definitions.specs.Moves.{Gain, printed_by, punched_by, Outcome, Ends, InSelection, InAnswer, StatementMove, Does, MayStop, Asks, Gives}
 use Rattle.run_definitions.specs.Verbs.{verb_move}
 use Rattle.run_definitions.specs.Run.{max_executed, counted, Step, IsOver, at_end, at_limit, Reaches, begun, stepped, is_over, is_ended}
 use Rattle.run_definitions.specs.Answer.{job_decks, IsProgramOf, card_fault, control_fault, run}
@@ -41,7 +41,7 @@ both_parts : (a b : Bool) → (not a || b) ≡ false → (a ≡ true) × (b ≡ 
 both_parts true b e = (refl, e)
 both_parts false b e = absurd (cc e)
 
-no_evidence : (move : Move) → refuses_selection move ≡ false → HasEvidence attested move → ⊥
+no_evidence : (move : StatementMove) → refuses_selection move ≡ false → HasEvidence attested move → ⊥
 no_evidence (Does outcome) e evidence = evidence
 no_evidence (MayStop (InSelection problem choice) move) e (inl viewed) = (made_iff problem choice).0 (both_parts (is_made problem choice) (refuses_selection move) e).0 viewed.0 viewed.2.0
 no_evidence (MayStop (InSelection problem choice) move) e (inr later) = no_evidence move (both_parts (is_made problem choice) (refuses_selection move) e).1 later
@@ -61,7 +61,7 @@ never_asked w (OfInstall basis) sheet go =
 never_asked w (OfPath solver limit) sheet go = never_either (open_stop w) (open_pending w) (never_stop w) (never_pending w.pending)
 never_asked w (OfParametricRun parametric_run) sheet go = never_either (open_stop w) (open_pending w) (never_stop w) (never_pending w.pending)
 
-never_opened : (w : Walker) (move : Move) → NeverAttests (opened w move)
+never_opened : (w : Walker) (move : StatementMove) → NeverAttests (opened w move)
 never_opened w (Does outcome) = never_outcome w outcome
 never_opened w (MayStop refusals move) = never_opened w move
 never_opened w (Asks question sheet s go) = never_asked w question sheet go
@@ -76,7 +76,7 @@ is_due (Some found) refused rest turn count never e =
     absurd (subst (λ (f : Found). NeverAttests (Some f)) same never)
 
 module _ (program : Program) (w : Walker) (count : ℕ) (outcome : Outcome) (step : Step attested program w.state outcome) where
-  abbrev move : Move
+  abbrev move : StatementMove
   move = verb_move step.statement.verb step.statement.card (counted w.state)
 
   by_move : walk_move w move ≡ Finds (Attested count) → refuses_selection move ≡ false

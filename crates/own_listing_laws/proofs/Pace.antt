@@ -28,7 +28,7 @@ use Rattle.question_definitions.specs.Solving.{IsRight}
 use Rattle.answer_definitions.specs.Verdicts.{found}
 use Rattle.answer_definitions.specs.Real.{linear_programming}
 use Rattle.run_definitions.specs.State.{Present, present_basis, State}
-use Rattle.run_definitions.specs.Moves.{Gain, Nothing, Prints, Punches, printed_by, gain_text, Outcome, Goes, Ends, gain_of, stops, Refusals, InSelection, InAnswer, Move, Does, MayStop, Asks, Gives, or_fault}
+use Rattle.run_definitions.specs.Moves.{Gain, Nothing, Prints, Punches, printed_by, gain_text, Outcome, Goes, Ends, gain_of, stops, Refusals, InSelection, InAnswer, StatementMove, Does, MayStop, Asks, Gives, or_fault}
 use Rattle.run_definitions.specs.Verbs.{or_deck_fault, or_selection_fault, selects}
 use Rattle.control_definitions.specs.Cells.{steps_allowed}
 use Rattle.walk_definitions.specs.Words.{left_after, max_count}
@@ -205,24 +205,24 @@ gain_alike (Ends gain ending) (Goes own other) alike = absurd alike
 -- ---- moves
 
 module _ (w : Walker) where
-  pub record IsMatched (card : ℕ) (walked run : Move) : Type 0 where
+  pub record IsMatched (card : ℕ) (walked run : StatementMove) : Type 0 where
     pub by : (outcome : Outcome) (more : List ℕ) → Gives linear_programming card run outcome → IsDue w outcome more → Lands outcome more (walk_move w walked)
 
   -- and it looks for stop texts first
-  pub record IsFollowed (card : ℕ) (walked run : Move) : Type 0 where
+  pub record IsFollowed (card : ℕ) (walked run : StatementMove) : Type 0 where
     pub matched : card ≤ max_count → IsMatched card walked run
     pub looks : is_open_stop w.rest ≡ true → opened w walked ≡ Some (Open w.rest)
 
   stop_first : (o : Option Found) → is_open_stop w.rest ≡ true → option_or (open_stop w) o ≡ Some (Open w.rest)
   stop_first o is = ap (λ b. option_or (open_if b w) o) is
 
-  opened_lands : (outcome : Outcome) (more : List ℕ) (walked : Move) → opened w walked ≡ Some (Open w.rest) → Lands outcome more (walk_move w walked)
+  opened_lands : (outcome : Outcome) (more : List ℕ) (walked : StatementMove) → opened w walked ≡ Some (Open w.rest) → Lands outcome more (walk_move w walked)
   opened_lands outcome more walked is =
       subst (λ (o : Option Found). Lands outcome more (unless_found o (if refuses_selection walked then Finds (Unchecked w.rest) else due w walked))) (sym is) tt
 
   -- ---- an operation may be refused
 
-  module _ (card : ℕ) (walked run : Move) (refusals others : Refusals) (followed : IsFollowed card walked run) where
+  module _ (card : ℕ) (walked run : StatementMove) (refusals others : Refusals) (followed : IsFollowed card walked run) where
     refused_too : (outcome : Outcome) (more : List ℕ) (o : Option Found) (refused other : Bool) (turn : WalkTurn) → Lands outcome more (unless_found o (if other then Finds (Unchecked w.rest) else turn)) →
         Lands outcome more (unless_found o (if refused || other then Finds (Unchecked w.rest) else turn))
     refused_too outcome more (Some found) refused other turn lands = lands
@@ -281,27 +281,27 @@ module _ (w : Walker) where
 
   -- ---- faults
 
-  pub unless_fault : {X : Type 0} (card : ℕ) (fault : VerbFault) (o : Option X) (go own : X → Move) → ((x : X) → o ≡ Some x → IsFollowed card (go x) (own x)) → IsFollowed card (or_fault card fault o go) (or_fault card fault o own)
+  pub unless_fault : {X : Type 0} (card : ℕ) (fault : VerbFault) (o : Option X) (go own : X → StatementMove) → ((x : X) → o ≡ Some x → IsFollowed card (go x) (own x)) → IsFollowed card (or_fault card fault o go) (or_fault card fault o own)
   unless_fault card fault None go own followed = does_stop card _
   unless_fault card fault (Some x) go own followed = followed x refl
 
   -- the setup of the walk has other bases
-  pub unless_no_setup : (card : ℕ) (fault : VerbFault) (opening : Basis) (steps : List Basis) (setup : Option Present) (go own : Present → Move) →
+  pub unless_no_setup : (card : ℕ) (fault : VerbFault) (opening : Basis) (steps : List Basis) (setup : Option Present) (go own : Present → StatementMove) →
       ((present : Present) → setup ≡ Some present → IsFollowed card (go (record present { opening = opening; steps = steps })) (own present)) →
       IsFollowed card (or_fault card fault (rebased opening steps setup) go) (or_fault card fault setup own)
   unless_no_setup card fault opening steps None go own followed = does_stop card _
   unless_no_setup card fault opening steps (Some present) go own followed = followed present refl
 
-  pub unless_deck_fault : {X : Type 0} (card : ℕ) (r : Result X DeckFault) (go own : X → Move) → ((x : X) → r ≡ Ok x → IsFollowed card (go x) (own x)) → IsFollowed card (or_deck_fault r go) (or_deck_fault r own)
+  pub unless_deck_fault : {X : Type 0} (card : ℕ) (r : Result X DeckFault) (go own : X → StatementMove) → ((x : X) → r ≡ Ok x → IsFollowed card (go x) (own x)) → IsFollowed card (or_deck_fault r go) (or_deck_fault r own)
   unless_deck_fault card (Err fault) go own followed = does_stop card _
   unless_deck_fault card (Ok x) go own followed = followed x refl
 
-  pub unless_selection_fault : (card : ℕ) (r : Result LinearProgram SelectionFault) (go own : LinearProgram → Move) → ((lp : LinearProgram) → r ≡ Ok lp → IsFollowed card (go lp) (own lp)) →
+  pub unless_selection_fault : (card : ℕ) (r : Result LinearProgram SelectionFault) (go own : LinearProgram → StatementMove) → ((lp : LinearProgram) → r ≡ Ok lp → IsFollowed card (go lp) (own lp)) →
       IsFollowed card (or_selection_fault card r go) (or_selection_fault card r own)
   unless_selection_fault card (Err fault) go own followed = does_stop card _
   unless_selection_fault card (Ok lp) go own followed = followed lp refl
 
-  pub selecting : (card : ℕ) (problem : Problem ℕ) (choice : Choice) (go own : LinearProgram → Move) → ((lp : LinearProgram) → selected problem choice ≡ Ok lp → IsFollowed card (go lp) (own lp)) →
+  pub selecting : (card : ℕ) (problem : Problem ℕ) (choice : Choice) (go own : LinearProgram → StatementMove) → ((lp : LinearProgram) → selected problem choice ≡ Ok lp → IsFollowed card (go lp) (own lp)) →
       IsFollowed card (selects card problem choice go) (selects card problem choice own)
   selecting card problem choice go own followed =
       unless_selection_fault card (selected problem choice) _ _ (λ lp e. may_stop card (go lp) (own lp) (InSelection problem choice) (InSelection problem choice) (followed lp e))

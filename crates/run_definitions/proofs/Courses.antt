@@ -11,7 +11,7 @@ use Rattle.listing_definitions.specs.Report.{Report}
 use Rattle.listing_definitions.specs.Ending.{Ending, Ended, ControlStop, CardStop}
 use Rattle.question_definitions.specs.Solving.{Solving}
 use Rattle.run_definitions.specs.State.{State, start}
-use Rattle.run_definitions.specs.Moves.{Gain, Nothing, printed_by, punched_by, Outcome, Goes, Ends, Move, Does, MayStop, Asks, Gives}
+use Rattle.run_definitions.specs.Moves.{Gain, Nothing, printed_by, punched_by, Outcome, Goes, Ends, StatementMove, Does, MayStop, Asks, Gives}
 use Rattle.run_definitions.specs.Verbs.{verb_move}
 use Rattle.run_definitions.specs.Run.{counted, max_executed, Step, Reaches, begun, stepped, IsRun, is_over, is_ended, at_end}
 use Rattle.run_definitions.specs.Answer.{job_decks, IsJobRun, card_fault, control_fault, run}
@@ -35,7 +35,7 @@ pub record Course : Type 0 where
   pub ending : Option Ending
 
 -- the outcome of a move that doesn't ask, and doesn't stop freely
-abbrev pub settled : Move → Option Outcome
+abbrev pub settled : StatementMove → Option Outcome
 settled (Does outcome) = Some outcome
 settled (MayStop refusals move) = settled move
 settled (Asks question sheet s go) = None
@@ -96,7 +96,7 @@ some_apart e = subst IsNothing e tt
 from_some : {X : Type 0} {x y : X} → Some x ≡ Some y → x ≡ y
 from_some {x = x} e = ap (λ o. unwrap_or o x) e
 
-settled_gives : (card : ℕ) (move : Move) (outcome : Outcome) → settled move ≡ Some outcome → Gives silent card move outcome
+settled_gives : (card : ℕ) (move : StatementMove) (outcome : Outcome) → settled move ≡ Some outcome → Gives silent card move outcome
 settled_gives card (Does found) outcome e = sym (from_some e)
 settled_gives card (MayStop refusals move) outcome e = inl (settled_gives card move outcome e)
 settled_gives card (Asks question sheet s go) outcome e = absurd (some_apart e)

@@ -70,10 +70,10 @@ pub data Refusals : Type 0 where
 -- A statement does something; or it may stop with an overflow where an operation is refused, and else moves on; or it asks about a
 -- linear program at a basis, and goes on by the answer. A move is plain data: what is right of linear programming comes in with its
 -- meaning, below.
-pub data Move : Type 0 where
-  Does : Outcome → Move
-  MayStop : Refusals → Move → Move
-  Asks : (question : Question) → Sheet → Basis → (AnswerTo question → Outcome) → Move
+pub data StatementMove : Type 0 where
+  Does : Outcome → StatementMove
+  MayStop : Refusals → StatementMove → StatementMove
+  Asks : (question : Question) → Sheet → Basis → (AnswerTo question → Outcome) → StatementMove
 
 -- an operation of the selection that is refused; it is made before there is a basis
 abbrev pub SelectionOverflows : Problem ℕ → Choice → Evidence → Option Place → Type 0
@@ -89,18 +89,18 @@ StopsBy card Holds outcome =
     (evidence : Evidence) × (place : Option Place) × Holds evidence place × (outcome ≡ stops (OverflowStop (record { evidence = evidence; place = place; card = card })))
 
 -- The outcomes of a move, by what is right of linear programming. Whether to stop for an overflow is the one free choice.
-abbrev pub Gives : Solving → ℕ → Move → Outcome → Type 0
+abbrev pub Gives : Solving → ℕ → StatementMove → Outcome → Type 0
 Gives S card (Does outcome) given = given ≡ outcome
 Gives S card (MayStop refusals move) given = Gives S card move given ⊎ StopsBy card (Shows S refusals) given
 Gives S card (Asks question sheet s go) given = (answer : AnswerTo question) × IsRight S question sheet s answer × (given ≡ go answer)
 
 -- What a move comes to, whatever is right of linear programming: it asks nothing, and isn't stopped by an overflow.
-abbrev pub Settles : ℕ → Move → Outcome → Type 0
+abbrev pub Settles : ℕ → StatementMove → Outcome → Type 0
 Settles card (Does outcome) given = given ≡ outcome
 Settles card (MayStop refusals move) given = Settles card move given
 Settles card (Asks question sheet s go) given = ⊥
 
 -- a verb fault on a card, or else what is done with the value
-abbrev pub or_fault : {X : Type 0} → ℕ → VerbFault → Option X → (X → Move) → Move
+abbrev pub or_fault : {X : Type 0} → ℕ → VerbFault → Option X → (X → StatementMove) → StatementMove
 or_fault card fault None go = Does (stops (VerbStop (record { fault = fault; card = card })))
 or_fault card fault (Some x) go = go x

@@ -15,7 +15,7 @@ use Rattle.listing_definitions.specs.Ending.{Ending, Ended, StatementLimit}
 use Rattle.listing_definitions.specs.Listing.{ending_text}
 use Rattle.question_definitions.specs.Answers.{Sheet, Question, OfPath, OfSolution, OfRanges, OfParametricRun, OfPunch, OfInstall, AnswerTo, Reached, PathLimit, PricesWrong, Installed}
 use Rattle.run_definitions.specs.State.{State}
-use Rattle.run_definitions.specs.Moves.{Nothing, Prints, printed_by, gain_text, gain_of, Outcome, Goes, Ends, InSelection, InAnswer, Move, Does, MayStop, Asks}
+use Rattle.run_definitions.specs.Moves.{Nothing, Prints, printed_by, gain_text, gain_of, Outcome, Goes, Ends, InSelection, InAnswer, StatementMove, Does, MayStop, Asks}
 use Rattle.run_definitions.specs.Verbs.{verb_move}
 use Rattle.run_definitions.specs.Run.{max_executed, counted}
 use Rattle.walk_definitions.specs.Words.{left_after}
@@ -85,7 +85,7 @@ open_question w (OfInstall basis) sheet go = option_or (open_stop w) (option_or 
 open_question w (OfPath solver limit) sheet go = option_or (open_stop w) (open_pending w)
 open_question w (OfParametricRun parametric_run) sheet go = option_or (open_stop w) (open_pending w)
 
-abbrev pub opened : Walker → Move → Option Found
+abbrev pub opened : Walker → StatementMove → Option Found
 opened w (Does outcome) = open_outcome w outcome
 opened w (MayStop refusals move) = opened w move
 opened w (Asks question sheet s go) = open_question w question sheet go
@@ -93,7 +93,7 @@ opened w (Asks question sheet s go) = open_question w question sheet go
 -- ---- what is due
 
 -- an operation of a selection is refused; the walk never takes the free choice of the run
-abbrev pub refuses_selection : Move → Bool
+abbrev pub refuses_selection : StatementMove → Bool
 refuses_selection (Does outcome) = false
 refuses_selection (MayStop (InSelection problem choice) move) = not (is_made problem choice) || refuses_selection move
 refuses_selection (MayStop (InAnswer question sheet bases) move) = refuses_selection move
@@ -163,7 +163,7 @@ answered w question sheet go (Right answer rest) =
     settling w question sheet answer (follows (record (passed rest 1 w) { pending = noted w question sheet answer }) (go answer))
 
 -- the report or the end that is due
-abbrev pub due : Walker → Move → WalkTurn
+abbrev pub due : Walker → StatementMove → WalkTurn
 due w (Does outcome) = taken w outcome (left_after (gain_text (gain_of outcome)) w.rest)
 due w (MayStop refusals move) = due w move
 due w (Asks question sheet s go) = answered w question sheet go (judged question sheet w.rest)
@@ -171,7 +171,7 @@ due w (Asks question sheet s go) = answered w question sheet go (judged question
 -- ---- the walk
 
 -- what can't be attested comes first, then a selection that is refused, then what is due
-abbrev pub walk_move : Walker → Move → WalkTurn
+abbrev pub walk_move : Walker → StatementMove → WalkTurn
 walk_move w move = unless_found (opened w move) (if refuses_selection move then Finds (Unchecked w.rest) else due w move)
 
 abbrev pub walk_statement : Walker → Option (Statement ℕ) → WalkTurn

@@ -33,7 +33,7 @@ use Rattle.listing_definitions.specs.Ending.{Ending, Ended, StatementLimit}
 use Rattle.listing_definitions.specs.Listing.{ending_text}
 use Rattle.question_definitions.specs.Answers.{Basis, Sheet, Changing, parametric_solver, ParametricRun, Question, OfPath, OfSolution, OfRanges, OfParametricRun, OfPunch, OfInstall, AnswerTo, PathEnd, Reached, PathLimit, PricesWrong, ParametricRunEnd, Opening, Chained, ParametricRunLimit, InstallEnd, Installed, DependsBy}
 use Rattle.run_definitions.specs.State.{Present, gone_through, State, problem_of, choice_of}
-use Rattle.run_definitions.specs.Moves.{printed_by, gain_text, gain_of, Outcome, Goes, Ends, InSelection, Move, Does, MayStop, Asks, or_fault}
+use Rattle.run_definitions.specs.Moves.{printed_by, gain_text, gain_of, Outcome, Goes, Ends, InSelection, StatementMove, Does, MayStop, Asks, or_fault}
 use Rattle.run_definitions.specs.Verbs.{or_deck_fault, or_selection_fault, selects, mark_of, demanded, by_verdict, change_row, change_set, not_less, after_path, solves, shows_present, if_optimal, after_parametric_run, parametric_runs, after_install, verb_move}
 use Rattle.run_definitions.specs.Run.{max_executed, counted}
 use Rattle.walk_definitions.specs.Words.{left_after}
@@ -47,24 +47,24 @@ Counts n (Goes gain after) = after.executed ≡ n
 Counts n (Ends gain ending) = Unit {0}
 
 -- so has the state after each outcome of a move
-abbrev pub KeepsCount : ℕ → Move → Type 0
+abbrev pub KeepsCount : ℕ → StatementMove → Type 0
 KeepsCount n (Does outcome) = Counts n outcome
 KeepsCount n (MayStop refusals move) = KeepsCount n move
 KeepsCount n (Asks question sheet s go) = (answer : AnswerTo question) → Counts n (go answer)
 
-with_value : {X : Type 0} (n card : ℕ) (fault : VerbFault) (o : Option X) (go : X → Move) → ((x : X) → KeepsCount n (go x)) → KeepsCount n (or_fault card fault o go)
+with_value : {X : Type 0} (n card : ℕ) (fault : VerbFault) (o : Option X) (go : X → StatementMove) → ((x : X) → KeepsCount n (go x)) → KeepsCount n (or_fault card fault o go)
 with_value n card fault None go keeps = tt
 with_value n card fault (Some x) go keeps = keeps x
 
-with_deck : {X : Type 0} (n : ℕ) (r : Result X DeckFault) (go : X → Move) → ((x : X) → KeepsCount n (go x)) → KeepsCount n (or_deck_fault r go)
+with_deck : {X : Type 0} (n : ℕ) (r : Result X DeckFault) (go : X → StatementMove) → ((x : X) → KeepsCount n (go x)) → KeepsCount n (or_deck_fault r go)
 with_deck n (Err fault) go keeps = tt
 with_deck n (Ok x) go keeps = keeps x
 
-with_program : (n card : ℕ) (r : Result LinearProgram SelectionFault) (go : LinearProgram → Move) → ((lp : LinearProgram) → KeepsCount n (go lp)) → KeepsCount n (or_selection_fault card r go)
+with_program : (n card : ℕ) (r : Result LinearProgram SelectionFault) (go : LinearProgram → StatementMove) → ((lp : LinearProgram) → KeepsCount n (go lp)) → KeepsCount n (or_selection_fault card r go)
 with_program n card (Err fault) go keeps = tt
 with_program n card (Ok lp) go keeps = keeps lp
 
-with_selection : (n card : ℕ) (problem : Problem ℕ) (choice : Choice) (go : LinearProgram → Move) → ((lp : LinearProgram) → KeepsCount n (go lp)) → KeepsCount n (selects card problem choice go)
+with_selection : (n card : ℕ) (problem : Problem ℕ) (choice : Choice) (go : LinearProgram → StatementMove) → ((lp : LinearProgram) → KeepsCount n (go lp)) → KeepsCount n (selects card problem choice go)
 with_selection n card problem choice go keeps = with_program n card (selected problem choice) (λ lp. MayStop (InSelection problem choice) (go lp)) keeps
 
 demanded_counts : (position : Option ℕ) (code : ℕ) (report : Report) (state : State) → Counts state.executed (demanded position code report state)
@@ -198,12 +198,12 @@ answered_counts n w question sheet go Refuses counts = tt
 answered_counts n w question sheet go (Right answer rest) counts =
     settling_counts n w question sheet answer _ (follows_counts n (record (passed rest 1 w) { pending = noted w question sheet answer }) (go answer) (counts answer))
 
-due_counts : (n : ℕ) (w : Walker) (move : Move) → KeepsCount n move → CountsTurn n (due w move)
+due_counts : (n : ℕ) (w : Walker) (move : StatementMove) → KeepsCount n move → CountsTurn n (due w move)
 due_counts n w (Does outcome) counts = taken_counts n w outcome (left_after (gain_text (gain_of outcome)) w.rest) counts
 due_counts n w (MayStop refusals move) counts = due_counts n w move counts
 due_counts n w (Asks question sheet s go) counts = answered_counts n w question sheet go (judged question sheet w.rest) counts
 
-move_counts : (n : ℕ) (w : Walker) (move : Move) → KeepsCount n move → CountsTurn n (walk_move w move)
+move_counts : (n : ℕ) (w : Walker) (move : StatementMove) → KeepsCount n move → CountsTurn n (walk_move w move)
 move_counts n w move counts = unless_counts n (opened w move) _ (by (refuses_selection move))
   where
     by : (b : Bool) → CountsTurn n (if b then Finds (Unchecked w.rest) else due w move)
