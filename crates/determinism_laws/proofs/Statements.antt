@@ -23,7 +23,7 @@ use Rattle.listing_definitions.specs.Report.{Report, Converted, Revised, Solutio
 use Rattle.question_definitions.specs.Answers.{Basis, Changing, ParametricRun, Question, AnswerTo, OfPath, OfSolution, OfRanges, OfParametricRun, OfPunch, OfInstall}
 use Rattle.question_definitions.specs.Solving.{Solving}
 use Rattle.run_definitions.specs.State.{Present, present_basis, State, problem_of, choice_of}
-use Rattle.run_definitions.specs.Moves.{Outcome, Refusals, StatementMove, Does, MayStop, or_fault}
+use Rattle.run_definitions.specs.Moves.{StatementOutcome, Refusals, StatementMove, Does, MayStop, or_fault}
 use Rattle.run_definitions.specs.Verbs.{or_deck_fault, or_selection_fault, files, selects, not_less, change_row, change_set, asks, if_optimal, shows_present, solves, shows, ranges, parametric_runs, converts, revises, sets_up, punches, punches_basis, inserts, verb_move}
 use Rattle.simplex_definitions.specs.Path.{EndsOptimal, EndsAt}
 use Rattle.simplex_laws.proofs.Ends.{optimal_end}
@@ -44,7 +44,7 @@ pub record IsOnce (S : Solving) (move : StatementMove) : Type 0 where
   pub once : AsksOnce S move
 
 module _ (S : Solving) where
-  does : (outcome : Outcome) → IsOnce S (Does outcome)
+  does : (outcome : StatementOutcome) → IsOnce S (Does outcome)
   does outcome = record { once = tt }
 
   may_stop : (refusals : Refusals) (move : StatementMove) → IsOnce S move → IsOnce S (MayStop refusals move)
@@ -100,7 +100,7 @@ module _ (S : Solving) where
   }
 
   -- a question at the present basis of what is selected of the setup
-  asked : (question : Question) (present : Present) (state : State) (lp : LinearProgram) (go : AnswerTo question → Outcome) → HasOneAnswer S question → HasProblem state.setup → Knows state →
+  asked : (question : Question) (present : Present) (state : State) (lp : LinearProgram) (go : AnswerTo question → StatementOutcome) → HasOneAnswer S question → HasProblem state.setup → Knows state →
       state.setup ≡ Some present → selected present.problem (choice_of state.cells present.options) ≡ Ok lp → Suits question (record { problem = present.problem; lp = lp }) (present_basis present) →
       IsOnce S (asks question (record { problem = present.problem; lp = lp }) present go)
   asked question present state lp go one lawful knows e is suits = record {

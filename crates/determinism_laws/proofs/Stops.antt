@@ -27,7 +27,7 @@ use Rattle.listing_definitions.specs.Ending.{Overflow, Ending, Ended, WordsRefus
 use Rattle.question_definitions.specs.Answers.{Basis, Changing, parametric_solver, ParametricRun, Question, AnswerTo, OfSolution, OfRanges, PathEnd, Reached, PathLimit, PricesWrong, ParametricRunEnd, Opening, Chained, ParametricRunLimit, InstallEnd, Installed, DependsBy}
 use Rattle.question_definitions.specs.Solving.{Solving}
 use Rattle.run_definitions.specs.State.{Present, gone_through, State, problem_of, choice_of}
-use Rattle.run_definitions.specs.Moves.{Gain, Outcome, Goes, Ends, Refusals, StatementMove, Does, MayStop, Asks, Gives, or_fault}
+use Rattle.run_definitions.specs.Moves.{Gain, StatementOutcome, Goes, Ends, Refusals, StatementMove, Does, MayStop, Asks, Gives, or_fault}
 use Rattle.run_definitions.specs.Verbs.{or_deck_fault, or_selection_fault, files, selects, not_less, change_row, change_set, demanded, by_verdict, mark_of, if_optimal, after_path, after_parametric_run, after_install, shows_present, solves, shows, ranges, parametric_runs, converts, revises, sets_up, punches, punches_basis, inserts, verb_move}
 use Rattle.run_definitions.specs.Run.{counted, at_end, at_limit, IsRun, is_over, is_ended}
 use Rattle.run_definitions.specs.Answer.{IsJobRun, card_fault, control_fault, run}
@@ -59,7 +59,7 @@ abbrev IsOtherEnding : Ending → Type 0
 IsOtherEnding (OverflowStop overflow) = ⊥
 IsOtherEnding ending = IsEndOfRun ending
 
-abbrev IsOther : Outcome → Type 0
+abbrev IsOther : StatementOutcome → Type 0
 IsOther (Goes gain after) = Unit {0}
 IsOther (Ends gain ending) = IsOtherEnding ending
 
@@ -72,7 +72,7 @@ DoesOther (Asks question sheet s go) = (answer : AnswerTo question) → IsOther 
 record NeverStops (move : StatementMove) : Type 0 where
   other : DoesOther move
 
-does : (outcome : Outcome) → IsOther outcome → NeverStops (Does outcome)
+does : (outcome : StatementOutcome) → IsOther outcome → NeverStops (Does outcome)
 does outcome other = record { other = other }
 
 may_stop : (refusals : Refusals) (move : StatementMove) → NeverStops move → NeverStops (MayStop refusals move)
@@ -238,15 +238,15 @@ other_end PrintFault other = other
 other_end PunchFault other = other
 other_end Memory other = other
 
-abbrev EndsAsRun : Outcome → Type 0
+abbrev EndsAsRun : StatementOutcome → Type 0
 EndsAsRun (Goes gain after) = Unit {0}
 EndsAsRun (Ends gain ending) = IsEndOfRun ending
 
-outcome_as_run : (outcome : Outcome) → IsOther outcome → EndsAsRun outcome
+outcome_as_run : (outcome : StatementOutcome) → IsOther outcome → EndsAsRun outcome
 outcome_as_run (Goes gain after) other = tt
 outcome_as_run (Ends gain ending) other = other_end ending other
 
-module _ (S : Solving) (card : ℕ) (given : Outcome) where
+module _ (S : Solving) (card : ℕ) (given : StatementOutcome) where
   gives_as_run : (move : StatementMove) → DoesOther move → Gives S card move given → EndsAsRun given
   gives_as_run (Does outcome) other gives = subst EndsAsRun (sym gives) (outcome_as_run outcome other)
   gives_as_run (MayStop refusals move) other (inl gives) = gives_as_run move other gives

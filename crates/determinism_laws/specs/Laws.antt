@@ -29,7 +29,7 @@ use Rattle.answer_definitions.specs.Verdicts.{IsSolved, IsDualSolved}
 use Rattle.answer_definitions.specs.Sections.{IsSolutionOf, IsRanged}
 use Rattle.answer_definitions.specs.Real.{linear_programming}
 use Rattle.run_definitions.specs.State.{State}
-use Rattle.run_definitions.specs.Moves.{Outcome, stops, StatementMove, Does, MayStop, Asks, Shows, Gives}
+use Rattle.run_definitions.specs.Moves.{StatementOutcome, stops, StatementMove, Does, MayStop, Asks, Shows, Gives}
 use Rattle.run_definitions.specs.Verbs.{verb_move}
 use Rattle.run_definitions.specs.Run.{max_executed, counted, Step}
 use Rattle.run_definitions.specs.Answer.{IsJobRun, IsSoFar}
@@ -82,10 +82,10 @@ AsksOnce S (Asks question sheet s go) = (a b : AnswerTo question) →
 abbrev pub IsOverflow : Ending → Type 0
 IsOverflow ending = (overflow : Overflow) × (ending ≡ OverflowStop overflow)
 
-abbrev pub IsOverflowStop : Outcome → Type 0
+abbrev pub IsOverflowStop : StatementOutcome → Type 0
 IsOverflowStop outcome = (overflow : Overflow) × (outcome ≡ stops (OverflowStop overflow))
 
-abbrev pub IsSameOrStop : Outcome → Outcome → Type 0
+abbrev pub IsSameOrStop : StatementOutcome → StatementOutcome → Type 0
 IsSameOrStop a b = (a ≡ b) ⊎ (IsOverflowStop a ⊎ IsOverflowStop b)
 
 -- two runs report and punch the same, and end alike
@@ -126,7 +126,7 @@ MeetsNoEvidence S bytes = (program : Program) (reports : List Report) (cards : L
 -- moment, no run stops with an overflow, and so all are the same.
 pub record IsFunction (S : Solving) : Type 0 where
   pub step : (bytes : List ℕ) (program : Program) (reports : List Report) (cards : List (List ℕ))
-      (state : State) (a b : Outcome) → IsSoFar S bytes reports cards program state →
+      (state : State) (a b : StatementOutcome) → IsSoFar S bytes reports cards program state →
       Step S program state a → Step S program state b → IsSameOrStop a b
   pub so_far : (bytes : List ℕ) (program : Program) (reports others : List Report)
       (cards other_cards : List (List ℕ)) (state other : State) →
@@ -167,7 +167,7 @@ pub record AnswerLaws : Type 0 where
 -- most; and so a run is a function.
 pub record RunFunctions : Type 0 where
   pub answers : AnswerLaws
-  pub moves : (card : ℕ) (move : StatementMove) (a b : Outcome) → AsksOnce linear_programming move →
+  pub moves : (card : ℕ) (move : StatementMove) (a b : StatementOutcome) → AsksOnce linear_programming move →
       Gives linear_programming card move a → Gives linear_programming card move b →
       IsSameOrStop a b
   pub answered : AnswersOnce linear_programming

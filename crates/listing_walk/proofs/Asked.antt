@@ -11,7 +11,7 @@ use Rattle.listing_definitions.specs.declared.Mark.TheVariants as marks
 use Rattle.listing_definitions.specs.declared.Solver.{Solver}
 use Rattle.listing_definitions.specs.Report.{PathVerdict, OptimalAt, CrossedAt, InfeasibleBy, UnboundedBy, Check, SolutionLines}
 use Rattle.question_definitions.specs.Answers.{Sheet, Question, OfPath, OfSolution, OfParametricRun, ParametricRun, AnswerTo, PathEnd, Reached, PathLimit, PricesWrong}
-use Rattle.run_definitions.specs.Moves.{Outcome}
+use Rattle.run_definitions.specs.Moves.{StatementOutcome}
 use Rattle.run_definitions.specs.Verbs.{mark_of}
 use Rattle.walk_definitions.specs.Tests.{says_checked, point_of}
 use Rattle.walk_definitions.specs.Reading.{Judged, Right, Fails, Refuses, judged}
@@ -74,16 +74,16 @@ pends_none rest (UnboundedBy steps value lines) check conclusion e other = refl
 -- ---- where an answer comes
 
 module _ (question : Question) (sheet : Sheet) (old : ListingPlace) (open_there : walks.Walker → Option walks.Found)
-    (opens : (w : walks.Walker) (go : AnswerTo question → Outcome) → walks.open_question w question sheet go ≡ open_there w) where
+    (opens : (w : walks.Walker) (go : AnswerTo question → StatementOutcome) → walks.open_question w question sheet go ≡ open_there w) where
   -- what is open comes first
-  pub found_open : (found : Found) → ((w : walks.Walker) → Faces old w → option_map found_view (Some found) ≡ open_there w) → (w : walks.Walker) (go : AnswerTo question → Outcome) → Faces old w →
+  pub found_open : (found : Found) → ((w : walks.Walker) → Faces old w → option_map found_view (Some found) ≡ open_there w) → (w : walks.Walker) (go : AnswerTo question → StatementOutcome) → Faces old w →
       asked_turn w question sheet go ≡ walks.Finds (found_view found)
   found_open found there_is w go f =
       ap (λ (x : Option walks.Found). walks.unless_found x (walks.answered w question sheet go (judged question sheet w.rest))) (opens w go ∙ sym (there_is w f))
 
   module _ (none : (w : walks.Walker) → Faces old w → None ≡ open_there w) where
     -- then the answer
-    pub turn_answered : (w : walks.Walker) (go : AnswerTo question → Outcome) → Faces old w → (given : Judged (AnswerTo question)) → judged question sheet old.cursor ≡ given →
+    pub turn_answered : (w : walks.Walker) (go : AnswerTo question → StatementOutcome) → Faces old w → (given : Judged (AnswerTo question)) → judged question sheet old.cursor ≡ given →
         asked_turn w question sheet go ≡ walks.answered w question sheet go given
     turn_answered w go f given is =
         ap (λ (x : Option walks.Found). walks.unless_found x (walks.answered w question sheet go (judged question sheet w.rest))) (opens w go ∙ sym (none w f)) ∙
@@ -113,7 +113,7 @@ pub record IsConcluded (conclusion : Conclusion) (mark : Mark) (pending : Option
 
 module _ (solver : Solver) (limit : Option ℕ) (sheet : Sheet) (old new : ListingPlace) (none : (w : walks.Walker) → Faces old w → None ≡ open_by true true w) (counted : new.reports ≡ old.reports + 1)
     (conclusion : Conclusion) (mark : Mark) (rest : List ℕ) (here : rest ≡ old.cursor) (c : IsConcluded conclusion mark new.pending rest) where
-  path_by : (answer : PathEnd) → judged (OfPath solver limit) sheet old.cursor ≡ Right answer new.cursor → IsConclusion conclusion answer → (w : walks.Walker) (go : PathEnd → Outcome) → Faces old w →
+  path_by : (answer : PathEnd) → judged (OfPath solver limit) sheet old.cursor ≡ Right answer new.cursor → IsConclusion conclusion answer → (w : walks.Walker) (go : PathEnd → StatementOutcome) → Faces old w →
       IsTaken (OfPath solver limit) (IsMarked mark) new (asked_turn w (OfPath solver limit) sheet go) go
   path_by (Reached bases verdict check) right is w go f = record {
     answer = Reached bases verdict check;
@@ -161,7 +161,7 @@ settled_some w None viewed objective turn found shows is = absurd (cc is)
 settled_some w (Some pending) viewed objective turn found shows is = is_settled w pending viewed objective turn shows ∙ by_some turn pending found (settled_by pending objective) is
 
 -- a stop alone is open at SOLUTION
-pub opens_view : (sheet : Sheet) (mark : Mark) (w : walks.Walker) (go : SolutionLines → Outcome) → walks.open_question w (OfSolution mark) sheet go ≡ open_by true false w
+pub opens_view : (sheet : Sheet) (mark : Mark) (w : walks.Walker) (go : SolutionLines → StatementOutcome) → walks.open_question w (OfSolution mark) sheet go ≡ open_by true false w
 opens_view sheet mark w go = by (walks.open_stop w)
   where
     by : (x : Option walks.Found) → x ≡ option_or x None
@@ -199,7 +199,7 @@ module _ (sheet : Sheet) (old : ListingPlace) (none : (w : walks.Walker) → Fac
       settled_some w old.pending w.pending objective (walks.follows v (go lines)) found f.pending settling
 
   module _ (new : ListingPlace) (is_cursor : new.cursor ≡ cursor) (kept : new.pending ≡ old.pending) (counted : new.reports ≡ old.reports + 1) where
-    reported_by : (mark : Mark) → is_optimal mark ≡ false → (w : walks.Walker) (go : SolutionLines → Outcome) (lines : SolutionLines) → Faces old w →
+    reported_by : (mark : Mark) → is_optimal mark ≡ false → (w : walks.Walker) (go : SolutionLines → StatementOutcome) (lines : SolutionLines) → Faces old w →
         walks.answered w (OfSolution mark) sheet go (Right lines cursor) ≡ walks.follows (record (walks.passed cursor 1 w) { pending = w.pending }) (go lines)
     reported_by marks.Optimal other w go lines f = absurd (cc other)
     reported_by marks.Infeasible other w go lines f = refl

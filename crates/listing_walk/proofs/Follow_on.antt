@@ -7,7 +7,7 @@ use Rattle.listing_readers.specs.Read.{taken}
 use Rattle.listing_definitions.specs.declared.Mark.{Mark}
 use Rattle.listing_definitions.specs.Ending.{Ending}
 use Rattle.run_definitions.specs.State.{State}
-use Rattle.run_definitions.specs.Moves.{Gain, printed_by, gain_text, Outcome, Ends, gain_of, next, jump, StatementMove, Settles}
+use Rattle.run_definitions.specs.Moves.{Gain, printed_by, gain_text, StatementOutcome, Ends, gain_of, next, jump, StatementMove, Settles}
 use Rattle.run_machine.specs.declared.act.Act.{Act}
 use Rattle.run_machine.specs.declared.act.Act.TheVariants as acts
 use Rattle.run_machine.specs.declared.end.End.{End}
@@ -73,7 +73,7 @@ finished_ends old new end ending found same closes = λ v outcome cards machine 
 module _ (machine : Machine Chosen) (act : Act) (text : List ℕ) where
   -- the outcome of a move that comes to an act
   record IsOf (w : walks.Walker) (card : ℕ) (move : StatementMove) (cards : List (List ℕ)) (position executed : ℕ) (gain : Gain) : Type 0 where
-    outcome : Outcome
+    outcome : StatementOutcome
     settles : Settles card move outcome
     is_outcome : IsOutcome outcome cards machine position executed gain act
     is_gain : gain_of outcome ≡ gain

@@ -20,7 +20,7 @@ use Rattle.listing_definitions.specs.Report.{Solved, Parametric}
 use Rattle.question_definitions.specs.Answers.{Basis, Sheet, Changing, changing_name, parametric_solver, ParametricRun, OfParametricRun, ParametricRunEnd, Opening, Chained, ParametricRunLimit}
 use Rattle.answer_definitions.specs.ParametricRuns.{shifts_of}
 use Rattle.run_definitions.specs.State.{Present, State, choice_of, gone_through}
-use Rattle.run_definitions.specs.Moves.{Prints, Outcome, StatementMove, or_fault}
+use Rattle.run_definitions.specs.Moves.{Prints, StatementOutcome, StatementMove, or_fault}
 use Rattle.run_definitions.specs.Verbs.{asks, after_parametric_run, mark_of, last_value, not_less, verb_move}
 use Rattle.run_machine.specs.declared.act.Act.{Act}
 use Rattle.run_machine.specs.declared.act.Act.TheVariants as acts
@@ -222,7 +222,7 @@ module _ (verb : ParametricVerb) (card : ℕ) (cards : List (List ℕ)) (machine
               turn ≡ walks.follows v (after_parametric_run card parametric_run (present_with problem chosen.options opening steps) state answer) → Faces mid v → IsParametricRunAnswer x answer → Comes turn cards (left_by x machine) position executed new w'
           ends_by (Opened mark) act is_act w' finishes position executed state opening steps s turn v (Opening bases verdict check) is faces e =
               let present = present_with problem chosen.options opening steps in
-              let outcome : Outcome = after_parametric_run card parametric_run present state (Opening bases verdict check) in
+              let outcome : StatementOutcome = after_parametric_run card parametric_run present state (Opening bases verdict check) in
               let comes = verdict_comes card cards (left_by (Opened mark) machine) position executed (Solved (parametric_solver parametric_run.changing) verdict check) (then_open state present bases) (stands_open mark s opening steps bases) machine.cells demands s.cells (mark_of verdict) in
               subst (λ (t : walks.WalkTurn). Comes t cards (left_by (Opened mark) machine) position executed new w') (sym is)
               (finishes v outcome cards (left_by (Opened mark) machine) position executed (Prints (Solved (parametric_solver parametric_run.changing) verdict check)) faces
@@ -233,7 +233,7 @@ module _ (verb : ParametricVerb) (card : ℕ) (cards : List (List ℕ)) (machine
           ends_by (RanThrough last) act is_act w' finishes position executed state opening steps s turn v (Chained bases intervals end) is faces e =
               let present = present_with problem chosen.options opening steps in
               let report = Parametric (parametric_solver parametric_run.changing) (record { from = parametric_run.from; change = changing_name parametric_run.changing; intervals = intervals; end = end }) in
-              let outcome : Outcome = after_parametric_run card parametric_run present state (Chained bases intervals end) in
+              let outcome : StatementOutcome = after_parametric_run card parametric_run present state (Chained bases intervals end) in
               let stands = subst (λ (x : ℚ). machines.Represents IsView cards (left_by (RanThrough last) machine) position executed (then_run_through state present bases x)) e (stands_run_through last s opening steps bases) in
               subst (λ (t : walks.WalkTurn). Comes t cards (left_by (RanThrough last) machine) position executed new w') (sym is)
               (finishes v outcome cards (left_by (RanThrough last) machine) position executed (Prints report) faces

@@ -14,7 +14,7 @@ use Rattle.listing_definitions.specs.Report.{SetUp}
 use Rattle.listing_definitions.specs.Text.{report_text}
 use Rattle.listing_definitions.specs.Ending.{VerbStop}
 use Rattle.run_definitions.specs.State.{Present, State, problem_of, choice_of}
-use Rattle.run_definitions.specs.Moves.{Nothing, Prints, Outcome, next, stops, InSelection, StatementMove, Does, MayStop}
+use Rattle.run_definitions.specs.Moves.{Nothing, Prints, StatementOutcome, next, stops, InSelection, StatementMove, Does, MayStop}
 use Rattle.run_definitions.specs.Verbs.{or_selection_fault, verb_move}
 use Rattle.run_machine.specs.declared.act.Act.TheVariants as acts
 use Rattle.run_machine.specs.declared.end.End.TheVariants as ends
@@ -64,7 +64,7 @@ kept problem options lp = record { problem = problem; options = options; opening
 abbrev after_setup : Problem ℕ → SetupOptions → LinearProgram → State → State
 after_setup problem options lp state = record state { setup = Some (kept problem options lp); mark = None }
 
-abbrev outcome_of : Problem ℕ → SetupOptions → LinearProgram → State → Outcome
+abbrev outcome_of : Problem ℕ → SetupOptions → LinearProgram → State → StatementOutcome
 outcome_of problem options lp state = next (Prints (SetUp problem.name options.sense)) (after_setup problem options lp state)
 
 module _ (card : ℕ) (options : SetupOptions) (state : State) where
@@ -142,7 +142,7 @@ module _ (card : ℕ) (cards : List (List ℕ)) (machine : Machine Chosen) (opti
         let made : IsMade o.problem (choice_of state.cells options) opened.chosen.lp = subst (λ (c : Cells). IsMade o.problem (choice_of c options) opened.chosen.lp) (sym s.cells) o.made in
         let is_problem : problem_of state.cells.xpbname state.file ≡ Some o.problem =
         problem_view s (λ (c : Cells). c.xpbname) (Some o.problem) (filed_by machine.cells.xpbname machine.file opened.chosen.name (Some o.problem) o.is_named o.is_filed) in
-        let outcome : Outcome = outcome_of o.problem options opened.chosen.lp state in
+        let outcome : StatementOutcome = outcome_of o.problem options opened.chosen.lp state in
         subst (λ (t : walks.WalkTurn). Comes t cards machine_after position executed new went)
         (sym (ap (walks.walk_move w) (set_up_move card options state o.problem opened.chosen.lp is_problem made.is_selected) ∙ made_turn w o.problem (choice_of state.cells options) (Does outcome) made.is_made))
         (passes w card (Does outcome) cards position executed (Prints (SetUp o.problem.name options.sense)) f refl

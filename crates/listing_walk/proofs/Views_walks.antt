@@ -13,7 +13,7 @@ use Rattle.listing_definitions.specs.declared.VerbFault.TheVariants.{NoSetup, No
 use Rattle.listing_definitions.specs.Report.{SolutionLines, Solution}
 use Rattle.question_definitions.specs.Answers.{Sheet, OfSolution}
 use Rattle.run_definitions.specs.State.{Present, State, choice_of}
-use Rattle.run_definitions.specs.Moves.{Prints, Outcome, next, StatementMove, or_fault}
+use Rattle.run_definitions.specs.Moves.{Prints, StatementOutcome, next, StatementMove, or_fault}
 use Rattle.run_definitions.specs.Verbs.{asks, shows_present, verb_move}
 use Rattle.run_machine.specs.declared.act.Act.TheVariants as acts
 use Rattle.run_machine.specs.declared.end.End.TheVariants as ends
@@ -103,7 +103,7 @@ module _ (card : ℕ) (cards : List (List ℕ)) (machine : Machine Chosen) (old 
 
     module _ (mark : Mark) (is_mark : machine.mark ≡ Some mark) (problem : Problem ℕ) (on_file : filed_under chosen.name machine.file ≡ Some problem)
         (solved : IfSome machine.mark (λ mark. IfSome machine.setup (IsSolved mark machine.cells.xobj machine.cells.xrhs machine.file))) where
-      abbrev go_on : State → SolutionLines → Outcome
+      abbrev go_on : State → SolutionLines → StatementOutcome
       go_on state lines = next (Prints (Solution mark lines)) state
 
       turn_view : {position executed : ℕ} {state : State} (w : walks.Walker) → machines.Represents IsView cards machine position executed state →

@@ -6,7 +6,7 @@ use Rattle.std.specs.Prelude.{◌≡◌, ℕ, ◌+◌, ◌≤◌, ◌<◌, Bool,
 use Rattle.std.specs.Option.{option_or}
 use Rattle.control_definitions.specs.Program.{Verb, Program}
 use Rattle.run_definitions.specs.State.{State}
-use Rattle.run_definitions.specs.Moves.{Outcome, StatementMove, Does, Gain, Settles, gain_text}
+use Rattle.run_definitions.specs.Moves.{StatementOutcome, StatementMove, Does, Gain, Settles, gain_text}
 use Rattle.run_definitions.specs.Verbs.{verb_move}
 use Rattle.run_machine.specs.declared.act.Act.{Act}
 use Rattle.run_machine.specs.declared.act.Act.TheVariants as acts
@@ -57,13 +57,13 @@ Comes turn cards machine position executed place (Jump to) = (v : walks.Walker) 
 Comes turn cards machine position executed place (Finds found) = turn ≡ walks.Finds (found_view found)
 
 -- the outcome is that of an act, which was reached with this machine
-abbrev pub IsOutcome : Outcome → List (List ℕ) → Machine Chosen → ℕ → ℕ → Gain → Act → Type 0
+abbrev pub IsOutcome : StatementOutcome → List (List ℕ) → Machine Chosen → ℕ → ℕ → Gain → Act → Type 0
 IsOutcome outcome cards machine position executed gain act = Follows IsView Settles 0 (Does outcome) cards machine position executed gain act
 
 -- after a report was passed, or where none was due
 abbrev pub Finishes : ListingPlace → ListingPlace → Act → Went → Type 0
 Finishes old new act went =
-    (v : walks.Walker) (outcome : Outcome) (cards : List (List ℕ)) (machine : Machine Chosen) (position executed : ℕ) (gain : Gain) → Faces old v →
+    (v : walks.Walker) (outcome : StatementOutcome) (cards : List (List ℕ)) (machine : Machine Chosen) (position executed : ℕ) (gain : Gain) → Faces old v →
     IsOutcome outcome cards machine position executed gain act → Comes (walks.follows v outcome) cards machine position executed new went
 
 -- a move that asks nothing, and comes to an act with this text

@@ -15,7 +15,7 @@ use Rattle.listing_definitions.specs.Text.{report_text}
 use Rattle.listing_definitions.specs.Listing.{ending_text, reports_text}
 use Rattle.question_definitions.specs.Answers.{Sheet, Question, OfPath, OfSolution, OfRanges, OfParametricRun, OfPunch, OfInstall, AnswerTo, Installed}
 use Rattle.run_definitions.specs.State.{State}
-use Rattle.run_definitions.specs.Moves.{Gain, printed_by, punched_by, Outcome, Ends, InSelection, InAnswer, StatementMove, Does, MayStop, Asks, Gives}
+use Rattle.run_definitions.specs.Moves.{Gain, printed_by, punched_by, StatementOutcome, Ends, InSelection, InAnswer, StatementMove, Does, MayStop, Asks, Gives}
 use Rattle.run_definitions.specs.Verbs.{verb_move}
 use Rattle.run_definitions.specs.Run.{max_executed, counted, Step, IsOver, at_end, at_limit, Reaches, begun, stepped, is_over, is_ended}
 use Rattle.run_definitions.specs.Answer.{job_decks, IsProgramOf, card_fault, control_fault, run}
@@ -51,7 +51,7 @@ no_evidence (Asks question sheet s go) e evidence = evidence
 
 -- ---- what is open isn't attested
 
-never_asked : (w : Walker) (question : Question) (sheet : Sheet) (go : AnswerTo question → Outcome) → NeverAttests (open_question w question sheet go)
+never_asked : (w : Walker) (question : Question) (sheet : Sheet) (go : AnswerTo question → StatementOutcome) → NeverAttests (open_question w question sheet go)
 never_asked w (OfSolution mark) sheet go = never_stop w
 never_asked w OfRanges sheet go = never_either (open_stop w) (open_if (is_ranges w.rest) w) (never_stop w) (never_if (is_ranges w.rest) w)
 never_asked w OfPunch sheet go = never_either (open_stop w) (open_if (is_punched sheet.problem.name w.rest) w) (never_stop w) (never_if (is_punched sheet.problem.name w.rest) w)
@@ -75,7 +75,7 @@ is_due (Some found) refused rest turn count never e =
     let same : found ≡ Attested count = cc in
     absurd (subst (λ (f : Found). NeverAttests (Some f)) same never)
 
-module _ (program : Program) (w : Walker) (count : ℕ) (outcome : Outcome) (step : Step attested program w.state outcome) where
+module _ (program : Program) (w : Walker) (count : ℕ) (outcome : StatementOutcome) (step : Step attested program w.state outcome) where
   abbrev move : StatementMove
   move = verb_move step.statement.verb step.statement.card (counted w.state)
 

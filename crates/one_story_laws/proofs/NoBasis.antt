@@ -27,14 +27,14 @@ use Rattle.listing_definitions.specs.Ending.{Ending}
 use Rattle.question_definitions.specs.Answers.{Basis, Sheet, Changing, parametric_solver, ParametricRun, Question, OfPath, OfSolution, OfRanges, OfParametricRun, OfPunch, OfInstall, AnswerTo, PathEnd, Reached, PathLimit, PricesWrong, ParametricRunEnd, Opening, Chained, ParametricRunLimit}
 use Rattle.question_definitions.specs.Solving.{IsRight}
 use Rattle.run_definitions.specs.State.{Present, gone_through, State, problem_of, choice_of}
-use Rattle.run_definitions.specs.Moves.{printed_by, Outcome, Goes, Ends, gain_of, Refusals, StatementMove, Does, MayStop, Asks, Gives, or_fault}
+use Rattle.run_definitions.specs.Moves.{printed_by, StatementOutcome, Goes, Ends, gain_of, Refusals, StatementMove, Does, MayStop, Asks, Gives, or_fault}
 use Rattle.run_definitions.specs.Verbs.{or_deck_fault, or_selection_fault, files, selects, not_less, change_row, change_set, mark_of, demanded, by_verdict, if_optimal, after_path, after_parametric_run, solves, shows, ranges, parametric_runs, converts, revises, sets_up, punches, punches_basis, inserts, verb_move}
 use Rattle.run_definitions.specs.Run.{counted, Reaches, begun, stepped, IsRun, is_over, is_ended}
 use Rattle.run_definitions.specs.Answer.{IsJobRun, card_fault, control_fault, run}
 use Rattle.walk_laws.specs.Proved.{attested}
 use Rattle.one_story_laws.specs.Story.{IsOfNoBasis}
 
-abbrev NoneOf : Outcome → Type 0
+abbrev NoneOf : StatementOutcome → Type 0
 NoneOf outcome = All IsOfNoBasis (printed_by (gain_of outcome))
 
 nothing : All IsOfNoBasis []
@@ -56,19 +56,19 @@ by_verdict_none Unbounded report state none = demanded_none state.cells.xdounb 2
 
 module _ (card : ℕ) where
   record ShowsNone (move : StatementMove) : Type 0 where
-    by : (outcome : Outcome) → Gives attested card move outcome → NoneOf outcome
+    by : (outcome : StatementOutcome) → Gives attested card move outcome → NoneOf outcome
 
-  does : (outcome : Outcome) → NoneOf outcome → ShowsNone (Does outcome)
+  does : (outcome : StatementOutcome) → NoneOf outcome → ShowsNone (Does outcome)
   does outcome none = record { by = λ given e. subst NoneOf (sym e) none }
 
   may_stop : (refusals : Refusals) (move : StatementMove) → ShowsNone move → ShowsNone (MayStop refusals move)
   may_stop refusals move shows = record { by = stopping }
     where
-      stopping : (given : Outcome) → Gives attested card (MayStop refusals move) given → NoneOf given
+      stopping : (given : StatementOutcome) → Gives attested card (MayStop refusals move) given → NoneOf given
       stopping given (inl gives) = shows.by given gives
       stopping given (inr stop) = subst NoneOf (sym stop.3) nothing
 
-  asked : (question : Question) (sheet : Sheet) (s : Basis) (go : AnswerTo question → Outcome) → ((answer : AnswerTo question) → IsRight attested question sheet s answer → NoneOf (go answer)) →
+  asked : (question : Question) (sheet : Sheet) (s : Basis) (go : AnswerTo question → StatementOutcome) → ((answer : AnswerTo question) → IsRight attested question sheet s answer → NoneOf (go answer)) →
       ShowsNone (Asks question sheet s go)
   asked question sheet s go none = record { by = λ given a. subst NoneOf (sym a.2) (none a.0 a.1) }
 

@@ -18,7 +18,7 @@ use Rattle.question_definitions.specs.Answers.{Basis, Sheet, Changing, Row, Set,
 use Rattle.question_definitions.specs.Solving.{Solving}
 use Rattle.answer_definitions.specs.ParametricRuns.{family_of}
 use Rattle.run_definitions.specs.State.{Present, present_basis, gone_through, State, choice_of}
-use Rattle.run_definitions.specs.Moves.{Prints, printed_by, Outcome, gain_of, next}
+use Rattle.run_definitions.specs.Moves.{Prints, printed_by, StatementOutcome, gain_of, next}
 use Rattle.run_definitions.specs.Verbs.{mark_of, by_verdict, last_value, asks, after_path, after_parametric_run}
 use Rattle.run_definitions.specs.Run.{counted}
 use Rattle.soundness_laws.specs.Truth.{PresentProgram, sheet_of, IsTrueOf, named_by, ReportsOfRun}
@@ -119,10 +119,10 @@ module _ (S : Solving) (Speaks : State → Report → Type 0) (Open : Type 0) (e
   true_here setup present verdict set selects program holds = subst (λ (x : Sheet). IsTrueOf x verdict) (same_sheet setup state.cells present lp program set selects) holds
 
   module _ (solver : Solver) (is_path : IsPathSolver solver) (limit : Option ℕ) where
-    abbrev path_go : PathEnd → Outcome
+    abbrev path_go : PathEnd → StatementOutcome
     path_go = after_path solver card one (counted first)
 
-    abbrev path_on : PathEnd → Outcome
+    abbrev path_on : PathEnd → StatementOutcome
     path_on = after_path solver card two (counted second)
 
     paths_alike : (x y : PathEnd) → S.Solves solver sheet (present_basis one) limit x → attested.Solves solver sheet (present_basis two) limit y → All (Speaks first) (printed_by (gain_of (path_go x))) →
@@ -152,10 +152,10 @@ module _ (S : Solving) (Speaks : State → Report → Type 0) (Open : Type 0) (e
   -- ---- parametric runs
 
   module _ (parametric_run : ParametricRun) (asks_so : IsAskedBy state.cells parametric_run) where
-    abbrev parametric_run_go : ParametricRunEnd → Outcome
+    abbrev parametric_run_go : ParametricRunEnd → StatementOutcome
     parametric_run_go = after_parametric_run card parametric_run one (counted first)
 
-    abbrev parametric_run_on : ParametricRunEnd → Outcome
+    abbrev parametric_run_on : ParametricRunEnd → StatementOutcome
     parametric_run_on = after_parametric_run card parametric_run two (counted second)
 
     abbrev family : ℚ → LinearProgram

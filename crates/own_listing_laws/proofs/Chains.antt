@@ -26,7 +26,7 @@ use Rattle.answer_definitions.specs.ParametricRuns.{row_of, shifts_of, family_of
 use Rattle.soundness_laws.specs.ParametricRuns.{ChangesFreely}
 use Rattle.simplex_laws.specs.Laws.{IsNonsingularBasis}
 use Rattle.run_definitions.specs.State.{Present, present_basis, State}
-use Rattle.run_definitions.specs.Moves.{Outcome}
+use Rattle.run_definitions.specs.Moves.{StatementOutcome}
 use Rattle.run_definitions.specs.Verbs.{after_parametric_run}
 use Rattle.run_definitions.specs.Run.{counted}
 use Rattle.parametric_laws.specs.Laws.{HasTrueRuns}
@@ -328,10 +328,10 @@ module _ (w : Walker) (s : State) (opening : Basis) (steps : List Basis) (limits
   abbrev set_up : Present
   set_up = record present { opening = opening; steps = steps }
 
-  abbrev go : ParametricRunEnd → Outcome
+  abbrev go : ParametricRunEnd → StatementOutcome
   go = after_parametric_run card parametric_run set_up (counted walked)
 
-  abbrev own : ParametricRunEnd → Outcome
+  abbrev own : ParametricRunEnd → StatementOutcome
   own = after_parametric_run card parametric_run present (counted s)
 
   module _ (bases : List Basis) (intervals : List ParametricInterval) (end : ChainEnd) (more : List ℕ) where

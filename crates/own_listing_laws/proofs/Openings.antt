@@ -19,7 +19,7 @@ use Rattle.answer_definitions.specs.Verdicts as verdicts
 use Rattle.answer_definitions.specs.ParametricRuns.{shifts_of, sheet_at, FailsToOpen, IsChained}
 use Rattle.answer_definitions.specs.Real.{linear_programming}
 use Rattle.run_definitions.specs.State.{Present, present_basis, path_of, gone_through, State}
-use Rattle.run_definitions.specs.Moves.{Gain, Prints, gain_of, gain_text, Outcome, InAnswer, Asks}
+use Rattle.run_definitions.specs.Moves.{Gain, Prints, gain_of, gain_text, StatementOutcome, InAnswer, Asks}
 use Rattle.run_definitions.specs.Verbs.{asks, mark_of, after_parametric_run}
 use Rattle.run_definitions.specs.Run.{counted}
 use Rattle.soundness_laws.proofs.Runs.{knows_linear_programming}
@@ -124,10 +124,10 @@ module _ (w : Walker) (s : State) (opening : Basis) (steps : List Basis) (limits
   abbrev set_up : Present
   set_up = record present { opening = opening; steps = steps }
 
-  abbrev go : ParametricRunEnd → Outcome
+  abbrev go : ParametricRunEnd → StatementOutcome
   go = after_parametric_run card parametric_run set_up (counted walked)
 
-  abbrev own : ParametricRunEnd → Outcome
+  abbrev own : ParametricRunEnd → StatementOutcome
   own = after_parametric_run card parametric_run present (counted s)
 
   abbrev question : Question

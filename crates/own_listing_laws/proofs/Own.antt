@@ -15,7 +15,7 @@ use Rattle.listing_definitions.specs.Text.{report_text}
 use Rattle.listing_definitions.specs.Listing.{ending_text, reports_text, listing}
 use Rattle.answer_definitions.specs.Real.{linear_programming}
 use Rattle.run_definitions.specs.State.{State, start}
-use Rattle.run_definitions.specs.Moves.{Gain, Nothing, Prints, Punches, printed_by, gain_text, Outcome, Goes, Ends}
+use Rattle.run_definitions.specs.Moves.{Gain, Nothing, Prints, Punches, printed_by, gain_text, StatementOutcome, Goes, Ends}
 use Rattle.run_definitions.specs.Verbs.{verb_move}
 use Rattle.run_definitions.specs.Run.{max_executed, counted, Step, IsOver, at_end, at_limit, Reaches, begun, stepped, IsRun, is_over, is_ended}
 use Rattle.run_definitions.specs.Answer.{job_decks, IsProgramOf, card_fault, control_fault, run}
@@ -179,7 +179,7 @@ module _ (program : Program) (small : AreSmall program) where
           (ap (λ n. nat_lt n max_executed) executed_is ∙ le-ltb s.executed max_executed limit)))
           (after_right (closes w StatementLimit) (closes_right w StatementLimit rest))
 
-      step_turn : (outcome : Outcome) (step : Step linear_programming program s outcome) → turn program w ≡ walk_move w (verb_move step.statement.verb step.statement.card (counted w.state))
+      step_turn : (outcome : StatementOutcome) (step : Step linear_programming program s outcome) → turn program w ≡ walk_move w (verb_move step.statement.verb step.statement.card (counted w.state))
       step_turn outcome step =
           let within : s.position - 1 < length program.statements = slice_get_within program.statements (s.position - 1) step.statement step.is_at_position in
           turn_at_statement step.statement
@@ -187,7 +187,7 @@ module _ (program : Program) (small : AreSmall program) where
           (ap (λ n. nat_lt n max_executed) executed_is ∙ lt-ltb s.executed max_executed step.is_within_limit)
           (ap (λ n. slice_get program.statements (n - 1)) position_is ∙ step.is_at_position)
 
-      step_lands : (outcome : Outcome) (more : List ℕ) → Step linear_programming program s outcome → IsDue w outcome more → Lands outcome more (turn program w)
+      step_lands : (outcome : StatementOutcome) (more : List ℕ) → Step linear_programming program s outcome → IsDue w outcome more → Lands outcome more (turn program w)
       step_lands outcome more step due =
           subst (Lands outcome more) (sym (step_turn outcome step))
           (subst (λ (st : State). Lands outcome more (walk_move w (verb_move step.statement.verb step.statement.card (counted st)))) (sym like.is)

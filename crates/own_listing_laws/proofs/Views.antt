@@ -27,7 +27,7 @@ use Rattle.answer_definitions.specs.Verdicts.{found}
 use Rattle.answer_definitions.specs.Sections.{IsSolutionOf, solution_lines}
 use Rattle.answer_definitions.specs.Real.{linear_programming}
 use Rattle.run_definitions.specs.State.{Present, present_basis, path_of, State, choice_of}
-use Rattle.run_definitions.specs.Moves.{Prints, Outcome, InAnswer, Asks, next}
+use Rattle.run_definitions.specs.Moves.{Prints, StatementOutcome, InAnswer, Asks, next}
 use Rattle.run_definitions.specs.Verbs.{asks}
 use Rattle.run_definitions.specs.Run.{counted}
 use Rattle.soundness_laws.proofs.Runs.{knows_linear_programming}
@@ -129,10 +129,10 @@ module _ (w : Walker) (s : State) (opening : Basis) (steps : List Basis) (card :
   abbrev set_up : Present
   set_up = record present { opening = opening; steps = steps }
 
-  abbrev go : SolutionLines → Outcome
+  abbrev go : SolutionLines → StatementOutcome
   go lines = next (Prints (Solution mark lines)) (counted walked)
 
-  abbrev own : SolutionLines → Outcome
+  abbrev own : SolutionLines → StatementOutcome
   own lines = next (Prints (Solution mark lines)) (counted s)
 
   test_passes : (t : Tableau) → IsTableau lp (present_basis present) t → Passes (solution_test sheet mark (solution_lines sheet (present_basis present) t))

@@ -41,24 +41,24 @@ gain_text (Prints report) = report_text report
 gain_text (Punches report cards) = report_text report
 
 -- the run goes on with this state, or ends so
-pub data Outcome : Type 0 where
-  Goes : Gain → State → Outcome
-  Ends : Gain → Ending → Outcome
+pub data StatementOutcome : Type 0 where
+  Goes : Gain → State → StatementOutcome
+  Ends : Gain → Ending → StatementOutcome
 
 -- what it adds, in either case
-abbrev pub gain_of : Outcome → Gain
+abbrev pub gain_of : StatementOutcome → Gain
 gain_of (Goes gain state) = gain
 gain_of (Ends gain ending) = gain
 
 -- the next statement follows, or the run goes on at another position
-abbrev pub next : Gain → State → Outcome
+abbrev pub next : Gain → State → StatementOutcome
 next gain state = Goes gain (record state { position = state.position + 1 })
 
-abbrev pub jump : Gain → ℕ → State → Outcome
+abbrev pub jump : Gain → ℕ → State → StatementOutcome
 jump gain position state = Goes gain (record state { position = position })
 
 -- a statement that stops gives no report
-abbrev pub stops : Ending → Outcome
+abbrev pub stops : Ending → StatementOutcome
 stops ending = Ends Nothing ending
 
 -- An operation may be refused in a selection; or in an answer to a question about a linear program, after these bases since SETUP or
@@ -71,9 +71,9 @@ pub data Refusals : Type 0 where
 -- linear program at a basis, and goes on by the answer. A move is plain data: what is right of linear programming comes in with its
 -- meaning, below.
 pub data StatementMove : Type 0 where
-  Does : Outcome → StatementMove
+  Does : StatementOutcome → StatementMove
   MayStop : Refusals → StatementMove → StatementMove
-  Asks : (question : Question) → Sheet → Basis → (AnswerTo question → Outcome) → StatementMove
+  Asks : (question : Question) → Sheet → Basis → (AnswerTo question → StatementOutcome) → StatementMove
 
 -- an operation of the selection that is refused; it is made before there is a basis
 abbrev pub SelectionOverflows : Problem ℕ → Choice → Evidence → Option Place → Type 0
@@ -84,18 +84,18 @@ abbrev pub Shows : Solving → Refusals → Evidence → Option Place → Type 0
 Shows S (InSelection problem choice) = SelectionOverflows problem choice
 Shows S (InAnswer question sheet bases) = S.Overflows question sheet bases
 
-abbrev pub StopsBy : ℕ → (Evidence → Option Place → Type 0) → Outcome → Type 0
+abbrev pub StopsBy : ℕ → (Evidence → Option Place → Type 0) → StatementOutcome → Type 0
 StopsBy card Holds outcome =
     (evidence : Evidence) × (place : Option Place) × Holds evidence place × (outcome ≡ stops (OverflowStop (record { evidence = evidence; place = place; card = card })))
 
 -- The outcomes of a move, by what is right of linear programming. Whether to stop for an overflow is the one free choice.
-abbrev pub Gives : Solving → ℕ → StatementMove → Outcome → Type 0
+abbrev pub Gives : Solving → ℕ → StatementMove → StatementOutcome → Type 0
 Gives S card (Does outcome) given = given ≡ outcome
 Gives S card (MayStop refusals move) given = Gives S card move given ⊎ StopsBy card (Shows S refusals) given
 Gives S card (Asks question sheet s go) given = (answer : AnswerTo question) × IsRight S question sheet s answer × (given ≡ go answer)
 
 -- What a move comes to, whatever is right of linear programming: it asks nothing, and isn't stopped by an overflow.
-abbrev pub Settles : ℕ → StatementMove → Outcome → Type 0
+abbrev pub Settles : ℕ → StatementMove → StatementOutcome → Type 0
 Settles card (Does outcome) given = given ≡ outcome
 Settles card (MayStop refusals move) given = Settles card move given
 Settles card (Asks question sheet s go) given = ⊥

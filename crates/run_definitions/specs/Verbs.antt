@@ -35,7 +35,7 @@ use Rattle.listing_definitions.specs.Ending.{Place, Ending, Ended, VerbStop, Sin
 use Rattle.question_definitions.specs.Answers.{Basis, Sheet, Changing, Row, Set, changing_name, parametric_solver, ParametricRun, Question, AnswerTo, OfPath, OfSolution, OfRanges, OfParametricRun, OfPunch, OfInstall, PathEnd, Reached, PathLimit, PricesWrong, ParametricRunEnd, Opening, Chained, ParametricRunLimit, InstallEnd, Installed, DependsBy}
 use Rattle.control_definitions.specs.Cells.{default_cells, move_name, move_number, move_limit, steps_allowed, set_demand}
 use Rattle.run_definitions.specs.State.{Present, present_basis, path_of, gone_through, State, problem_of, choice_of}
-use Rattle.run_definitions.specs.Moves.{Nothing, Prints, Punches, Outcome, Ends, next, jump, stops, InSelection, InAnswer, StatementMove, Does, MayStop, Asks, or_fault}
+use Rattle.run_definitions.specs.Moves.{Nothing, Prints, Punches, StatementOutcome, Ends, next, jump, stops, InSelection, InAnswer, StatementMove, Does, MayStop, Asks, or_fault}
 
 -- ---- decks
 
@@ -165,16 +165,16 @@ mark_of (InfeasibleBy steps lines) = Infeasible
 mark_of (UnboundedBy steps objective lines) = Unbounded
 
 -- a verdict that isn't optimal goes to the position of its demand, or ends the run with its code where that isn't set
-abbrev pub demanded : Option ℕ → ℕ → Report → State → Outcome
+abbrev pub demanded : Option ℕ → ℕ → Report → State → StatementOutcome
 demanded (Some position) code report state = jump (Prints report) position state
 demanded None code report state = Ends (Prints report) (Ended code)
 
-abbrev pub by_verdict : Mark → Report → State → Outcome
+abbrev pub by_verdict : Mark → Report → State → StatementOutcome
 by_verdict Optimal report state = next (Prints report) state
 by_verdict Infeasible report state = demanded state.cells.xdonfs 1 report state
 by_verdict Unbounded report state = demanded state.cells.xdounb 2 report state
 
-abbrev pub limit_stop : ℕ → State → Outcome
+abbrev pub limit_stop : ℕ → State → StatementOutcome
 limit_stop card state = stops (LimitStop (record { limit = steps_allowed state.cells; card = card }))
 
 -- ---- parametric runs
@@ -203,11 +203,11 @@ mark_after Xrhs mark = None
 mark_after _ mark = mark
 
 -- a question at the present basis: the statement may stop with an overflow of its own formulas, or goes on by the answer
-abbrev pub asks : (question : Question) → Sheet → Present → (AnswerTo question → Outcome) → StatementMove
+abbrev pub asks : (question : Question) → Sheet → Present → (AnswerTo question → StatementOutcome) → StatementMove
 asks question sheet present go = MayStop (InAnswer question sheet (path_of present)) (Asks question sheet (present_basis present) go)
 
 -- the basis where the path ends becomes the present one, and the verdict is printed and leaves a mark
-abbrev pub after_path : Solver → ℕ → Present → State → PathEnd → Outcome
+abbrev pub after_path : Solver → ℕ → Present → State → PathEnd → StatementOutcome
 after_path solver card present state (Reached bases verdict check) =
     by_verdict (mark_of verdict) (Solved solver verdict check) (record state { setup = Some (gone_through bases present); mark = Some (mark_of verdict) })
 after_path solver card present state PathLimit = limit_stop card state
@@ -251,7 +251,7 @@ ranges card state =
 
 -- A run along the parameter leaves XPARAM at its last end, and one whose opening isn't optimal leaves it where it was and goes on as
 -- PRIMAL does. The basis reached last becomes the present one, and neither leaves a mark.
-abbrev pub after_parametric_run : ℕ → ParametricRun → Present → State → ParametricRunEnd → Outcome
+abbrev pub after_parametric_run : ℕ → ParametricRun → Present → State → ParametricRunEnd → StatementOutcome
 after_parametric_run card parametric_run present state (Opening bases verdict check) =
     by_verdict (mark_of verdict) (Solved (parametric_solver parametric_run.changing) verdict check) (record state { setup = Some (gone_through bases present); mark = None })
 after_parametric_run card parametric_run present state (Chained bases intervals end) =
@@ -284,7 +284,7 @@ punches_basis card state =
 
 -- the basis that was read becomes the present one, with which the path in hand begins anew, and the mark is cleared; a singular one ends
 -- the run
-abbrev pub after_install : ℕ → LinearProgram → Basis → List Card × List (List Card) → Present → State → InstallEnd → Outcome
+abbrev pub after_install : ℕ → LinearProgram → Basis → List Card × List (List Card) → Present → State → InstallEnd → StatementOutcome
 after_install card lp s taken present state Installed =
     next (Prints (Inserted (deck_name (live taken.0)) (length (basic_columns lp s))))
     (record state { decks = taken.1; setup = Some (record present { opening = s; steps = [] }); mark = None })

@@ -19,7 +19,7 @@ use Rattle.listing_definitions.specs.Text.{report_text}
 use Rattle.question_definitions.specs.Answers.{Basis}
 use Rattle.control_definitions.specs.Cells.{Cells}
 use Rattle.run_definitions.specs.State.{Present, State, problem_of, choice_of}
-use Rattle.run_definitions.specs.Moves.{Prints, Outcome, next, stops, InSelection, StatementMove, Does, MayStop, Gives}
+use Rattle.run_definitions.specs.Moves.{Prints, StatementOutcome, next, stops, InSelection, StatementMove, Does, MayStop, Gives}
 use Rattle.run_definitions.specs.Verbs.{or_selection_fault, verb_move}
 use Rattle.run_machine.specs.declared.act.Act.TheVariants.{Next}
 use Rattle.run_machine.specs.declared.act.Halt.TheVariants as halt
@@ -54,7 +54,7 @@ kept problem options basis = record { problem = problem; options = options; open
 abbrev after_setup : Problem ℕ → SetupOptions → Basis → State → State
 after_setup problem options basis state = record state { setup = Some (kept problem options basis); mark = None }
 
-abbrev outcome_of : Problem ℕ → SetupOptions → Basis → State → Outcome
+abbrev outcome_of : Problem ℕ → SetupOptions → Basis → State → StatementOutcome
 outcome_of problem options basis state = next (Prints (SetUp problem.name options.sense)) (after_setup problem options basis state)
 
 module _ (card : ℕ) (options : SetupOptions) (state : State) where

@@ -38,7 +38,7 @@ use Rattle.question_definitions.specs.Answers.{Basis, Sheet, Changing, Parametri
 use Rattle.question_definitions.specs.Solving.{Solving}
 use Rattle.control_definitions.specs.Cells.{Cells, move_name, move_number, steps_allowed, set_demand}
 use Rattle.run_definitions.specs.State.{Present, gone_through, State, problem_of, choice_of}
-use Rattle.run_definitions.specs.Moves.{Outcome, Goes, Ends, Refusals, StatementMove, Does, MayStop, Asks, Gives, or_fault}
+use Rattle.run_definitions.specs.Moves.{StatementOutcome, Goes, Ends, Refusals, StatementMove, Does, MayStop, Asks, Gives, or_fault}
 use Rattle.run_definitions.specs.Verbs.{revises, or_deck_fault, or_selection_fault, files, selects, not_less, change_row, change_set, asks, demanded, by_verdict, if_optimal, after_path, after_parametric_run, after_install, shows_present, solves, shows, ranges, parametric_runs, converts, sets_up, punches, punches_basis, inserts, verb_move}
 use Rattle.run_definitions.specs.Run.{counted, Step, Reaches, begun, stepped}
 use Rattle.run_definitions.specs.Answer.{IsSoFar}
@@ -63,24 +63,24 @@ with_setup present is other e = subst (λ (p : Present). IsProblem p.problem) (s
 
 -- ---- moves
 
-abbrev Leads : Outcome → Type 0
+abbrev Leads : StatementOutcome → Type 0
 Leads (Goes gain after) = AreLawful after
 Leads (Ends gain ending) = Unit {0}
 
 record IsLed (S : Solving) (card : ℕ) (move : StatementMove) : Type 0 where
-  by : (outcome : Outcome) → Gives S card move outcome → Leads outcome
+  by : (outcome : StatementOutcome) → Gives S card move outcome → Leads outcome
 
-does : (S : Solving) (card : ℕ) (outcome : Outcome) → Leads outcome → IsLed S card (Does outcome)
+does : (S : Solving) (card : ℕ) (outcome : StatementOutcome) → Leads outcome → IsLed S card (Does outcome)
 does S card outcome leads = record { by = λ given e. subst Leads (sym e) leads }
 
 may_stop : (S : Solving) (card : ℕ) (refusals : Refusals) (move : StatementMove) → IsLed S card move → IsLed S card (MayStop refusals move)
 may_stop S card refusals move led = record { by = at }
   where
-    at : (given : Outcome) → Gives S card (MayStop refusals move) given → Leads given
+    at : (given : StatementOutcome) → Gives S card (MayStop refusals move) given → Leads given
     at given (inl gives) = led.by given gives
     at given (inr stop) = subst Leads (sym stop.3) tt
 
-answered : (S : Solving) (card : ℕ) (question : Question) (sheet : Sheet) (s : Basis) (go : AnswerTo question → Outcome) → ((answer : AnswerTo question) → Leads (go answer)) → IsLed S card (Asks question sheet s go)
+answered : (S : Solving) (card : ℕ) (question : Question) (sheet : Sheet) (s : Basis) (go : AnswerTo question → StatementOutcome) → ((answer : AnswerTo question) → Leads (go answer)) → IsLed S card (Asks question sheet s go)
 answered S card question sheet s go leads = record { by = λ given a. subst Leads (sym a.2) (leads a.0) }
 
 unless_fault : {X : Type 0} (S : Solving) (card : ℕ) (fault : VerbFault) (o : Option X) (go : X → StatementMove) → ((x : X) → o ≡ Some x → IsLed S card (go x)) → IsLed S card (or_fault card fault o go)
@@ -287,7 +287,7 @@ module _ (S : Solving) where
 
   -- ---- runs
 
-  step_leads : (program : Program) (state : State) (outcome : Outcome) → HasNames program → AreLawful state → Step S program state outcome → Leads outcome
+  step_leads : (program : Program) (state : State) (outcome : StatementOutcome) → HasNames program → AreLawful state → Step S program state outcome → Leads outcome
   step_leads program state outcome names lawful step =
       (verb_led step.statement.verb step.statement.card (counted state) (statement_at program _ step.statement names step.is_at_position)
       (record { file = lawful.file; setup = lawful.setup; decks = lawful.decks; name = lawful.name })).by outcome step.gives

@@ -17,22 +17,22 @@ use Rattle.question_definitions.specs.Solving.{Solving}
 use Rattle.answer_definitions.specs.Verdicts.{IsSolved}
 use Rattle.answer_definitions.specs.Real.{linear_programming}
 use Rattle.run_definitions.specs.State.{Present, present_basis, gone_through, State, choice_of}
-use Rattle.run_definitions.specs.Moves.{Outcome, Refusals, StatementMove, Does, MayStop, Gives, or_fault}
+use Rattle.run_definitions.specs.Moves.{StatementOutcome, Refusals, StatementMove, Does, MayStop, Gives, or_fault}
 use Rattle.run_definitions.specs.Verbs.{or_selection_fault, selects, mark_of, demanded, by_verdict, after_path, solves, verb_move}
 use Rattle.soundness_laws.specs.Laws.{IsNoLimitStop, EndsUnlimited}
 
 module _ (S : Solving) (card : ℕ) where
   -- no outcome of a move is a stop at a limit
   record NeverLimited (move : StatementMove) : Type 0 where
-    by : (outcome : Outcome) → Gives S card move outcome → IsNoLimitStop outcome
+    by : (outcome : StatementOutcome) → Gives S card move outcome → IsNoLimitStop outcome
 
-  does : (outcome : Outcome) → IsNoLimitStop outcome → NeverLimited (Does outcome)
+  does : (outcome : StatementOutcome) → IsNoLimitStop outcome → NeverLimited (Does outcome)
   does outcome other = record { by = λ given e. subst IsNoLimitStop (sym e) other }
 
   may_stop : (refusals : Refusals) (move : StatementMove) → NeverLimited move → NeverLimited (MayStop refusals move)
   may_stop refusals move never = record { by = gives_so }
     where
-      gives_so : (given : Outcome) → Gives S card (MayStop refusals move) given → IsNoLimitStop given
+      gives_so : (given : StatementOutcome) → Gives S card (MayStop refusals move) given → IsNoLimitStop given
       gives_so given (inl gives) = never.by given gives
       gives_so given (inr stop) = subst IsNoLimitStop (sym stop.3) tt
 

@@ -15,7 +15,7 @@ use Rattle.listing_definitions.specs.Ending.{Ending, Ended, StatementLimit}
 use Rattle.listing_definitions.specs.Listing.{ending_text}
 use Rattle.question_definitions.specs.Answers.{Sheet, Question, OfPath, OfSolution, OfRanges, OfParametricRun, OfPunch, OfInstall, AnswerTo, Reached, PathLimit, PricesWrong, Installed}
 use Rattle.run_definitions.specs.State.{State}
-use Rattle.run_definitions.specs.Moves.{Nothing, Prints, printed_by, gain_text, gain_of, Outcome, Goes, Ends, InSelection, InAnswer, StatementMove, Does, MayStop, Asks}
+use Rattle.run_definitions.specs.Moves.{Nothing, Prints, printed_by, gain_text, gain_of, StatementOutcome, Goes, Ends, InSelection, InAnswer, StatementMove, Does, MayStop, Asks}
 use Rattle.run_definitions.specs.Verbs.{verb_move}
 use Rattle.run_definitions.specs.Run.{max_executed, counted}
 use Rattle.walk_definitions.specs.Words.{left_after}
@@ -65,19 +65,19 @@ abbrev pub open_pending : Walker → Option Found
 open_pending w = pending_found w.pending
 
 -- where the mark is cleared, or the run ends
-abbrev pub open_outcome : Walker → Outcome → Option Found
+abbrev pub open_outcome : Walker → StatementOutcome → Option Found
 open_outcome w (Ends gain ending) = option_or (open_stop w) (open_pending w)
 open_outcome w (Goes Nothing after) = if is_none after.mark then open_pending w else None
 open_outcome w (Goes gain after) = option_or (open_stop w) (if is_none after.mark then open_pending w else None)
 
 -- the line of INSERT, for the deck that the outcome names
-abbrev pub is_inserted_by : Outcome → List ℕ → Bool
+abbrev pub is_inserted_by : StatementOutcome → List ℕ → Bool
 is_inserted_by (Goes (Prints (Inserted name basic)) after) rest = is_inserted name rest
 is_inserted_by outcome rest = false
 
 -- Where a further verdict comes, and where INSERT clears the mark. The walk goes past no report of RANGE, PUNCH and INSERT; RANGE and PUNCH
 -- leave what is pending as it is.
-abbrev pub open_question : Walker → (question : Question) → Sheet → (AnswerTo question → Outcome) → Option Found
+abbrev pub open_question : Walker → (question : Question) → Sheet → (AnswerTo question → StatementOutcome) → Option Found
 open_question w (OfSolution mark) sheet go = open_stop w
 open_question w OfRanges sheet go = option_or (open_stop w) (open_if (is_ranges w.rest) w)
 open_question w OfPunch sheet go = option_or (open_stop w) (open_if (is_punched sheet.problem.name w.rest) w)
@@ -114,7 +114,7 @@ abbrev pub closes : Walker → Ending → WalkTurn
 closes w ending = unless_found (option_or (open_stop w) (open_pending w)) (Finds (ended w (left_after (ending_text ending) w.rest)))
 
 -- after its report the run goes on, or its end is due
-abbrev pub follows : Walker → Outcome → WalkTurn
+abbrev pub follows : Walker → StatementOutcome → WalkTurn
 follows w (Goes gain after) = Walks (record w { state = after })
 follows w (Ends gain ending) = closes w ending
 
@@ -122,7 +122,7 @@ follows w (Ends gain ending) = closes w ending
 abbrev pub passed : List ℕ → ℕ → Walker → Walker
 passed rest reports w = record w { rest = rest; reports = w.reports + reports }
 
-abbrev pub taken : Walker → Outcome → Option (List ℕ) → WalkTurn
+abbrev pub taken : Walker → StatementOutcome → Option (List ℕ) → WalkTurn
 taken w outcome None = Finds (Wrong w.rest)
 taken w outcome (Some rest) = follows (passed rest (length (printed_by (gain_of outcome))) w) outcome
 
@@ -156,7 +156,7 @@ abbrev pub settling : Walker → (question : Question) → Sheet → AnswerTo qu
 settling w (OfSolution Optimal) sheet lines turn = settled w w.pending (point_of sheet lines sheet.lp.objective) turn
 settling w question sheet answer turn = turn
 
-abbrev pub answered : Walker → (question : Question) → Sheet → (AnswerTo question → Outcome) → Judged (AnswerTo question) → WalkTurn
+abbrev pub answered : Walker → (question : Question) → Sheet → (AnswerTo question → StatementOutcome) → Judged (AnswerTo question) → WalkTurn
 answered w question sheet go Fails = Finds (Wrong w.rest)
 answered w question sheet go Refuses = Finds (Unchecked w.rest)
 answered w question sheet go (Right answer rest) =

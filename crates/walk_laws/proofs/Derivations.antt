@@ -33,7 +33,7 @@ use Rattle.listing_definitions.specs.Ending.{Ending, Ended, StatementLimit}
 use Rattle.listing_definitions.specs.Listing.{ending_text}
 use Rattle.question_definitions.specs.Answers.{Basis, Sheet, Changing, parametric_solver, ParametricRun, Question, OfPath, OfSolution, OfRanges, OfParametricRun, OfPunch, OfInstall, AnswerTo, PathEnd, Reached, PathLimit, PricesWrong, ParametricRunEnd, Opening, Chained, ParametricRunLimit, InstallEnd, Installed, DependsBy}
 use Rattle.run_definitions.specs.State.{Present, gone_through, State, problem_of, choice_of}
-use Rattle.run_definitions.specs.Moves.{printed_by, gain_text, gain_of, Outcome, Goes, Ends, InSelection, StatementMove, Does, MayStop, Asks, or_fault}
+use Rattle.run_definitions.specs.Moves.{printed_by, gain_text, gain_of, StatementOutcome, Goes, Ends, InSelection, StatementMove, Does, MayStop, Asks, or_fault}
 use Rattle.run_definitions.specs.Verbs.{or_deck_fault, or_selection_fault, selects, mark_of, demanded, by_verdict, change_row, change_set, not_less, after_path, solves, shows_present, if_optimal, after_parametric_run, parametric_runs, after_install, verb_move}
 use Rattle.run_definitions.specs.Run.{max_executed, counted}
 use Rattle.walk_definitions.specs.Words.{left_after}
@@ -42,7 +42,7 @@ use Rattle.walk_definitions.specs.Reading.{Judged, Right, Fails, Refuses, judged
 use Rattle.walk_definitions.specs.Walker.{Pending, Walker, Found, Wrong, Unchecked, WalkTurn, Walks, Finds, open_stop, open_pending, opened, refuses_selection, ended, unless_found, closes, follows, passed, taken, settles, settled, noted, settling, answered, due, walk_move, walk_statement, turn}
 
 -- the state after has so many statements executed
-abbrev pub Counts : ℕ → Outcome → Type 0
+abbrev pub Counts : ℕ → StatementOutcome → Type 0
 Counts n (Goes gain after) = after.executed ≡ n
 Counts n (Ends gain ending) = Unit {0}
 
@@ -166,11 +166,11 @@ unless_counts n (Some found) turn counts = tt
 closes_counts : (n : ℕ) (w : Walker) (ending : Ending) → CountsTurn n (closes w ending)
 closes_counts n w ending = unless_counts n (option_or (open_stop w) (open_pending w)) _ tt
 
-follows_counts : (n : ℕ) (w : Walker) (outcome : Outcome) → Counts n outcome → CountsTurn n (follows w outcome)
+follows_counts : (n : ℕ) (w : Walker) (outcome : StatementOutcome) → Counts n outcome → CountsTurn n (follows w outcome)
 follows_counts n w (Goes gain after) counts = counts
 follows_counts n w (Ends gain ending) counts = closes_counts n w ending
 
-taken_counts : (n : ℕ) (w : Walker) (outcome : Outcome) (o : Option (List ℕ)) → Counts n outcome → CountsTurn n (taken w outcome o)
+taken_counts : (n : ℕ) (w : Walker) (outcome : StatementOutcome) (o : Option (List ℕ)) → Counts n outcome → CountsTurn n (taken w outcome o)
 taken_counts n w outcome None counts = tt
 taken_counts n w outcome (Some rest) counts = follows_counts n (passed rest (length (printed_by (gain_of outcome))) w) outcome counts
 
@@ -192,7 +192,7 @@ settling_counts n w (OfParametricRun parametric_run) sheet answer turn counts = 
 settling_counts n w OfPunch sheet answer turn counts = counts
 settling_counts n w (OfInstall basis) sheet answer turn counts = counts
 
-answered_counts : (n : ℕ) (w : Walker) (question : Question) (sheet : Sheet) (go : AnswerTo question → Outcome) (j : Judged (AnswerTo question)) → ((answer : AnswerTo question) → Counts n (go answer)) → CountsTurn n (answered w question sheet go j)
+answered_counts : (n : ℕ) (w : Walker) (question : Question) (sheet : Sheet) (go : AnswerTo question → StatementOutcome) (j : Judged (AnswerTo question)) → ((answer : AnswerTo question) → Counts n (go answer)) → CountsTurn n (answered w question sheet go j)
 answered_counts n w question sheet go Fails counts = tt
 answered_counts n w question sheet go Refuses counts = tt
 answered_counts n w question sheet go (Right answer rest) counts =

@@ -19,7 +19,7 @@ use Rattle.listing_definitions.specs.Ending.{Ending}
 use Rattle.listing_definitions.specs.Listing.{ending_text, reports_text}
 use Rattle.question_definitions.specs.Answers.{Basis, Sheet, Question, AnswerTo}
 use Rattle.question_definitions.specs.Solving.{IsRight}
-use Rattle.run_definitions.specs.Moves.{Gain, Nothing, Prints, Punches, printed_by, gain_text, Outcome, Goes, Ends, gain_of, stops, Refusals, InSelection, InAnswer, StatementMove, Does, MayStop, Asks, Gives, or_fault}
+use Rattle.run_definitions.specs.Moves.{Gain, Nothing, Prints, Punches, printed_by, gain_text, StatementOutcome, Goes, Ends, gain_of, stops, Refusals, InSelection, InAnswer, StatementMove, Does, MayStop, Asks, Gives, or_fault}
 use Rattle.run_definitions.specs.Verbs.{or_deck_fault, or_selection_fault, selects}
 use Rattle.walk_definitions.specs.Words.{left_after}
 use Rattle.walk_definitions.specs.Reading.{Right, judged}
@@ -60,17 +60,17 @@ module _ (Holds : Type 0) (w : Walker) where
     pub comes : ComesTo card move (walk_move w move)
 
   -- what the report of an outcome says is true, or is owed
-  abbrev pub Pays : Option Pending → Outcome → Type 0
+  abbrev pub Pays : Option Pending → StatementOutcome → Type 0
   Pays pending (Goes gain after) = Owes (Holds × All (Says w.state) (printed_by gain)) pending after.setup after.cells
   Pays pending (Ends gain ending) = pending ≡ None → Holds × All (Says w.state) (printed_by gain)
 
-  pub record Leads (card : ℕ) (move : StatementMove) (u : Walker) (outcome : Outcome) : Type 0 where
+  pub record Leads (card : ℕ) (move : StatementMove) (u : Walker) (outcome : StatementOutcome) : Type 0 where
     pub gives : Gives attested card move outcome
     pub text : w.rest ≡ reports_text (printed_by (gain_of outcome)) ++ u.rest
     pub counted : u.reports ≡ w.reports + length (printed_by (gain_of outcome))
     pub pays : Pays u.pending outcome
 
-  pub follows_on : (card : ℕ) (move : StatementMove) (u : Walker) (outcome : Outcome) → Leads card move u outcome → ComesTo card move (follows u outcome)
+  pub follows_on : (card : ℕ) (move : StatementMove) (u : Walker) (outcome : StatementOutcome) → Leads card move u outcome → ComesTo card move (follows u outcome)
   follows_on card move u (Goes gain after) leads =
       record { gain = gain; gives = leads.gives; text = leads.text; counted = leads.counted; owes = leads.pays }
   follows_on card move u (Ends gain ending) leads = on_closes (GoesOn card move) (EndsSo card move) u ending (λ settled text. record {
@@ -106,17 +106,17 @@ module _ (Holds : Type 0) (w : Walker) where
 
   -- ---- nothing is asked
 
-  abbrev pub DoesSo : Outcome → Type 0
+  abbrev pub DoesSo : StatementOutcome → Type 0
   DoesSo (Goes gain after) = All (Says w.state) (printed_by gain) × (is_none after.mark ≡ false → SelectsSame w.state.setup w.state.cells after.setup after.cells)
   DoesSo (Ends gain ending) = All (Says w.state) (printed_by gain)
 
   module _ (owed : Owes Holds w.pending w.state.setup w.state.cells) where
-    pays_plain : (outcome : Outcome) → open_outcome w outcome ≡ None → DoesSo outcome → Pays w.pending outcome
+    pays_plain : (outcome : StatementOutcome) → open_outcome w outcome ≡ None → DoesSo outcome → Pays w.pending outcome
     pays_plain (Goes gain after) none so =
         owes_on Holds (All (Says w.state) (printed_by gain)) w.pending w.state.setup w.state.cells after.setup after.cells owed so.0 (λ p is. so.1 (stays_marked w gain after p is none))
     pays_plain (Ends gain ending) none so = λ settled. (holds_settled Holds w.pending w.state.setup w.state.cells owed settled, so)
 
-    taken_on : (card : ℕ) (outcome : Outcome) → Pays w.pending outcome → (left : Option (List ℕ)) → left_after (gain_text (gain_of outcome)) w.rest ≡ left → ComesTo card (Does outcome) (taken w outcome left)
+    taken_on : (card : ℕ) (outcome : StatementOutcome) → Pays w.pending outcome → (left : Option (List ℕ)) → left_after (gain_text (gain_of outcome)) w.rest ≡ left → ComesTo card (Does outcome) (taken w outcome left)
     taken_on card outcome pays None is = tt
     taken_on card outcome pays (Some rest) is = follows_on card (Does outcome) (passed rest (length (printed_by (gain_of outcome))) w) outcome (record {
       gives = refl;
@@ -125,7 +125,7 @@ module _ (Holds : Type 0) (w : Walker) where
       pays = pays;
     })
 
-    pub does : (card : ℕ) (outcome : Outcome) → DoesSo outcome → IsFollowed card (Does outcome)
+    pub does : (card : ℕ) (outcome : StatementOutcome) → DoesSo outcome → IsFollowed card (Does outcome)
     does card outcome so = record {
       comes = on_unless (GoesOn card (Does outcome)) (EndsSo card (Does outcome)) (open_outcome w outcome) (taken w outcome (left_after (gain_text (gain_of outcome)) w.rest)) (never_outcome w outcome)
           (λ none. taken_on card outcome (pays_plain outcome none so) (left_after (gain_text (gain_of outcome)) w.rest) refl);
@@ -159,7 +159,7 @@ module _ (Holds : Type 0) (w : Walker) where
   one_says report says = All-cons (Says w.state) report [] says (All-nil (Says w.state))
 
   -- the listing has the answer's report
-  pub reads : ReadingLaw → (card : ℕ) (question : Question) (sheet : Sheet) (s : Basis) (go : AnswerTo question → Outcome) (answer : AnswerTo question) (rest : List ℕ) →
+  pub reads : ReadingLaw → (card : ℕ) (question : Question) (sheet : Sheet) (s : Basis) (go : AnswerTo question → StatementOutcome) (answer : AnswerTo question) (rest : List ℕ) →
       IsRight attested question sheet s answer → judged question sheet w.rest ≡ Right answer rest → printed_by (gain_of (go answer)) ≡ reported question answer → length (reported question answer) ≡ 1 →
       Pays (noted w question sheet answer) (go answer) → Leads card (Asks question sheet s go) (record (passed rest 1 w) { pending = noted w question sheet answer }) (go answer)
   reads reading card question sheet s go answer rest right is prints one pays = record {

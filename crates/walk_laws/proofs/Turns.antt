@@ -7,7 +7,7 @@ use Rattle.std.specs.Option.{option_or}
 use Rattle.listing_definitions.specs.Ending.{Ending}
 use Rattle.listing_definitions.specs.Listing.{ending_text}
 use Rattle.run_definitions.specs.State.{State}
-use Rattle.run_definitions.specs.Moves.{Gain, Nothing, Prints, Punches, Outcome, Goes, Ends}
+use Rattle.run_definitions.specs.Moves.{Gain, Nothing, Prints, Punches, StatementOutcome, Goes, Ends}
 use Rattle.walk_definitions.specs.Words.{left_after}
 use Rattle.walk_definitions.specs.Forms.{is_open_stop}
 use Rattle.walk_definitions.specs.Walker.{Pending, Walker, Found, Attested, Wrong, Open, Unchecked, WalkTurn, Walks, Finds, open_if, open_stop, pending_found, open_pending, open_outcome, ended, unless_found, closes}
@@ -51,7 +51,7 @@ never_unmarked false pending = tt
 pub never_stop : (w : Walker) → NeverAttests (open_stop w)
 never_stop w = never_if (is_open_stop w.rest) w
 
-pub never_outcome : (w : Walker) (outcome : Outcome) → NeverAttests (open_outcome w outcome)
+pub never_outcome : (w : Walker) (outcome : StatementOutcome) → NeverAttests (open_outcome w outcome)
 never_outcome w (Ends gain ending) = never_either (open_stop w) (open_pending w) (never_stop w) (never_pending w.pending)
 never_outcome w (Goes Nothing after) = never_unmarked (is_none after.mark) w.pending
 never_outcome w (Goes (Prints report) after) = never_either (open_stop w) (if is_none after.mark then open_pending w else None) (never_stop w) (never_unmarked (is_none after.mark) w.pending)
