@@ -95,7 +95,11 @@ fn is_within(high: bool, first: Frac, second: Frac) -> bool
 
 /// The nearer of an end and that of a bound. A product decides where it can be made, and else the quotient. The product of an end
 /// of 0 is never refused: where 0 meets the bound, no quotient is made.
-fn nearer(kept: Option<Endpoint>, high: bool, bound: &ProductBound) -> Result<Option<Endpoint>, Refused>
+fn nearer(
+    kept: Option<Endpoint>,
+    high: bool,
+    bound: &ProductBound,
+) -> Result<Option<Endpoint>, Refused>
     requires slope { bound.now.slope ≢ zero_ℚ }
     requires side { high ≡ is_high bound.now }
     ensures nearer { IfOk result (IsNearer high bound.now kept) }

@@ -14,7 +14,7 @@ ghost use Rattle.listing_walk.specs.Standing.{ShowsPending};
 ghost use Rattle.listing_walk.specs.Asking.{WentBy, stopped_by, is_optimal, settled_by, Answered, IsMarked, IsAny, IsSettling};
 
 use crate::found::Found;
-use crate::place::{Pending, ListingPlace};
+use crate::place::{ListingPlace, Pending};
 use crate::went::Went;
 use frac128::Frac;
 use job_devices::NoMemory;

@@ -25,7 +25,11 @@ fn ends_run(act: &Act) -> bool
 }
 
 /// Goes on as an act says, once the report is passed. An end is due in a line of its own.
-pub fn finish<'a>(alloc: Global, place: &mut ListingPlace<'a>, act: &Act) -> Result<Went<'a>, NoMemory>
+pub fn finish<'a>(
+    alloc: Global,
+    place: &mut ListingPlace<'a>,
+    act: &Act,
+) -> Result<Went<'a>, NoMemory>
     ensures finishes { IfOk result (Finishes place.old place.new act.now) }
     ensures reports { place.new.reports ≡ place.old.reports }
 {

@@ -187,8 +187,18 @@ impl Bounds {
         ensures { result ≡ list_any (is_at_end end column.now) self.now }
     {
         match end {
-            ColumnEnd::Upper => find_end(&self.slots, &self.uppers, ColumnEnd::Upper, column).is_some(),
-            ColumnEnd::Lower => find_end(&self.slots, &self.lowers, ColumnEnd::Lower, column).is_some(),
+            ColumnEnd::Upper => find_end(
+                &self.slots,
+                &self.uppers,
+                ColumnEnd::Upper,
+                column,
+            ).is_some(),
+            ColumnEnd::Lower => find_end(
+                &self.slots,
+                &self.lowers,
+                ColumnEnd::Lower,
+                column,
+            ).is_some(),
         }
     }
 

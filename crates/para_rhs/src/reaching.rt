@@ -14,7 +14,7 @@ ghost use Rattle.para_rhs.specs.Reach.{side_ahead, bound_of, IsApproachOf, limit
 ghost use Rattle.para_rhs.specs.Refusals.{RunRefused};
 
 use crate::limits::{Side, is_upper, limit_on, number_of, shift_of};
-use affine_laws::{ProductBound, Endpoint, Ends, tightened};
+use affine_laws::{Endpoint, Ends, ProductBound, tightened};
 use basis_values::Formula;
 use frac128::Frac;
 use lp_model::{Basis, Evidence, Lp};

@@ -2,7 +2,7 @@
 --     Sheet                        a problem, which has the names, and the linear program that is selected from it
 --     PathEnd, ParametricRunEnd    where a path or a parametric run ends
 --     InstallEnd                   what comes of a basis that a deck gives
---     Question, Answer             what a statement asks, and what an answer to it is
+--     Question, AnswerTo           what a statement asks, and what an answer to it is
 use Rattle.std.specs.Prelude.{ℕ, List, Option}
 use Rattle.exact_values.specs.Rational.{ℚ}
 use Rattle.lp_definitions.specs.declared.Status.{Status}

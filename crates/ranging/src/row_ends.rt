@@ -10,7 +10,7 @@ ghost use Rattle.ranging.specs.Formulas.{ratio_formula};
 ghost use Rattle.ranging.specs.RowEnds.{rate_bound, keeps_below, sides_of, RatesStayTo, IsTightenedIf, IsWithRate, AreRowEnds, RatioRefused};
 
 use crate::choices::{falls, rises};
-use affine_laws::{ProductBound, Ends, tightened};
+use affine_laws::{Ends, ProductBound, tightened};
 use basis_values::Formula;
 use frac128::Frac;
 use lp_model::{Basis, Evidence, Lp, Sense};

@@ -1,8 +1,8 @@
 -- What a statement may do, and how it comes to it.
---     Gain                  what is added to the print and the punch
---     Outcome               a statement goes on, or it ends the run
---     Refusals              where an operation may be refused
---     Move                  an outcome, a place where the run may stop for an overflow, or a question
+--     Gain                         what is added to the print and the punch
+--     StatementOutcome             a statement goes on, or it ends the run
+--     Refusals                     where an operation may be refused
+--     StatementMove                an outcome, a place where the run may stop for an overflow, or a question
 --     Gives S card move outcome    the statement of a card comes to this
 --     Settles card move outcome    so it does, whatever is right of linear programming
 use Rattle.std.specs.Prelude.{◌≡◌, ◌⊎◌, ◌+◌, ℕ, List, [], ◌∷◌, Option, Some, None}

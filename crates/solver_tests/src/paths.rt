@@ -30,7 +30,9 @@ fn primal_end(alloc: Global, answer: Result<Outcome, PrimalStop>) -> Result<Path
     match answer {
         Ok(outcome) => Ok(PathResult::Found(outcome)),
         Err(PrimalStop::Limit) => reported(alloc, "LIMIT"),
-        Err(PrimalStop::Overflow(evidence)) => Ok(PathResult::Reported(evidence_text(alloc, &evidence)?)),
+        Err(PrimalStop::Overflow(evidence)) => Ok(PathResult::Reported(evidence_text(
+            alloc, &evidence,
+        )?)),
         Err(PrimalStop::NoMemory) => Err(Fail::from("memory")),
     }
 }
@@ -50,7 +52,9 @@ fn dual_end(alloc: Global, answer: Result<Outcome, DualStop>) -> Result<PathResu
             Ok(PathResult::Reported(format!(in alloc; "WRONG PRICE {k}")?))
         }
         Err(DualStop::Limit) => reported(alloc, "LIMIT"),
-        Err(DualStop::Overflow(evidence)) => Ok(PathResult::Reported(evidence_text(alloc, &evidence)?)),
+        Err(DualStop::Overflow(evidence)) => Ok(PathResult::Reported(evidence_text(
+            alloc, &evidence,
+        )?)),
         Err(DualStop::NoMemory) => Err(Fail::from("memory")),
     }
 }
