@@ -6,7 +6,7 @@ ghost use Rattle.listing_walk.specs.Walking.{Walks};
 
 use crate::chosen::Chosen;
 use crate::follow::follow;
-use crate::place::Place;
+use crate::place::ListingPlace;
 use crate::went::Went;
 use card_reader::Cards;
 use control_verbs::Text;
@@ -18,7 +18,7 @@ use std::alloc::Global;
 pub fn title<'a>(
     alloc: Global,
     machine: &Machine<Chosen>,
-    place: &mut Place<'a>,
+    place: &mut ListingPlace<'a>,
     text: &Text,
 ) -> Result<Went<'a>, NoMemory>
     requires { place.old.reports < 4294967295 }
@@ -37,7 +37,7 @@ pub fn convert<'a>(
     alloc: Global,
     machine: &mut Machine<Chosen>,
     cards: &Cards,
-    place: &mut Place<'a>,
+    place: &mut ListingPlace<'a>,
     card: u32,
 ) -> Result<Went<'a>, NoMemory>
     requires sound { IsSound cards.now machine.old }
@@ -58,7 +58,7 @@ pub fn revise<'a>(
     alloc: Global,
     machine: &mut Machine<Chosen>,
     cards: &Cards,
-    place: &mut Place<'a>,
+    place: &mut ListingPlace<'a>,
     card: u32,
 ) -> Result<Went<'a>, NoMemory>
     requires sound { IsSound cards.now machine.old }
@@ -78,7 +78,7 @@ pub fn revise<'a>(
 pub fn punch_problem<'a>(
     alloc: Global,
     machine: &Machine<Chosen>,
-    place: &mut Place<'a>,
+    place: &mut ListingPlace<'a>,
     card: u32,
 ) -> Result<Went<'a>, NoMemory>
     requires { place.old.reports < 4294967295 }
