@@ -11,8 +11,8 @@ use Rattle.exact_values.proofs.Ring_laws.{mul_comm}
 use Rattle.exact_values.proofs.Tests_laws.{lt_from_test, le_from_lt_fails}
 use Rattle.exact_values.proofs.Signs.{neg_above}
 use Rattle.affine_laws.specs.Ends.{MeetsBy, Meets, is_high, end_of, IsOnSide, IsBefore, IsNearer, IsTightened}
-use Rattle.affine_laws.specs.declared.tightening.Bound.{Bound}
-use Rattle.affine_laws.specs.declared.tightening.End.{End}
+use Rattle.affine_laws.specs.declared.tightening.ProductBound.{ProductBound}
+use Rattle.affine_laws.specs.declared.tightening.Endpoint.{Endpoint}
 use Rattle.affine_laws.specs.declared.tightening.Ends.{Ends}
 
 -- ---- products and factors
@@ -38,7 +38,7 @@ down_to b x q negative = (
     from_product h = le_by_one h (by_ring3 b x q (λ b x q. q ⊗ b ≐ x ⊗ b ⊕ (x ⊗ opposite b ⊖ q ⊗ opposite b)) refl)
 
 -- a bound is met on one side of its end
-meets_side : (b : Bound) → b.slope ≢ zero_ℚ → (x : ℚ) → Meets b x ↔ IsOnSide (is_high b) (b.number /ℚ b.slope) x
+meets_side : (b : ProductBound) → b.slope ≢ zero_ℚ → (x : ℚ) → Meets b x ↔ IsOnSide (is_high b) (b.number /ℚ b.slope) x
 meets_side b apart x = subst (λ n. MeetsBy b.at_most (x *ℚ b.slope) n ↔ IsOnSide (is_high b) (b.number /ℚ b.slope) x) (div-mul_cancel b.number b.slope apart) (at (lt_ℚ zero_ℚ b.slope) refl b.at_most)
   where
     negative : lt_ℚ zero_ℚ b.slope ≡ false → b.slope <ℚ zero_ℚ
@@ -69,51 +69,51 @@ side_total false p q h = at (lt_or_le q p)
     at (inl lt) = absurd (h (le_of_lt lt))
     at (inr le) = le
 
-module _ (high : Bool) (b : Bound) (apart : b.slope ≢ zero_ℚ) (side : high ≡ is_high b) where
+module _ (high : Bool) (b : ProductBound) (apart : b.slope ≢ zero_ℚ) (side : high ≡ is_high b) where
   meets_here : (x : ℚ) → Meets b x ↔ IsOnSide high (b.number /ℚ b.slope) x
   meets_here x = subst (λ h. Meets b x ↔ IsOnSide h (b.number /ℚ b.slope) x) (sym side) (meets_side b apart x)
 
   first_there : (x : ℚ) → IsOnSide high (b.number /ℚ b.slope) x ↔ (IsBefore high None x × Meets b x)
   first_there x = (λ h. (tt, (meets_here x).1 h), λ h. (meets_here x).0 h.1)
 
-  pub first_end : (kept : Option End) → kept ≡ None → (made : End) → made ≡ end_of b → IsNearer high b kept (Some made)
+  pub first_end : (kept : Option Endpoint) → kept ≡ None → (made : Endpoint) → made ≡ end_of b → IsNearer high b kept (Some made)
   first_end kept none made is = subst₂ (λ k m. IsNearer high b k (Some m)) (sym none) (sym is) (record { exact = first_there; either = inr refl })
 
   -- the earlier end is on the side of the bound's
-  kept_there : (present : End) → IsOnSide high (b.number /ℚ b.slope) present.value → IsNearer high b (Some present) (Some present)
+  kept_there : (present : Endpoint) → IsOnSide high (b.number /ℚ b.slope) present.value → IsNearer high b (Some present) (Some present)
   kept_there present within = record {
     exact = λ x. (λ h. (h, (meets_here x).1 (side_trans high present.value (b.number /ℚ b.slope) x within h)), λ h. h.0);
     either = inl refl;
   }
 
-  pub kept_end : (kept : Option End) (present : End) → kept ≡ Some present → Meets b present.value → IsNearer high b kept (Some present)
+  pub kept_end : (kept : Option Endpoint) (present : Endpoint) → kept ≡ Some present → Meets b present.value → IsNearer high b kept (Some present)
   kept_end kept present is meets = subst (λ k. IsNearer high b k (Some present)) (sym is) (kept_there present ((meets_here present.value).0 meets))
 
-  pub kept_before : (kept : Option End) (present : End) → kept ≡ Some present → (made : End) → made ≡ end_of b → IsOnSide high made.value present.value → IsNearer high b kept (Some present)
+  pub kept_before : (kept : Option Endpoint) (present : Endpoint) → kept ≡ Some present → (made : Endpoint) → made ≡ end_of b → IsOnSide high made.value present.value → IsNearer high b kept (Some present)
   kept_before kept present is made made_is within =
-      subst (λ k. IsNearer high b k (Some present)) (sym is) (kept_there present (subst (λ (m : End). IsOnSide high m.value present.value) made_is within))
+      subst (λ k. IsNearer high b k (Some present)) (sym is) (kept_there present (subst (λ (m : Endpoint). IsOnSide high m.value present.value) made_is within))
 
-  made_there : (present : End) → IsOnSide high present.value (b.number /ℚ b.slope) → IsNearer high b (Some present) (Some (end_of b))
+  made_there : (present : Endpoint) → IsOnSide high present.value (b.number /ℚ b.slope) → IsNearer high b (Some present) (Some (end_of b))
   made_there present within = record {
     exact = λ x. (λ h. (side_trans high (b.number /ℚ b.slope) present.value x within h, (meets_here x).1 h), λ h. (meets_here x).0 h.1);
     either = inr refl;
   }
 
-  pub made_end : (kept : Option End) (present : End) → kept ≡ Some present → (made : End) → made ≡ end_of b → (test : Bool) → test ≡ false → (IsOnSide high made.value present.value → test ≡ true) → IsNearer high b kept (Some made)
+  pub made_end : (kept : Option Endpoint) (present : Endpoint) → kept ≡ Some present → (made : Endpoint) → made ≡ end_of b → (test : Bool) → test ≡ false → (IsOnSide high made.value present.value → test ≡ true) → IsNearer high b kept (Some made)
   made_end kept present is made made_is test fails reported =
       subst₂ (λ k m. IsNearer high b k (Some m)) (sym is) (sym made_is)
-      (made_there present (subst (λ (m : End). IsOnSide high present.value m.value) made_is (side_total high present.value made.value (λ h. both_ways _ fails (reported h)))))
+      (made_there present (subst (λ (m : Endpoint). IsOnSide high present.value m.value) made_is (side_total high present.value made.value (λ h. both_ways _ fails (reported h)))))
 
 -- ---- an interval
 
-pub high_tightened : (ends : Ends) (b : Bound) (high : Option End) → IsNearer true b ends.high high → IsTightened ends b (record { low = ends.low; high = high })
+pub high_tightened : (ends : Ends) (b : ProductBound) (high : Option Endpoint) → IsNearer true b ends.high high → IsTightened ends b (record { low = ends.low; high = high })
 high_tightened ends b high near = record {
   exact = λ x. (λ h. let k = (near.exact x).0 h.1 in ((h.0, k.0), k.1), λ h. (h.0.0, (near.exact x).1 (h.0.1, h.1)));
   low = inl refl;
   high = near.either;
 }
 
-pub low_tightened : (ends : Ends) (b : Bound) (low : Option End) → IsNearer false b ends.low low → IsTightened ends b (record { low = low; high = ends.high })
+pub low_tightened : (ends : Ends) (b : ProductBound) (low : Option Endpoint) → IsNearer false b ends.low low → IsTightened ends b (record { low = low; high = ends.high })
 low_tightened ends b low near = record {
   exact = λ x. (λ h. let k = (near.exact x).0 h.0 in ((k.0, h.1), k.1), λ h. ((near.exact x).1 (h.0.0, h.1), h.0.1));
   low = near.either;

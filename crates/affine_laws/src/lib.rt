@@ -6,7 +6,7 @@ ghost use Rattle.affine_laws.specs.Laws.{ConditionLaws};
 
 mod tightening;
 
-pub use tightening::{Bound, End, Ends, tightened};
+pub use tightening::{Endpoint, Ends, ProductBound, tightened};
 
 /// Conditions that all hold at a number hold just between the zeros of the functions that rise and of those that fall.
 pub fn condition_laws()

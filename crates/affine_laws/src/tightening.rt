@@ -8,7 +8,7 @@ use frac128::{Frac, Refused};
 
 /// An end of an interval, and the numbers of the bound that it comes from.
 #[derive(Clone, Copy, Debug)]
-pub struct End {
+pub struct Endpoint {
     pub value: Frac,
     pub by: u32,
     pub which: u32,
@@ -17,13 +17,13 @@ pub struct End {
 /// The ends of an interval. None means that there is no end on that side.
 #[derive(Clone, Copy, Debug)]
 pub struct Ends {
-    pub low: Option<End>,
-    pub high: Option<End>,
+    pub low: Option<Endpoint>,
+    pub high: Option<Endpoint>,
 }
 
 /// A bound on a number: `slope` times it is at most `number`, or at least. `by` and `which` say whose bound it is.
 #[derive(Clone, Copy, Debug)]
-pub struct Bound {
+pub struct ProductBound {
     pub at_most: bool,
     pub slope: Frac,
     pub number: Frac,
@@ -49,7 +49,7 @@ fn meets(at_most: bool, product: Frac, number: Frac) -> bool
 }
 
 /// Whether the product of `x` and the slope can be made and meets the bound.
-fn holds_at(bound: &Bound, x: Frac) -> bool
+fn holds_at(bound: &ProductBound, x: Frac) -> bool
     ensures { IsTrue result → Meets bound.now x }
 {
     match x.mul(bound.slope) {
@@ -59,7 +59,7 @@ fn holds_at(bound: &Bound, x: Frac) -> bool
 }
 
 /// Whether the bound keeps a number below an end.
-fn keeps_below(bound: &Bound) -> bool
+fn keeps_below(bound: &ProductBound) -> bool
     ensures { result ≡ is_high bound.now }
 {
     if Frac::whole(0).compare(bound.slope).is_lt() {
@@ -70,13 +70,13 @@ fn keeps_below(bound: &Bound) -> bool
 }
 
 /// The end that the bound makes.
-fn made_by(bound: &Bound) -> Result<End, Refused>
+fn made_by(bound: &ProductBound) -> Result<Endpoint, Refused>
     requires { bound.now.slope ≢ zero_ℚ }
     ensures value { IfOk result (λ made. made ≡ end_of bound.now) }
     ensures refused { IfErr result (IsRefused bound.now) }
 {
     let value = bound.number.div(bound.slope)?;
-    Ok(End {
+    Ok(Endpoint {
         value,
         by: bound.by,
         which: bound.which,
@@ -95,7 +95,11 @@ fn is_within(high: bool, first: Frac, second: Frac) -> bool
 
 /// The nearer of an end and that of a bound. A product decides where it can be made, and else the quotient. The product of an end
 /// of 0 is never refused: where 0 meets the bound, no quotient is made.
-fn nearer(kept: Option<End>, high: bool, bound: &Bound) -> Result<Option<End>, Refused>
+fn nearer(
+    kept: Option<Endpoint>,
+    high: bool,
+    bound: &ProductBound,
+) -> Result<Option<Endpoint>, Refused>
     requires slope { bound.now.slope ≢ zero_ℚ }
     requires side { high ≡ is_high bound.now }
     ensures nearer { IfOk result (IsNearer high bound.now kept) }
@@ -116,7 +120,7 @@ fn nearer(kept: Option<End>, high: bool, bound: &Bound) -> Result<Option<End>, R
 }
 
 /// The interval of those numbers between the ends that meet the bound. It stops only where the quotient of the bound is refused.
-pub fn tightened(ends: Ends, bound: &Bound) -> Result<Ends, Refused>
+pub fn tightened(ends: Ends, bound: &ProductBound) -> Result<Ends, Refused>
     requires { bound.now.slope ≢ zero_ℚ }
     ensures tightened { IfOk result (IsTightened ends bound.now) }
     ensures refused { IfErr result (IsRefused bound.now) }

@@ -14,7 +14,7 @@ use Rattle.problem_definitions.specs.Names.{Name, number_in}
 use Rattle.problem_definitions.specs.Problem.{Problem, row_names}
 use Rattle.problem_definitions.specs.Groups.{items_of}
 use Rattle.selection_definitions.specs.Limits.{value_on}
-use Rattle.listing_definitions.specs.Report.{PathVerdict, Check, Value, Code, Number, Interval, ChainEnd, EndsAt, UnboundedPast, InfeasiblePast}
+use Rattle.listing_definitions.specs.Report.{PathVerdict, Check, Value, Code, Number, ParametricInterval, ChainEnd, EndsAt, UnboundedPast, InfeasiblePast}
 use Rattle.question_definitions.specs.Answers.{Basis, Sheet, Changing, Row, Set, ParametricRun, ParametricRunEnd, Opening, Chained, ParametricRunLimit}
 use Rattle.answer_definitions.specs.Lines.{standing, lines_of, pair_lines, ray_lines}
 use Rattle.answer_definitions.specs.Verdicts.{IsVerdict}
@@ -45,7 +45,7 @@ part_values p part k =
     Code (standing p part.statuses k) ∷ Number (value_at part.value k) ∷ Number (value_at part.value_rate k) ∷
     Number (value_at part.price k) ∷ Number (value_at part.price_rate k) ∷ []
 
-abbrev pub interval_of : Sheet → Part → Interval
+abbrev pub interval_of : Sheet → Part → ParametricInterval
 interval_of sheet part = record { from = part.from; to = part.to; lines = lines_of sheet (part_values sheet.lp part) (variables sheet.lp.matrix) }
 
 -- the chain ends at the last value, or past a breakpoint
@@ -63,7 +63,7 @@ module _ (sheet : Sheet) (s : Basis) (parametric_run : ParametricRun) where
     pub is_verdict : IsVerdict (sheet_at sheet parametric_run.changing parametric_run.from) (length bases) ending verdict check
 
   -- the steps of the opening path and of all breakpoints count together
-  pub record IsChained (bases : List Basis) (intervals : List Interval) (end : ChainEnd) : Type 0 where
+  pub record IsChained (bases : List Basis) (intervals : List ParametricInterval) (end : ChainEnd) : Type 0 where
     pub parts : List Part
     pub past : PastBreakpoint
     pub is_run : IsRun (family_of sheet parametric_run.changing) (IsFace sheet parametric_run.changing) parametric_run.from parametric_run.to s parts past bases

@@ -34,7 +34,7 @@ use Rattle.question_definitions.specs.Answers.{Basis, Sheet, OfInstall, Installe
 use Rattle.answer_definitions.specs.Lines.{ray_lines}
 use Rattle.answer_definitions.specs.Real.{linear_programming}
 use Rattle.run_definitions.specs.State.{Present, State, choice_of}
-use Rattle.run_definitions.specs.Moves.{Prints, Outcome, next, stops, Move, Gives, or_fault}
+use Rattle.run_definitions.specs.Moves.{Prints, StatementOutcome, next, stops, StatementMove, Gives, or_fault}
 use Rattle.run_definitions.specs.Verbs.{or_deck_fault, deck_stop, asks, after_install, selects_present, verb_move}
 use Rattle.run_machine.specs.declared.act.Act.TheVariants as act
 use Rattle.run_machine.specs.declared.act.Halt.{Halt}
@@ -61,21 +61,21 @@ use Rattle.basis_verbs.specs.Inserting.{Found, IsBasisOf, IsDeckEnd, IsGiven, ov
 use Rattle.basis_verbs.proofs.Selecting.{setup_gone, viewed, present, selected_gives, fault_gives, overflow_gives}
 
 -- what INSERT does with what is selected
-abbrev go : ℕ → State → Present → LinearProgram → Move
+abbrev go : ℕ → State → Present → LinearProgram → StatementMove
 go card state present lp =
     or_fault card DeckNotFound (deck_taken state.cells.xdata state.decks) (λ taken.
     or_deck_fault (basis_reading present.problem lp taken.0) (λ s.
     asks (OfInstall s) (record { problem = present.problem; lp = lp }) present (after_install card lp s taken present state)))
 
-begins : (card : ℕ) (state : State) (outcome : Outcome) → Gives linear_programming card (or_fault card NoSetup state.setup (λ present. selects_present card state present (go card state present))) outcome →
+begins : (card : ℕ) (state : State) (outcome : StatementOutcome) → Gives linear_programming card (or_fault card NoSetup state.setup (λ present. selects_present card state present (go card state present))) outcome →
     Gives linear_programming card (verb_move Insert card state) outcome
 unfolding linear_programming verb_move
 begins card state outcome g = g
 
-gives_read : {X : Type 0} (card : ℕ) (read : Result X DeckFault) (move : X → Move) (x : X) (outcome : Outcome) → read ≡ Ok x → Gives linear_programming card (move x) outcome → Gives linear_programming card (or_deck_fault read move) outcome
+gives_read : {X : Type 0} (card : ℕ) (read : Result X DeckFault) (move : X → StatementMove) (x : X) (outcome : StatementOutcome) → read ≡ Ok x → Gives linear_programming card (move x) outcome → Gives linear_programming card (or_deck_fault read move) outcome
 gives_read card read move x outcome ok g = subst (λ r. Gives linear_programming card (or_deck_fault r move) outcome) (sym ok) g
 
-gives_deck_fault : {X : Type 0} (card : ℕ) (read : Result X DeckFault) (move : X → Move) (fault : DeckFault) → read ≡ Err fault → Gives linear_programming card (or_deck_fault read move) (stops (deck_stop fault))
+gives_deck_fault : {X : Type 0} (card : ℕ) (read : Result X DeckFault) (move : X → StatementMove) (fault : DeckFault) → read ≡ Err fault → Gives linear_programming card (or_deck_fault read move) (stops (deck_stop fault))
 gives_deck_fault card read move fault err = subst (λ r. Gives linear_programming card (or_deck_fault r move) (stops (deck_stop fault))) (sym err) refl
 
 -- the waypoints have no other columns than those of the basis
@@ -116,7 +116,7 @@ module _ (card : ℕ) (cards : List (List ℕ)) (machine : Machine) where
         abbrev there : Present
         there = present Insert card (go card) (begins card) cards machine setup is_setup problem on_file s
 
-        gives_deck : (outcome : Outcome) → Gives linear_programming card (go card state there lp) outcome → Gives linear_programming card (verb_move Insert card state) outcome
+        gives_deck : (outcome : StatementOutcome) → Gives linear_programming card (go card state there lp) outcome → Gives linear_programming card (verb_move Insert card state) outcome
         gives_deck outcome g = selected_gives Insert card (go card) (begins card) cards machine setup is_setup problem on_file s lp ok outcome (inl g)
 
         no_deck : deck_taken wanted (decks_of decks) ≡ None → Gives linear_programming card (verb_move Insert card state) (stops (endings.VerbStop (record { fault = DeckNotFound; card = card })))
@@ -127,7 +127,7 @@ module _ (card : ℕ) (cards : List (List ℕ)) (machine : Machine) where
         bad_deck deck rest fault taken err =
             gives_deck _ (gives_found card DeckNotFound (deck_taken state.cells.xdata state.decks) _ (deck, rest) _ (deck_view ∙ taken) (gives_deck_fault card (basis_reading problem lp deck) _ fault err))
 
-        asked : (deck : List Card) (rest : List (List Card)) (t : Basis) (outcome : Outcome) → deck_taken wanted (decks_of decks) ≡ Some (deck, rest) → basis_reading problem lp deck ≡ Ok t →
+        asked : (deck : List Card) (rest : List (List Card)) (t : Basis) (outcome : StatementOutcome) → deck_taken wanted (decks_of decks) ≡ Some (deck, rest) → basis_reading problem lp deck ≡ Ok t →
             Gives linear_programming card (asks (OfInstall t) (record { problem = problem; lp = lp }) there (after_install card lp t (deck, rest) there state)) outcome → Gives linear_programming card (verb_move Insert card state) outcome
         asked deck rest t outcome taken read g =
             gives_deck outcome (gives_found card DeckNotFound (deck_taken state.cells.xdata state.decks) _ (deck, rest) outcome (deck_view ∙ taken)

@@ -18,7 +18,7 @@ use Rattle.listing_definitions.specs.Text.{report_text}
 use Rattle.question_definitions.specs.Answers.{Basis, OfPunch}
 use Rattle.answer_definitions.specs.Real.{linear_programming}
 use Rattle.run_definitions.specs.State.{Present, present_basis, State, choice_of}
-use Rattle.run_definitions.specs.Moves.{Punches, Outcome, next, Move, Asks, Gives, or_fault}
+use Rattle.run_definitions.specs.Moves.{Punches, StatementOutcome, next, StatementMove, Asks, Gives, or_fault}
 use Rattle.run_definitions.specs.Verbs.{max_counted, selects_present, verb_move}
 use Rattle.run_machine.specs.declared.act.Act.TheVariants.{Next}
 use Rattle.run_machine.specs.declared.act.Halt.TheVariants as halt
@@ -33,12 +33,12 @@ use Rattle.run_machine.proofs.Punching.{punches_nothing, wrote, stopped}
 use Rattle.basis_verbs.proofs.Selecting.{without_setup, viewed, selected_gives, unselected}
 
 -- what PUNCH does with what is selected
-abbrev go : State → Present → LinearProgram → Move
+abbrev go : State → Present → LinearProgram → StatementMove
 go state present lp =
     Asks OfPunch (record { problem = present.problem; lp = lp }) (present_basis present) (λ cards.
     next (Punches (BasisOut present.problem.name (min (length cards) max_counted)) cards) state)
 
-begins : (card : ℕ) (state : State) (outcome : Outcome) → Gives linear_programming card (or_fault card NoSetup state.setup (λ present. selects_present card state present (go state present))) outcome →
+begins : (card : ℕ) (state : State) (outcome : StatementOutcome) → Gives linear_programming card (or_fault card NoSetup state.setup (λ present. selects_present card state present (go state present))) outcome →
     Gives linear_programming card (verb_move Punch card state) outcome
 unfolding linear_programming verb_move
 begins card state outcome g = g
@@ -61,7 +61,7 @@ module _ (card : ℕ) {P U : Type 0} (written stopped_at : P → Option (List �
       abbrev deck : List (List ℕ)
       deck = basis_deck problem lp setup.basis
 
-      abbrev punched : State → Outcome
+      abbrev punched : State → StatementOutcome
       punched state = next (Punches (BasisOut problem.name (min (length deck) max_counted)) deck) state
 
       gives : {position executed : ℕ} {state : State} → Represents cards machine position executed state → Gives linear_programming card (verb_move Punch card state) (punched state)

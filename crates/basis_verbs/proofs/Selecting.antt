@@ -12,7 +12,7 @@ use Rattle.listing_definitions.specs.declared.VerbFault.TheVariants.{NoSetup}
 use Rattle.listing_definitions.specs.Ending as endings
 use Rattle.answer_definitions.specs.Real.{linear_programming}
 use Rattle.run_definitions.specs.State.{Present, State, choice_of}
-use Rattle.run_definitions.specs.Moves.{Outcome, stops, InSelection, SelectionOverflows, Move, MayStop, Gives, or_fault}
+use Rattle.run_definitions.specs.Moves.{StatementOutcome, stops, InSelection, SelectionOverflows, StatementMove, MayStop, Gives, or_fault}
 use Rattle.run_definitions.specs.Verbs.{or_selection_fault, selects_present, verb_move}
 use Rattle.run_machine.specs.declared.selecting.Refusal.{Refusal}
 use Rattle.run_machine.specs.declared.selecting.Refusal.TheVariants.{Fault, Overflow, NoMemory}
@@ -30,12 +30,12 @@ pub setup_gone : (cards : List (List ℕ)) (machine : Machine) → machine.setup
 setup_gone cards machine none {state = state} s = subst (λ (kept : Option Setup). ShowsSetup machine.file kept state.setup) none s.setup
 
 -- what the statement does with a setup, and with what is selected
-module _ (verb : Verb ℕ) (card : ℕ) (go : State → Present → LinearProgram → Move)
-    (begins : (state : State) (outcome : Outcome) → Gives linear_programming card (or_fault card NoSetup state.setup (λ present. selects_present card state present (go state present))) outcome → Gives linear_programming card (verb_move verb card state) outcome) where
-  abbrev pub selecting_move : State → Present → LinearProgram → Move
+module _ (verb : Verb ℕ) (card : ℕ) (go : State → Present → LinearProgram → StatementMove)
+    (begins : (state : State) (outcome : StatementOutcome) → Gives linear_programming card (or_fault card NoSetup state.setup (λ present. selects_present card state present (go state present))) outcome → Gives linear_programming card (verb_move verb card state) outcome) where
+  abbrev pub selecting_move : State → Present → LinearProgram → StatementMove
   selecting_move state present lp = MayStop (InSelection present.problem (choice_of state.cells present.options)) (go state present lp)
 
-  abbrev pub with_setup : State → Present → Move
+  abbrev pub with_setup : State → Present → StatementMove
   with_setup state present = or_selection_fault card (selected present.problem (choice_of state.cells present.options)) (selecting_move state present)
 
   pub without_setup : {P : Type 0} (written stopped_at : P → Option (List ℕ)) (faults refusals : P → ℕ) (cards : List (List ℕ)) (machine : Machine) (print : P) → machine.setup ≡ None →
@@ -53,10 +53,10 @@ module _ (verb : Verb ℕ) (card : ℕ) (go : State → Present → LinearProgra
       abbrev pub present : Present
       present = present_with problem setup.options viewed.opening viewed.steps
 
-      setup_gives : (outcome : Outcome) → Gives linear_programming card (with_setup state present) outcome → Gives linear_programming card (verb_move verb card state) outcome
+      setup_gives : (outcome : StatementOutcome) → Gives linear_programming card (with_setup state present) outcome → Gives linear_programming card (verb_move verb card state) outcome
       setup_gives outcome g = begins state outcome (gives_found card NoSetup state.setup (with_setup state) present outcome viewed.is_viewed g)
 
-      pub selected_gives : (lp : LinearProgram) → selected problem (choice_of old.cells setup.options) ≡ Ok lp → (outcome : Outcome) → Gives linear_programming card (selecting_move state present lp) outcome →
+      pub selected_gives : (lp : LinearProgram) → selected problem (choice_of old.cells setup.options) ≡ Ok lp → (outcome : StatementOutcome) → Gives linear_programming card (selecting_move state present lp) outcome →
           Gives linear_programming card (verb_move verb card state) outcome
       selected_gives lp ok outcome g =
           setup_gives outcome (gives_selected card (selected problem (choice_of state.cells setup.options)) (selecting_move state present) lp outcome

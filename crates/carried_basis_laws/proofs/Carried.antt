@@ -19,12 +19,12 @@ use Rattle.control_definitions.specs.Cells.{Cells}
 use Rattle.listing_definitions.specs.declared.VerbFault.{VerbFault}
 use Rattle.listing_definitions.specs.Report.{Report}
 use Rattle.listing_definitions.specs.Ending.{Ending, Overflow, OverflowStop}
-use Rattle.question_definitions.specs.Answers.{Basis, Sheet, Question, Answer, OfPunch, OfInstall, InstallEnd, Installed, DependsBy}
+use Rattle.question_definitions.specs.Answers.{Basis, Sheet, Question, AnswerTo, OfPunch, OfInstall, InstallEnd, Installed, DependsBy}
 use Rattle.question_definitions.specs.Solving.{IsRight}
 use Rattle.answer_definitions.specs.Bases.{IsInstalled}
 use Rattle.answer_definitions.specs.Real.{linear_programming}
 use Rattle.run_definitions.specs.State.{Present, present_basis, State, choice_of}
-use Rattle.run_definitions.specs.Moves.{Nothing, Prints, Punches, Refusals, Outcome, Goes, Ends, Move, Does, MayStop, Asks, Gives, or_fault}
+use Rattle.run_definitions.specs.Moves.{Nothing, Prints, Punches, Refusals, StatementOutcome, Goes, Ends, StatementMove, Does, MayStop, Asks, Gives, or_fault}
 use Rattle.run_definitions.specs.Verbs.{or_deck_fault, or_selection_fault, after_install, punches_basis, inserts, verb_move}
 use Rattle.run_definitions.specs.Run.{counted, Step}
 use Rattle.run_definitions.specs.Answer.{IsSoFar}
@@ -37,30 +37,30 @@ use Rattle.carried_basis_laws.specs.Laws.{StandsForPresent, ComesBack, goes, ove
 
 -- ---- a fact of every outcome of a move, where it says nothing of an end
 
-record Leads (Fact : Outcome → Type 0) (card : ℕ) (move : Move) : Type 0 where
-  by : (outcome : Outcome) → Gives linear_programming card move outcome → Fact outcome
+record Leads (Fact : StatementOutcome → Type 0) (card : ℕ) (move : StatementMove) : Type 0 where
+  by : (outcome : StatementOutcome) → Gives linear_programming card move outcome → Fact outcome
 
-module _ (Fact : Outcome → Type 0) (card : ℕ) where
-  asked : (question : Question) (sheet : Sheet) (s : Basis) (go : Answer question → Outcome) → ((answer : Answer question) → IsRight linear_programming question sheet s answer → Fact (go answer)) →
+module _ (Fact : StatementOutcome → Type 0) (card : ℕ) where
+  asked : (question : Question) (sheet : Sheet) (s : Basis) (go : AnswerTo question → StatementOutcome) → ((answer : AnswerTo question) → IsRight linear_programming question sheet s answer → Fact (go answer)) →
       Leads Fact card (Asks question sheet s go)
   asked question sheet s go holds = record { by = λ outcome given. subst Fact (sym given.2) (holds given.0 given.1) }
 
-  or_overflow : (refusals : Refusals) (move : Move) → ((overflow : Overflow) → Fact (Ends Nothing (OverflowStop overflow))) → Leads Fact card move → Leads Fact card (MayStop refusals move)
+  or_overflow : (refusals : Refusals) (move : StatementMove) → ((overflow : Overflow) → Fact (Ends Nothing (OverflowStop overflow))) → Leads Fact card move → Leads Fact card (MayStop refusals move)
   or_overflow refusals move stops leads = record { by = gives_so }
     where
-      gives_so : (outcome : Outcome) → Gives linear_programming card (MayStop refusals move) outcome → Fact outcome
+      gives_so : (outcome : StatementOutcome) → Gives linear_programming card (MayStop refusals move) outcome → Fact outcome
       gives_so outcome (inl gives) = leads.by outcome gives
       gives_so outcome (inr stop) = subst Fact (sym stop.3) (stops _)
 
-module _ (Fact : Outcome → Type 0) (card : ℕ) (at_end : (ending : Ending) → Fact (Ends Nothing ending)) where
+module _ (Fact : StatementOutcome → Type 0) (card : ℕ) (at_end : (ending : Ending) → Fact (Ends Nothing ending)) where
   ends : (ending : Ending) → Leads Fact card (Does (Ends Nothing ending))
   ends ending = record { by = λ outcome e. subst Fact (sym e) (at_end ending) }
 
-  unless_fault : {X : Type 0} (fault : VerbFault) (o : Option X) (go : X → Move) → ((x : X) → o ≡ Some x → Leads Fact card (go x)) → Leads Fact card (or_fault card fault o go)
+  unless_fault : {X : Type 0} (fault : VerbFault) (o : Option X) (go : X → StatementMove) → ((x : X) → o ≡ Some x → Leads Fact card (go x)) → Leads Fact card (or_fault card fault o go)
   unless_fault fault None go leads = ends _
   unless_fault fault (Some x) go leads = leads x refl
 
-  unless_selection_fault : (r : Result LinearProgram SelectionFault) (go : LinearProgram → Move) → ((lp : LinearProgram) → r ≡ Ok lp → Leads Fact card (go lp)) → Leads Fact card (or_selection_fault card r go)
+  unless_selection_fault : (r : Result LinearProgram SelectionFault) (go : LinearProgram → StatementMove) → ((lp : LinearProgram) → r ≡ Ok lp → Leads Fact card (go lp)) → Leads Fact card (or_selection_fault card r go)
   unless_selection_fault (Err fault) go leads = ends _
   unless_selection_fault (Ok lp) go leads = leads lp refl
 
@@ -69,7 +69,7 @@ sheet_of present lp = record { problem = present.problem; lp = lp }
 
 -- ---- PUNCH
 
-abbrev StandsIn : Option Present → Cells → Outcome → Type 0
+abbrev StandsIn : Option Present → Cells → StatementOutcome → Type 0
 StandsIn setup cells (Goes (Punches report deck) after) = StandsForPresent setup cells deck
 StandsIn setup cells (Goes (Prints report) after) = Unit {0}
 StandsIn setup cells (Goes Nothing after) = Unit {0}
@@ -117,17 +117,17 @@ stands bytes program reports cards state after report deck so_far step is_punch 
 
 -- ---- INSERT
 
-module _ (Fact : Outcome → Type 0) (card : ℕ) where
-  by_option : {X : Type 0} (fault : VerbFault) (o : Option X) (x : X) (go : X → Move) → o ≡ Some x → Leads Fact card (go x) → Leads Fact card (or_fault card fault o go)
+module _ (Fact : StatementOutcome → Type 0) (card : ℕ) where
+  by_option : {X : Type 0} (fault : VerbFault) (o : Option X) (x : X) (go : X → StatementMove) → o ≡ Some x → Leads Fact card (go x) → Leads Fact card (or_fault card fault o go)
   by_option fault None x go e leads = absurd (cc e)
   by_option fault (Some y) x go e leads = subst (λ z. Leads Fact card (go z)) (sym (same_Some y x e)) leads
 
-  by_selection : (r : Result LinearProgram SelectionFault) (lp : LinearProgram) (go : LinearProgram → Move) → r ≡ Ok lp → Leads Fact card (go lp) → Leads Fact card (or_selection_fault card r go)
+  by_selection : (r : Result LinearProgram SelectionFault) (lp : LinearProgram) (go : LinearProgram → StatementMove) → r ≡ Ok lp → Leads Fact card (go lp) → Leads Fact card (or_selection_fault card r go)
   by_selection (Err fault) lp go e leads = absurd (cc e)
   by_selection (Ok other) lp go e leads =
       let same : other ≡ lp = cc e in subst (λ p. Leads Fact card (go p)) (sym same) leads
 
-  by_deck : (r : Result Basis DeckFault) (s : Basis) (go : Basis → Move) → r ≡ Ok s → Leads Fact card (go s) → Leads Fact card (or_deck_fault r go)
+  by_deck : (r : Result Basis DeckFault) (s : Basis) (go : Basis → StatementMove) → r ≡ Ok s → Leads Fact card (go s) → Leads Fact card (or_deck_fault r go)
   by_deck (Err fault) s go e leads = absurd (cc e)
   by_deck (Ok other) s go e leads =
       let same : other ≡ s = cc e in subst (λ t. Leads Fact card (go t)) (sym same) leads
@@ -149,7 +149,7 @@ module _ (card : ℕ) (state : State) (present : Present) (lp : LinearProgram) (
       (or_overflow Fact card _ _ overflows (asked Fact card (OfInstall s) (sheet_of present lp) (present_basis present) _
       (λ end given. installed at end (knows_linear_programming.installs (sheet_of present lp) s end given))))))))
 
-pub comes_back : (punched : State) (deck : List (List ℕ)) (program : Program) (state : State) (first : ℕ) (rest : List (List Card)) (outcome : Outcome) →
+pub comes_back : (punched : State) (deck : List (List ℕ)) (program : Program) (state : State) (first : ℕ) (rest : List (List Card)) (outcome : StatementOutcome) →
     (from : StandsForPresent punched.setup punched.cells deck) → (to : PresentProgram state.setup state.cells) → to.present.problem ≡ from.program.present.problem → to.lp ≡ from.program.lp →
     deck_taken state.cells.xdata state.decks ≡ Some (numbered_from first deck, rest) →
     (step : Step linear_programming program state outcome) → step.statement.verb ≡ Insert → ComesBack to.present (present_basis from.program.present) outcome

@@ -17,7 +17,7 @@ use Rattle.listing_definitions.specs.Ending.{Overflow, OverflowStop}
 use Rattle.question_definitions.specs.Answers.{Basis}
 use Rattle.answer_definitions.specs.Real.{linear_programming}
 use Rattle.run_definitions.specs.State.{Present, present_basis, State}
-use Rattle.run_definitions.specs.Moves.{Nothing, Prints, Punches, Outcome, Goes, Ends}
+use Rattle.run_definitions.specs.Moves.{Nothing, Prints, Punches, StatementOutcome, Goes, Ends}
 use Rattle.run_definitions.specs.Run.{Step}
 use Rattle.run_definitions.specs.Answer.{IsSoFar}
 use Rattle.soundness_laws.specs.Truth.{PresentProgram}
@@ -32,7 +32,7 @@ pub record StandsForPresent (setup : Option Present) (cells : Cells) (deck : Lis
   pub reads_back : cards_of (card_text deck) ≡ deck
 
 -- the basis becomes the present one, with which the path in hand begins anew; or an operation on the way to its inverse is refused
-pub data ComesBack (present : Present) (s : Basis) : Outcome → Type 0 where
+pub data ComesBack (present : Present) (s : Basis) : StatementOutcome → Type 0 where
   goes : (name : Name) (count : ℕ) (after : State) → after.setup ≡ Some (record present { opening = s; steps = [] }) → ComesBack present s (Goes (Prints (Inserted name count)) after)
   overflows : (overflow : Overflow) → ComesBack present s (Ends Nothing (OverflowStop overflow))
 
@@ -42,7 +42,7 @@ pub record CarriedBasisLaws : Type 0 where
       IsSoFar linear_programming bytes reports cards program state → (step : Step linear_programming program state (Goes (Punches report deck) after)) → step.statement.verb ≡ Punch →
       StandsForPresent state.setup state.cells deck
   -- INSERT of a deck that stood for the basis of some state, where the same linear program is selected of the same problem
-  pub comes_back : (punched : State) (deck : List (List ℕ)) (program : Program) (state : State) (first : ℕ) (rest : List (List Card)) (outcome : Outcome) →
+  pub comes_back : (punched : State) (deck : List (List ℕ)) (program : Program) (state : State) (first : ℕ) (rest : List (List Card)) (outcome : StatementOutcome) →
       (from : StandsForPresent punched.setup punched.cells deck) → (to : PresentProgram state.setup state.cells) → to.present.problem ≡ from.program.present.problem → to.lp ≡ from.program.lp →
       deck_taken state.cells.xdata state.decks ≡ Some (numbered_from first deck, rest) →
       (step : Step linear_programming program state outcome) → step.statement.verb ≡ Insert → ComesBack to.present (present_basis from.program.present) outcome

@@ -21,8 +21,8 @@ use Rattle.run_machine.specs.declared.act.Halt.{Halt}
 use Rattle.run_machine.specs.declared.act.Halt.TheVariants as halt
 use Rattle.run_machine.specs.declared.end.End.{End}
 use Rattle.run_machine.specs.declared.end.End.TheVariants.{Done, Infeasible, Unbounded, Verb, Singular, WrongPrices, Deck, Limit, Statements, Overflow, Memory}
-use Rattle.control_run.specs.declared.status.Status.{Status}
-use Rattle.control_run.specs.declared.status.Status.TheVariants.{PrintFault, PunchFault}
+use Rattle.control_run.specs.declared.status.RunStatus.{RunStatus}
+use Rattle.control_run.specs.declared.status.RunStatus.TheVariants.{PrintFault, PunchFault}
 use Rattle.run_machine.specs.Ends.{end_view}
 use Rattle.control_run.specs.Statuses.{code_of, IsStatusOfRun}
 use Rattle.control_run.specs.Finishing.{cut_status, Finishes, FinishesHalted, failures_in_run, printed, cut_off}
@@ -39,7 +39,7 @@ apart code a b first second differ = differ (sym first ∙ second)
 module _ (S : Solving) (program : Program) (cards : List (List ℕ)) {P U : Type 0} (written stopped_at : P → Option (List ℕ)) (faults refusals : P → ℕ)
     (punch_written punch_stopped_at : U → Option (List ℕ)) (punch_faults punch_refusals : U → ℕ) where
   -- the answer to a run, by what print and punch count and gain
-  abbrev IsAnswerNow : P → P → U → U → Status → Type 0
+  abbrev IsAnswerNow : P → P → U → U → RunStatus → Type 0
   IsAnswerNow old new punch_old punch_new status =
       IsRunAnswer S program cards (Rose (faults old) (faults new)) (Rose (refusals old) (refusals new)) (Rose (punch_faults punch_old) (punch_faults punch_new)) (Rose (punch_refusals punch_old) (punch_refusals punch_new))
       (code_of status) (written old) (written new) (punch_written punch_old) (punch_written punch_new)
@@ -53,7 +53,7 @@ module _ (S : Solving) (program : Program) (cards : List (List ℕ)) {P U : Type
       in_end part.0 r.can_end part.1 (Appends-then (written old) (written now) (written later) (reports_text r.reports) part.0 r.prints.bytes part.2) r.gains
 
   -- the end is printed after the reports
-  finished : {old now later : P} {punch_old punch_now : U} {result : Result (Unit {0}) WriteStop} {ending : Ending} {status : Status} → RunsTo S program cards written stopped_at faults refusals old now punch_written punch_stopped_at punch_faults punch_refusals punch_old punch_now result ending →
+  finished : {old now later : P} {punch_old punch_now : U} {result : Result (Unit {0}) WriteStop} {ending : Ending} {status : RunStatus} → RunsTo S program cards written stopped_at faults refusals old now punch_written punch_stopped_at punch_faults punch_refusals punch_old punch_now result ending →
       Finishes written stopped_at faults refusals now later ending status → IsAnswerNow old later punch_old punch_now status
   finished r (printed e w) = whole r.can_end e (writes_then r.prints w).bytes r.gains
   finished r (cut_off Failed e w) = print_fails ((writes_then r.prints w).cause.failed refl) (ap code_of e) (ended_in r w)
@@ -91,17 +91,17 @@ module _ (S : Solving) (program : Program) (cards : List (List ℕ)) {P U : Type
   no_punch_cut NoMemory is = apart 28 28 26 refl (ap code_of is) (λ n. omega (arith, n))
 
   -- the code of an end that the punch brings
-  code_at : (result : Result (Unit {0}) WriteStop) (ending : Ending) (status : Status) → IfErr result (λ stop. ending ≡ punch_end stop) → code_of status ≡ status_of ending → IfErr result (λ stop. code_of status ≡ status_of (punch_end stop))
+  code_at : (result : Result (Unit {0}) WriteStop) (ending : Ending) (status : RunStatus) → IfErr result (λ stop. ending ≡ punch_end stop) → code_of status ≡ status_of ending → IfErr result (λ stop. code_of status ≡ status_of (punch_end stop))
   code_at (Ok done) ending status ends e = tt
   code_at (Err stop) ending status ends e = e ∙ ap status_of ends
 
-  print_rose : {old now later : P} {punch_old punch_now : U} {result : Result (Unit {0}) WriteStop} {ending : Ending} {status : Status} → RunsTo S program cards written stopped_at faults refusals old now punch_written punch_stopped_at punch_faults punch_refusals punch_old punch_now result ending →
+  print_rose : {old now later : P} {punch_old punch_now : U} {result : Result (Unit {0}) WriteStop} {ending : Ending} {status : RunStatus} → RunsTo S program cards written stopped_at faults refusals old now punch_written punch_stopped_at punch_faults punch_refusals punch_old punch_now result ending →
       Finishes written stopped_at faults refusals now later ending status → (status_of ending ≡ 25 → ⊥) → status ≡ PrintFault → Rose (faults old) (faults later)
   print_rose r (printed e w) other is = absurd (other (sym e ∙ ap code_of is))
   print_rose r (cut_off Failed e w) other is = (writes_then r.prints w).cause.failed refl
   print_rose {status = status} r (cut_off NoMemory e w) other is = absurd (apart (code_of status) 28 25 (ap code_of e) (ap code_of is) (λ n. omega (arith, n)))
 
-  no_punch_fault : {now later : P} {ending : Ending} {status : Status} → Finishes written stopped_at faults refusals now later ending status → (status_of ending ≡ 26 → ⊥) → status ≡ PunchFault → ⊥
+  no_punch_fault : {now later : P} {ending : Ending} {status : RunStatus} → Finishes written stopped_at faults refusals now later ending status → (status_of ending ≡ 26 → ⊥) → status ≡ PunchFault → ⊥
   no_punch_fault (printed e w) other is = other (sym e ∙ ap code_of is)
   no_punch_fault {status = status} (cut_off Failed e w) other is = apart (code_of status) 25 26 (ap code_of e) (ap code_of is) (λ n. omega (arith, n))
   no_punch_fault {status = status} (cut_off NoMemory e w) other is = apart (code_of status) 28 26 (ap code_of e) (ap code_of is) (λ n. omega (arith, n))
@@ -113,12 +113,12 @@ module _ (S : Solving) (program : Program) (cards : List (List ℕ)) {P U : Type
   counted print punch = counts faults refusals punch_faults punch_refusals 0 print punch
 
   -- the status reports what has failed, and nothing was written after
-  pub record IsNoted (old later : P) (punch_old punch_now : U) (status : Status) : Type 0 where
+  pub record IsNoted (old later : P) (punch_old punch_now : U) (status : RunStatus) : Type 0 where
     pub reported : IsReported (counted old punch_old) (counted later punch_now) (code_of status)
     pub print_still : IsStill written stopped_at faults refusals old later
     pub punch_still : IsStill punch_written punch_stopped_at punch_faults punch_refusals punch_old punch_now
 
-  noted_by_end : {old now later : P} {punch_old punch_now : U} (result : Result (Unit {0}) WriteStop) {ending : Ending} {status : Status} → IfErr result (λ stop. ending ≡ punch_end stop) →
+  noted_by_end : {old now later : P} {punch_old punch_now : U} (result : Result (Unit {0}) WriteStop) {ending : Ending} {status : RunStatus} → IfErr result (λ stop. ending ≡ punch_end stop) →
       RunsTo S program cards written stopped_at faults refusals old now punch_written punch_stopped_at punch_faults punch_refusals punch_old punch_now result ending → Finishes written stopped_at faults refusals now later ending status → IsNoted old later punch_old punch_now status
   noted_by_end {old = old} {later = later} {punch_old = punch_old} {punch_now = punch_now} result {ending = ending} {status = status} ends r (printed e w) =
       let l = left (writes_then r.prints w) in
@@ -135,7 +135,7 @@ module _ (S : Solving) (program : Program) (cards : List (List ℕ)) {P U : Type
         punch_still = stands_still result r.leaves;
       }
 
-  noted_by_cut : {old now : P} (later : P) {punch_old punch_now : U} (stop : WriteStop) {status : Status} → IsRunCut S program cards written stopped_at faults refusals old now punch_written punch_stopped_at punch_faults punch_refusals punch_old punch_now stop →
+  noted_by_cut : {old now : P} (later : P) {punch_old punch_now : U} (stop : WriteStop) {status : RunStatus} → IsRunCut S program cards written stopped_at faults refusals old now punch_written punch_stopped_at punch_faults punch_refusals punch_old punch_now stop →
       status ≡ cut_status stop → later ≡ now → IsNoted old later punch_old punch_now status
   noted_by_cut {old = old} {now = now} later {punch_old = punch_old} {punch_now = punch_now} stop {status = status} r e same =
       subst (λ (p : P). IsNoted old p punch_old punch_now status) (sym same)
@@ -145,13 +145,13 @@ module _ (S : Solving) (program : Program) (cards : List (List ℕ)) {P U : Type
         punch_still = stands_still (Ok tt) (left r.punches);
       })
 
-  pub record IsFinished (old later : P) (punch_old punch_now : U) (status : Status) : Type 0 where
+  pub record IsFinished (old later : P) (punch_old punch_now : U) (status : RunStatus) : Type 0 where
     pub answer : IsAnswerNow old later punch_old punch_now status
     pub print_fault : status ≡ PrintFault → Rose (faults old) (faults later)
     pub punch_fault : status ≡ PunchFault → Rose (punch_faults punch_old) (punch_faults punch_now)
     pub noted : IsNoted old later punch_old punch_now status
 
-  pub finished_by_end : {old now later : P} {punch_old punch_now : U} (end : End) {status : Status} → RunsTo S program cards written stopped_at faults refusals old now punch_written punch_stopped_at punch_faults punch_refusals punch_old punch_now (Ok tt) (end_view end) →
+  pub finished_by_end : {old now later : P} {punch_old punch_now : U} (end : End) {status : RunStatus} → RunsTo S program cards written stopped_at faults refusals old now punch_written punch_stopped_at punch_faults punch_refusals punch_old punch_now (Ok tt) (end_view end) →
       Finishes written stopped_at faults refusals now later (end_view end) status → IsFinished old later punch_old punch_now status
   finished_by_end end r f = record {
     answer = finished r f;
@@ -160,10 +160,10 @@ module _ (S : Solving) (program : Program) (cards : List (List ℕ)) {P U : Type
     noted = noted_by_end (Ok tt) tt r f;
   }
 
-  pub finished_by_halt : {old : P} (now : P) {later : P} {punch_old punch_now : U} (h : Halt) {status : Status} → Runs S program cards written stopped_at faults refusals old now punch_written punch_stopped_at punch_faults punch_refusals punch_old punch_now (Err h) →
+  pub finished_by_halt : {old : P} (now : P) {later : P} {punch_old punch_now : U} (h : Halt) {status : RunStatus} → Runs S program cards written stopped_at faults refusals old now punch_written punch_stopped_at punch_faults punch_refusals punch_old punch_now (Err h) →
       FinishesHalted written stopped_at faults refusals now later h status → IsFinished old later punch_old punch_now status
   finished_by_halt {old = old} now {later = later} {punch_old = punch_old} {punch_now = punch_now} (halt.Print stop) {status = status} r f = record {
-    answer = subst (λ (s : Status). IsAnswerNow old later punch_old punch_now s) (sym f.0) (subst (λ (p : P). IsAnswerNow old p punch_old punch_now (cut_status stop)) (sym f.1) (cut_short stop r));
+    answer = subst (λ (s : RunStatus). IsAnswerNow old later punch_old punch_now s) (sym f.0) (subst (λ (p : P). IsAnswerNow old p punch_old punch_now (cut_status stop)) (sym f.1) (cut_short stop r));
     print_fault = λ is. rw f.1 (print_cut_rose stop r (sym f.0 ∙ is));
     punch_fault = λ is. absurd (no_punch_cut stop (sym f.0 ∙ is));
     noted = noted_by_cut later stop r f.0 f.1;
@@ -236,7 +236,7 @@ job_answered S program cards failures {failed = failed} {wanted = wanted} {punch
 
 module _ (S : Solving) (program : Program) (cards : List (List ℕ)) {P U : Type 0} (written stopped_at : P → Option (List ℕ)) (faults refusals : P → ℕ)
     (punch_written punch_stopped_at : U → Option (List ℕ)) (punch_faults punch_refusals : U → ℕ) where
-  ended : {old later : P} {punch_old punch_now : U} {status : Status} → IsFinished S program cards written stopped_at faults refusals punch_written punch_stopped_at punch_faults punch_refusals old later punch_old punch_now status →
+  ended : {old later : P} {punch_old punch_now : U} {status : RunStatus} → IsFinished S program cards written stopped_at faults refusals punch_written punch_stopped_at punch_faults punch_refusals old later punch_old punch_now status →
       IsStatusOfRun status → IsEndOfRun S program cards written stopped_at faults refusals old later punch_written punch_stopped_at punch_faults punch_refusals punch_old punch_now status
   ended {old = old} {later = later} {punch_old = punch_old} {punch_now = punch_now} f own = record {
     run = f.answer;
@@ -249,12 +249,12 @@ module _ (S : Solving) (program : Program) (cards : List (List ℕ)) {P U : Type
     own = own;
   }
 
-  pub ended_by_end : {old now later : P} {punch_old punch_now : U} (end : End) {status : Status} → RunsTo S program cards written stopped_at faults refusals old now punch_written punch_stopped_at punch_faults punch_refusals punch_old punch_now (Ok tt) (end_view end) →
+  pub ended_by_end : {old now later : P} {punch_old punch_now : U} (end : End) {status : RunStatus} → RunsTo S program cards written stopped_at faults refusals old now punch_written punch_stopped_at punch_faults punch_refusals punch_old punch_now (Ok tt) (end_view end) →
       Finishes written stopped_at faults refusals now later (end_view end) status → IsStatusOfRun status →
       IsEndOfRun S program cards written stopped_at faults refusals old later punch_written punch_stopped_at punch_faults punch_refusals punch_old punch_now status
   ended_by_end end r f own = ended (finished_by_end S program cards written stopped_at faults refusals punch_written punch_stopped_at punch_faults punch_refusals end r f) own
 
-  pub ended_by_halt : {old : P} (now : P) {later : P} {punch_old punch_now : U} (h : Halt) {status : Status} → Runs S program cards written stopped_at faults refusals old now punch_written punch_stopped_at punch_faults punch_refusals punch_old punch_now (Err h) →
+  pub ended_by_halt : {old : P} (now : P) {later : P} {punch_old punch_now : U} (h : Halt) {status : RunStatus} → Runs S program cards written stopped_at faults refusals old now punch_written punch_stopped_at punch_faults punch_refusals punch_old punch_now (Err h) →
       FinishesHalted written stopped_at faults refusals now later h status → IsStatusOfRun status →
       IsEndOfRun S program cards written stopped_at faults refusals old later punch_written punch_stopped_at punch_faults punch_refusals punch_old punch_now status
   ended_by_halt now h r f own = ended (finished_by_halt S program cards written stopped_at faults refusals punch_written punch_stopped_at punch_faults punch_refusals now h r f) own

@@ -7,7 +7,7 @@ use Rattle.listing_definitions.specs.declared.Mark.TheVariants.{Optimal, Infeasi
 use Rattle.listing_definitions.specs.Report.{Report}
 use Rattle.listing_definitions.specs.Ending as endings
 use Rattle.run_definitions.specs.State.{State}
-use Rattle.run_definitions.specs.Moves.{Prints, Ends as EndsRun, Move, Gives}
+use Rattle.run_definitions.specs.Moves.{Prints, Ends as EndsRun, StatementMove, Gives}
 use Rattle.run_definitions.specs.Verbs.{by_verdict, demanded}
 use Rattle.run_machine.specs.declared.end.End.{End}
 use Rattle.run_machine.specs.declared.end.End.TheVariants as end
@@ -19,7 +19,7 @@ use Rattle.run_setup.specs.Standing.{Represents}
 use Rattle.run_setup.specs.Statements.{Follows}
 use Rattle.run_machine.specs.Findings.{demanded_act, act_of}
 
-module _ (card : ℕ) (cards : List (List ℕ)) (machine : Machine) (position executed : ℕ) (move : Move) (report : Report) (then : State) (t : Represents cards machine position executed then) where
+module _ (card : ℕ) (cards : List (List ℕ)) (machine : Machine) (position executed : ℕ) (move : StatementMove) (report : Report) (then : State) (t : Represents cards machine position executed then) where
   demanded_comes : (set : Option ℕ) → IfSome set (λ to. 1 ≤ to) → (end : End) (code : ℕ) → endings.Ended code ≡ end_view end → Gives linear_programming card move (demanded set code report then) →
       Follows linear_programming card move cards machine position executed (Prints report) (demanded_act set end)
   demanded_comes (Some to) first end code same g = (then, g, t, first)

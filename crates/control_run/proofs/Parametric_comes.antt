@@ -17,7 +17,7 @@ use Rattle.answer_definitions.specs.Real.{linear_programming}
 use Rattle.answer_definitions.specs.ParametricRuns.{IsParametricRun}
 use Rattle.answer_definitions.specs.Evidence.{OverflowsAt}
 use Rattle.run_definitions.specs.State.{Present, State, choice_of, gone_through}
-use Rattle.run_definitions.specs.Moves.{Gain, punched_by, Outcome, stops, Move, MayStop, Gives, or_fault, InSelection, SelectionOverflows}
+use Rattle.run_definitions.specs.Moves.{Gain, punched_by, StatementOutcome, stops, StatementMove, MayStop, Gives, or_fault, InSelection, SelectionOverflows}
 use Rattle.run_definitions.specs.Verbs.{mark_of, last_value, not_less, or_selection_fault, asks, after_parametric_run, verb_move}
 use Rattle.run_machine.specs.declared.act.Act.{Act}
 use Rattle.run_machine.specs.declared.act.Halt.{Halt}
@@ -59,28 +59,28 @@ sheet_of present lp = record { problem = present.problem; lp = lp }
 
 module _ (verb : ParametricVerb) (card : ℕ) (state : State) (present : Present) where
   -- the run from the present basis
-  abbrev run_move : LinearProgram → ParametricRun → Move
+  abbrev run_move : LinearProgram → ParametricRun → StatementMove
   run_move lp parametric_run = asks (OfParametricRun parametric_run) (sheet_of present lp) present (after_parametric_run card parametric_run present state)
 
-  abbrev up_to : LinearProgram → Changing → ℚ → Move
+  abbrev up_to : LinearProgram → Changing → ℚ → StatementMove
   up_to lp changing to = run_move lp (record { changing = changing; from = state.cells.xparam; to = to; limit = steps_allowed state.cells })
 
-  abbrev with_last : LinearProgram → Changing → ℚ → Move
+  abbrev with_last : LinearProgram → Changing → ℚ → StatementMove
   with_last lp changing last = or_fault card ParmaxBelow (not_less state.cells.xparam last) (up_to lp changing)
 
-  abbrev with_change : LinearProgram → Changing → Move
+  abbrev with_change : LinearProgram → Changing → StatementMove
   with_change lp changing = or_fault card NoParmax state.cells.xparmax (with_last lp changing)
 
-  abbrev tested_move : LinearProgram → Move
+  abbrev tested_move : LinearProgram → StatementMove
   tested_move lp = or_fault card (change_fault verb) (option_and_then (change_of verb present.problem) (name_moved verb state.cells)) (with_change lp)
 
-  abbrev parametric_run_move : LinearProgram → Move
+  abbrev parametric_run_move : LinearProgram → StatementMove
   parametric_run_move lp = MayStop (InSelection present.problem (choice_of state.cells present.options)) (tested_move lp)
 
-  abbrev with_setup : Move
+  abbrev with_setup : StatementMove
   with_setup = or_selection_fault card (selected present.problem (choice_of state.cells present.options)) parametric_run_move
 
-  asked_gives : (lp : LinearProgram) (parametric_run : ParametricRun) → IsAsked verb present.problem state.cells parametric_run → (outcome : Outcome) → Gives linear_programming card (run_move lp parametric_run) outcome → Gives linear_programming card (tested_move lp) outcome
+  asked_gives : (lp : LinearProgram) (parametric_run : ParametricRun) → IsAsked verb present.problem state.cells parametric_run → (outcome : StatementOutcome) → Gives linear_programming card (run_move lp parametric_run) outcome → Gives linear_programming card (tested_move lp) outcome
   asked_gives lp parametric_run a outcome g =
       let same : parametric_run ≡ record { changing = parametric_run.changing; from = state.cells.xparam; to = parametric_run.to; limit = steps_allowed state.cells } =
       λ i. record { changing = parametric_run.changing; from = a.is_first i; to = parametric_run.to; limit = a.is_limit i } in
@@ -89,7 +89,7 @@ module _ (verb : ParametricVerb) (card : ℕ) (state : State) (present : Present
       (gives_found card ParmaxBelow (not_less state.cells.xparam a.is_last.last) (up_to lp parametric_run.changing) parametric_run.to outcome a.is_last.is_last
       (subst (λ (s : ParametricRun). Gives linear_programming card (run_move lp s) outcome) same g)))
 
-  abbrev faulted : VerbFault → Outcome
+  abbrev faulted : VerbFault → StatementOutcome
   faulted fault = stops (endings.VerbStop (record { fault = fault; card = card }))
 
   refused_gives : (lp : LinearProgram) (fault : VerbFault) → IsAskFault verb present.problem state.cells fault → Gives linear_programming card (tested_move lp) (faulted fault)
@@ -102,7 +102,7 @@ module _ (verb : ParametricVerb) (card : ℕ) (state : State) (present : Present
       (gives_found card NoParmax state.cells.xparmax (with_last lp changing) last (faulted ParmaxBelow) moved
       (gives_fault card ParmaxBelow (not_less state.cells.xparam last) (up_to lp changing) less))
 
-parametric_run_gives : (verb : ParametricVerb) (card : ℕ) (state : State) (outcome : Outcome) → Gives linear_programming card (or_fault card NoSetup state.setup (with_setup verb card state)) outcome →
+parametric_run_gives : (verb : ParametricVerb) (card : ℕ) (state : State) (outcome : StatementOutcome) → Gives linear_programming card (or_fault card NoSetup state.setup (with_setup verb card state)) outcome →
     Gives linear_programming card (verb_move (verb_of verb) card state) outcome
 unfolding linear_programming verb_move
 parametric_run_gives Paraobj card state outcome g = g
@@ -128,10 +128,10 @@ module _ (verb : ParametricVerb) (card : ℕ) (cards : List (List ℕ)) (old : M
   abbrev after : Cells → Machine
   after cells = record old { setup = Some new; mark = None; cells = cells }
 
-  setup_gives : (outcome : Outcome) → Gives linear_programming card (with_setup verb card state present) outcome → Gives linear_programming card (verb_move (verb_of verb) card state) outcome
+  setup_gives : (outcome : StatementOutcome) → Gives linear_programming card (with_setup verb card state present) outcome → Gives linear_programming card (verb_move (verb_of verb) card state) outcome
   setup_gives outcome g = parametric_run_gives verb card state outcome (gives_found card NoSetup state.setup (with_setup verb card state) present outcome p.is_viewed g)
 
-  selected_gives : (lp : LinearProgram) → selected problem (choice_of old.cells setup.options) ≡ Ok lp → (outcome : Outcome) → Gives linear_programming card (parametric_run_move verb card state present lp) outcome →
+  selected_gives : (lp : LinearProgram) → selected problem (choice_of old.cells setup.options) ≡ Ok lp → (outcome : StatementOutcome) → Gives linear_programming card (parametric_run_move verb card state present lp) outcome →
       Gives linear_programming card (verb_move (verb_of verb) card state) outcome
   selected_gives lp ok outcome g =
       setup_gives outcome (gives_selected card (selected problem (choice_of state.cells setup.options)) (parametric_run_move verb card state present) lp outcome
@@ -159,7 +159,7 @@ module _ (verb : ParametricVerb) (card : ℕ) (cards : List (List ℕ)) (old : M
     abbrev sheet : Sheet
     sheet = record { problem = problem; lp = lp }
 
-    run_gives : (outcome : Outcome) → Gives linear_programming card (run_move verb card state present lp parametric_run) outcome → Gives linear_programming card (verb_move (verb_of verb) card state) outcome
+    run_gives : (outcome : StatementOutcome) → Gives linear_programming card (run_move verb card state present lp parametric_run) outcome → Gives linear_programming card (verb_move (verb_of verb) card state) outcome
     run_gives outcome g =
         selected_gives lp ok outcome
         (inl (asked_gives verb card state present lp parametric_run (subst (λ (c : Cells). IsAsked verb problem c parametric_run) (sym s.cells) a) outcome g))

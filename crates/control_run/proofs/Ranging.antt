@@ -30,7 +30,7 @@ use Rattle.listing_tables.specs.declared.sheet.Sheet.{Sheet as OwnSheet}
 use Rattle.verb_answers.specs.Answers.{sheet_view}
 use Rattle.verb_answers.specs.Stops.{RangesRefused}
 use Rattle.run_definitions.specs.State.{Present, State, choice_of, present_basis, path_of}
-use Rattle.run_definitions.specs.Moves.{Gain, Nothing, Prints, punched_by, Outcome, next, stops, InAnswer, Move, MayStop, Asks, Gives, or_fault}
+use Rattle.run_definitions.specs.Moves.{Gain, Nothing, Prints, punched_by, StatementOutcome, next, stops, InAnswer, StatementMove, MayStop, Asks, Gives, or_fault}
 use Rattle.run_definitions.specs.Verbs.{if_optimal, or_selection_fault, verb_move}
 use Rattle.run_machine.specs.declared.act.Act.{Act}
 use Rattle.run_machine.specs.declared.act.Halt.{Halt}
@@ -108,29 +108,29 @@ abbrev sheet_of : Present → LinearProgram → Sheet
 sheet_of present lp = record { problem = present.problem; lp = lp }
 
 module _ (card : ℕ) (state : State) where
-  abbrev printed : RangeLines → Outcome
+  abbrev printed : RangeLines → StatementOutcome
   printed lines = next (Prints (Ranges lines)) state
 
-  abbrev go_view : Present → LinearProgram → Move
+  abbrev go_view : Present → LinearProgram → StatementMove
   go_view present lp = MayStop (InAnswer OfRanges (sheet_of present lp) (path_of present)) (Asks OfRanges (sheet_of present lp) (present_basis present) printed)
 
-  abbrev go_optimal : Present → Mark → Move
+  abbrev go_optimal : Present → Mark → StatementMove
   go_optimal present mark = or_selection_fault card (selected present.problem (choice_of state.cells present.options)) (go_view present)
 
-  abbrev go_marked : Present → Mark → Move
+  abbrev go_marked : Present → Mark → StatementMove
   go_marked present mark = or_fault card verb_fault.NotOptimal (if_optimal mark) (go_optimal present)
 
-  abbrev go_set_up : Present → Move
+  abbrev go_set_up : Present → StatementMove
   go_set_up present = or_fault card verb_fault.NotSolved state.mark (go_marked present)
 
-  range_gives : (outcome : Outcome) → Gives linear_programming card (or_fault card verb_fault.NoSetup state.setup go_set_up) outcome → Gives linear_programming card (verb_move Ranging card state) outcome
+  range_gives : (outcome : StatementOutcome) → Gives linear_programming card (or_fault card verb_fault.NoSetup state.setup go_set_up) outcome → Gives linear_programming card (verb_move Ranging card state) outcome
   unfolding linear_programming verb_move
   range_gives outcome g = g
 
   gives_no_setup : state.setup ≡ None → Gives linear_programming card (verb_move Ranging card state) (stops (endings.VerbStop (record { fault = verb_fault.NoSetup; card = card })))
   gives_no_setup e = range_gives (stops (endings.VerbStop (record { fault = verb_fault.NoSetup; card = card }))) (gives_fault card verb_fault.NoSetup state.setup go_set_up e)
 
-  gives_set_up : (present : Present) (outcome : Outcome) → state.setup ≡ Some present → Gives linear_programming card (go_set_up present) outcome → Gives linear_programming card (verb_move Ranging card state) outcome
+  gives_set_up : (present : Present) (outcome : StatementOutcome) → state.setup ≡ Some present → Gives linear_programming card (go_set_up present) outcome → Gives linear_programming card (verb_move Ranging card state) outcome
   gives_set_up present outcome e given = range_gives outcome (gives_found card verb_fault.NoSetup state.setup go_set_up present outcome e given)
 
   -- the mark is refused
@@ -166,7 +166,7 @@ module _ (card : ℕ) (cards : List (List ℕ)) (old : Machine) (setup : Setup) 
     not_optimal fault is = gives_set_up card state present (stops (endings.VerbStop (record { fault = fault; card = card }))) p.is_viewed (gives_refused card state present old.mark fault s.mark is)
 
     module _ (new : Setup) (is_mark : old.mark ≡ Some Optimal) (ok : selected problem (choice_of old.cells setup.options) ≡ Ok setup.lp) (k : IsSameSetup setup new) where
-      optimal_gives : (outcome : Outcome) → Gives linear_programming card (go_view card state present setup.lp) outcome → Gives linear_programming card (verb_move Ranging card state) outcome
+      optimal_gives : (outcome : StatementOutcome) → Gives linear_programming card (go_view card state present setup.lp) outcome → Gives linear_programming card (verb_move Ranging card state) outcome
       optimal_gives outcome g =
           gives_set_up card state present outcome p.is_viewed
           (gives_found card verb_fault.NotSolved state.mark (go_marked card state present) Optimal outcome (s.mark ∙ is_mark)

@@ -9,7 +9,7 @@ use Rattle.lp_definitions.specs.declared.Evidence.{Evidence}
 use Rattle.control_definitions.specs.Program.{Verb}
 use Rattle.question_definitions.specs.Answers.{Basis}
 use Rattle.run_definitions.specs.State.{State}
-use Rattle.run_definitions.specs.Moves.{Gain, Nothing, punched_by, Outcome, Ends as EndsRun, next, jump, Move, Gives, gain_of, gain_text}
+use Rattle.run_definitions.specs.Moves.{Gain, Nothing, punched_by, StatementOutcome, Ends as EndsRun, next, jump, StatementMove, Gives, gain_of, gain_text}
 use Rattle.run_definitions.specs.Verbs.{verb_move}
 use Rattle.run_machine.specs.declared.act.Act.{Act}
 use Rattle.run_machine.specs.declared.act.Act.TheVariants as act
@@ -54,8 +54,8 @@ module _ {P : Type 0} (written stopped_at : P → Option (List ℕ)) (faults ref
   overflow_tells F print s after e _ no_memory holds = refl
 
 -- the outcome of a statement that comes to an act
-outcome_by : (card : ℕ) (move : Move) (cards : List (List ℕ)) (new : Machine) (position executed : ℕ) (gain : Gain) (then : Act) → Follows linear_programming card move cards new position executed gain then →
-    (outcome : Outcome) × Gives linear_programming card move outcome × (gain_of outcome ≡ gain)
+outcome_by : (card : ℕ) (move : StatementMove) (cards : List (List ℕ)) (new : Machine) (position executed : ℕ) (gain : Gain) (then : Act) → Follows linear_programming card move cards new position executed gain then →
+    (outcome : StatementOutcome) × Gives linear_programming card move outcome × (gain_of outcome ≡ gain)
 outcome_by card move cards new position executed gain act.Next f = (next gain f.0, f.1, refl)
 outcome_by card move cards new position executed gain (act.Jump to) f = (jump gain to f.0, f.1, refl)
 outcome_by card move cards new position executed gain (act.Ends end) f = (EndsRun gain (end_view end), f, refl)

@@ -27,7 +27,7 @@ use Rattle.listing_tables.specs.declared.sheet.Sheet.{Sheet as OwnSheet}
 use Rattle.verb_answers.specs.Answers.{sheet_view}
 use Rattle.verb_answers.specs.Stops.{SolutionRefused}
 use Rattle.run_definitions.specs.State.{Present, State, choice_of, present_basis, path_of}
-use Rattle.run_definitions.specs.Moves.{Gain, Nothing, Prints, punched_by, Outcome, next, stops, InAnswer, Move, MayStop, Asks, Gives, or_fault}
+use Rattle.run_definitions.specs.Moves.{Gain, Nothing, Prints, punched_by, StatementOutcome, next, stops, InAnswer, StatementMove, MayStop, Asks, Gives, or_fault}
 use Rattle.run_definitions.specs.Verbs.{or_selection_fault, verb_move}
 use Rattle.run_machine.specs.declared.act.Act.{Act}
 use Rattle.run_machine.specs.declared.act.Halt.{Halt}
@@ -118,26 +118,26 @@ abbrev sheet_of : Present → LinearProgram → Sheet
 sheet_of present lp = record { problem = present.problem; lp = lp }
 
 module _ (card : ℕ) (state : State) where
-  abbrev printed : Mark → SolutionLines → Outcome
+  abbrev printed : Mark → SolutionLines → StatementOutcome
   printed mark lines = next (Prints (Solution mark lines)) state
 
-  abbrev go_view : Present → Mark → LinearProgram → Move
+  abbrev go_view : Present → Mark → LinearProgram → StatementMove
   go_view present mark lp = MayStop (InAnswer (OfSolution mark) (sheet_of present lp) (path_of present)) (Asks (OfSolution mark) (sheet_of present lp) (present_basis present) (printed mark))
 
-  abbrev go_marked : Present → Mark → Move
+  abbrev go_marked : Present → Mark → StatementMove
   go_marked present mark = or_selection_fault card (selected present.problem (choice_of state.cells present.options)) (go_view present mark)
 
-  abbrev go_set_up : Present → Move
+  abbrev go_set_up : Present → StatementMove
   go_set_up present = or_fault card verb_fault.NotSolved state.mark (go_marked present)
 
-  solution_gives : (outcome : Outcome) → Gives linear_programming card (or_fault card verb_fault.NoSetup state.setup go_set_up) outcome → Gives linear_programming card (verb_move SolutionVerb card state) outcome
+  solution_gives : (outcome : StatementOutcome) → Gives linear_programming card (or_fault card verb_fault.NoSetup state.setup go_set_up) outcome → Gives linear_programming card (verb_move SolutionVerb card state) outcome
   unfolding linear_programming verb_move
   solution_gives outcome g = g
 
   gives_no_setup : state.setup ≡ None → Gives linear_programming card (verb_move SolutionVerb card state) (stops (endings.VerbStop (record { fault = verb_fault.NoSetup; card = card })))
   gives_no_setup e = solution_gives (stops (endings.VerbStop (record { fault = verb_fault.NoSetup; card = card }))) (gives_fault card verb_fault.NoSetup state.setup go_set_up e)
 
-  gives_set_up : (present : Present) (outcome : Outcome) → state.setup ≡ Some present → Gives linear_programming card (go_set_up present) outcome → Gives linear_programming card (verb_move SolutionVerb card state) outcome
+  gives_set_up : (present : Present) (outcome : StatementOutcome) → state.setup ≡ Some present → Gives linear_programming card (go_set_up present) outcome → Gives linear_programming card (verb_move SolutionVerb card state) outcome
   gives_set_up present outcome e given = solution_gives outcome (gives_found card verb_fault.NoSetup state.setup go_set_up present outcome e given)
 
 pub solution_no_setup : (card : ℕ) {P : Type 0} (written stopped_at : P → Option (List ℕ)) (faults refusals : P → ℕ) (cards : List (List ℕ)) (machine : Machine) (print : P) → machine.setup ≡ None →
@@ -160,7 +160,7 @@ module _ (card : ℕ) (cards : List (List ℕ)) (old : Machine) (setup : Setup) 
         (gives_fault card verb_fault.NotSolved state.mark (go_marked card state present) (s.mark ∙ none))
 
     module _ (new : Setup) (mark : Mark) (is_mark : old.mark ≡ Some mark) (ok : selected problem (choice_of old.cells setup.options) ≡ Ok setup.lp) (k : IsSameSetup setup new) where
-      marked_gives : (outcome : Outcome) → Gives linear_programming card (go_view card state present mark setup.lp) outcome → Gives linear_programming card (verb_move SolutionVerb card state) outcome
+      marked_gives : (outcome : StatementOutcome) → Gives linear_programming card (go_view card state present mark setup.lp) outcome → Gives linear_programming card (verb_move SolutionVerb card state) outcome
       marked_gives outcome g =
           gives_set_up card state present outcome p.is_viewed
           (gives_found card verb_fault.NotSolved state.mark (go_marked card state present) mark outcome (s.mark ∙ is_mark)

@@ -15,7 +15,7 @@ use Rattle.question_definitions.specs.Answers.{Basis, Sheet, OfPath, PathEnd, Re
 use Rattle.answer_definitions.specs.Verdicts.{IsSolvedBy}
 use Rattle.answer_definitions.specs.Evidence.{OverflowsBy}
 use Rattle.run_definitions.specs.State.{Present, present_basis, path_of, State, choice_of, gone_through}
-use Rattle.run_definitions.specs.Moves.{Gain, punched_by, Outcome, stops, Move, MayStop, Asks, Gives, or_fault, InSelection, InAnswer, SelectionOverflows}
+use Rattle.run_definitions.specs.Moves.{Gain, punched_by, StatementOutcome, stops, StatementMove, MayStop, Asks, Gives, or_fault, InSelection, InAnswer, SelectionOverflows}
 use Rattle.run_definitions.specs.Verbs.{mark_of, or_selection_fault, after_path, verb_move}
 use Rattle.run_machine.specs.declared.act.Act.{Act}
 use Rattle.run_machine.specs.declared.act.Halt.{Halt}
@@ -53,17 +53,17 @@ abbrev sheet_of : Present → LinearProgram → Sheet
 sheet_of present lp = record { problem = present.problem; lp = lp }
 
 -- the path of a verb from the present basis
-abbrev path_move : SolvingVerb → ℕ → State → Present → LinearProgram → Move
+abbrev path_move : SolvingVerb → ℕ → State → Present → LinearProgram → StatementMove
 path_move verb card state present lp =
     MayStop (InSelection present.problem (choice_of state.cells present.options))
     (MayStop (InAnswer (OfPath (solver_of verb) (limit_of verb state.cells)) (sheet_of present lp) (path_of present))
     (Asks (OfPath (solver_of verb) (limit_of verb state.cells)) (sheet_of present lp) (present_basis present) (after_path (solver_of verb) card present state)))
 
 -- what the verb does with a setup
-abbrev with_setup : SolvingVerb → ℕ → State → Present → Move
+abbrev with_setup : SolvingVerb → ℕ → State → Present → StatementMove
 with_setup verb card state present = or_selection_fault card (selected present.problem (choice_of state.cells present.options)) (path_move verb card state present)
 
-solving_gives : (verb : SolvingVerb) (card : ℕ) (state : State) (outcome : Outcome) → Gives linear_programming card (or_fault card NoSetup state.setup (with_setup verb card state)) outcome → Gives linear_programming card (verb_move (verb_of verb) card state) outcome
+solving_gives : (verb : SolvingVerb) (card : ℕ) (state : State) (outcome : StatementOutcome) → Gives linear_programming card (or_fault card NoSetup state.setup (with_setup verb card state)) outcome → Gives linear_programming card (verb_move (verb_of verb) card state) outcome
 unfolding linear_programming verb_move
 solving_gives Primal card state outcome g = g
 solving_gives Dual card state outcome g = g
@@ -90,10 +90,10 @@ module _ (verb : SolvingVerb) (card : ℕ) (cards : List (List ℕ)) (old : Mach
   abbrev after : Option Mark → Machine
   after mark = record old { setup = Some new; mark = mark }
 
-  setup_gives : (outcome : Outcome) → Gives linear_programming card (with_setup verb card state present) outcome → Gives linear_programming card (verb_move (verb_of verb) card state) outcome
+  setup_gives : (outcome : StatementOutcome) → Gives linear_programming card (with_setup verb card state present) outcome → Gives linear_programming card (verb_move (verb_of verb) card state) outcome
   setup_gives outcome g = solving_gives verb card state outcome (gives_found card NoSetup state.setup (with_setup verb card state) present outcome p.is_viewed g)
 
-  selected_gives : (lp : LinearProgram) → selected problem (choice_of old.cells setup.options) ≡ Ok lp → (outcome : Outcome) → Gives linear_programming card (path_move verb card state present lp) outcome →
+  selected_gives : (lp : LinearProgram) → selected problem (choice_of old.cells setup.options) ≡ Ok lp → (outcome : StatementOutcome) → Gives linear_programming card (path_move verb card state present lp) outcome →
       Gives linear_programming card (verb_move (verb_of verb) card state) outcome
   selected_gives lp ok outcome g =
       setup_gives outcome (gives_selected card (selected problem (choice_of state.cells setup.options)) (path_move verb card state present) lp outcome

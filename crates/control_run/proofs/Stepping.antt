@@ -3,7 +3,7 @@ use Rattle.std.proofs.Common.{◌≡◌, ℕ, ◌+◌, ◌-◌, ◌<◌, List, O
 use Rattle.control_definitions.specs.Program.{Statement, Program}
 use Rattle.question_definitions.specs.Solving.{Solving}
 use Rattle.run_definitions.specs.State.{State}
-use Rattle.run_definitions.specs.Moves.{Gain, Punches, Outcome, Goes as GoesOn, Gives}
+use Rattle.run_definitions.specs.Moves.{Gain, Punches, StatementOutcome, Goes as GoesOn, Gives}
 use Rattle.run_definitions.specs.Verbs.{verb_move}
 use Rattle.run_definitions.specs.Run.{counted, Step}
 use Rattle.run_machine.specs.declared.act.Act.{Act}
@@ -43,7 +43,7 @@ placed_stands to by s e = record {
 }
 
 module _ (S : Solving) (program : Program) (cards : List (List ℕ)) (position : ℕ) (statement : Statement ℕ) (there : slice_get program.statements (position - 1) ≡ Some statement) where
-  step_of : {machine : Machine} {executed : ℕ} {state : State} → Represents cards machine position executed state → executed < 100000 → (outcome : Outcome) →
+  step_of : {machine : Machine} {executed : ℕ} {state : State} → Represents cards machine position executed state → executed < 100000 → (outcome : StatementOutcome) →
       Gives S statement.card (verb_move statement.verb statement.card (counted state)) outcome → Step S program state outcome
   step_of {state = state} s within outcome gives = record {
     statement = statement;

@@ -7,8 +7,8 @@ use Rattle.card_definitions.specs.Cards.{cards_of}
 use Rattle.control_definitions.specs.Program.{Program}
 use Rattle.question_definitions.specs.Solving.{Solving}
 use Rattle.run_definitions.specs.Answer.{Job, bytes_of, IsProgramOf, IsAnswered}
-use Rattle.control_run.specs.declared.status.Status.{Status}
-use Rattle.control_run.specs.declared.status.Status.TheVariants.{PrintFault, PunchFault}
+use Rattle.control_run.specs.declared.status.RunStatus.{RunStatus}
+use Rattle.control_run.specs.declared.status.RunStatus.TheVariants.{PrintFault, PunchFault}
 use Rattle.control_run.specs.Statuses.{code_of, IsStatusOfRun}
 use Rattle.control_run.specs.Devices.{counts, IsReported, IsStill}
 use Rattle.control_run.specs.Finishing.{failures_in_run}
@@ -19,7 +19,7 @@ module _ (S : Solving) (program : Program) (cards : List (List ℕ)) {P U : Type
   -- punches; so it is for the job, where program and cards are those of one. A status for a fault of the print or of the punch comes only
   -- where that has failed. What has failed or wanted memory is reported by the status, and nothing is written to it after. The status is
   -- one with which a run may end.
-  pub record IsEndOfRun (status : Status) : Type 0 where
+  pub record IsEndOfRun (status : RunStatus) : Type 0 where
     pub run : IsRunAnswer S program cards (Rose (faults print_old) (faults print_new)) (Rose (refusals print_old) (refusals print_new))
         (Rose (punch_faults punch_old) (punch_faults punch_new)) (Rose (punch_refusals punch_old) (punch_refusals punch_new))
         (code_of status) (written print_old) (written print_new) (punch_written punch_old) (punch_written punch_new)

@@ -9,23 +9,23 @@ use Rattle.listing_definitions.specs.Listing.{ending_text}
 use Rattle.run_definitions.specs.Answer.{Failures}
 use Rattle.run_machine.specs.declared.act.Halt.{Halt}
 use Rattle.run_machine.specs.declared.act.Halt.TheVariants as halt
-use Rattle.control_run.specs.declared.status.Status.{Status}
-use Rattle.control_run.specs.declared.status.Status.TheVariants.{PrintFault, Memory}
+use Rattle.control_run.specs.declared.status.RunStatus.{RunStatus}
+use Rattle.control_run.specs.declared.status.RunStatus.TheVariants.{PrintFault, Memory}
 use Rattle.control_run.specs.Statuses.{code_of}
 
 -- the status where the print takes no more
-abbrev pub cut_status : WriteStop → Status
+abbrev pub cut_status : WriteStop → RunStatus
 cut_status Failed = PrintFault
 cut_status NoMemory = Memory
 
 -- the end's own lines are printed, and the status is that of the end; or the print stops in them
-pub data Finishes {P : Type 0} (written stopped_at : P → Option (List ℕ)) (faults refusals : P → ℕ) (old new : P) (ending : Ending) (status : Status) : Type 0 where
+pub data Finishes {P : Type 0} (written stopped_at : P → Option (List ℕ)) (faults refusals : P → ℕ) (old new : P) (ending : Ending) (status : RunStatus) : Type 0 where
   printed : code_of status ≡ status_of ending → Writes {T = Unit {0}} written stopped_at faults refusals old new (Ok tt) (ending_text ending) → Finishes written stopped_at faults refusals old new ending status
   cut_off : (stop : WriteStop) → status ≡ cut_status stop → Writes {T = Unit {0}} written stopped_at faults refusals old new (Err stop) (ending_text ending) → Finishes written stopped_at faults refusals old new ending status
 
 -- Where the print took no more, nothing is printed; else the listing ends with the line of a fault of the punch, or of memory that ran
 -- out.
-abbrev pub FinishesHalted : {P : Type 0} (written stopped_at : P → Option (List ℕ)) (faults refusals : P → ℕ) (old new : P) → Halt → Status → Type 0
+abbrev pub FinishesHalted : {P : Type 0} (written stopped_at : P → Option (List ℕ)) (faults refusals : P → ℕ) (old new : P) → Halt → RunStatus → Type 0
 FinishesHalted written stopped_at faults refusals old new (halt.Print stop) status = (status ≡ cut_status stop) × (new ≡ old)
 FinishesHalted written stopped_at faults refusals old new (halt.Punch Failed) status = Finishes written stopped_at faults refusals old new endings.PunchFault status
 FinishesHalted written stopped_at faults refusals old new (halt.Punch NoMemory) status = Finishes written stopped_at faults refusals old new endings.Memory status

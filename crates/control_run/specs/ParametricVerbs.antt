@@ -17,7 +17,7 @@ use Rattle.simplex_definitions.specs.Path.{last_of}
 use Rattle.problem_definitions.specs.Problem.{Problem}
 use Rattle.selection_definitions.specs.Selection.{selected}
 use Rattle.listing_definitions.specs.declared.VerbFault.{VerbFault}
-use Rattle.listing_definitions.specs.Report.{PathVerdict, Check, Interval, ChainEnd, Solved, Parametric}
+use Rattle.listing_definitions.specs.Report.{PathVerdict, Check, ParametricInterval, ChainEnd, Solved, Parametric}
 use Rattle.listing_definitions.specs.Ending.{Place}
 use Rattle.control_definitions.specs.Cells.{Cells}
 use Rattle.basis_values.specs.Calls.{LieIn}
@@ -108,7 +108,7 @@ module _ (sheet : Sheet) (s now : Basis) (parametric_run : ParametricRun) (befor
     opened : {bases : List Basis} {verdict : PathVerdict} {check : Check} →
         ParametricRunReaches bases (Opening bases verdict check) →
         ParametricRunFinds (Prints (Solved (parametric_solver parametric_run.changing) verdict check)) (Ended (mark_of verdict))
-    chained : {bases : List Basis} {intervals : List Interval} {end : ChainEnd} →
+    chained : {bases : List Basis} {intervals : List ParametricInterval} {end : ChainEnd} →
         ParametricRunReaches bases (Chained bases intervals end) →
         ParametricRunFinds
         (Prints (Parametric (parametric_solver parametric_run.changing) (record { from = parametric_run.from; change = changing_name parametric_run.changing; intervals = intervals; end = end })))

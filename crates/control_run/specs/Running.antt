@@ -21,7 +21,7 @@ use Rattle.listing_definitions.specs.Ending.{Ending, PrintFault, PunchFault, Mem
 use Rattle.listing_definitions.specs.Listing.{ending_text, reports_text, listing}
 use Rattle.question_definitions.specs.Solving.{Solving}
 use Rattle.run_definitions.specs.State.{State}
-use Rattle.run_definitions.specs.Moves.{Gain, printed_by, punched_by, Outcome, Goes as GoesOn, Ends as EndsRun, gain_of, gain_text}
+use Rattle.run_definitions.specs.Moves.{Gain, printed_by, punched_by, StatementOutcome, Goes as GoesOn, Ends as EndsRun, gain_of, gain_text}
 use Rattle.run_definitions.specs.Run.{max_executed, Step, Reaches, IsRun}
 use Rattle.run_definitions.specs.Answer.{Gains, IsPunching}
 use Rattle.run_machine.specs.declared.act.Halt.{Halt}
@@ -72,7 +72,7 @@ module _ (S : Solving) (program : Program) (cards : List (List ℕ)) where
     -- this statement are punched; where it is the end, what is punched by this end, or a prefix of that where the deck in hand isn't
     -- whole.
     pub data IsCut (old new punch_old punch_new : Option (List ℕ)) : Type 0 where
-      in_report : {reports : List Report} {punched : List (List ℕ)} {state : State} (outcome : Outcome) (part : List ℕ) →
+      in_report : {reports : List Report} {punched : List (List ℕ)} {state : State} (outcome : StatementOutcome) (part : List ℕ) →
           Reaches S program (decks_after program cards) reports punched state → Step S program state outcome →
           IsPrefix part (reports_text (printed_by (gain_of outcome))) → Appends old new (reports_text reports ++ part) →
           Appends punch_old punch_new (card_text (punched ++ punched_by (gain_of outcome))) → IsCut old new punch_old punch_new
@@ -102,7 +102,7 @@ module _ (S : Solving) (program : Program) (cards : List (List ℕ)) where
 
     -- the statement leads somewhere, and the print stops before all that it gains is printed
     pub record IsStepCut (state : State) (stop : WriteStop) : Type 0 where
-      pub outcome : Outcome
+      pub outcome : StatementOutcome
       pub step : Step S program state outcome
       pub prints : Writes {T = Unit {0}} written stopped_at faults refusals print_old print_new (Err stop) (gain_text (gain_of outcome))
       pub punches : Writes {T = Unit {0}} punch_written punch_stopped_at punch_faults punch_refusals punch_old punch_new (Ok tt) (gain_cards (gain_of outcome))
@@ -141,7 +141,7 @@ module _ (S : Solving) (program : Program) (cards : List (List ℕ)) where
       pub punched : List (List ℕ)
       pub state : State
       pub reaches : Reaches S program (decks_after program cards) reports punched state
-      pub outcome : Outcome
+      pub outcome : StatementOutcome
       pub step : Step S program state outcome
       pub part : List ℕ
       pub is_part : IsPrefix part (reports_text (printed_by (gain_of outcome)))

@@ -1,10 +1,10 @@
 -- The exit codes of statuses, and with which statuses a run may end.
 use Rattle.std.specs.Prelude.{ℕ}
-use Rattle.control_run.specs.declared.status.Status.{Status}
-use Rattle.control_run.specs.declared.status.Status.TheVariants as status
+use Rattle.control_run.specs.declared.status.RunStatus.{RunStatus}
+use Rattle.control_run.specs.declared.status.RunStatus.TheVariants as status
 
 -- the exit code of a status
-abbrev pub code_of : Status → ℕ
+abbrev pub code_of : RunStatus → ℕ
 code_of status.Done = 0
 code_of status.Infeasible = 1
 code_of status.Unbounded = 2
@@ -22,7 +22,7 @@ code_of status.PunchFault = 26
 code_of status.Memory = 28
 
 -- Words, control cards and the cards of a job are refused before its program runs, and the job is read before.
-abbrev pub IsStatusOfRun : Status → Type 0
+abbrev pub IsStatusOfRun : RunStatus → Type 0
 IsStatusOfRun status.Words = ⊥
 IsStatusOfRun status.Control = ⊥
 IsStatusOfRun status.Card = ⊥

@@ -8,42 +8,42 @@ ghost use Rattle.control_run.specs.Statuses.{code_of, IsStatusOfRun};
 ghost use Rattle.control_run.specs.Finishing.{Finishes, FinishesHalted, cut_status};
 ghost use Rattle.listing_definitions.specs.Ending.{status_of, PunchFault};
 
-use crate::status::Status;
+use crate::status::RunStatus;
 use job_devices::{Sink, WriteStop};
 use report_text::{Ending, Report, text_of};
 use run_machine::{End, Halt, ending_of};
 
 // The status of an end.
-fn status_of(end: &End) -> Status
+fn status_of(end: &End) -> RunStatus
     ensures code { code_of result ≡ status_of (end_view end.now) }
     ensures own { IsStatusOfRun result }
 {
     match end {
-        End::Done => Status::Done,
-        End::Infeasible => Status::Infeasible,
-        End::Unbounded => Status::Unbounded,
-        End::Verb { .. } | End::Singular { .. } | End::WrongPrices { .. } => Status::Verb,
-        End::Deck(_) => Status::Deck,
-        End::Limit { .. } => Status::Limit,
-        End::Statements => Status::Statements,
-        End::Overflow { .. } => Status::Overflow,
-        End::Memory => Status::Memory,
+        End::Done => RunStatus::Done,
+        End::Infeasible => RunStatus::Infeasible,
+        End::Unbounded => RunStatus::Unbounded,
+        End::Verb { .. } | End::Singular { .. } | End::WrongPrices { .. } => RunStatus::Verb,
+        End::Deck(_) => RunStatus::Deck,
+        End::Limit { .. } => RunStatus::Limit,
+        End::Statements => RunStatus::Statements,
+        End::Overflow { .. } => RunStatus::Overflow,
+        End::Memory => RunStatus::Memory,
     }
 }
 
 // The status where the print took no more.
-fn status_of_cut(stop: WriteStop) -> Status
+fn status_of_cut(stop: WriteStop) -> RunStatus
     ensures cut { result ≡ cut_status stop }
     ensures own { IsStatusOfRun result }
 {
     match stop {
-        WriteStop::Failed => Status::PrintFault,
-        WriteStop::NoMemory => Status::Memory,
+        WriteStop::Failed => RunStatus::PrintFault,
+        WriteStop::NoMemory => RunStatus::Memory,
     }
 }
 
 /// Ends the listing, and answers how the run ended.
-pub fn finish<P: Sink>(print: &mut P, end: &End) -> Status
+pub fn finish<P: Sink>(print: &mut P, end: &End) -> RunStatus
     ensures finishes { Finishes P.written P.stopped_at P.faults P.refusals print.old print.new
         (end_view end.now) result }
     ensures own { IsStatusOfRun result }
@@ -55,19 +55,19 @@ pub fn finish<P: Sink>(print: &mut P, end: &End) -> Status
 }
 
 // Ends the listing after a fault of the punch.
-fn finish_punch_fault<P: Sink>(print: &mut P) -> Status
+fn finish_punch_fault<P: Sink>(print: &mut P) -> RunStatus
     ensures finishes { Finishes P.written P.stopped_at P.faults P.refusals print.old print.new
         PunchFault result }
     ensures own { IsStatusOfRun result }
 {
     match text_of(&Report::End(Ending::PunchFault), print) {
-        Ok(()) => Status::PunchFault,
+        Ok(()) => RunStatus::PunchFault,
         Err(stop) => status_of_cut(stop),
     }
 }
 
 // Ends the listing where the punch took no more of a deck.
-fn finish_punch_cut<P: Sink>(print: &mut P, stop: WriteStop) -> Status
+fn finish_punch_cut<P: Sink>(print: &mut P, stop: WriteStop) -> RunStatus
     ensures finishes { FinishesHalted P.written P.stopped_at P.faults P.refusals print.old print.new
         (halts.Punch stop) result }
     ensures own { IsStatusOfRun result }
@@ -80,7 +80,7 @@ fn finish_punch_cut<P: Sink>(print: &mut P, stop: WriteStop) -> Status
 
 /// Ends the listing where a statement comes to nothing, and answers how the run ended. Where the print took no more, nothing is
 /// printed.
-pub fn finish_halted<P: Sink>(print: &mut P, halt: Halt) -> Status
+pub fn finish_halted<P: Sink>(print: &mut P, halt: Halt) -> RunStatus
     ensures finishes { FinishesHalted P.written P.stopped_at P.faults P.refusals print.old print.new
         halt result }
     ensures own { IsStatusOfRun result }

@@ -12,4 +12,4 @@ mod solving;
 mod status;
 
 pub use run::{RunEngine, run_on, run_program};
-pub use status::Status;
+pub use status::RunStatus;

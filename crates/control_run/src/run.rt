@@ -8,7 +8,7 @@ ghost use Rattle.control_run.specs.Ended.{IsEndOfRun};
 
 use crate::execute::{RunInput, step};
 use crate::finish::{finish, finish_halted};
-use crate::status::Status;
+use crate::status::RunStatus;
 use card_reader::Cards;
 use control_compiler::Program;
 use job_decks::first_after;
@@ -87,7 +87,7 @@ pub fn run_on<E: Engine, P: Sink, U: Sink>(
     cards: &Cards,
     print: &mut P,
     punch: &mut U,
-) -> Status
+) -> RunStatus
     ensures { IsEndOfRun linear_programming program.now cards.now
         P.written P.stopped_at P.faults P.refusals print.old print.new U.written U.stopped_at U.faults U.refusals
         punch.old punch.new
@@ -106,7 +106,7 @@ pub fn run_program<P: Sink, U: Sink>(
     cards: &Cards,
     print: &mut P,
     punch: &mut U,
-) -> Status
+) -> RunStatus
     ensures { IsEndOfRun linear_programming program.now cards.now
         P.written P.stopped_at P.faults P.refusals print.old print.new U.written U.stopped_at U.faults U.refusals
         punch.old punch.new

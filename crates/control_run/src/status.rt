@@ -3,7 +3,7 @@ ghost use Rattle.std.specs.Prelude.{◌≡◌};
 
 /// How a run ended.
 #[derive(Clone, Copy, Debug, PartialEq, Eq)]
-pub enum Status {
+pub enum RunStatus {
     /// At the program's end, or with EXIT.
     Done,
     /// With an infeasible verdict.
@@ -36,7 +36,7 @@ pub enum Status {
     Memory,
 }
 
-impl Status {
+impl RunStatus {
     ghost use Rattle.control_run.specs.Statuses.{code_of};
 
     /// The exit code.
@@ -44,21 +44,21 @@ impl Status {
         ensures { result ≡ code_of self }
     {
         match self {
-            Status::Done => 0,
-            Status::Infeasible => 1,
-            Status::Unbounded => 2,
-            Status::Words => 4,
-            Status::Control => 8,
-            Status::Verb => 10,
-            Status::Deck => 12,
-            Status::Card => 13,
-            Status::Limit => 16,
-            Status::Statements => 17,
-            Status::Overflow => 20,
-            Status::ReadFault => 24,
-            Status::PrintFault => 25,
-            Status::PunchFault => 26,
-            Status::Memory => 28,
+            RunStatus::Done => 0,
+            RunStatus::Infeasible => 1,
+            RunStatus::Unbounded => 2,
+            RunStatus::Words => 4,
+            RunStatus::Control => 8,
+            RunStatus::Verb => 10,
+            RunStatus::Deck => 12,
+            RunStatus::Card => 13,
+            RunStatus::Limit => 16,
+            RunStatus::Statements => 17,
+            RunStatus::Overflow => 20,
+            RunStatus::ReadFault => 24,
+            RunStatus::PrintFault => 25,
+            RunStatus::PunchFault => 26,
+            RunStatus::Memory => 28,
         }
     }
 }

@@ -14,7 +14,7 @@ use Rattle.question_definitions.specs.Solving.{Solving}
 use Rattle.answer_definitions.specs.Verdicts.{IsSolvedBy}
 use Rattle.answer_definitions.specs.Real.{linear_programming}
 use Rattle.run_definitions.specs.State.{State}
-use Rattle.run_definitions.specs.Moves.{Gain, Nothing, printed_by, punched_by, Outcome, Goes, Ends, Gives}
+use Rattle.run_definitions.specs.Moves.{Gain, Nothing, printed_by, punched_by, StatementOutcome, Goes, Ends, Gives}
 use Rattle.run_definitions.specs.Verbs.{verb_move}
 use Rattle.run_definitions.specs.Run.{counted, Step, IsOver, at_end, at_limit, IsRun, is_over, is_ended}
 use Rattle.run_definitions.specs.Answer.{IsProgramOf, job_decks, IsJobRun, card_fault, control_fault, run}
@@ -76,7 +76,7 @@ overflow_or_not Memory = inr (λ h. let e = h.1 in cc e)
 
 module _ (S : Solving) (program : Program) where
   -- a run that is over executes no statement
-  over_or_step : (state : State) (ending : Ending) (outcome : Outcome) → IsOver S program state ending → Step S program state outcome → ⊥
+  over_or_step : (state : State) (ending : Ending) (outcome : StatementOutcome) → IsOver S program state ending → Step S program state outcome → ⊥
   over_or_step state _ outcome (at_end past) step = let within = slice_get_within program.statements (state.position - 1) step.statement step.is_at_position in omega (arith, past, within)
   over_or_step state _ outcome (at_limit within limit) step = let below = step.is_within_limit in omega (arith, limit, below)
 

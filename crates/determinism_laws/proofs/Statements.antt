@@ -20,10 +20,10 @@ use Rattle.selection_definitions.specs.Selection.{selected}
 use Rattle.listing_definitions.specs.declared.Mark.{Mark}
 use Rattle.listing_definitions.specs.declared.VerbFault.{VerbFault}
 use Rattle.listing_definitions.specs.Report.{Report, Converted, Revised, Solution, Ranges}
-use Rattle.question_definitions.specs.Answers.{Basis, Changing, ParametricRun, Question, Answer, OfPath, OfSolution, OfRanges, OfParametricRun, OfPunch, OfInstall}
+use Rattle.question_definitions.specs.Answers.{Basis, Changing, ParametricRun, Question, AnswerTo, OfPath, OfSolution, OfRanges, OfParametricRun, OfPunch, OfInstall}
 use Rattle.question_definitions.specs.Solving.{Solving}
 use Rattle.run_definitions.specs.State.{Present, present_basis, State, problem_of, choice_of}
-use Rattle.run_definitions.specs.Moves.{Outcome, Refusals, Move, Does, MayStop, or_fault}
+use Rattle.run_definitions.specs.Moves.{StatementOutcome, Refusals, StatementMove, Does, MayStop, or_fault}
 use Rattle.run_definitions.specs.Verbs.{or_deck_fault, or_selection_fault, files, selects, not_less, change_row, change_set, asks, if_optimal, shows_present, solves, shows, ranges, parametric_runs, converts, revises, sets_up, punches, punches_basis, inserts, verb_move}
 use Rattle.simplex_definitions.specs.Path.{EndsOptimal, EndsAt}
 use Rattle.simplex_laws.proofs.Ends.{optimal_end}
@@ -40,29 +40,29 @@ use Rattle.soundness_laws.proofs.ChangeRow.{row_of_problem, set_of_problem, chan
 use Rattle.soundness_laws.proofs.Verbs.{optimal_alone}
 use Rattle.determinism_laws.specs.Laws.{Suits, IsAsked, HasOneAnswer, AnswersOnce, AsksOnce}
 
-pub record IsOnce (S : Solving) (move : Move) : Type 0 where
+pub record IsOnce (S : Solving) (move : StatementMove) : Type 0 where
   pub once : AsksOnce S move
 
 module _ (S : Solving) where
-  does : (outcome : Outcome) → IsOnce S (Does outcome)
+  does : (outcome : StatementOutcome) → IsOnce S (Does outcome)
   does outcome = record { once = tt }
 
-  may_stop : (refusals : Refusals) (move : Move) → IsOnce S move → IsOnce S (MayStop refusals move)
+  may_stop : (refusals : Refusals) (move : StatementMove) → IsOnce S move → IsOnce S (MayStop refusals move)
   may_stop refusals move is = record { once = is.once }
 
-  unless_fault : {X : Type 0} (card : ℕ) (fault : VerbFault) (o : Option X) (go : X → Move) → ((x : X) → o ≡ Some x → IsOnce S (go x)) → IsOnce S (or_fault card fault o go)
+  unless_fault : {X : Type 0} (card : ℕ) (fault : VerbFault) (o : Option X) (go : X → StatementMove) → ((x : X) → o ≡ Some x → IsOnce S (go x)) → IsOnce S (or_fault card fault o go)
   unless_fault card fault None go is = does _
   unless_fault card fault (Some x) go is = is x refl
 
-  unless_deck_fault : {X : Type 0} (r : Result X DeckFault) (go : X → Move) → ((x : X) → r ≡ Ok x → IsOnce S (go x)) → IsOnce S (or_deck_fault r go)
+  unless_deck_fault : {X : Type 0} (r : Result X DeckFault) (go : X → StatementMove) → ((x : X) → r ≡ Ok x → IsOnce S (go x)) → IsOnce S (or_deck_fault r go)
   unless_deck_fault (Err fault) go is = does _
   unless_deck_fault (Ok x) go is = is x refl
 
-  unless_selection_fault : (card : ℕ) (r : Result LinearProgram SelectionFault) (go : LinearProgram → Move) → ((lp : LinearProgram) → r ≡ Ok lp → IsOnce S (go lp)) → IsOnce S (or_selection_fault card r go)
+  unless_selection_fault : (card : ℕ) (r : Result LinearProgram SelectionFault) (go : LinearProgram → StatementMove) → ((lp : LinearProgram) → r ≡ Ok lp → IsOnce S (go lp)) → IsOnce S (or_selection_fault card r go)
   unless_selection_fault card (Err fault) go is = does _
   unless_selection_fault card (Ok lp) go is = is lp refl
 
-  selecting : (card : ℕ) (problem : Problem ℕ) (choice : Choice) (go : LinearProgram → Move) → ((lp : LinearProgram) → selected problem choice ≡ Ok lp → IsOnce S (go lp)) → IsOnce S (selects card problem choice go)
+  selecting : (card : ℕ) (problem : Problem ℕ) (choice : Choice) (go : LinearProgram → StatementMove) → ((lp : LinearProgram) → selected problem choice ≡ Ok lp → IsOnce S (go lp)) → IsOnce S (selects card problem choice go)
   selecting card problem choice go is = unless_selection_fault card (selected problem choice) _ (λ lp e. may_stop _ (go lp) (is lp e))
 
   -- ---- verbs that ask nothing
@@ -100,7 +100,7 @@ module _ (S : Solving) where
   }
 
   -- a question at the present basis of what is selected of the setup
-  asked : (question : Question) (present : Present) (state : State) (lp : LinearProgram) (go : Answer question → Outcome) → HasOneAnswer S question → HasProblem state.setup → Knows state →
+  asked : (question : Question) (present : Present) (state : State) (lp : LinearProgram) (go : AnswerTo question → StatementOutcome) → HasOneAnswer S question → HasProblem state.setup → Knows state →
       state.setup ≡ Some present → selected present.problem (choice_of state.cells present.options) ≡ Ok lp → Suits question (record { problem = present.problem; lp = lp }) (present_basis present) →
       IsOnce S (asks question (record { problem = present.problem; lp = lp }) present go)
   asked question present state lp go one lawful knows e is suits = record {
@@ -129,7 +129,7 @@ module _ (S : Solving) where
         asked (OfInstall s) present state lp _ (one s) lawful knows e is
         (lawful_basis present.problem lp taken.0 s (selected_has_names present.problem (choice_of state.cells present.options) lp is) read)))))
 
-    showing_once : (present : Present) (question : Question) (report : Answer question → Report) → HasOneAnswer S question → state.setup ≡ Some present →
+    showing_once : (present : Present) (question : Question) (report : AnswerTo question → Report) → HasOneAnswer S question → state.setup ≡ Some present →
         ((lp : LinearProgram) → selected present.problem (choice_of state.cells present.options) ≡ Ok lp → Suits question (record { problem = present.problem; lp = lp }) (present_basis present)) →
         IsOnce S (shows_present card state present question report)
     showing_once present question report one e suits =

@@ -7,7 +7,7 @@ use Rattle.control_definitions.specs.Program.{Statement, Program}
 use Rattle.listing_definitions.specs.Report.{Report}
 use Rattle.question_definitions.specs.Solving.{Solving}
 use Rattle.run_definitions.specs.State.{State}
-use Rattle.run_definitions.specs.Moves.{Gain, printed_by, punched_by, Outcome, Goes, Gives}
+use Rattle.run_definitions.specs.Moves.{Gain, printed_by, punched_by, StatementOutcome, Goes, Gives}
 use Rattle.run_definitions.specs.Verbs.{verb_move}
 use Rattle.run_definitions.specs.Run.{counted, Step, Reaches, begun, stepped}
 use Rattle.run_definitions.specs.Answer.{IsProgramOf, job_decks}
@@ -43,7 +43,7 @@ module _ (S : Solving) (solving : KnowsSolving S) (answers : AnswersOnce S) (byt
   Comes reports cards state = Reaches S program (job_decks program bytes) reports cards state
 
   -- two outcomes of one statement
-  pub two_outcomes : (reports : List Report) (cards : List (List ℕ)) (state : State) (a b : Outcome) → Comes reports cards state → Step S program state a → Step S program state b → IsSameOrStop a b
+  pub two_outcomes : (reports : List Report) (cards : List (List ℕ)) (state : State) (a b : StatementOutcome) → Comes reports cards state → Step S program state a → Step S program state b → IsSameOrStop a b
   two_outcomes reports cards state a b reaches first second =
       outcomes S first.statement.card (verb_move first.statement.verb first.statement.card (counted state)) a b
       (verb_once S answers first.statement.verb first.statement.card (counted state) (has_problem S solving bytes program is_program reports cards state reaches) (counted_known state (known S solving bytes program is_program reports cards state reaches))).once

@@ -24,10 +24,10 @@ use Rattle.listing_definitions.specs.declared.Solver.TheVariants.{Primal as ByPr
 use Rattle.listing_definitions.specs.declared.VerbFault.{VerbFault}
 use Rattle.listing_definitions.specs.Report.{Report, Converted, Revised, Solved, Solution, Ranges}
 use Rattle.listing_definitions.specs.Ending.{Overflow, Ending, Ended, WordsRefused, ControlStop, VerbStop, SingularStop, PriceStop, DeckStop, CardStop, LimitStop, StatementLimit, OverflowStop, ReadFault, PrintFault, PunchFault, Memory}
-use Rattle.question_definitions.specs.Answers.{Basis, Changing, parametric_solver, ParametricRun, Question, Answer, OfSolution, OfRanges, PathEnd, Reached, PathLimit, PricesWrong, ParametricRunEnd, Opening, Chained, ParametricRunLimit, InstallEnd, Installed, DependsBy}
+use Rattle.question_definitions.specs.Answers.{Basis, Changing, parametric_solver, ParametricRun, Question, AnswerTo, OfSolution, OfRanges, PathEnd, Reached, PathLimit, PricesWrong, ParametricRunEnd, Opening, Chained, ParametricRunLimit, InstallEnd, Installed, DependsBy}
 use Rattle.question_definitions.specs.Solving.{Solving}
 use Rattle.run_definitions.specs.State.{Present, gone_through, State, problem_of, choice_of}
-use Rattle.run_definitions.specs.Moves.{Gain, Outcome, Goes, Ends, Refusals, Move, Does, MayStop, Asks, Gives, or_fault}
+use Rattle.run_definitions.specs.Moves.{Gain, StatementOutcome, Goes, Ends, Refusals, StatementMove, Does, MayStop, Asks, Gives, or_fault}
 use Rattle.run_definitions.specs.Verbs.{or_deck_fault, or_selection_fault, files, selects, not_less, change_row, change_set, demanded, by_verdict, mark_of, if_optimal, after_path, after_parametric_run, after_install, shows_present, solves, shows, ranges, parametric_runs, converts, revises, sets_up, punches, punches_basis, inserts, verb_move}
 use Rattle.run_definitions.specs.Run.{counted, at_end, at_limit, IsRun, is_over, is_ended}
 use Rattle.run_definitions.specs.Answer.{IsJobRun, card_fault, control_fault, run}
@@ -59,38 +59,38 @@ abbrev IsOtherEnding : Ending → Type 0
 IsOtherEnding (OverflowStop overflow) = ⊥
 IsOtherEnding ending = IsEndOfRun ending
 
-abbrev IsOther : Outcome → Type 0
+abbrev IsOther : StatementOutcome → Type 0
 IsOther (Goes gain after) = Unit {0}
 IsOther (Ends gain ending) = IsOtherEnding ending
 
 -- what a move does, or makes of an answer, isn't one
-abbrev DoesOther : Move → Type 0
+abbrev DoesOther : StatementMove → Type 0
 DoesOther (Does outcome) = IsOther outcome
 DoesOther (MayStop refusals move) = DoesOther move
-DoesOther (Asks question sheet s go) = (answer : Answer question) → IsOther (go answer)
+DoesOther (Asks question sheet s go) = (answer : AnswerTo question) → IsOther (go answer)
 
-record NeverStops (move : Move) : Type 0 where
+record NeverStops (move : StatementMove) : Type 0 where
   other : DoesOther move
 
-does : (outcome : Outcome) → IsOther outcome → NeverStops (Does outcome)
+does : (outcome : StatementOutcome) → IsOther outcome → NeverStops (Does outcome)
 does outcome other = record { other = other }
 
-may_stop : (refusals : Refusals) (move : Move) → NeverStops move → NeverStops (MayStop refusals move)
+may_stop : (refusals : Refusals) (move : StatementMove) → NeverStops move → NeverStops (MayStop refusals move)
 may_stop refusals move never = record { other = never.other }
 
-unless_fault : {X : Type 0} (card : ℕ) (fault : VerbFault) (o : Option X) (go : X → Move) → ((x : X) → NeverStops (go x)) → NeverStops (or_fault card fault o go)
+unless_fault : {X : Type 0} (card : ℕ) (fault : VerbFault) (o : Option X) (go : X → StatementMove) → ((x : X) → NeverStops (go x)) → NeverStops (or_fault card fault o go)
 unless_fault card fault None go never = does _ tt
 unless_fault card fault (Some x) go never = never x
 
-unless_deck_fault : {X : Type 0} (r : Result X DeckFault) (go : X → Move) → ((x : X) → NeverStops (go x)) → NeverStops (or_deck_fault r go)
+unless_deck_fault : {X : Type 0} (r : Result X DeckFault) (go : X → StatementMove) → ((x : X) → NeverStops (go x)) → NeverStops (or_deck_fault r go)
 unless_deck_fault (Err fault) go never = does _ tt
 unless_deck_fault (Ok x) go never = never x
 
-unless_selection_fault : (card : ℕ) (r : Result LinearProgram SelectionFault) (go : LinearProgram → Move) → ((lp : LinearProgram) → NeverStops (go lp)) → NeverStops (or_selection_fault card r go)
+unless_selection_fault : (card : ℕ) (r : Result LinearProgram SelectionFault) (go : LinearProgram → StatementMove) → ((lp : LinearProgram) → NeverStops (go lp)) → NeverStops (or_selection_fault card r go)
 unless_selection_fault card (Err fault) go never = does _ tt
 unless_selection_fault card (Ok lp) go never = never lp
 
-selecting : (card : ℕ) (problem : Problem ℕ) (choice : Choice) (go : LinearProgram → Move) → ((lp : LinearProgram) → NeverStops (go lp)) → NeverStops (selects card problem choice go)
+selecting : (card : ℕ) (problem : Problem ℕ) (choice : Choice) (go : LinearProgram → StatementMove) → ((lp : LinearProgram) → NeverStops (go lp)) → NeverStops (selects card problem choice go)
 selecting card problem choice go never = unless_selection_fault card (selected problem choice) _ (λ lp. may_stop _ (go lp) (never lp))
 
 -- ---- verbs
@@ -159,7 +159,7 @@ module _ (card : ℕ) (state : State) where
       unless_deck_fault (basis_reading present.problem lp taken.0) _ (λ s.
       record { other = after_install_other card lp s taken present state }))))
 
-  showing_never : (present : Present) (question : Question) (report : Answer question → Report) → NeverStops (shows_present card state present question report)
+  showing_never : (present : Present) (question : Question) (report : AnswerTo question → Report) → NeverStops (shows_present card state present question report)
   showing_never present question report = unless_selection_fault card (selected present.problem (choice_of state.cells present.options)) _ (λ lp. record { other = λ lines. tt })
 
   shows_never : NeverStops (shows card state)
@@ -210,7 +210,7 @@ verb_never Exit card state = does _ (lit≤ tt)
 -- ---- so an overflow has evidence
 
 module _ (S : Solving) (card : ℕ) (gain : Gain) (overflow : Overflow) where
-  by_evidence : (move : Move) → DoesOther move → Gives S card move (Ends gain (OverflowStop overflow)) → HasEvidence S move
+  by_evidence : (move : StatementMove) → DoesOther move → Gives S card move (Ends gain (OverflowStop overflow)) → HasEvidence S move
   by_evidence (Does outcome) other gives = subst IsOther (sym gives) other
   by_evidence (MayStop refusals move) other (inl gives) = inr (by_evidence move other gives)
   by_evidence (MayStop refusals move) other (inr stop) = inl (stop.0, stop.1, stop.2)
@@ -238,16 +238,16 @@ other_end PrintFault other = other
 other_end PunchFault other = other
 other_end Memory other = other
 
-abbrev EndsAsRun : Outcome → Type 0
+abbrev EndsAsRun : StatementOutcome → Type 0
 EndsAsRun (Goes gain after) = Unit {0}
 EndsAsRun (Ends gain ending) = IsEndOfRun ending
 
-outcome_as_run : (outcome : Outcome) → IsOther outcome → EndsAsRun outcome
+outcome_as_run : (outcome : StatementOutcome) → IsOther outcome → EndsAsRun outcome
 outcome_as_run (Goes gain after) other = tt
 outcome_as_run (Ends gain ending) other = other_end ending other
 
-module _ (S : Solving) (card : ℕ) (given : Outcome) where
-  gives_as_run : (move : Move) → DoesOther move → Gives S card move given → EndsAsRun given
+module _ (S : Solving) (card : ℕ) (given : StatementOutcome) where
+  gives_as_run : (move : StatementMove) → DoesOther move → Gives S card move given → EndsAsRun given
   gives_as_run (Does outcome) other gives = subst EndsAsRun (sym gives) (outcome_as_run outcome other)
   gives_as_run (MayStop refusals move) other (inl gives) = gives_as_run move other gives
   gives_as_run (MayStop refusals move) other (inr stop) = subst EndsAsRun (sym stop.3) tt

@@ -23,13 +23,13 @@ use Rattle.listing_definitions.specs.declared.Mark.{Mark}
 use Rattle.listing_definitions.specs.declared.Solver.{Solver}
 use Rattle.listing_definitions.specs.Report.{SolutionLines, RangeLines, Report}
 use Rattle.listing_definitions.specs.Ending.{Place, Overflow, Ending, OverflowStop}
-use Rattle.question_definitions.specs.Answers.{Basis, Sheet, ParametricRun, Question, Answer, OfPath, OfSolution, OfRanges, OfParametricRun, OfPunch, OfInstall, PathEnd}
+use Rattle.question_definitions.specs.Answers.{Basis, Sheet, ParametricRun, Question, AnswerTo, OfPath, OfSolution, OfRanges, OfParametricRun, OfPunch, OfInstall, PathEnd}
 use Rattle.question_definitions.specs.Solving.{Solving, IsRight}
 use Rattle.answer_definitions.specs.Verdicts.{IsSolved, IsDualSolved}
 use Rattle.answer_definitions.specs.Sections.{IsSolutionOf, IsRanged}
 use Rattle.answer_definitions.specs.Real.{linear_programming}
 use Rattle.run_definitions.specs.State.{State}
-use Rattle.run_definitions.specs.Moves.{Outcome, stops, Move, Does, MayStop, Asks, Shows, Gives}
+use Rattle.run_definitions.specs.Moves.{StatementOutcome, stops, StatementMove, Does, MayStop, Asks, Shows, Gives}
 use Rattle.run_definitions.specs.Verbs.{verb_move}
 use Rattle.run_definitions.specs.Run.{max_executed, counted, Step}
 use Rattle.run_definitions.specs.Answer.{IsJobRun, IsSoFar}
@@ -58,7 +58,7 @@ pub record IsAsked (question : Question) (sheet : Sheet) (s : Basis) : Type 0 wh
 
 -- Where the question is asked so, it has one right answer at most.
 abbrev pub HasOneAnswer : Solving → Question → Type 0
-HasOneAnswer S question = (sheet : Sheet) (s : Basis) (a b : Answer question) →
+HasOneAnswer S question = (sheet : Sheet) (s : Basis) (a b : AnswerTo question) →
     IsAsked question sheet s → IsRight S question sheet s a → IsRight S question sheet s b → a ≡ b
 
 -- So it is with each question that PRIMAL, DUAL, SOLUTION, RANGE, PARAOBJ, PARARHS, PUNCH and INSERT ask.
@@ -72,20 +72,20 @@ pub record AnswersOnce (S : Solving) : Type 0 where
 
 -- If a move asks a question, this has one right answer at most, about the linear program and at the
 -- basis at which it is asked.
-abbrev pub AsksOnce : Solving → Move → Type 0
+abbrev pub AsksOnce : Solving → StatementMove → Type 0
 AsksOnce S (Does outcome) = Unit {0}
 AsksOnce S (MayStop refusals move) = AsksOnce S move
-AsksOnce S (Asks question sheet s go) = (a b : Answer question) →
+AsksOnce S (Asks question sheet s go) = (a b : AnswerTo question) →
     IsRight S question sheet s a → IsRight S question sheet s b → a ≡ b
 
 -- a stop for an overflow
 abbrev pub IsOverflow : Ending → Type 0
 IsOverflow ending = (overflow : Overflow) × (ending ≡ OverflowStop overflow)
 
-abbrev pub IsOverflowStop : Outcome → Type 0
+abbrev pub IsOverflowStop : StatementOutcome → Type 0
 IsOverflowStop outcome = (overflow : Overflow) × (outcome ≡ stops (OverflowStop overflow))
 
-abbrev pub IsSameOrStop : Outcome → Outcome → Type 0
+abbrev pub IsSameOrStop : StatementOutcome → StatementOutcome → Type 0
 IsSameOrStop a b = (a ≡ b) ⊎ (IsOverflowStop a ⊎ IsOverflowStop b)
 
 -- two runs report and punch the same, and end alike
@@ -104,7 +104,7 @@ pub record Continues (reports others : List Report) (cards other_cards : List (L
   pub are_cards : other_cards ≡ cards ++ more_cards
 
 -- Evidence holds that an operation of a move doesn't fit.
-abbrev pub HasEvidence : Solving → Move → Type 0
+abbrev pub HasEvidence : Solving → StatementMove → Type 0
 HasEvidence S (Does outcome) = ⊥
 HasEvidence S (MayStop refusals move) =
     ((evidence : Evidence) × (place : Option Place) × Shows S refusals evidence place) ⊎
@@ -126,7 +126,7 @@ MeetsNoEvidence S bytes = (program : Program) (reports : List Report) (cards : L
 -- moment, no run stops with an overflow, and so all are the same.
 pub record IsFunction (S : Solving) : Type 0 where
   pub step : (bytes : List ℕ) (program : Program) (reports : List Report) (cards : List (List ℕ))
-      (state : State) (a b : Outcome) → IsSoFar S bytes reports cards program state →
+      (state : State) (a b : StatementOutcome) → IsSoFar S bytes reports cards program state →
       Step S program state a → Step S program state b → IsSameOrStop a b
   pub so_far : (bytes : List ℕ) (program : Program) (reports others : List Report)
       (cards other_cards : List (List ℕ)) (state other : State) →
@@ -167,7 +167,7 @@ pub record AnswerLaws : Type 0 where
 -- most; and so a run is a function.
 pub record RunFunctions : Type 0 where
   pub answers : AnswerLaws
-  pub moves : (card : ℕ) (move : Move) (a b : Outcome) → AsksOnce linear_programming move →
+  pub moves : (card : ℕ) (move : StatementMove) (a b : StatementOutcome) → AsksOnce linear_programming move →
       Gives linear_programming card move a → Gives linear_programming card move b →
       IsSameOrStop a b
   pub answered : AnswersOnce linear_programming

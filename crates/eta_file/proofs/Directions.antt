@@ -18,7 +18,7 @@ use Rattle.lp_laws.proofs.Alike.{direction_same}
 use Rattle.lp_laws.proofs.Idle.{zero_over}
 use Rattle.eta_file.specs.declared.eta.StoredEta.{StoredEta}
 use Rattle.eta_file.specs.Entries.{sum_rate}
-use Rattle.eta_file.specs.Crossings.{IsCrossed, untouched, changed, IsLeaving, IsColumnFilled}
+use Rattle.eta_file.specs.Transformations.{IsTransformed, untouched, changed, IsLeaving, IsColumnFilled}
 use Rattle.eta_file.specs.Prefixes.{IsEta}
 use Rattle.eta_file.proofs.RateEntries.{sum_rate_entries}
 
@@ -58,12 +58,12 @@ module _ (a : Matrix) (w : Basics) (one : IsNonsingular a w) (e : StoredEta) (is
       pub ratio_is : value_at old e.p /ℚ e.pivot ≡ is.rate e.p j /ℚ is.rate e.p e.q
       ratio_is = ap₂ (λ u v. u /ℚ v) (old_is e.p is.leaves.0) is.is_pivot
 
-      pub crossed_direction : (new : List ℚ) → IsCrossed e old new → IsDirectionOf a (exchanged w e.p e.q) j (value_at new)
-      crossed_direction new crossed =
-          direction_same a (exchanged w e.p e.q) j made (value_at new) before.0 (same crossed)
+      pub transformed_direction : (new : List ℚ) → IsTransformed e old new → IsDirectionOf a (exchanged w e.p e.q) j (value_at new)
+      transformed_direction new transformed =
+          direction_same a (exchanged w e.p e.q) j made (value_at new) before.0 (same transformed)
           (other_direction a w one.counted is.rate is.are_rates e.p e.q is.leaves is.enters is.apart j then apart_p)
         where
-          same : IsCrossed e old new → (i : ℕ) → IsVariable a i → value_at new i ≡ made i
+          same : IsTransformed e old new → (i : ℕ) → IsVariable a i → value_at new i ≡ made i
           same (untouched none is_old) i var =
               ap (λ xs. value_at xs i) is_old ∙ old_is i var
               ∙ sym (ap (λ x. is.rate i j -ℚ x *ℚ is.rate i e.q) (zero_over (is.rate e.p j) (is.rate e.p e.q) (sym (old_is e.p is.leaves.0) ∙ none))

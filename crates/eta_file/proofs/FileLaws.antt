@@ -21,8 +21,8 @@ use Rattle.lp_laws.proofs.Alike.{direction_same}
 use Rattle.whole_vectors.specs.Quotients.{quotients, AreQuotients, Represent}
 use Rattle.whole_vectors.proofs.Over.{made_values}
 use Rattle.eta_file.specs.Entries.{scaled, IsWholeOf, others, IsEntryWithin, AreApart, IsRowWithin, AreDistinctRows}
-use Rattle.eta_file.specs.Crossings.{IsWithinPlaces, IsCrossed, IsLeaving, IsColumnFilled, NoneLater}
-use Rattle.eta_file.specs.Refusals.{CrossRefused, LeaveRefused}
+use Rattle.eta_file.specs.Transformations.{IsWithinPlaces, IsTransformed, IsLeaving, IsColumnFilled, NoneLater}
+use Rattle.eta_file.specs.Refusals.{TransformRefused, LeaveRefused}
 use Rattle.eta_file.specs.Prefixes.{IsEta, after, prefixes, rate_entries, entries_to, entry_count, IsExchangeOf, IsLentScaled}
 use Rattle.eta_file.proofs.Counts.{rate_entries_few}
 use Rattle.eta_file.specs.File.{IsFileOf}
@@ -34,8 +34,8 @@ use Rattle.eta_file.specs.Inverse.{IsAppended}
 use Rattle.lp_definitions.specs.Waypoints.{waypoint}
 use Rattle.eta_file.proofs.RateEntries.{rate_entry, rate_entries_apart, others_less, length-rate_entries}
 use Rattle.eta_file.proofs.PrefixLaws.{after-take_next, eta_at, Passed-take, nonsingular_after, out_from, entry_count-take, length-prefixes, prefixes-at, rates_after, after-append, Passed-append}
-use Rattle.eta_file.proofs.Directions.{leaver_is_not_entering, entry_rate, crossed_direction, leaving_direction, column_direction}
-use Rattle.eta_file.proofs.RefusedLaws.{cross_refused, leave_refused}
+use Rattle.eta_file.proofs.Directions.{leaver_is_not_entering, entry_rate, transformed_direction, leaving_direction, column_direction}
+use Rattle.eta_file.proofs.RefusedLaws.{transform_refused, leave_refused}
 
 -- what a refusal shows, in other words
 pub refused_map : (r : Result (Unit {0}) Evidence) (P Q : Evidence → Type 0) → ((e : Evidence) → P e → Q e) → IfErr r P → IfErr r Q
@@ -132,18 +132,18 @@ module _ (a : Matrix) (etas : List StoredEta) (marks : Basics) (file : IsFileOf 
       apart_q same =
           clash (sym (entering_in a (set_at k) (one_at k).counted eta.p eta.q is.leaves is.enters) ∙ ap (is_in (exchanged (set_at k) eta.p eta.q)) (sym same) ∙ then.1)
 
-      pub crossed : (new : List ℚ) → IsCrossed eta old new → IsDirectionOf a (set_at (k + 1)) j (value_at new)
-      crossed new h =
+      pub transformed : (new : List ℚ) → IsTransformed eta old new → IsDirectionOf a (set_at (k + 1)) j (value_at new)
+      transformed new h =
           subst (λ w. IsDirectionOf a w j (value_at new)) (sym set_next)
-          (crossed_direction a (set_at k) (one_at k) eta is j before then apart_p apart_q old counted direction new h)
+          (transformed_direction a (set_at k) (one_at k) eta is j before then apart_p apart_q old counted direction new h)
 
-      pub crossing_refused : (e : Evidence) → CrossRefused eta (k + 1) j old e → ExchangeRefused a (marks ∷ prefixes (row_basics a) etas) marks (prefixes (row_basics a) etas) e
-      crossing_refused e h =
+      pub transformation_refused : (e : Evidence) → TransformRefused eta (k + 1) j old e → ExchangeRefused a (marks ∷ prefixes (row_basics a) etas) marks (prefixes (row_basics a) etas) e
+      transformation_refused e h =
           refused_here e
-          (cross_refused a (row_basics a) (IsNonsingular-row_basics a) etas file.passed k eta below e j before
+          (transform_refused a (row_basics a) (IsNonsingular-row_basics a) etas file.passed k eta below e j before
           (subst (λ (x : StoredEta). IsNonbasic a (exchanged (set_at k) x.p x.q) j) is_eta then)
           (subst (λ (x : StoredEta). j ≢ x.p) is_eta apart_p) (subst (λ (x : StoredEta). j ≢ x.q) is_eta apart_q) old counted direction
-          (subst (λ (x : StoredEta). CrossRefused x (k + 1) j old e) is_eta h))
+          (subst (λ (x : StoredEta). TransformRefused x (k + 1) j old e) is_eta h))
 
     pub left : (new : List ℚ) → length new ≡ size a → IsLeaving eta new → (n j : ℕ) → n ≡ k + 1 → eta.p ≡ j → IsDirectionOf a (set_at n) j (value_at new)
     left new counted h n j same own =

@@ -14,7 +14,7 @@ use Rattle.lp_laws.proofs.Refusals.{refuses_at}
 use Rattle.eta_file.specs.declared.eta.EtaEntry.{EtaEntry}
 use Rattle.eta_file.specs.declared.eta.StoredEta.{StoredEta}
 use Rattle.eta_file.specs.Entries.{sum_rate}
-use Rattle.eta_file.specs.Refusals.{IsRefusal, IsRestRefused, by_product, by_difference, CrossRefused, of_quotient, of_entry, LeaveRefused, of_one, of_multiple}
+use Rattle.eta_file.specs.Refusals.{IsRefusal, IsRestRefused, by_product, by_difference, TransformRefused, of_quotient, of_entry, LeaveRefused, of_one, of_multiple}
 use Rattle.eta_file.specs.Prefixes.{IsEta, Passed, after, prefixes}
 use Rattle.eta_file.proofs.RateEntries.{IsOne, rate_entry, rate_entries_apart}
 use Rattle.eta_file.proofs.PrefixLaws.{after-take_next, length-prefixes, prefixes-at, eta_at, Passed-take, eta_nonsingular, nonsingular_after, prefix_within}
@@ -95,12 +95,12 @@ module _ (a : Matrix) (r : Basics) (one : IsNonsingular a r) (etas : List Stored
         (refuses_at e Sub left ((value_at old eta.p /ℚ eta.pivot) *ℚ x.rate) (is.rate x.i j) ((is.rate eta.p j /ℚ is.rate eta.p eta.q) *ℚ is.rate x.i eta.q) at_left
         (ap₂ (λ u v. u *ℚ v) at_ratio h.is_rate) refusal.refuses))
 
-    pub cross_refused : CrossRefused eta (k + 1) j old e → ExchangeRefused a (b ∷ ways) b ways e
-    cross_refused (of_quotient refusal) =
+    pub transform_refused : TransformRefused eta (k + 1) j old e → ExchangeRefused a (b ∷ ways) b ways e
+    transform_refused (of_quotient refusal) =
         refused_by 1 0 j Div (value_at old eta.p) eta.pivot refusal
         (f1 eta.p eta.q j refusal.names exchange before
         (refuses_at e Div (value_at old eta.p) eta.pivot (is.rate eta.p j) (is.rate eta.p eta.q) (at_old eta.p is.leaves.0) is.is_pivot refusal.refuses))
-    cross_refused (of_entry h) =
+    transform_refused (of_entry h) =
         let x : IsOne w (λ i. is.rate i eta.q) 1 (size a) h.entry = one_entry h.place h.entry h.within h.is_entry in
         rest_refused h.entry x h.stays (value_at old h.entry.i -ℚ (value_at old eta.p /ℚ eta.pivot) *ℚ sum_rate (take h.place eta.entries.items) h.entry.i)
         (ap (λ s. value_at old h.entry.i -ℚ (value_at old eta.p /ℚ eta.pivot) *ℚ s) (none_before h.place h.entry h.within h.is_entry)

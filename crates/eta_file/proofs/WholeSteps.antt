@@ -14,7 +14,7 @@ use Rattle.eta_file.specs.declared.eta.EtaEntry.{EtaEntry}
 use Rattle.eta_file.specs.declared.eta.StoredEta.{StoredEta}
 use Rattle.eta_file.specs.declared.eta.WholeEta.{WholeEta}
 use Rattle.eta_file.specs.Entries.{sum_rate, rate_where, IsEntryWithin, AreApart, scaled, IsWholeOf}
-use Rattle.eta_file.specs.Crossings.{IsCrossed, untouched, changed, IsSubtracted, IsExchanged, IsScaled, IsLeaving, IsColumnFilled}
+use Rattle.eta_file.specs.Transformations.{IsTransformed, untouched, changed, IsSubtracted, IsExchanged, IsScaled, IsLeaving, IsColumnFilled}
 use Rattle.eta_file.proofs.CarrySteps.{written_same, written_other}
 
 -- ---- entries times a number
@@ -104,8 +104,8 @@ module _ (eta : StoredEta) (w : WholeEta) (h : IsWholeOf eta.pivot eta.entries.i
           ap (λ y. y -ℚ u *ℚ last *ℚ r) (by_ring3 x e by (λ x e b. x ⊗ e ⊗ b ≐ x ⊗ (e ⊗ b)) refl)
           ∙ by_ring4 x u last r (λ x u l r. x ⊗ l ⊖ u ⊗ l ⊗ r ≐ (x ⊖ u ⊗ r) ⊗ l) refl
 
-  pub crossed_whole : (final : ℚ) → final ≡ e *ℚ by → Represent (IsCrossed eta (quotients d old)) final new
-  crossed_whole final is_final = subst (λ x. Represent (IsCrossed eta (quotients d old)) x new) (sym is_final) (record {
+  pub transformed_whole : (final : ℚ) → final ≡ e *ℚ by → Represent (IsTransformed eta (quotients d old)) final new
+  transformed_whole final is_final = subst (λ x. Represent (IsTransformed eta (quotients d old)) x new) (sym is_final) (record {
     apart = last_apart;
     holds = changed
         (value_at-quotients last new eta.p ∙ ap (λ x. x /ℚ last) exchanged.at_p ∙ at_leaver (nat_eq eta.p eta.q))
@@ -183,7 +183,7 @@ exchanged_by p q c w old mid u v p_low p_high q_low q_high counted h is_u is_v =
         written_other low q p v q_low p_low differ ∙ written_same mid p p u p_low (omega (arith, p_high, counted)) refl ∙ is_u
 
 -- nothing is taken where the leaver's number is 0
-pub untouched_whole : (eta : StoredEta) (d : ℚ) (xs : List ℚ) → d ≢ zero_ℚ → value_at xs eta.p ≡ zero_ℚ → Represent (IsCrossed eta (quotients d xs)) d xs
+pub untouched_whole : (eta : StoredEta) (d : ℚ) (xs : List ℚ) → d ≢ zero_ℚ → value_at xs eta.p ≡ zero_ℚ → Represent (IsTransformed eta (quotients d xs)) d xs
 untouched_whole eta d xs apart none = record { apart = apart; holds = untouched (value_at-quotients d xs eta.p ∙ ap (λ x. x /ℚ d) none ∙ zero-mul (inverse_ℚ d)) refl }
 
 pub minus_one_apart : whole (negsuc 0) ≢ zero_ℚ

@@ -1,5 +1,5 @@
 pub mod Entries
-pub mod Crossings
+pub mod Transformations
 pub mod Formulas
 pub mod Refusals
 pub mod Prefixes

@@ -1,7 +1,7 @@
 -- The refusals of a column that is carried, in the numbers of the list that holds it.
 --     IsRefusal way formula p q i j op left right e    evidence of a formula at a waypoint
 --     IsRestRefused                a rate less a product is refused
---     SubtractRefused, CrossRefused    what an eta makes of a column is refused
+--     SubtractRefused, TransformRefused    what an eta makes of a column is refused
 --     ScaleRefused, LeaveRefused   the direction of the leaver after an eta is refused
 use Rattle.std.specs.Prelude.{◌≡◌, ◌≢◌, ℕ, ◌<◌, List, length, take, slice_index_or}
 use Rattle.exact_values.specs.Rational.{ℚ, zero_ℚ, one_ℚ, ◌-ℚ◌, ◌*ℚ◌, ◌/ℚ◌}
@@ -33,9 +33,9 @@ pub record SubtractRefused (way p q j : ℕ) (u : ℚ) (es : List EtaEntry) (old
   pub stays : entry.i ≢ p
   pub refused : IsRestRefused way p q entry.i j (value_at old entry.i -ℚ u *ℚ sum_rate (take place es) entry.i) u entry.rate e
 
-pub data CrossRefused (eta : StoredEta) (way j : ℕ) (old : List ℚ) (e : Evidence) : Type 0 where
-  of_quotient : IsRefusal way 1 eta.p eta.q 0 j Div (value_at old eta.p) eta.pivot e → CrossRefused eta way j old e
-  of_entry : SubtractRefused way eta.p eta.q j (value_at old eta.p /ℚ eta.pivot) eta.entries.items old e → CrossRefused eta way j old e
+pub data TransformRefused (eta : StoredEta) (way j : ℕ) (old : List ℚ) (e : Evidence) : Type 0 where
+  of_quotient : IsRefusal way 1 eta.p eta.q 0 j Div (value_at old eta.p) eta.pivot e → TransformRefused eta way j old e
+  of_entry : SubtractRefused way eta.p eta.q j (value_at old eta.p /ℚ eta.pivot) eta.entries.items old e → TransformRefused eta way j old e
 
 pub record ScaleRefused (way p q : ℕ) (u : ℚ) (es : List EtaEntry) (e : Evidence) : Type 0 where
   pub place : ℕ

@@ -1,13 +1,13 @@
-//! A column carried through the file: where it begins, and what each eta makes of it.
+//! A column carried through the file, by a forward transformation (FTRAN): where it begins, and what each eta makes of it.
 
 ghost use Rattle.std.specs.Prelude.{◌≡◌, ◌≢◌, ◌+◌, ◌-◌, ◌*◌, ◌<◌, ◌≤◌, ◌^◌, length, All, IfOk, IfErr, OnOk};
 ghost use Rattle.exact_values.specs.Rational.{zero_ℚ, one_ℚ, neg_ℚ, ◌-ℚ◌, ◌*ℚ◌, ◌/ℚ◌};
 ghost use Rattle.lp_definitions.specs.LinearProgram.{value_at, on_row};
 ghost use Rattle.lp_definitions.specs.RatesEvidence.{Names};
 ghost use Rattle.eta_file.specs.Entries.{sum_rate, others, IsEntryWithin, AreApart, AreDistinctRows, IsRowWithin};
-ghost use Rattle.eta_file.specs.Crossings.{IsWithinPlaces, IsSubtracted, IsCrossed, IsScaled, IsLeaving, IsColumnFilled, AreZero, NoneLater, LeftAt};
+ghost use Rattle.eta_file.specs.Transformations.{IsWithinPlaces, IsSubtracted, IsTransformed, IsScaled, IsLeaving, IsColumnFilled, AreZero, NoneLater, LeftAt};
 ghost use Rattle.eta_file.specs.Formulas.{number_of, basic_of, nonbasic_of};
-ghost use Rattle.eta_file.specs.Refusals.{IsRefusal, IsRestRefused, SubtractRefused, CrossRefused, ScaleRefused, LeaveRefused};
+ghost use Rattle.eta_file.specs.Refusals.{IsRefusal, IsRestRefused, SubtractRefused, TransformRefused, ScaleRefused, LeaveRefused};
 
 use crate::eta::{EtaEntry, StoredEta};
 use crate::steps::Steps;
@@ -69,15 +69,15 @@ impl ExchangeFormula {
     }
 }
 
-/// An eta on the way of a column: the number of the set before it, and its exchange.
+/// The transformation of a column by an eta: the number of the set before it, and its exchange.
 #[derive(Clone, Copy)]
-struct Crossing {
+struct Transformation {
     way: u32,
     p: u32,
     q: u32,
 }
 
-impl Crossing {
+impl Transformation {
     /// The evidence that a formula is refused at the set before the eta.
     fn evidence(self, formula: ExchangeFormula, refused: Refused) -> Evidence
         ensures names { Names result (number_of formula) self.p self.q (basic_of formula)
@@ -265,8 +265,8 @@ impl Crossing {
     }
 }
 
-/// Carries the direction of `j` over an eta, whose number as a waypoint this is.
-pub fn cross<L: Ledger>(
+/// Transforms the direction of `j` by an eta, whose number as a waypoint this is.
+pub fn transform<L: Ledger>(
     eta: &StoredEta,
     way: u32,
     j: u32,
@@ -274,21 +274,21 @@ pub fn cross<L: Ledger>(
     steps: &mut Steps<L>,
 ) -> Result<(), Evidence>
     requires { IsWithinPlaces (length out.old) eta.now }
-    ensures crossed { OnOk result (IsCrossed eta.now out.old out.new) }
-    ensures refused { IfErr result (CrossRefused eta.now way j out.old) }
+    ensures transformed { OnOk result (IsTransformed eta.now out.old out.new) }
+    ensures refused { IfErr result (TransformRefused eta.now way j out.old) }
     ensures cost { steps.new ≤ steps.old + 1 + 2 * others eta.now.p eta.now.entries.items }
 {
     let lead = out[eta.p as usize - 1];
     if lead.is_zero() {
         return Ok(());
     }
-    let crossing = Crossing {
+    let transformation = Transformation {
         way,
         p: eta.p,
         q: eta.q,
     };
-    let quotient = crossing.quotient(j, lead, eta.pivot, steps)?;
-    crossing.subtract(&eta.entries, j, quotient, out, steps)?;
+    let quotient = transformation.quotient(j, lead, eta.pivot, steps)?;
+    transformation.subtract(&eta.entries, j, quotient, out, steps)?;
     out[eta.p as usize - 1] = Frac::whole(0);
     out[eta.q as usize - 1] = quotient.neg();
     Ok(())
@@ -318,14 +318,14 @@ pub fn leave<L: Ledger>(
     ensures refused { IfErr result (LeaveRefused eta.now way) }
     ensures cost { steps.new ≤ steps.old + 1 + others eta.now.p eta.now.entries.items }
 {
-    let crossing = Crossing {
+    let transformation = Transformation {
         way,
         p: eta.p,
         q: eta.q,
     };
-    let reciprocal = crossing.reciprocal(eta.pivot, steps)?;
+    let reciprocal = transformation.reciprocal(eta.pivot, steps)?;
     clear(out);
-    crossing.scale(&eta.entries, reciprocal, out, steps)?;
+    transformation.scale(&eta.entries, reciprocal, out, steps)?;
     out[eta.p as usize - 1] = Frac::whole(1);
     out[eta.q as usize - 1] = reciprocal;
     Ok(())

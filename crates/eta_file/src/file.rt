@@ -8,17 +8,17 @@ ghost use Rattle.lp_definitions.specs.Basis.{is_in, IsBasic, IsNonbasic, IsNonsi
 ghost use Rattle.lp_definitions.specs.Waypoints.{waypoint};
 ghost use Rattle.lp_definitions.specs.RatesEvidence.{ExchangeRefused};
 ghost use Rattle.lp_model.specs.RatesCalls.{HasPivot, ColumnOverflow, ExchangeOverflow};
-ghost use Rattle.eta_file.specs.Crossings.{AreZero, NoneLater, LeftAt};
+ghost use Rattle.eta_file.specs.Transformations.{AreZero, NoneLater, LeftAt};
 ghost use Rattle.eta_file.specs.Prefixes.{Passed, entry_of, entries_to, IsLent, IsLentScaled, IsExchangeOf, basic_columns, after, entry_count};
 ghost use Rattle.eta_file.specs.declared.eta.StoredEta.{StoredEta};
 ghost use Rattle.eta_file.specs.Inverse.{ways_of, IsAppended, IsNextEta, IsDirectionAfter};
 ghost use Rattle.whole_vectors.specs.Quotients.{Represent};
 
 use crate::basic_set::{BasicSet, place_of};
-use crate::carry::{clear, cross, fill_column, last_left, leave};
+use crate::carry::{clear, fill_column, last_left, leave, transform};
 use crate::eta::{Eta, EtaEntry, ScaledEta, StoredEta};
 use crate::steps::Steps;
-use crate::whole::{begin_whole, cross_whole, leave_whole, whole_eta};
+use crate::whole::{begin_whole, leave_whole, transform_whole, whole_eta};
 use frac128::Frac;
 use lp_model::{Entry, Evidence, Lp, NoMemory, SparseVector, Stop};
 use std::alloc::Global;
@@ -225,8 +225,8 @@ impl EtaFile {
         }
     }
 
-    /// Carries the direction of `j` over the eta at this place.
-    fn cross_at<L: Ledger>(
+    /// Transforms the direction of `j` by the eta at this place.
+    fn transform_at<L: Ledger>(
         &self,
         place: usize,
         j: u32,
@@ -251,7 +251,7 @@ impl EtaFile {
     {
         let eta = &self.etas[place];
         let way = place as u32 + 1;
-        cross(eta, way, j, out, steps)
+        transform(eta, way, j, out, steps)
     }
 
     /// Fills `out` with the direction of the nonbasic `j`, or says which number was too large.
@@ -272,7 +272,7 @@ impl EtaFile {
         let first = last_left(&self.etas, j);
         self.begin(first, j, out, steps)?;
         for place in first..self.etas.len() {
-            self.cross_at(place, j, out, steps)?;
+            self.transform_at(place, j, out, steps)?;
         }
         Ok(())
     }
@@ -335,8 +335,8 @@ impl EtaFile {
         }
     }
 
-    /// Carries the numbers of the direction of `j` over the eta at this place, and gives their denominator after it.
-    fn cross_whole_at(
+    /// Transforms the numbers of the direction of `j` by the eta at this place, and gives their denominator after it.
+    fn transform_whole_at(
         &self,
         place: usize,
         j: u32,
@@ -354,7 +354,7 @@ impl EtaFile {
             d out.new) }
     {
         let eta = &self.etas[place];
-        cross_whole(eta, denominator, out)
+        transform_whole(eta, denominator, out)
     }
 
     /// Fills `out`, which is all 0, with the direction of the nonbasic `j`, carried in numbers over one denominator. It gives up where
@@ -369,7 +369,7 @@ impl EtaFile {
         let first = last_left(&self.etas, j);
         let mut denominator = self.begin_at(first, j, out)?;
         for place in first..self.etas.len() {
-            denominator = self.cross_whole_at(place, j, denominator, out)?;
+            denominator = self.transform_whole_at(place, j, denominator, out)?;
         }
         divide(out, denominator)
     }

@@ -5,7 +5,7 @@ ghost use Rattle.std.specs.Prelude.{◌≡◌, ◌≢◌, ◌≤◌, length, map
 ghost use Rattle.exact_values.specs.Rational.{zero_ℚ, one_ℚ};
 ghost use Rattle.whole_vectors.specs.Quotients.{quotients, Represent};
 ghost use Rattle.eta_file.specs.Entries.{IsEntryWithin, AreApart, IsRowWithin, AreDistinctRows, scaled, IsWholeOf};
-ghost use Rattle.eta_file.specs.Crossings.{IsWithinPlaces, IsSubtracted, IsCrossed, IsScaled, IsLeaving, IsColumnFilled, IsExchanged, AreZero};
+ghost use Rattle.eta_file.specs.Transformations.{IsWithinPlaces, IsSubtracted, IsTransformed, IsScaled, IsLeaving, IsColumnFilled, IsExchanged, AreZero};
 
 use crate::carry::place_column;
 use crate::eta::{EtaEntry, StoredEta, WholeEta};
@@ -139,12 +139,12 @@ fn exchange_whole(whole: &WholeEta, p: u32, q: u32, multiple: Frac, out: &mut [F
     Some(())
 }
 
-/// Carries the numbers of a direction over an eta, and gives their denominator after it.
-pub fn cross_whole(eta: &StoredEta, denominator: Frac, out: &mut [Frac]) -> Option<Frac>
+/// Transforms the numbers of a direction by an eta, and gives their denominator after it.
+pub fn transform_whole(eta: &StoredEta, denominator: Frac, out: &mut [Frac]) -> Option<Frac>
     requires places { IsWithinPlaces (length out.old) eta.now }
     requires whole { IfSome eta.now.whole (IsWholeOf eta.now.pivot eta.now.entries.items) }
     requires apart { denominator ≢ zero_ℚ }
-    ensures { IfSome result (λ d. Represent (IsCrossed eta.now (quotients denominator out.old))
+    ensures { IfSome result (λ d. Represent (IsTransformed eta.now (quotients denominator out.old))
         d out.new) }
 {
     if out[eta.p as usize - 1].is_zero() {

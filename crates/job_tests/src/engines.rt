@@ -4,7 +4,7 @@ use crate::parametric_runs::PARAMETRIC;
 use crate::rows::{PLANS, RANGES, Row};
 use card_reader::read_job;
 use control_compiler::compile;
-use control_run::{RunEngine, Status, run_on};
+use control_run::{RunEngine, RunStatus, run_on};
 use job_devices::{MemorySink, MemorySource};
 use lp_model::Engine;
 use rates_dense::Dense;
@@ -14,7 +14,7 @@ use std::test::Fail;
 /// What the program of a job is answered, over an engine.
 #[derive(Drop)]
 struct Run {
-    status: Status,
+    status: RunStatus,
     print: MemorySink,
 }
 
@@ -68,7 +68,7 @@ fn an_engine_without_memory_ends_the_run(rt: HostRuntime) -> Result<(), Fail> {
         rt.alloc(),
         b"         PROGRAM\n         CONVERT\n         SETUP\n         PRIMAL\n         EXIT\n         PEND\nNAME          ONE\nROWS\n N  COST\n G  LOW\nCOLUMNS\n    X         COST      1\n    X         LOW       1\nRHS\n    B         LOW       1\nENDATA\n",
     )?;
-    assert_eq!(rt; run.status, Status::Memory);
+    assert_eq!(rt; run.status, RunStatus::Memory);
     let listing: &[u8] =
         b"CONVERT ONE      ROWS 2 COLUMNS 1 ENTRIES 2\nSETUP   ONE      MIN\nSTOP 28 MEMORY\n";
     assert!(rt; run.print.bytes() == listing);

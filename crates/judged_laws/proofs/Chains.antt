@@ -11,7 +11,7 @@ use Rattle.check_definitions.specs.declared.Verdict.{Verdict}
 use Rattle.simplex_definitions.specs.Chain.{Part, ChainEnd as PastBreakpoint}
 use Rattle.parametric_laws.specs.Truth.{IsTruePart, AreJoined, last_end, IsCovered, IsTrueEnd, IsTrueRun}
 use Rattle.interval_laws.specs.Laws.{BetweenLaws, PastLaws}
-use Rattle.listing_definitions.specs.Report.{Line, Interval, ChainEnd}
+use Rattle.listing_definitions.specs.Report.{Line, ParametricInterval, ChainEnd}
 use Rattle.listing_definitions.specs.Numbers.{digits, rational_text}
 use Rattle.question_definitions.specs.Answers.{Basis, Sheet, parametric_solver, ParametricRun, ParametricRunEnd, OfParametricRun, Opening, Chained}
 use Rattle.answer_definitions.specs.ParametricRuns.{family_of}
@@ -93,7 +93,7 @@ anything : {X : Type 0} (o : Option X) → IfSome o (λ x. Unit {0})
 anything None = tt
 anything (Some x) = tt
 
-begins_at : (sheet : Sheet) (number : ℕ) (last : ℚ) (rest after : List ℕ) (interval : Interval) → interval_in sheet number last rest ≡ Some (interval, after) → interval.from ≡ last
+begins_at : (sheet : Sheet) (number : ℕ) (last : ℚ) (rest after : List ℕ) (interval : ParametricInterval) → interval_in sheet number last rest ≡ Some (interval, after) → interval.from ≡ last
 begins_at sheet number last rest after interval e =
     at_some Begins (interval_in sheet number last rest) (interval, after) e
     (after_text Begins (codes "INTERVAL " ++ (digits number ++ (codes " FROM " ++ (rational_text last ++ codes " TO ")))) _ rest (λ on.
@@ -102,20 +102,20 @@ begins_at sheet number last rest after interval e =
     mapped Begins (λ (got : List Line × List ℕ). Unit {0}) (λ got. (record { from = last; to = to; lines = got.0 }, got.1))
     (table_in sheet part_slots (variables sheet.lp.matrix) on) (anything (table_in sheet part_slots (variables sheet.lp.matrix) on)) (λ got h. refl)))))
   where
-    Begins : Interval × List ℕ → Type 0
+    Begins : ParametricInterval × List ℕ → Type 0
     Begins got = got.0.from ≡ last
 
 module _ (sheet : Sheet) (parametric_run : ParametricRun) where
   -- an interval is right, and so is what comes of the text after it
-  pub record GoesOn (go : ℚ → List ℕ → Judged Run) (judged : Judged Interval) (run : Run) (after : List ℕ) : Type 0 where
-    pub interval : Interval
+  pub record GoesOn (go : ℚ → List ℕ → Judged Run) (judged : Judged ParametricInterval) (run : Run) (after : List ℕ) : Type 0 where
+    pub interval : ParametricInterval
     pub left : List ℕ
     pub is_right : judged ≡ Right interval left
     pub more : Run
     pub goes : go interval.to left ≡ Right more after
     pub is_run : (interval ∷ more.0, more.1) ≡ run
 
-  goes_on : (go : ℚ → List ℕ → Judged Run) (judged : Judged Interval) (run : Run) (after : List ℕ) → onward sheet parametric_run go judged ≡ Right run after → GoesOn go judged run after
+  goes_on : (go : ℚ → List ℕ → Judged Run) (judged : Judged ParametricInterval) (run : Run) (after : List ℕ) → onward sheet parametric_run go judged ≡ Right run after → GoesOn go judged run after
   goes_on go (Right interval left) run after e =
       let join : Run → Run = λ more. (interval ∷ more.0, more.1) in
       let made = right_is_made join (go interval.to left) run after e in
@@ -133,7 +133,7 @@ module _ (between : BetweenLaws) (past : PastLaws) (sheet : Sheet) (parametric_r
 
   -- the first interval of what is left
   pub record Opens (go : ℚ → List ℕ → Judged Run) (is_first : Bool) (last : ℚ) (run : Run) (after : List ℕ) : Type 0 where
-    pub interval : Interval
+    pub interval : ParametricInterval
     pub left : List ℕ
     pub more : Run
     pub goes : go interval.to left ≡ Right more after
@@ -144,7 +144,7 @@ module _ (between : BetweenLaws) (past : PastLaws) (sheet : Sheet) (parametric_r
   opens : (go : ℚ → List ℕ → Judged Run) (number : ℕ) (last : ℚ) (rest after : List ℕ) (run : Run)
       → onward sheet parametric_run go (tested (interval_test sheet parametric_run.changing (nat_eq number 1) parametric_run.to) (interval_in sheet number last rest)) ≡ Right run after → Opens go (nat_eq number 1) last run after
   opens go number last rest after run e =
-      let test : Interval → Verdict = interval_test sheet parametric_run.changing (nat_eq number 1) parametric_run.to in
+      let test : ParametricInterval → Verdict = interval_test sheet parametric_run.changing (nat_eq number 1) parametric_run.to in
       let found = goes_on sheet parametric_run go (tested test (interval_in sheet number last rest)) run after e in
       let right = right_is_passed test (interval_in sheet number last rest) found.interval found.left found.is_right in
       record {
@@ -218,7 +218,7 @@ module _ (between : BetweenLaws) (past : PastLaws) (sheet : Sheet) (parametric_r
   -- ---- the answer to the question for a parametric run
 
   -- an opening that is read is no run of intervals
-  no_opening : (rest after : List ℕ) (bases : List Basis) (intervals : List Interval) (end : ChainEnd) → opening_in sheet parametric_run rest ≡ Right (Chained bases intervals end) after → ⊥
+  no_opening : (rest after : List ℕ) (bases : List Basis) (intervals : List ParametricInterval) (end : ChainEnd) → opening_in sheet parametric_run rest ≡ Right (Chained bases intervals end) after → ⊥
   no_opening rest after bases intervals end e =
       let made = right_is_made (opening_of sheet parametric_run) (tested (claim_steps sheet parametric_run) (verdict_in sheet (parametric_solver parametric_run.changing) rest)) (Chained bases intervals end) after e in
       let two : Opening [] made.made_of.0 made.made_of.1 ≡ Chained bases intervals end = made.is_made in
@@ -227,22 +227,22 @@ module _ (between : BetweenLaws) (past : PastLaws) (sheet : Sheet) (parametric_r
   abbrev chained_of : Run → ParametricRunEnd
   chained_of run = Chained [] run.0 run.1
 
-  same_run : (bases : List Basis) (intervals : List Interval) (end : ChainEnd) (run : Run) → chained_of run ≡ Chained bases intervals end → run ≡ (intervals, end)
+  same_run : (bases : List Basis) (intervals : List ParametricInterval) (end : ChainEnd) (run : Run) → chained_of run ≡ Chained bases intervals end → run ≡ (intervals, end)
   same_run bases intervals end run e =
       let same : run.0 ≡ intervals = cc in
       let closes : run.1 ≡ end = cc in
       λ i. (same i, closes i)
 
-  chained_is_true : (on after : List ℕ) (bases : List Basis) (intervals : List Interval) (end : ChainEnd) → judged_map chained_of (run_in sheet parametric_run on 1 parametric_run.from on) ≡ Right (Chained bases intervals end) after
+  chained_is_true : (on after : List ℕ) (bases : List Basis) (intervals : List ParametricInterval) (end : ChainEnd) → judged_map chained_of (run_in sheet parametric_run on 1 parametric_run.from on) ≡ Right (Chained bases intervals end) after
       → RunIsTrue (intervals, end)
   chained_is_true on after bases intervals end e =
       let made = right_is_made chained_of (run_in sheet parametric_run on 1 parametric_run.from on) (Chained bases intervals end) after e in
       subst RunIsTrue (same_run bases intervals end made.made_of made.is_made) (run_is_true on on after made.made_of made.is_right)
 
-  run_through : (rest after : List ℕ) (bases : List Basis) (intervals : List Interval) (end : ChainEnd) (left : Option (List ℕ)) → parametric_run_in sheet parametric_run rest left ≡ Right (Chained bases intervals end) after → RunIsTrue (intervals, end)
+  run_through : (rest after : List ℕ) (bases : List Basis) (intervals : List ParametricInterval) (end : ChainEnd) (left : Option (List ℕ)) → parametric_run_in sheet parametric_run rest left ≡ Right (Chained bases intervals end) after → RunIsTrue (intervals, end)
   run_through rest after bases intervals end None e = absurd (no_opening rest after bases intervals end e)
   run_through rest after bases intervals end (Some on) e = chained_is_true on after bases intervals end e
 
-  pub chain_is_true : (rest after : List ℕ) (bases : List Basis) (intervals : List Interval) (end : ChainEnd) → judged (OfParametricRun parametric_run) sheet rest ≡ Right (Chained bases intervals end) after →
+  pub chain_is_true : (rest after : List ℕ) (bases : List Basis) (intervals : List ParametricInterval) (end : ChainEnd) → judged (OfParametricRun parametric_run) sheet rest ≡ Right (Chained bases intervals end) after →
       IsTrueRun family parametric_run.from parametric_run.to (map part_of intervals) (past_of sheet end)
   chain_is_true rest after bases intervals end e = run_through rest after bases intervals end (left_after (parametric_run_head parametric_run) rest) e

@@ -20,7 +20,7 @@ use Rattle.parametric_laws.specs.Truth.{IsSolvedBy, IsTruePart}
 use Rattle.interval_laws.specs.Laws.{StandAtBoth, IsProvedAtEnds, HoldsBetween, BetweenLaws, point_at, prices_at}
 use Rattle.question_definitions.specs.Answers.{Sheet, Changing, Row, Set}
 use Rattle.answer_definitions.specs.ParametricRuns.{row_of, shifts_of, family_of}
-use Rattle.listing_definitions.specs.Report.{Interval}
+use Rattle.listing_definitions.specs.Report.{ParametricInterval}
 use Rattle.walk_definitions.specs.Tests.{asked, making_steps, along_steps, end_test, keeps_limit, keeping_steps, part_test, interval_test}
 use Rattle.judged_laws.specs.Views.{part_of, MayChange}
 use Rattle.judged_laws.proofs.Judging.{asked_holds, each_checked}
@@ -137,5 +137,5 @@ module _ (between : BetweenLaws) (sheet : Sheet) (changing : Changing) (lawful :
         not_after (inl less) = le_of_lt less
         not_after (inr same) = subst (λ (x : ℚ). part.from ≤ℚ x) same.1 (le_refl part.from)
 
-  pub interval_is_true : (is_first : Bool) (max : ℚ) (interval : Interval) → interval_test sheet changing is_first max interval ≡ Checked → IsTrueInterval family is_first max (part_of interval)
+  pub interval_is_true : (is_first : Bool) (max : ℚ) (interval : ParametricInterval) → interval_test sheet changing is_first max interval ≡ Checked → IsTrueInterval family is_first max (part_of interval)
   interval_is_true is_first max interval e = part_is_true (part_of interval) is_first max e

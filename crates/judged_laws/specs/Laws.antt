@@ -7,7 +7,7 @@ use Rattle.parametric_laws.specs.Truth.{IsSolvedBy, IsTrueRun}
 use Rattle.listing_definitions.specs.declared.Mark.TheVariants.{Optimal}
 use Rattle.listing_definitions.specs.declared.Solver.{Solver}
 use Rattle.listing_definitions.specs.declared.Solver.TheVariants.{Dual}
-use Rattle.listing_definitions.specs.Report.{PathVerdict, OptimalAt, Check, SolutionLines, Interval, ChainEnd}
+use Rattle.listing_definitions.specs.Report.{PathVerdict, OptimalAt, Check, SolutionLines, ParametricInterval, ChainEnd}
 use Rattle.question_definitions.specs.Answers.{Basis, Sheet, ParametricRun, OfPath, OfSolution, OfParametricRun, Reached, Opening, Chained}
 use Rattle.answer_definitions.specs.ParametricRuns.{family_of, sheet_at}
 use Rattle.soundness_laws.specs.Truth.{IsTrueOf, IsNotUnbounded}
@@ -35,6 +35,6 @@ pub record JudgedLaws : Type 0 where
       MayChange sheet parametric_run.changing → judged (OfParametricRun parametric_run) sheet rest ≡ Right (Opening bases verdict check) after →
       IsTrueAtFirst (sheet_at sheet parametric_run.changing parametric_run.from) verdict
   -- a parametric run is true at every value of the parameter between its first and its last end, and past that by how it closes
-  pub chain : (parametric_run : ParametricRun) (sheet : Sheet) (rest after : List ℕ) (bases : List Basis) (intervals : List Interval) (end : ChainEnd) → IsLinearProgram sheet.lp →
+  pub chain : (parametric_run : ParametricRun) (sheet : Sheet) (rest after : List ℕ) (bases : List Basis) (intervals : List ParametricInterval) (end : ChainEnd) → IsLinearProgram sheet.lp →
       MayChange sheet parametric_run.changing → judged (OfParametricRun parametric_run) sheet rest ≡ Right (Chained bases intervals end) after →
       IsTrueRun (family_of sheet parametric_run.changing) parametric_run.from parametric_run.to (map part_of intervals) (past_of sheet end)

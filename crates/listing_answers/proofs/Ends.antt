@@ -12,12 +12,12 @@ use Rattle.check_definitions.specs.declared.Verdict.TheVariants.{Checked}
 use Rattle.check_definitions.specs.Steps.{Step, verdict_of}
 use Rattle.check_definitions.specs.Checks.{optimal_check}
 use Rattle.simplex_definitions.specs.Chain.{along}
-use Rattle.listing_definitions.specs.Report.{Interval}
+use Rattle.listing_definitions.specs.Report.{ParametricInterval}
 use Rattle.question_definitions.specs.Answers.{Sheet, Changing}
 use Rattle.answer_definitions.specs.ParametricRuns.{family_of}
 use Rattle.walk_definitions.specs.Tests.{along_steps, keeps_limit, keeping_steps, part_test, interval_test}
 use Rattle.listing_answers.specs.declared.intervals.Columns.{Columns}
-use Rattle.listing_answers.specs.declared.intervals.End.{End}
+use Rattle.listing_answers.specs.declared.intervals.IntervalEnd.{IntervalEnd}
 use Rattle.listing_answers.specs.declared.intervals.Part.{Part}
 use Rattle.listing_answers.specs.Intervals.{Counted, IsPart, IsEnd, AreEnds, kept_steps, part_verdict}
 use Rattle.listing_answers.proofs.Claimed.{family_matrix}
@@ -69,7 +69,7 @@ best_given sheet changing theta columns counted program a b point prices is is_p
     λ i. optimal_check (is i) (z i) (y i)
 
 -- the test of an interval that was read
-pub part_tested : (sheet : Sheet) (changing : Changing) (is_first : Bool) (max from : ℚ) (part : Part) (interval : Interval) → IsPart sheet from part interval →
+pub part_tested : (sheet : Sheet) (changing : Changing) (is_first : Bool) (max from : ℚ) (part : Part) (interval : ParametricInterval) → IsPart sheet from part interval →
     part_verdict sheet changing from part.to part.columns is_first max ≡ interval_test sheet changing is_first max interval
 part_tested sheet changing is_first max from part interval shows =
     let begins = sym shows.begins in
@@ -78,7 +78,7 @@ part_tested sheet changing is_first max from part interval shows =
 
 -- ---- at both ends
 
-module _ (sheet : Sheet) (changing : Changing) (from to : ℚ) (columns : Columns) (counted : Counted sheet.lp columns) (start end : End) (first : IsEnd sheet changing from columns start) (last : IsEnd sheet changing to columns end) where
+module _ (sheet : Sheet) (changing : Changing) (from to : ℚ) (columns : Columns) (counted : Counted sheet.lp columns) (start end : IntervalEnd) (first : IsEnd sheet changing from columns start) (last : IsEnd sheet changing to columns end) where
   first_matrix : start.program.matrix ≡ sheet.lp.matrix
   first_matrix = ap (λ (p : LinearProgram). p.matrix) first.program ∙ family_matrix sheet changing from
 

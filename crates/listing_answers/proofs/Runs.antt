@@ -5,7 +5,7 @@ use Rattle.std.specs.Prelude.{codes, nat_eq, IsErrAnd}
 use Rattle.std.proofs.lemmas.Result.{err_from_is_err_and}
 use Rattle.std.proofs.lemmas.Bool.Decides.{nat_tests}
 use Rattle.exact_values.specs.Rational.{ℚ}
-use Rattle.listing_definitions.specs.Report.{Interval, ChainEnd}
+use Rattle.listing_definitions.specs.Report.{ParametricInterval, ChainEnd}
 use Rattle.question_definitions.specs.Answers.{Sheet, ParametricRun, parametric_solver}
 use Rattle.run_definitions.specs.Verbs.{last_value}
 use Rattle.walk_definitions.specs.Words.{left_after}
@@ -15,7 +15,7 @@ use Rattle.listing_answers.specs.declared.answer.Stop.{Stop}
 use Rattle.listing_answers.specs.declared.answer.Stop.TheVariants as stops
 use Rattle.listing_answers.specs.Taken.{Taken}
 
-abbrev pub after : List Interval → Judged Run → Judged Run
+abbrev pub after : List ParametricInterval → Judged Run → Judged Run
 after intervals rest = judged_map (λ run. (intervals ++ run.0, run.1)) rest
 
 after_none : (rest : Judged Run) → after [] rest ≡ rest
@@ -23,7 +23,7 @@ after_none (Right run left) = refl
 after_none Fails = refl
 after_none Refuses = refl
 
-after_more : (intervals : List Interval) (interval : Interval) (rest : Judged Run) → after intervals (judged_map (λ run. (interval ∷ run.0, run.1)) rest) ≡ after (intervals ++ interval ∷ []) rest
+after_more : (intervals : List ParametricInterval) (interval : ParametricInterval) (rest : Judged Run) → after intervals (judged_map (λ run. (interval ∷ run.0, run.1)) rest) ≡ after (intervals ++ interval ∷ []) rest
 after_more intervals interval (Right run left) = ap (λ all. Right (all, run.1) left) (sym (append_assoc intervals (interval ∷ []) run.0))
 after_more intervals interval Fails = refl
 after_more intervals interval Refuses = refl
@@ -32,7 +32,7 @@ after_more intervals interval Refuses = refl
 abbrev pub EndsRun : ℚ → Run → Type 0
 EndsRun last run = last ≡ last_value run.1
 
-abbrev pub EndsPart : ℚ → Interval → Type 0
+abbrev pub EndsPart : ℚ → ParametricInterval → Type 0
 EndsPart to interval = to ≡ interval.to
 
 abbrev pub EndsChain : ℚ → ChainEnd → Type 0
@@ -41,7 +41,7 @@ EndsChain last end = last ≡ last_value end
 module _ (sheet : Sheet) (parametric_run : ParametricRun) where
   -- some intervals were read
   pub record IsRunSoFar (whole : Judged Run) (room : List ℕ) (number : ℕ) (last : ℚ) (rest : List ℕ) : Type 0 where
-    pub intervals : List Interval
+    pub intervals : List ParametricInterval
     pub decides : whole ≡ after intervals (run_in sheet parametric_run room number last rest)
 
   pub run_begins : (room : List ℕ) (number : ℕ) (last : ℚ) (rest : List ℕ) → IsRunSoFar (run_in sheet parametric_run room number last rest) room number last rest
@@ -52,7 +52,7 @@ module _ (sheet : Sheet) (parametric_run : ParametricRun) where
   room_left whole bytes i last rest below so_far =
       subst (λ (room : List ℕ). IsRunSoFar whole room (i + 1) last rest) (drop-cons bytes i 0 below ∙ ap (λ j. get_or bytes i 0 ∷ drop j bytes) (sym (add-one i))) so_far
 
-  abbrev part_judged : ℕ → ℚ → List ℕ → Judged Interval
+  abbrev part_judged : ℕ → ℚ → List ℕ → Judged ParametricInterval
   part_judged number last rest = tested (interval_test sheet parametric_run.changing (nat_eq number 1) parametric_run.to) (interval_in sheet number last rest)
 
   abbrev close_judged : ℚ → List ℕ → Judged ChainEnd

@@ -48,7 +48,7 @@ pub struct Part {
 
 /// What is made at an end of an interval: the linear program, the point and the prices.
 #[derive(Drop)]
-pub struct End {
+pub struct IntervalEnd {
     pub program: Lp,
     pub point: Vec<Frac>,
     pub prices: Vec<Frac>,
@@ -190,7 +190,7 @@ fn check_end(
     request: &ParametricRequest,
     theta: Frac,
     columns: &Columns,
-) -> Result<End, Stop>
+) -> Result<IntervalEnd, Stop>
     requires lawful { IsLinearProgram sheet.lp.now }
     requires no_change { sheet.lp.now.change ≡ None }
     requires serves { Serves sheet.problem.now sheet.lp.now request.now }
@@ -203,7 +203,7 @@ fn check_end(
     let point = along(alloc, sheet, theta, &columns.value, &columns.value_rate)?;
     let prices = along(alloc, sheet, theta, &columns.price, &columns.price_rate)?;
     judge(check_optimal(&program, &point, &prices))?;
-    Ok(End {
+    Ok(IntervalEnd {
         program,
         point,
         prices,
@@ -211,7 +211,7 @@ fn check_end(
 }
 
 // Whether each point stands at its upper limit.
-fn are_at_upper(start: &End, end: &End, k: u32) -> bool
+fn are_at_upper(start: &IntervalEnd, end: &IntervalEnd, k: u32) -> bool
     requires { AreEnds start.now end.now k }
     ensures { result ≡ (is_at (upper_of start.now.program k) (value_at start.now.point.items k) && is_at (upper_of end.now.program k)
         (value_at end.now.point.items k)) }
@@ -223,7 +223,7 @@ fn are_at_upper(start: &End, end: &End, k: u32) -> bool
 }
 
 // Whether each point stands at its lower limit.
-fn are_at_lower(start: &End, end: &End, k: u32) -> bool
+fn are_at_lower(start: &IntervalEnd, end: &IntervalEnd, k: u32) -> bool
     requires { AreEnds start.now end.now k }
     ensures { result ≡ (is_at (lower_of start.now.program k) (value_at start.now.point.items k) && is_at (lower_of end.now.program k)
         (value_at end.now.point.items k)) }
@@ -235,7 +235,7 @@ fn are_at_lower(start: &End, end: &End, k: u32) -> bool
 }
 
 // The price asks for one limit at both ends.
-fn check_price(start: &End, end: &End, price: Frac, k: u32) -> Result<(), Stop>
+fn check_price(start: &IntervalEnd, end: &IntervalEnd, price: Frac, k: u32) -> Result<(), Stop>
     requires { AreEnds start.now end.now k }
     ensures { Judges (verdict_of (keeps_limit start.now.program end.now.program (value_at start.now.point.items)
         (value_at end.now.point.items) price k)) result }
@@ -248,7 +248,7 @@ fn check_price(start: &End, end: &End, price: Frac, k: u32) -> Result<(), Stop>
 }
 
 // So do the prices of a variable at both ends.
-fn check_prices_of(start: &End, end: &End, k: u32) -> Result<(), Stop>
+fn check_prices_of(start: &IntervalEnd, end: &IntervalEnd, k: u32) -> Result<(), Stop>
     requires { AreEnds start.now end.now k }
     ensures { Judges (verdict_of (kept_steps start.now end.now k)) result }
 {
@@ -260,7 +260,7 @@ fn check_prices_of(start: &End, end: &End, k: u32) -> Result<(), Stop>
 }
 
 // So do the prices of all variables.
-fn check_kept(start: &End, end: &End) -> Result<(), Stop>
+fn check_kept(start: &IntervalEnd, end: &IntervalEnd) -> Result<(), Stop>
     requires { (k : ℕ) → IsVariable start.now.program.matrix k → AreEnds start.now end.now k }
     ensures { Judges (verdict_of (flat_map (kept_steps start.now end.now) (variables start.now.program.matrix))) result }
 {

@@ -59,7 +59,7 @@ pub record RangeLines : Type 0 where
   pub columns_between : List Line
 
 -- an interval of a parametric run, with a line for each variable
-pub record Interval : Type 0 where
+pub record ParametricInterval : Type 0 where
   pub from : ℚ
   pub to : ℚ
   pub lines : List Line
@@ -73,7 +73,7 @@ pub data ChainEnd : Type 0 where
 pub record Chain : Type 0 where
   pub from : ℚ
   pub change : Name
-  pub intervals : List Interval
+  pub intervals : List ParametricInterval
   pub end : ChainEnd
 
 -- What a statement prints. Of a deck that is punched, by BCDOUT or by PUNCH, only its problem and the number of its cards are printed;

@@ -15,7 +15,7 @@ use Rattle.listing_definitions.specs.declared.Solver.TheVariants.{Primal, Dual, 
 use Rattle.listing_definitions.specs.declared.At.{At}
 use Rattle.listing_definitions.specs.declared.At.TheVariants.{Basic, Outside, Equal, Lower, Upper, Free}
 use Rattle.listing_definitions.specs.Numbers.{digits, rational_text}
-use Rattle.listing_definitions.specs.Report.{Value, Code, Number, Absent, Dash, Line, Filed, PathVerdict, OptimalAt, CrossedAt, InfeasibleBy, UnboundedBy, Check, Checked, Unchecked, SolutionLines, RangeLines, Interval, ChainEnd, EndsAt, UnboundedPast, InfeasiblePast, Chain, Report, Titled, Converted, Revised, SetUp, BcdOut, BasisOut, Inserted, Solved, Solution, Ranges, Parametric}
+use Rattle.listing_definitions.specs.Report.{Value, Code, Number, Absent, Dash, Line, Filed, PathVerdict, OptimalAt, CrossedAt, InfeasibleBy, UnboundedBy, Check, Checked, Unchecked, SolutionLines, RangeLines, ParametricInterval, ChainEnd, EndsAt, UnboundedPast, InfeasiblePast, Chain, Report, Titled, Converted, Revised, SetUp, BcdOut, BasisOut, Inserted, Solved, Solution, Ranges, Parametric}
 
 -- ---- table lines
 
@@ -122,7 +122,7 @@ ranges_text lines =
     codes "SECTION 4 - COLUMNS AT INTERMEDIATE LEVEL\n" ∷ table_text lines.columns_between ∷ [])
 
 -- intervals count from 1
-abbrev pub interval_text : ℕ × Interval → List ℕ
+abbrev pub interval_text : ℕ × ParametricInterval → List ℕ
 interval_text entry =
     concat (codes "INTERVAL " ∷ digits entry.0 ∷ codes " FROM " ∷ rational_text entry.1.from ∷ codes " TO " ∷ rational_text entry.1.to ∷ codes "\n" ∷ table_text entry.1.lines ∷ [])
 

@@ -9,7 +9,7 @@ use Rattle.listing_definitions.specs.declared.Mark.{Mark}
 use Rattle.listing_definitions.specs.declared.Solver.{Solver}
 use Rattle.listing_definitions.specs.declared.Solver.TheVariants.{Primal, Dual, Paraobj, Pararhs}
 use Rattle.listing_definitions.specs.Numbers.{digits, rational_text}
-use Rattle.listing_definitions.specs.Report.{Line, Filed, PathVerdict, OptimalAt, CrossedAt, InfeasibleBy, UnboundedBy, Check, SolutionLines, RangeLines, Interval, ChainEnd, EndsAt, UnboundedPast, InfeasiblePast, Chain, Report, Titled, Converted, Revised, SetUp, BcdOut, BasisOut, Inserted, Solved, Solution, Ranges, Parametric}
+use Rattle.listing_definitions.specs.Report.{Line, Filed, PathVerdict, OptimalAt, CrossedAt, InfeasibleBy, UnboundedBy, Check, SolutionLines, RangeLines, ParametricInterval, ChainEnd, EndsAt, UnboundedPast, InfeasiblePast, Chain, Report, Titled, Converted, Revised, SetUp, BcdOut, BasisOut, Inserted, Solved, Solution, Ranges, Parametric}
 use Rattle.listing_definitions.specs.Text.{name8, table_text, check_text, solver_text, verdict_head, verdict_lines, interval_text, chain_end_text, solution_text, ranges_text, report_text}
 use Rattle.listing_laws.specs.Reported.{begins_line, AreNamed, IsEndNamed, IsNamed}
 use Rattle.listing_laws.proofs.Cutting.{differ}
@@ -200,27 +200,27 @@ solver_is_no_line Dual rest = refl
 solver_is_no_line Paraobj rest = refl
 solver_is_no_line Pararhs rest = refl
 
-interval_parts : (k : ℕ) (x : Interval) (rest : List ℕ) → interval_text (k, x) ++ rest
+interval_parts : (k : ℕ) (x : ParametricInterval) (rest : List ℕ) → interval_text (k, x) ++ rest
     ≡ codes "INTERVAL " ++ (digits k ++ (codes " FROM " ++ (rational_text x.from ++ (codes " TO " ++ (rational_text x.to ++ (codes "\n" ++ (table_text x.lines ++ rest)))))))
 interval_parts k x rest = simp (append_assoc, append-nil)
 
-same_interval : (x y : Interval) → x.from ≡ y.from → x.to ≡ y.to → x.lines ≡ y.lines → x ≡ y
+same_interval : (x y : ParametricInterval) → x.from ≡ y.from → x.to ≡ y.to → x.lines ≡ y.lines → x ≡ y
 same_interval x y first last lines = λ i. record { from = first i; to = last i; lines = lines i }
 
 module _ (solver : Solver) where
   -- the intervals from this number on, and the end
-  abbrev run_text : ℕ → List Interval → ChainEnd → List ℕ
+  abbrev run_text : ℕ → List ParametricInterval → ChainEnd → List ℕ
   run_text k intervals end = flat_map interval_text (enumerate_from k intervals) ++ (chain_end_text solver end ++ [])
 
-  run_is_no_line : (k : ℕ) (xs : List Interval) (end : ChainEnd) → begins_line (run_text k xs end) ≡ false
+  run_is_no_line : (k : ℕ) (xs : List ParametricInterval) (end : ChainEnd) → begins_line (run_text k xs end) ≡ false
   run_is_no_line k [] end = ap begins_line (whole_end solver end) ∙ solver_is_no_line solver (end_rest end)
   run_is_no_line k (x ∷ xs) end = refl
 
   -- an interval is no end
-  no_end : (k : ℕ) (y : Interval) (ys : List Interval) (a b : ChainEnd) → run_text k [] a ≡ run_text k (y ∷ ys) b → ⊥
+  no_end : (k : ℕ) (y : ParametricInterval) (ys : List ParametricInterval) (a b : ChainEnd) → run_text k [] a ≡ run_text k (y ∷ ys) b → ⊥
   no_end k y ys a b e = no_solver solver (run_text k (y ∷ ys) b) (end_rest a) refl (sym e ∙ whole_end solver a)
 
-  run_tells : (k : ℕ) (xs ys : List Interval) (a b : ChainEnd) → All (λ (x : Interval). AreNamed x.lines) xs → All (λ (x : Interval). AreNamed x.lines) ys → IsEndNamed a → IsEndNamed b
+  run_tells : (k : ℕ) (xs ys : List ParametricInterval) (a b : ChainEnd) → All (λ (x : ParametricInterval). AreNamed x.lines) xs → All (λ (x : ParametricInterval). AreNamed x.lines) ys → IsEndNamed a → IsEndNamed b
       → run_text k xs a ≡ run_text k ys b → (xs ≡ ys) × (a ≡ b)
   run_tells k [] [] a b x_named y_named a_named b_named e = (refl, end_tells solver a b a_named b_named e)
   run_tells k [] (y ∷ ys) a b x_named y_named a_named b_named e = absurd (no_end k y ys a b e)

@@ -2,7 +2,7 @@
 use Rattle.std.specs.Prelude.{◌≡◌, ℕ, Bool, false, ◌||◌, List, [], ◌∷◌, ◌++◌, ◌==◌, All}
 use Rattle.card_definitions.specs.Numbers.{is_digit}
 use Rattle.problem_definitions.specs.Valid.{IsName}
-use Rattle.listing_definitions.specs.Report.{Value, Line, Interval, ChainEnd, EndsAt, UnboundedPast, InfeasiblePast, Report, Titled, Converted, Revised, SetUp, BcdOut, BasisOut, Inserted, Solved, Solution, Ranges, Parametric}
+use Rattle.listing_definitions.specs.Report.{Value, Line, ParametricInterval, ChainEnd, EndsAt, UnboundedPast, InfeasiblePast, Report, Titled, Converted, Revised, SetUp, BcdOut, BasisOut, Inserted, Solved, Solution, Ranges, Parametric}
 use Rattle.listing_definitions.specs.Text.{value_text, line_text, table_text, verdict_lines, report_text}
 
 -- two values with equal texts are one
@@ -45,7 +45,7 @@ IsNamed (Inserted name basic) = IsName name
 IsNamed (Solved solver verdict check) = AreNamed (verdict_lines verdict)
 IsNamed (Solution mark lines) = AreNamed lines.rows × AreNamed lines.columns
 IsNamed (Ranges lines) = AreNamed lines.rows_at_limit × AreNamed lines.columns_at_limit × AreNamed lines.rows_between × AreNamed lines.columns_between
-IsNamed (Parametric solver chain) = IsName chain.change × All (λ (interval : Interval). AreNamed interval.lines) chain.intervals × IsEndNamed chain.end
+IsNamed (Parametric solver chain) = IsName chain.change × All (λ (interval : ParametricInterval). AreNamed interval.lines) chain.intervals × IsEndNamed chain.end
 
 -- Two reports with equal texts are of one kind, and all that they print is equal: the printed fields of a report are all its fields,
 -- so that they are one report.

@@ -10,8 +10,8 @@ use Rattle.listing_definitions.specs.declared.Mark.{Mark}
 use Rattle.listing_definitions.specs.declared.Mark.TheVariants as marks
 use Rattle.listing_definitions.specs.declared.Solver.{Solver}
 use Rattle.listing_definitions.specs.Report.{PathVerdict, OptimalAt, CrossedAt, InfeasibleBy, UnboundedBy, Check, SolutionLines}
-use Rattle.question_definitions.specs.Answers.{Sheet, Question, OfPath, OfSolution, OfParametricRun, ParametricRun, Answer, PathEnd, Reached, PathLimit, PricesWrong}
-use Rattle.run_definitions.specs.Moves.{Outcome}
+use Rattle.question_definitions.specs.Answers.{Sheet, Question, OfPath, OfSolution, OfParametricRun, ParametricRun, AnswerTo, PathEnd, Reached, PathLimit, PricesWrong}
+use Rattle.run_definitions.specs.Moves.{StatementOutcome}
 use Rattle.run_definitions.specs.Verbs.{mark_of}
 use Rattle.walk_definitions.specs.Tests.{says_checked, point_of}
 use Rattle.walk_definitions.specs.Reading.{Judged, Right, Fails, Refuses, judged}
@@ -26,7 +26,7 @@ use Rattle.listing_walk.specs.declared.answering.Stopped.TheVariants.{Finds}
 use Rattle.listing_walk.specs.declared.found.Found.{Found}
 use Rattle.listing_walk.specs.declared.found.Found.TheVariants.{Wrong}
 use Rattle.listing_walk.specs.declared.place.Pending.{Pending}
-use Rattle.listing_walk.specs.declared.place.Place.{Place}
+use Rattle.listing_walk.specs.declared.place.ListingPlace.{ListingPlace}
 use Rattle.listing_walk.specs.Ended.{found_view}
 use Rattle.listing_walk.specs.Standing.{ShowsPending, Faces}
 use Rattle.listing_walk.specs.Walking.{open_by}
@@ -73,24 +73,24 @@ pends_none rest (UnboundedBy steps value lines) check conclusion e other = refl
 
 -- ---- where an answer comes
 
-module _ (question : Question) (sheet : Sheet) (old : Place) (open_there : walks.Walker → Option walks.Found)
-    (opens : (w : walks.Walker) (go : Answer question → Outcome) → walks.open_question w question sheet go ≡ open_there w) where
+module _ (question : Question) (sheet : Sheet) (old : ListingPlace) (open_there : walks.Walker → Option walks.Found)
+    (opens : (w : walks.Walker) (go : AnswerTo question → StatementOutcome) → walks.open_question w question sheet go ≡ open_there w) where
   -- what is open comes first
-  pub found_open : (found : Found) → ((w : walks.Walker) → Faces old w → option_map found_view (Some found) ≡ open_there w) → (w : walks.Walker) (go : Answer question → Outcome) → Faces old w →
+  pub found_open : (found : Found) → ((w : walks.Walker) → Faces old w → option_map found_view (Some found) ≡ open_there w) → (w : walks.Walker) (go : AnswerTo question → StatementOutcome) → Faces old w →
       asked_turn w question sheet go ≡ walks.Finds (found_view found)
   found_open found there_is w go f =
       ap (λ (x : Option walks.Found). walks.unless_found x (walks.answered w question sheet go (judged question sheet w.rest))) (opens w go ∙ sym (there_is w f))
 
   module _ (none : (w : walks.Walker) → Faces old w → None ≡ open_there w) where
     -- then the answer
-    pub turn_answered : (w : walks.Walker) (go : Answer question → Outcome) → Faces old w → (given : Judged (Answer question)) → judged question sheet old.cursor ≡ given →
+    pub turn_answered : (w : walks.Walker) (go : AnswerTo question → StatementOutcome) → Faces old w → (given : Judged (AnswerTo question)) → judged question sheet old.cursor ≡ given →
         asked_turn w question sheet go ≡ walks.answered w question sheet go given
     turn_answered w go f given is =
         ap (λ (x : Option walks.Found). walks.unless_found x (walks.answered w question sheet go (judged question sheet w.rest))) (opens w go ∙ sym (none w f)) ∙
         ap (λ (rest : List ℕ). walks.answered w question sheet go (judged question sheet rest)) f.rest ∙ ap (walks.answered w question sheet go) is
 
     -- it isn't right, or an operation of its test is refused
-    pub stopped_answered : {X Y : Type 0} (Shows : X → Answer question → Type 0) (Holds : Y → Answer question → Type 0) (new : Place) (cursor : List ℕ) (stop : Stop) (rest : Bor (List ℕ)) → rest.now ≡ old.cursor →
+    pub stopped_answered : {X Y : Type 0} (Shows : X → AnswerTo question → Type 0) (Holds : Y → AnswerTo question → Type 0) (new : ListingPlace) (cursor : List ℕ) (stop : Stop) (rest : Bor (List ℕ)) → rest.now ≡ old.cursor →
         Taken Shows (judged question sheet old.cursor) cursor (Err stop) → Answered question sheet old new Holds (Err (stopped_by stop rest))
     stopped_answered Shows Holds new cursor stops.Wrong rest here taken = λ w go f. turn_answered w go f Fails taken ∙ ap (λ (left : List ℕ). walks.Finds (walks.Wrong left)) (f.rest ∙ sym here)
     stopped_answered Shows Holds new cursor stops.Unchecked rest here taken = λ w go f. turn_answered w go f Refuses taken ∙ ap (λ (left : List ℕ). walks.Finds (walks.Unchecked left)) (f.rest ∙ sym here)
@@ -98,7 +98,7 @@ module _ (question : Question) (sheet : Sheet) (old : Place) (open_there : walks
 
 -- ---- PRIMAL and DUAL
 
-module _ (question : Question) (sheet : Sheet) (old new : Place) (w : walks.Walker) (f : Faces old w) (counted : new.reports ≡ old.reports + 1) where
+module _ (question : Question) (sheet : Sheet) (old new : ListingPlace) (w : walks.Walker) (f : Faces old w) (counted : new.reports ≡ old.reports + 1) where
   -- the walker after an answer
   abbrev walker_after : Option walks.Pending → walks.Walker
   walker_after pending = record (walks.passed new.cursor 1 w) { pending = pending }
@@ -111,9 +111,9 @@ pub record IsConcluded (conclusion : Conclusion) (mark : Mark) (pending : Option
   pub marks : (verdict : PathVerdict) (check : Check) → conclusion ≡ conclusion_of verdict check → mark ≡ mark_of verdict
   pub pends : (verdict : PathVerdict) (check : Check) → conclusion ≡ conclusion_of verdict check → ShowsPending pending (walks.pending_after rest verdict check)
 
-module _ (solver : Solver) (limit : Option ℕ) (sheet : Sheet) (old new : Place) (none : (w : walks.Walker) → Faces old w → None ≡ open_by true true w) (counted : new.reports ≡ old.reports + 1)
+module _ (solver : Solver) (limit : Option ℕ) (sheet : Sheet) (old new : ListingPlace) (none : (w : walks.Walker) → Faces old w → None ≡ open_by true true w) (counted : new.reports ≡ old.reports + 1)
     (conclusion : Conclusion) (mark : Mark) (rest : List ℕ) (here : rest ≡ old.cursor) (c : IsConcluded conclusion mark new.pending rest) where
-  path_by : (answer : PathEnd) → judged (OfPath solver limit) sheet old.cursor ≡ Right answer new.cursor → IsConclusion conclusion answer → (w : walks.Walker) (go : PathEnd → Outcome) → Faces old w →
+  path_by : (answer : PathEnd) → judged (OfPath solver limit) sheet old.cursor ≡ Right answer new.cursor → IsConclusion conclusion answer → (w : walks.Walker) (go : PathEnd → StatementOutcome) → Faces old w →
       IsTaken (OfPath solver limit) (IsMarked mark) new (asked_turn w (OfPath solver limit) sheet go) go
   path_by (Reached bases verdict check) right is w go f = record {
     answer = Reached bases verdict check;
@@ -136,32 +136,32 @@ settles_by : (pending : Pending) (objective : ℚ) (check : Check) → says_chec
     walks.settles (record { rest = pending.rest.now; objective = pending.objective; check = check }) objective ≡ settled_by pending objective
 settles_by pending objective check same = ap (λ (b : Bool). if eq_ℚ pending.objective objective then b else false) same
 
-abbrev turn_settled : walks.Turn → Pending → Bool → walks.Turn
+abbrev turn_settled : walks.WalkTurn → Pending → Bool → walks.WalkTurn
 turn_settled turn pending b = if b then turn else walks.Finds (walks.Wrong pending.rest.now)
 
-is_settled : (w : walks.Walker) (pending : Pending) (viewed : Option walks.Pending) (objective : ℚ) (turn : walks.Turn) → ShowsPending (Some pending) viewed → walks.settled w viewed objective turn ≡ turn_settled turn pending (settled_by pending objective)
+is_settled : (w : walks.Walker) (pending : Pending) (viewed : Option walks.Pending) (objective : ℚ) (turn : walks.WalkTurn) → ShowsPending (Some pending) viewed → walks.settled w viewed objective turn ≡ turn_settled turn pending (settled_by pending objective)
 is_settled w pending viewed objective turn shows =
     ap (λ (p : Option walks.Pending). walks.settled w p objective turn) shows.1 ∙ ap (turn_settled turn pending) (settles_by pending objective shows.0 shows.2)
 
-by_none : (turn : walks.Turn) (pending : Pending) (b : Bool) → None ≡ (if b then None else Some (Wrong pending.rest)) → turn_settled turn pending b ≡ turn
+by_none : (turn : walks.WalkTurn) (pending : Pending) (b : Bool) → None ≡ (if b then None else Some (Wrong pending.rest)) → turn_settled turn pending b ≡ turn
 by_none turn pending true h = refl
 by_none turn pending false h = absurd (cc h)
 
-by_some : (turn : walks.Turn) (pending : Pending) (found : Found) (b : Bool) → Some found ≡ (if b then None else Some (Wrong pending.rest)) → turn_settled turn pending b ≡ walks.Finds (found_view found)
+by_some : (turn : walks.WalkTurn) (pending : Pending) (found : Found) (b : Bool) → Some found ≡ (if b then None else Some (Wrong pending.rest)) → turn_settled turn pending b ≡ walks.Finds (found_view found)
 by_some turn pending found true h = absurd (cc h)
 by_some turn pending found false h = ap (λ (x : Found). walks.Finds (found_view x)) (sym (same_Some found (Wrong pending.rest) h))
 
-settled_none : (w : walks.Walker) (pending : Option Pending) (viewed : Option walks.Pending) (objective : ℚ) (turn : walks.Turn) → ShowsPending pending viewed → IsSettling pending objective None → walks.settled w viewed objective turn ≡ turn
+settled_none : (w : walks.Walker) (pending : Option Pending) (viewed : Option walks.Pending) (objective : ℚ) (turn : walks.WalkTurn) → ShowsPending pending viewed → IsSettling pending objective None → walks.settled w viewed objective turn ≡ turn
 settled_none w None viewed objective turn shows is = ap (λ (p : Option walks.Pending). walks.settled w p objective turn) shows
 settled_none w (Some pending) viewed objective turn shows is = is_settled w pending viewed objective turn shows ∙ by_none turn pending (settled_by pending objective) is
 
-settled_some : (w : walks.Walker) (pending : Option Pending) (viewed : Option walks.Pending) (objective : ℚ) (turn : walks.Turn) (found : Found) → ShowsPending pending viewed → IsSettling pending objective (Some found) →
+settled_some : (w : walks.Walker) (pending : Option Pending) (viewed : Option walks.Pending) (objective : ℚ) (turn : walks.WalkTurn) (found : Found) → ShowsPending pending viewed → IsSettling pending objective (Some found) →
     walks.settled w viewed objective turn ≡ walks.Finds (found_view found)
 settled_some w None viewed objective turn found shows is = absurd (cc is)
 settled_some w (Some pending) viewed objective turn found shows is = is_settled w pending viewed objective turn shows ∙ by_some turn pending found (settled_by pending objective) is
 
 -- a stop alone is open at SOLUTION
-pub opens_view : (sheet : Sheet) (mark : Mark) (w : walks.Walker) (go : SolutionLines → Outcome) → walks.open_question w (OfSolution mark) sheet go ≡ open_by true false w
+pub opens_view : (sheet : Sheet) (mark : Mark) (w : walks.Walker) (go : SolutionLines → StatementOutcome) → walks.open_question w (OfSolution mark) sheet go ≡ open_by true false w
 opens_view sheet mark w go = by (walks.open_stop w)
   where
     by : (x : Option walks.Found) → x ≡ option_or x None
@@ -172,8 +172,8 @@ opens_view sheet mark w go = by (walks.open_stop w)
 abbrev pub IsReportedObjective : Sheet → ℚ → SolutionLines → Type 0
 IsReportedObjective sheet objective lines = objective ≡ point_of sheet lines sheet.lp.objective
 
-module _ (sheet : Sheet) (old : Place) (none : (w : walks.Walker) → Faces old w → None ≡ open_by true false w) (cursor : List ℕ) (objective : ℚ) where
-  module _ (settling : IsSettling old.pending objective None) (new : Place) (is_cursor : new.cursor ≡ cursor) (is_none : new.pending ≡ None) (counted : new.reports ≡ old.reports + 1) where
+module _ (sheet : Sheet) (old : ListingPlace) (none : (w : walks.Walker) → Faces old w → None ≡ open_by true false w) (cursor : List ℕ) (objective : ℚ) where
+  module _ (settling : IsSettling old.pending objective None) (new : ListingPlace) (is_cursor : new.cursor ≡ cursor) (is_none : new.pending ≡ None) (counted : new.reports ≡ old.reports + 1) where
     pub optimal_answered : Taken (IsReportedObjective sheet) (judged (OfSolution marks.Optimal) sheet old.cursor) cursor (Ok objective) →
         Answered (OfSolution marks.Optimal) sheet old new (IsAny (OfSolution marks.Optimal)) (Ok tt)
     optimal_answered taken = λ w go f.
@@ -189,7 +189,7 @@ module _ (sheet : Sheet) (old : Place) (none : (w : walks.Walker) → Faces old 
           holds = tt;
         }
 
-  pub unsettled : (found : Found) (new : Place) → IsSettling old.pending objective (Some found) → Taken (IsReportedObjective sheet) (judged (OfSolution marks.Optimal) sheet old.cursor) cursor (Ok objective) →
+  pub unsettled : (found : Found) (new : ListingPlace) → IsSettling old.pending objective (Some found) → Taken (IsReportedObjective sheet) (judged (OfSolution marks.Optimal) sheet old.cursor) cursor (Ok objective) →
       Answered {X = Unit {0}} (OfSolution marks.Optimal) sheet old new (IsAny (OfSolution marks.Optimal)) (Err (Finds found))
   unsettled found new settling taken = λ w go f.
       let lines : SolutionLines = taken.answer in
@@ -198,8 +198,8 @@ module _ (sheet : Sheet) (old : Place) (none : (w : walks.Walker) → Faces old 
       ap (λ (x : ℚ). walks.settled w w.pending x (walks.follows v (go lines))) (sym taken.shows) ∙
       settled_some w old.pending w.pending objective (walks.follows v (go lines)) found f.pending settling
 
-  module _ (new : Place) (is_cursor : new.cursor ≡ cursor) (kept : new.pending ≡ old.pending) (counted : new.reports ≡ old.reports + 1) where
-    reported_by : (mark : Mark) → is_optimal mark ≡ false → (w : walks.Walker) (go : SolutionLines → Outcome) (lines : SolutionLines) → Faces old w →
+  module _ (new : ListingPlace) (is_cursor : new.cursor ≡ cursor) (kept : new.pending ≡ old.pending) (counted : new.reports ≡ old.reports + 1) where
+    reported_by : (mark : Mark) → is_optimal mark ≡ false → (w : walks.Walker) (go : SolutionLines → StatementOutcome) (lines : SolutionLines) → Faces old w →
         walks.answered w (OfSolution mark) sheet go (Right lines cursor) ≡ walks.follows (record (walks.passed cursor 1 w) { pending = w.pending }) (go lines)
     reported_by marks.Optimal other w go lines f = absurd (cc other)
     reported_by marks.Infeasible other w go lines f = refl
@@ -216,14 +216,14 @@ module _ (sheet : Sheet) (old : Place) (none : (w : walks.Walker) → Faces old 
     }
 
 -- under OPTIMAL
-module _ (sheet : Sheet) (old : Place) (none : (w : walks.Walker) → Faces old w → None ≡ open_by true false w) (cursor : List ℕ) (objective : ℚ) where
-  pub optimal_by : (mark : Mark) → is_optimal mark ≡ true → IsSettling old.pending objective None → (new : Place) → new.cursor ≡ cursor → new.pending ≡ None → new.reports ≡ old.reports + 1 →
+module _ (sheet : Sheet) (old : ListingPlace) (none : (w : walks.Walker) → Faces old w → None ≡ open_by true false w) (cursor : List ℕ) (objective : ℚ) where
+  pub optimal_by : (mark : Mark) → is_optimal mark ≡ true → IsSettling old.pending objective None → (new : ListingPlace) → new.cursor ≡ cursor → new.pending ≡ None → new.reports ≡ old.reports + 1 →
       Taken (IsReportedObjective sheet) (judged (OfSolution mark) sheet old.cursor) cursor (Ok objective) → Answered (OfSolution mark) sheet old new (IsAny (OfSolution mark)) (Ok tt)
   optimal_by marks.Optimal is settling new is_cursor is_none counted taken = optimal_answered sheet old none cursor objective settling new is_cursor is_none counted taken
   optimal_by marks.Infeasible is settling new is_cursor is_none counted taken = absurd (cc is)
   optimal_by marks.Unbounded is settling new is_cursor is_none counted taken = absurd (cc is)
 
-  pub unsettled_by : (mark : Mark) → is_optimal mark ≡ true → (found : Found) (new : Place) → IsSettling old.pending objective (Some found) →
+  pub unsettled_by : (mark : Mark) → is_optimal mark ≡ true → (found : Found) (new : ListingPlace) → IsSettling old.pending objective (Some found) →
       Taken (IsReportedObjective sheet) (judged (OfSolution mark) sheet old.cursor) cursor (Ok objective) → Answered {X = Unit {0}} (OfSolution mark) sheet old new (IsAny (OfSolution mark)) (Err (Finds found))
   unsettled_by marks.Optimal is found new settling taken = unsettled sheet old none cursor objective found new settling taken
   unsettled_by marks.Infeasible is found new settling taken = absurd (cc is)
@@ -231,7 +231,7 @@ module _ (sheet : Sheet) (old : Place) (none : (w : walks.Walker) → Faces old 
 
 -- ---- PARAOBJ and PARARHS
 
-pub parametric_run_answered : (parametric_run : ParametricRun) (sheet : Sheet) (old new : Place) → ((w : walks.Walker) → Faces old w → None ≡ open_by true true w) → new.reports ≡ old.reports + 1 → new.pending ≡ None → (x : ParametricRunAnswer) →
+pub parametric_run_answered : (parametric_run : ParametricRun) (sheet : Sheet) (old new : ListingPlace) → ((w : walks.Walker) → Faces old w → None ≡ open_by true true w) → new.reports ≡ old.reports + 1 → new.pending ≡ None → (x : ParametricRunAnswer) →
     Taken IsParametricRunAnswer (judged (OfParametricRun parametric_run) sheet old.cursor) new.cursor (Ok x) → Answered (OfParametricRun parametric_run) sheet old new IsParametricRunAnswer (Ok x)
 parametric_run_answered parametric_run sheet old new none counted is_none x taken = λ w go f. record {
   answer = taken.answer;

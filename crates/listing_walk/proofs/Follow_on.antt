@@ -7,7 +7,7 @@ use Rattle.listing_readers.specs.Read.{taken}
 use Rattle.listing_definitions.specs.declared.Mark.{Mark}
 use Rattle.listing_definitions.specs.Ending.{Ending}
 use Rattle.run_definitions.specs.State.{State}
-use Rattle.run_definitions.specs.Moves.{Gain, printed_by, gain_text, Outcome, Ends, gain_of, next, jump, Move, Settles}
+use Rattle.run_definitions.specs.Moves.{Gain, printed_by, gain_text, StatementOutcome, Ends, gain_of, next, jump, StatementMove, Settles}
 use Rattle.run_machine.specs.declared.act.Act.{Act}
 use Rattle.run_machine.specs.declared.act.Act.TheVariants as acts
 use Rattle.run_machine.specs.declared.end.End.{End}
@@ -18,7 +18,7 @@ use Rattle.run_machine.specs.Statements.{Follows}
 use Rattle.walk_definitions.specs.Words.{left_after}
 use Rattle.walk_definitions.specs.Walker as walks
 use Rattle.listing_walk.specs.declared.chosen.Chosen.{Chosen}
-use Rattle.listing_walk.specs.declared.place.Place.{Place}
+use Rattle.listing_walk.specs.declared.place.ListingPlace.{ListingPlace}
 use Rattle.listing_walk.specs.declared.place.Pending.{Pending}
 use Rattle.listing_walk.specs.declared.found.Found.{Found}
 use Rattle.listing_walk.specs.declared.found.Found.TheVariants as founds
@@ -45,17 +45,17 @@ placed to by s e = record {
 }
 
 -- what is left, what is pending and the reports are those of the walker, whatever its state is
-pub faces_still : {place : Place} {w : walks.Walker} (state : State) → Faces place w → Faces place (record w { state = state })
+pub faces_still : {place : ListingPlace} {w : walks.Walker} (state : State) → Faces place w → Faces place (record w { state = state })
 faces_still state f = record { rest = f.rest; pending = f.pending; reports = f.reports }
 
-pub finished_next : (place : Place) → Finishes place place acts.Next went.Next
+pub finished_next : (place : ListingPlace) → Finishes place place acts.Next went.Next
 finished_next place = λ v outcome cards machine position executed gain f is. (
   record v { state = record (is.0) { position = is.0.position + 1 } },
   ap (walks.follows v) (sym is.1),
   record { state = placed (position + 1) (is.0.position + 1) is.2 (ap (λ n. n + 1) is.2.is_position); faces = faces_still (record (is.0) { position = is.0.position + 1 }) f },
 )
 
-pub finished_jump : (place : Place) (to : ℕ) → Finishes place place (acts.Jump to) (went.Jump to)
+pub finished_jump : (place : ListingPlace) (to : ℕ) → Finishes place place (acts.Jump to) (went.Jump to)
 finished_jump place to = λ v outcome cards machine position executed gain f is. (
   record v { state = record (is.0) { position = to } },
   ap (walks.follows v) (sym is.1),
@@ -63,7 +63,7 @@ finished_jump place to = λ v outcome cards machine position executed gain f is.
   is.3,
 )
 
-pub finished_ends : (old new : Place) (end : End) (ending : Ending) (found : Found) → ending ≡ end_view end → ((w : walks.Walker) → Faces old w → walks.closes w ending ≡ walks.Finds (found_view found)) →
+pub finished_ends : (old new : ListingPlace) (end : End) (ending : Ending) (found : Found) → ending ≡ end_view end → ((w : walks.Walker) → Faces old w → walks.closes w ending ≡ walks.Finds (found_view found)) →
     Finishes old new (acts.Ends end) (went.Finds found)
 finished_ends old new end ending found same closes = λ v outcome cards machine position executed gain f is.
     ap (walks.follows v) (sym is) ∙ ap (walks.closes v) (sym same) ∙ closes v f
@@ -72,8 +72,8 @@ finished_ends old new end ending found same closes = λ v outcome cards machine 
 
 module _ (machine : Machine Chosen) (act : Act) (text : List ℕ) where
   -- the outcome of a move that comes to an act
-  record IsOf (w : walks.Walker) (card : ℕ) (move : Move) (cards : List (List ℕ)) (position executed : ℕ) (gain : Gain) : Type 0 where
-    outcome : Outcome
+  record IsOf (w : walks.Walker) (card : ℕ) (move : StatementMove) (cards : List (List ℕ)) (position executed : ℕ) (gain : Gain) : Type 0 where
+    outcome : StatementOutcome
     settles : Settles card move outcome
     is_outcome : IsOutcome outcome cards machine position executed gain act
     is_gain : gain_of outcome ≡ gain
@@ -89,7 +89,7 @@ opens_jump : (machine : Machine Chosen) (text : List ℕ) (w : walks.Walker) (ga
 opens_jump machine text w gain to after same mark =
     open_goes w gain (record after { position = to }) ∙ ap (λ (t : List ℕ). open_by (is_loud t) (is_none after.mark) w) same ∙ ap (λ (m : Option Mark). open_by (is_loud text) (is_none m) w) mark
 
-outcome_of : (machine : Machine Chosen) (act : Act) (text : List ℕ) (w : walks.Walker) (card : ℕ) (move : Move) (cards : List (List ℕ)) (position executed : ℕ) (gain : Gain) →
+outcome_of : (machine : Machine Chosen) (act : Act) (text : List ℕ) (w : walks.Walker) (card : ℕ) (move : StatementMove) (cards : List (List ℕ)) (position executed : ℕ) (gain : Gain) →
     Follows IsView Settles card move cards machine position executed gain act → gain_text gain ≡ text → IsOf machine act text w card move cards position executed gain
 outcome_of machine acts.Next text w card move cards position executed gain f same = record {
   outcome = next gain f.0;
@@ -113,7 +113,7 @@ outcome_of machine (acts.Ends end) text w card move cards position executed gain
   opens = refl;
 }
 
-module _ (machine : Machine Chosen) (old new : Place) (act : Act) (text : List ℕ) where
+module _ (machine : Machine Chosen) (old new : ListingPlace) (act : Act) (text : List ℕ) where
   -- what is open is found
   pub passes_open : (found : Found) → ((w : walks.Walker) → Faces old w → option_map found_view (Some found) ≡ open_by (ends_run act || is_loud text) (ends_run act || is_none machine.mark) w) →
       Passes machine old new act text (went.Finds found)
@@ -124,7 +124,7 @@ module _ (machine : Machine Chosen) (old new : Place) (act : Act) (text : List �
 
   module _ (none : (w : walks.Walker) → Faces old w → None ≡ open_by (ends_run act || is_loud text) (ends_run act || is_none machine.mark) w) where
     -- nothing is open
-    turn_taken : (w : walks.Walker) (card : ℕ) (move : Move) (cards : List (List ℕ)) (position executed : ℕ) (gain : Gain) → Faces old w → walks.refuses_selection move ≡ false → (o : IsOf machine act text w card move cards position executed gain) →
+    turn_taken : (w : walks.Walker) (card : ℕ) (move : StatementMove) (cards : List (List ℕ)) (position executed : ℕ) (gain : Gain) → Faces old w → walks.refuses_selection move ≡ false → (o : IsOf machine act text w card move cards position executed gain) →
         gain_text gain ≡ text → walks.walk_move w move ≡ walks.taken w o.outcome (left_after text old.cursor)
     turn_taken w card move cards position executed gain f plain o same =
         settled w card move o.outcome o.settles plain ∙
@@ -141,7 +141,7 @@ module _ (machine : Machine Chosen) (old new : Place) (act : Act) (text : List �
         ap (λ (rest : List ℕ). walks.Finds (walks.Wrong rest)) f.rest ∙ ap (λ (x : walks.Found). walks.Finds x) (sym wrong)
 
     -- it does
-    pub passes_on : (mid : Place) (w' : Went) → left_after text old.cursor ≡ Some mid.cursor → mid.pending ≡ old.pending → mid.reports ≡ old.reports + one_if (is_loud text) → Finishes mid new act w' →
+    pub passes_on : (mid : ListingPlace) (w' : Went) → left_after text old.cursor ≡ Some mid.cursor → mid.pending ≡ old.pending → mid.reports ≡ old.reports + one_if (is_loud text) → Finishes mid new act w' →
         Passes machine old new act text w'
     passes_on mid w' there kept counted finishes = λ w card move cards position executed gain f plain follows same.
         let o = outcome_of machine act text w card move cards position executed gain follows same in
@@ -152,26 +152,26 @@ module _ (machine : Machine Chosen) (old new : Place) (act : Act) (text : List �
           pending = subst (λ (p : Option Pending). ShowsPending p w.pending) (sym kept) f.pending;
           reports = ap (λ n. w.reports + n) count ∙ ap (λ n. n + one_if (is_loud text)) f.reports ∙ sym counted;
         } in
-        subst (λ (t : walks.Turn). Comes t cards machine position executed new w') (sym (turn_taken w card move cards position executed gain f plain o same ∙ ap (walks.taken w o.outcome) there))
+        subst (λ (t : walks.WalkTurn). Comes t cards machine position executed new w') (sym (turn_taken w card move cards position executed gain f plain o same ∙ ap (walks.taken w o.outcome) there))
         (finishes v o.outcome cards machine position executed gain faces o.is_outcome)
 
 -- ---- with the tests by their results
 
-module _ (machine : Machine Chosen) (old : Place) (act : Act) (text : List ℕ) (looks clears : Bool) (is_looks : looks ≡ (ends_run act || is_loud text)) (is_clears : clears ≡ (ends_run act || is_none machine.mark)) where
+module _ (machine : Machine Chosen) (old : ListingPlace) (act : Act) (text : List ℕ) (looks clears : Bool) (is_looks : looks ≡ (ends_run act || is_loud text)) (is_clears : clears ≡ (ends_run act || is_none machine.mark)) where
   -- what is open, by these tests
   open_so : (x : Option walks.Found) → ((w : walks.Walker) → Faces old w → x ≡ open_by looks clears w) → (w : walks.Walker) → Faces old w → x ≡ open_by (ends_run act || is_loud text) (ends_run act || is_none machine.mark) w
   open_so x there_is w f = there_is w f ∙ (λ i. open_by (is_looks i) (is_clears i) w)
 
-  pub passes_open_by : (new : Place) (found : Found) → ((w : walks.Walker) → Faces old w → option_map found_view (Some found) ≡ open_by looks clears w) → Passes machine old new act text (went.Finds found)
+  pub passes_open_by : (new : ListingPlace) (found : Found) → ((w : walks.Walker) → Faces old w → option_map found_view (Some found) ≡ open_by looks clears w) → Passes machine old new act text (went.Finds found)
   passes_open_by new found there_is = passes_open machine old new act text found (open_so (Some (found_view found)) there_is)
 
   module _ (none : (w : walks.Walker) → Faces old w → None ≡ open_by looks clears w) where
-    pub passes_wrong_by : (mid : Place) (rest : Bor (List ℕ)) → rest.now ≡ old.cursor → (passes : Bool) → passes ≡ false → left_after text old.cursor ≡ taken passes mid.cursor → (new : Place) →
+    pub passes_wrong_by : (mid : ListingPlace) (rest : Bor (List ℕ)) → rest.now ≡ old.cursor → (passes : Bool) → passes ≡ false → left_after text old.cursor ≡ taken passes mid.cursor → (new : ListingPlace) →
         Passes machine old new act text (went.Finds (founds.Wrong rest))
     passes_wrong_by mid rest here passes gone there new =
         passes_wrong machine old new act text (open_so None none) (founds.Wrong rest) (there ∙ ap (λ (b : Bool). taken b mid.cursor) gone) (ap (λ (left : List ℕ). walks.Wrong left) here)
 
-    pub passes_on_by : (mid new : Place) (passes : Bool) → passes ≡ true → left_after text old.cursor ≡ taken passes mid.cursor → mid.pending ≡ old.pending → (passes ≡ true → mid.reports ≡ old.reports + one_if (is_loud text)) →
+    pub passes_on_by : (mid new : ListingPlace) (passes : Bool) → passes ≡ true → left_after text old.cursor ≡ taken passes mid.cursor → mid.pending ≡ old.pending → (passes ≡ true → mid.reports ≡ old.reports + one_if (is_loud text)) →
         (result : Result Went NoMemory) → IfOk result (Finishes mid new act) → IfOk result (Passes machine old new act text)
     passes_on_by mid new passes there_is there kept counted (Ok w') finishes =
         passes_on machine old new act text (open_so None none) mid w' (there ∙ ap (λ (b : Bool). taken b mid.cursor) there_is) kept (counted there_is) finishes

@@ -16,7 +16,7 @@ use Rattle.control_definitions.specs.Program.{Insert}
 use Rattle.listing_definitions.specs.declared.VerbFault.TheVariants.{NoSetup, DeckNotFound}
 use Rattle.question_definitions.specs.Answers.{Basis, OfInstall}
 use Rattle.run_definitions.specs.State.{Present, State, choice_of}
-use Rattle.run_definitions.specs.Moves.{Nothing, stops, Move, Does, or_fault}
+use Rattle.run_definitions.specs.Moves.{Nothing, stops, StatementMove, Does, or_fault}
 use Rattle.run_definitions.specs.Verbs.{or_deck_fault, deck_stop, asks, after_install, verb_move}
 use Rattle.run_machine.specs.declared.act.Act.TheVariants as acts
 use Rattle.run_machine.specs.declared.end.End.TheVariants as ends
@@ -26,7 +26,7 @@ use Rattle.walk_definitions.specs.Forms.{is_inserted}
 use Rattle.walk_definitions.specs.Walker as walks
 use Rattle.listing_walk.specs.declared.chosen.Chosen.{Chosen}
 use Rattle.listing_walk.specs.declared.found.Found.{Found}
-use Rattle.listing_walk.specs.declared.place.Place.{Place}
+use Rattle.listing_walk.specs.declared.place.ListingPlace.{ListingPlace}
 use Rattle.listing_walk.specs.declared.selecting.Unselected.{Unselected}
 use Rattle.listing_walk.specs.declared.selecting.Unselected.TheVariants as unselected
 use Rattle.listing_walk.specs.declared.went.Went.{Went}
@@ -39,13 +39,13 @@ use Rattle.listing_walk.proofs.Setting_up.{faulted}
 use Rattle.listing_walk.proofs.Solving_walks.{present_with, present_at, selecting, no_setup_walks, unselected_walks, made_walks, unmade_here}
 
 -- what INSERT does with the basis that a deck stands for, and with the deck that is taken
-abbrev asks_install : ℕ → State → Present → LinearProgram → List Card × List (List Card) → Basis → Move
+abbrev asks_install : ℕ → State → Present → LinearProgram → List Card × List (List Card) → Basis → StatementMove
 asks_install card state present lp taken s = asks (OfInstall s) (record { problem = present.problem; lp = lp }) present (after_install card lp s taken present state)
 
-abbrev insert_by : ℕ → State → Present → LinearProgram → Option (List Card × List (List Card)) → Move
+abbrev insert_by : ℕ → State → Present → LinearProgram → Option (List Card × List (List Card)) → StatementMove
 insert_by card state present lp found = or_fault card DeckNotFound found (λ taken. or_deck_fault (basis_reading present.problem lp taken.0) (asks_install card state present lp taken))
 
-abbrev insert_move : ℕ → State → Present → LinearProgram → Move
+abbrev insert_move : ℕ → State → Present → LinearProgram → StatementMove
 insert_move card state present lp = insert_by card state present lp (deck_taken state.cells.xdata state.decks)
 
 inserting_move : (card : ℕ) (state : State) → verb_move Insert card state ≡ selecting card state (insert_move card state)
@@ -53,10 +53,10 @@ unfolding verb_move
 inserting_move card state = refl
 
 -- the end by a fault of a deck
-deck_faulted : (cards : List (List ℕ)) (machine : Machine Chosen) (old new : Place) (fault : DeckFault) (card : ℕ) (w' : Went) → Passes machine old new (acts.Ends (ends.Deck fault)) [] w' →
-    (w : walks.Walker) (move : Move) (position executed : ℕ) → Faces old w → move ≡ Does (stops (deck_stop fault)) → Comes (walks.walk_move w move) cards machine position executed new w'
+deck_faulted : (cards : List (List ℕ)) (machine : Machine Chosen) (old new : ListingPlace) (fault : DeckFault) (card : ℕ) (w' : Went) → Passes machine old new (acts.Ends (ends.Deck fault)) [] w' →
+    (w : walks.Walker) (move : StatementMove) (position executed : ℕ) → Faces old w → move ≡ Does (stops (deck_stop fault)) → Comes (walks.walk_move w move) cards machine position executed new w'
 deck_faulted cards machine old new fault card w' passes w move position executed f is =
-    subst (λ (m : Move). Comes (walks.walk_move w m) cards machine position executed new w') (sym is)
+    subst (λ (m : StatementMove). Comes (walks.walk_move w m) cards machine position executed new w') (sym is)
     (passes w card (Does (stops (deck_stop fault))) cards position executed Nothing f refl refl refl)
 
 module _ (card : ℕ) (state : State) (present : Present) (lp : LinearProgram) (w : walks.Walker) where
@@ -78,10 +78,10 @@ pub taken_by : (cards : List (List ℕ)) (machine : Machine Chosen) (wanted : Op
 taken_by cards machine wanted same deck is = ap (λ (n : Option Name). deck_taken n (decks_of (drop (machine.decks_from - 1) (numbered_cards cards)))) (sym same) ∙ is
 
 -- its line stands, or doesn't, in what is left
-pub line_by : (cards : List (List ℕ)) (place : Place) (deck : Option Deck) (rest : List ℕ) → rest ≡ place.cursor → (stands : Bool) → stands ≡ is_line_of cards deck rest → stands ≡ is_line_of cards deck place.cursor
+pub line_by : (cards : List (List ℕ)) (place : ListingPlace) (deck : Option Deck) (rest : List ℕ) → rest ≡ place.cursor → (stands : Bool) → stands ≡ is_line_of cards deck rest → stands ≡ is_line_of cards deck place.cursor
 line_by cards place deck rest same stands is = is ∙ ap (is_line_of cards deck) same
 
-module _ (card : ℕ) (cards : List (List ℕ)) (machine : Machine Chosen) (old new : Place) where
+module _ (card : ℕ) (cards : List (List ℕ)) (machine : Machine Chosen) (old new : ListingPlace) where
   pub insert_no_setup : machine.setup ≡ None → (result : Result Went NoMemory) → IfOk result (Passes machine old new (acts.Ends (ends.Verb NoSetup card)) []) → IfOk result (Walks Insert card cards machine machine old new)
   insert_no_setup = no_setup_walks Insert card (insert_move card) (inserting_move card) cards machine old new
 

@@ -20,7 +20,7 @@ use Rattle.listing_definitions.specs.Report.{Solved, Parametric}
 use Rattle.question_definitions.specs.Answers.{Basis, Sheet, Changing, changing_name, parametric_solver, ParametricRun, OfParametricRun, ParametricRunEnd, Opening, Chained, ParametricRunLimit}
 use Rattle.answer_definitions.specs.ParametricRuns.{shifts_of}
 use Rattle.run_definitions.specs.State.{Present, State, choice_of, gone_through}
-use Rattle.run_definitions.specs.Moves.{Prints, Outcome, Move, or_fault}
+use Rattle.run_definitions.specs.Moves.{Prints, StatementOutcome, StatementMove, or_fault}
 use Rattle.run_definitions.specs.Verbs.{asks, after_parametric_run, mark_of, last_value, not_less, verb_move}
 use Rattle.run_machine.specs.declared.act.Act.{Act}
 use Rattle.run_machine.specs.declared.act.Act.TheVariants as acts
@@ -46,7 +46,7 @@ use Rattle.listing_walk.specs.declared.answering.Stopped.{Stopped}
 use Rattle.listing_walk.specs.declared.answering.Stopped.TheVariants as stops
 use Rattle.listing_walk.specs.declared.chosen.Chosen.{Chosen}
 use Rattle.listing_walk.specs.declared.found.Found.{Found}
-use Rattle.listing_walk.specs.declared.place.Place.{Place}
+use Rattle.listing_walk.specs.declared.place.ListingPlace.{ListingPlace}
 use Rattle.listing_walk.specs.declared.selecting.Unselected.{Unselected}
 use Rattle.listing_walk.specs.declared.went.Went.{Went}
 use Rattle.listing_walk.specs.declared.went.Went.TheVariants as went
@@ -79,19 +79,19 @@ sheet_of present lp = record { problem = present.problem; lp = lp }
 
 module _ (verb : ParametricVerb) (card : ℕ) (state : State) (present : Present) where
   -- the run from the present basis
-  abbrev run_move : LinearProgram → ParametricRun → Move
+  abbrev run_move : LinearProgram → ParametricRun → StatementMove
   run_move lp parametric_run = asks (OfParametricRun parametric_run) (sheet_of present lp) present (after_parametric_run card parametric_run present state)
 
-  abbrev up_to : LinearProgram → Changing → ℚ → Move
+  abbrev up_to : LinearProgram → Changing → ℚ → StatementMove
   up_to lp changing to = run_move lp (record { changing = changing; from = state.cells.xparam; to = to; limit = steps_allowed state.cells })
 
-  abbrev with_last : LinearProgram → Changing → ℚ → Move
+  abbrev with_last : LinearProgram → Changing → ℚ → StatementMove
   with_last lp changing last = or_fault card ParmaxBelow (not_less state.cells.xparam last) (up_to lp changing)
 
-  abbrev with_change : LinearProgram → Changing → Move
+  abbrev with_change : LinearProgram → Changing → StatementMove
   with_change lp changing = or_fault card NoParmax state.cells.xparmax (with_last lp changing)
 
-  abbrev tested_move : LinearProgram → Move
+  abbrev tested_move : LinearProgram → StatementMove
   tested_move lp = or_fault card (change_fault verb) (option_and_then (change_of verb present.problem) (name_moved verb state.cells)) (with_change lp)
 
   asked_move : (lp : LinearProgram) (parametric_run : ParametricRun) → IsAsked verb present.problem state.cells parametric_run → tested_move lp ≡ run_move lp parametric_run
@@ -114,7 +114,7 @@ module _ (verb : ParametricVerb) (card : ℕ) (state : State) (present : Present
       fault_move card ParmaxBelow (not_less state.cells.xparam last) (up_to lp changing) less)
 
 -- what is open is the same at each end of the tests
-opens_fault : {X : Type 0} (w : walks.Walker) (card : ℕ) (fault : VerbFault) (found : Option X) (go : X → Move) → ((x : X) → walks.opened w (go x) ≡ open_by true true w) → walks.opened w (or_fault card fault found go) ≡ open_by true true w
+opens_fault : {X : Type 0} (w : walks.Walker) (card : ℕ) (fault : VerbFault) (found : Option X) (go : X → StatementMove) → ((x : X) → walks.opened w (go x) ≡ open_by true true w) → walks.opened w (or_fault card fault found go) ≡ open_by true true w
 opens_fault w card fault None go h = refl
 opens_fault w card fault (Some x) go h = h x
 
@@ -131,7 +131,7 @@ parametric_move Pararhs card state = refl
 
 -- ---- the verb in the walk
 
-module _ (verb : ParametricVerb) (card : ℕ) (cards : List (List ℕ)) (machine : Machine Chosen) (old new : Place) where
+module _ (verb : ParametricVerb) (card : ℕ) (cards : List (List ℕ)) (machine : Machine Chosen) (old new : ListingPlace) where
   pub parametric_no_setup : machine.setup ≡ None → (result : Result Went NoMemory) → IfOk result (Passes machine old new (acts.Ends (ends.Verb NoSetup card)) []) → IfOk result (Walks (verb_of verb) card cards machine machine old new)
   parametric_no_setup = no_setup_walks (verb_of verb) card (tested_move verb card) (parametric_move verb card) cards machine old new
 
@@ -183,7 +183,7 @@ module _ (verb : ParametricVerb) (card : ℕ) (cards : List (List ℕ)) (machine
         parametric_stopped after stops.NoMemory answered (Ok w') is = absurd is
         parametric_stopped after stops.NoMemory answered (Err stop) is = tt
 
-        module _ (demands : AreDemands machine.cells) (mid : Place) where
+        module _ (demands : AreDemands machine.cells) (mid : ListingPlace) where
           abbrev then_open : State → Present → List Basis → State
           then_open state present bases = record state { setup = Some (gone_through bases present); mark = None }
 
@@ -218,13 +218,13 @@ module _ (verb : ParametricVerb) (card : ℕ) (cards : List (List ℕ)) (machine
 
           -- by the answer
           ends_by : (x : ParametricRunAnswer) (act : Act) → act ≡ act_of (left_by x machine).cells card (finding_of x) → (w' : Went) → Finishes mid new act w' → (position executed : ℕ) (state : State) (opening : Basis) (steps : List Basis) →
-              machines.Represents IsView cards machine position executed state → (turn : walks.Turn) (v : walks.Walker) (answer : ParametricRunEnd) →
+              machines.Represents IsView cards machine position executed state → (turn : walks.WalkTurn) (v : walks.Walker) (answer : ParametricRunEnd) →
               turn ≡ walks.follows v (after_parametric_run card parametric_run (present_with problem chosen.options opening steps) state answer) → Faces mid v → IsParametricRunAnswer x answer → Comes turn cards (left_by x machine) position executed new w'
           ends_by (Opened mark) act is_act w' finishes position executed state opening steps s turn v (Opening bases verdict check) is faces e =
               let present = present_with problem chosen.options opening steps in
-              let outcome : Outcome = after_parametric_run card parametric_run present state (Opening bases verdict check) in
+              let outcome : StatementOutcome = after_parametric_run card parametric_run present state (Opening bases verdict check) in
               let comes = verdict_comes card cards (left_by (Opened mark) machine) position executed (Solved (parametric_solver parametric_run.changing) verdict check) (then_open state present bases) (stands_open mark s opening steps bases) machine.cells demands s.cells (mark_of verdict) in
-              subst (λ (t : walks.Turn). Comes t cards (left_by (Opened mark) machine) position executed new w') (sym is)
+              subst (λ (t : walks.WalkTurn). Comes t cards (left_by (Opened mark) machine) position executed new w') (sym is)
               (finishes v outcome cards (left_by (Opened mark) machine) position executed (Prints (Solved (parametric_solver parametric_run.changing) verdict check)) faces
               (subst (λ (a : Act). IsOutcome outcome cards (left_by (Opened mark) machine) position executed (Prints (Solved (parametric_solver parametric_run.changing) verdict check)) a)
               (ap (λ (m : Mark). act_of machine.cells card (Ended m)) (sym e) ∙ sym is_act) comes))
@@ -233,9 +233,9 @@ module _ (verb : ParametricVerb) (card : ℕ) (cards : List (List ℕ)) (machine
           ends_by (RanThrough last) act is_act w' finishes position executed state opening steps s turn v (Chained bases intervals end) is faces e =
               let present = present_with problem chosen.options opening steps in
               let report = Parametric (parametric_solver parametric_run.changing) (record { from = parametric_run.from; change = changing_name parametric_run.changing; intervals = intervals; end = end }) in
-              let outcome : Outcome = after_parametric_run card parametric_run present state (Chained bases intervals end) in
+              let outcome : StatementOutcome = after_parametric_run card parametric_run present state (Chained bases intervals end) in
               let stands = subst (λ (x : ℚ). machines.Represents IsView cards (left_by (RanThrough last) machine) position executed (then_run_through state present bases x)) e (stands_run_through last s opening steps bases) in
-              subst (λ (t : walks.Turn). Comes t cards (left_by (RanThrough last) machine) position executed new w') (sym is)
+              subst (λ (t : walks.WalkTurn). Comes t cards (left_by (RanThrough last) machine) position executed new w') (sym is)
               (finishes v outcome cards (left_by (RanThrough last) machine) position executed (Prints report) faces
               (subst (λ (a : Act). IsOutcome outcome cards (left_by (RanThrough last) machine) position executed (Prints report) a) (sym is_act) (then_run_through state present bases (last_value end), refl, stands)))
           ends_by (RanThrough last) act is_act w' finishes position executed state opening steps s turn v (Opening bases verdict check) is faces e = absurd e

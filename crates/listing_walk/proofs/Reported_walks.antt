@@ -15,7 +15,7 @@ use Rattle.listing_definitions.specs.declared.VerbFault.TheVariants.{NoSetup, No
 use Rattle.listing_definitions.specs.Report.{Ranges, BasisOut, RangeLines}
 use Rattle.question_definitions.specs.Answers.{OfRanges, OfPunch}
 use Rattle.run_definitions.specs.State.{Present, present_basis, State, choice_of}
-use Rattle.run_definitions.specs.Moves.{Prints, Punches, next, Move, Asks, or_fault}
+use Rattle.run_definitions.specs.Moves.{Prints, Punches, next, StatementMove, Asks, or_fault}
 use Rattle.run_definitions.specs.Verbs.{max_counted, asks, shows_present, if_optimal, verb_move}
 use Rattle.run_machine.specs.declared.act.Act.TheVariants as acts
 use Rattle.run_machine.specs.declared.end.End.TheVariants as ends
@@ -24,7 +24,7 @@ use Rattle.walk_definitions.specs.Forms.{is_ranges, is_punched}
 use Rattle.walk_definitions.specs.Walker as walks
 use Rattle.listing_walk.specs.declared.chosen.Chosen.{Chosen}
 use Rattle.listing_walk.specs.declared.found.Found.{Found}
-use Rattle.listing_walk.specs.declared.place.Place.{Place}
+use Rattle.listing_walk.specs.declared.place.ListingPlace.{ListingPlace}
 use Rattle.listing_walk.specs.declared.selecting.Unselected.{Unselected}
 use Rattle.listing_walk.specs.declared.selecting.Unselected.TheVariants as unselected
 use Rattle.listing_walk.specs.declared.went.Went.{Went}
@@ -39,14 +39,14 @@ use Rattle.listing_walk.proofs.Solving_walks.{present_with, present_at, ready_of
 use Rattle.listing_walk.proofs.Views_walks.{fault_walks, some_at, showing, showing_none, showing_unsolved, showing_mark, selected_now}
 
 -- the line stands where the walker is
-at_line : (place : Place) (stands made : Bool) (found : Found) → IsReported place stands made found → (tests : List ℕ → Bool) → stands ≡ tests place.cursor → (w : walks.Walker) → Faces place w →
+at_line : (place : ListingPlace) (stands made : Bool) (found : Found) → IsReported place stands made found → (tests : List ℕ → Bool) → stands ≡ tests place.cursor → (w : walks.Walker) → Faces place w →
     walks.unless_found (option_or (walks.open_stop w) (walks.open_if (tests w.rest) w)) (walks.Finds (if made then walks.Wrong w.rest else walks.Unchecked w.rest)) ≡ walks.Finds (found_view found)
 at_line place stands made found h tests is w f =
     ap (λ (b : Bool). walks.unless_found (option_or (walks.open_stop w) (walks.open_if b w)) (walks.Finds (if made then walks.Wrong w.rest else walks.Unchecked w.rest))) (ap tests f.rest ∙ sym is) ∙ h w f
 
 -- ---- RANGE
 
-abbrev range_move : ℕ → State → Present → Mark → Move
+abbrev range_move : ℕ → State → Present → Mark → StatementMove
 range_move card state present mark = or_fault card NotOptimal (if_optimal mark) (λ optimal. shows_present card state present OfRanges Ranges)
 
 ranging_move : (card : ℕ) (state : State) → verb_move Ranging card state ≡ showing card state (range_move card state)
@@ -63,7 +63,7 @@ optimal_so marks.Optimal is = refl
 optimal_so marks.Infeasible is = absurd (cc is)
 optimal_so marks.Unbounded is = absurd (cc is)
 
-module _ (card : ℕ) (cards : List (List ℕ)) (machine : Machine Chosen) (old new : Place) where
+module _ (card : ℕ) (cards : List (List ℕ)) (machine : Machine Chosen) (old new : ListingPlace) where
   pub ranges_no_setup : machine.setup ≡ None → (result : Result Went NoMemory) → IfOk result (Passes machine old new (acts.Ends (ends.Verb NoSetup card)) []) → IfOk result (Walks Ranging card cards machine machine old new)
   ranges_no_setup none = fault_walks Ranging card cards machine old new NoSetup (λ position executed state s. ranging_move card state ∙ showing_none card cards machine s (range_move card state) none)
 
@@ -97,7 +97,7 @@ module _ (card : ℕ) (cards : List (List ℕ)) (machine : Machine Chosen) (old 
 
 -- ---- PUNCH
 
-abbrev punch_move : ℕ → State → Present → LinearProgram → Move
+abbrev punch_move : ℕ → State → Present → LinearProgram → StatementMove
 punch_move card state present lp =
     Asks OfPunch (record { problem = present.problem; lp = lp }) (present_basis present) (λ cards. next (Punches (BasisOut present.problem.name (min (length cards) max_counted)) cards) state)
 
@@ -105,7 +105,7 @@ punching_move : (card : ℕ) (state : State) → verb_move Punch card state ≡ 
 unfolding verb_move
 punching_move card state = refl
 
-module _ (card : ℕ) (cards : List (List ℕ)) (machine : Machine Chosen) (old new : Place) where
+module _ (card : ℕ) (cards : List (List ℕ)) (machine : Machine Chosen) (old new : ListingPlace) where
   pub punch_no_setup : machine.setup ≡ None → (result : Result Went NoMemory) → IfOk result (Passes machine old new (acts.Ends (ends.Verb NoSetup card)) []) → IfOk result (Walks Punch card cards machine machine old new)
   punch_no_setup = no_setup_walks Punch card (punch_move card) (punching_move card) cards machine old new
 

@@ -16,7 +16,7 @@ use Rattle.lp_setup.specs.declared.stop.SelectStop.TheVariants as stops
 use Rattle.lp_setup.specs.Stops.{fault_of, IsOverflowOf}
 use Rattle.listing_definitions.specs.declared.VerbFault.{VerbFault}
 use Rattle.listing_definitions.specs.Ending.{VerbStop}
-use Rattle.run_definitions.specs.Moves.{stops as stopped, InSelection, Move, Does, MayStop, or_fault}
+use Rattle.run_definitions.specs.Moves.{stops as stopped, InSelection, StatementMove, Does, MayStop, or_fault}
 use Rattle.run_definitions.specs.Verbs.{selection_verb_fault, or_selection_fault}
 use Rattle.walk_definitions.specs.Walker as walks
 use Rattle.listing_walk.specs.declared.selecting.Unselected.{Unselected}
@@ -59,24 +59,24 @@ made_by problem choice chosen lp same ok made =
 -- ---- moves
 
 -- a verb fault
-pub fault_move : {X : Type 0} (card : ℕ) (fault : VerbFault) (found : Option X) (go : X → Move) → found ≡ None → or_fault card fault found go ≡ Does (stopped (VerbStop (record { fault = fault; card = card })))
+pub fault_move : {X : Type 0} (card : ℕ) (fault : VerbFault) (found : Option X) (go : X → StatementMove) → found ≡ None → or_fault card fault found go ≡ Does (stopped (VerbStop (record { fault = fault; card = card })))
 fault_move card fault found go none = ap (λ o. or_fault card fault o go) none
 
 -- no verb fault
-pub found_move : {X : Type 0} (card : ℕ) (fault : VerbFault) (found : Option X) (go : X → Move) (x : X) → found ≡ Some x → or_fault card fault found go ≡ go x
+pub found_move : {X : Type 0} (card : ℕ) (fault : VerbFault) (found : Option X) (go : X → StatementMove) (x : X) → found ≡ Some x → or_fault card fault found go ≡ go x
 found_move card fault found go x some = ap (λ o. or_fault card fault o go) some
 
 -- a fault of a selection
-pub unselected_move : (card : ℕ) (found : Result LinearProgram SelectionFault) (go : LinearProgram → Move) (why : SelectionFault) (fault : VerbFault) → found ≡ Err why → selection_verb_fault why ≡ fault →
+pub unselected_move : (card : ℕ) (found : Result LinearProgram SelectionFault) (go : LinearProgram → StatementMove) (why : SelectionFault) (fault : VerbFault) → found ≡ Err why → selection_verb_fault why ≡ fault →
     or_selection_fault card found go ≡ Does (stopped (VerbStop (record { fault = fault; card = card })))
 unselected_move card found go why fault err is =
     ap (λ r. or_selection_fault card r go) err ∙ ap (λ (f : VerbFault). Does (stopped (VerbStop (record { fault = f; card = card })))) is
 
-pub selected_move : (card : ℕ) (found : Result LinearProgram SelectionFault) (go : LinearProgram → Move) (lp : LinearProgram) → found ≡ Ok lp → or_selection_fault card found go ≡ go lp
+pub selected_move : (card : ℕ) (found : Result LinearProgram SelectionFault) (go : LinearProgram → StatementMove) (lp : LinearProgram) → found ≡ Ok lp → or_selection_fault card found go ≡ go lp
 selected_move card found go lp ok = ap (λ r. or_selection_fault card r go) ok
 
-module _ (w : walks.Walker) (problem : Problem ℕ) (choice : Choice) (move : Move) where
-  abbrev by_made : Bool → walks.Turn
+module _ (w : walks.Walker) (problem : Problem ℕ) (choice : Choice) (move : StatementMove) where
+  abbrev by_made : Bool → walks.WalkTurn
   by_made made = walks.unless_found (walks.opened w move) (if not made || walks.refuses_selection move then walks.Finds (walks.Unchecked w.rest) else walks.due w move)
 
   -- no operation of a selection is refused

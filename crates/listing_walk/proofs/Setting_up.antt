@@ -14,7 +14,7 @@ use Rattle.listing_definitions.specs.Report.{SetUp}
 use Rattle.listing_definitions.specs.Text.{report_text}
 use Rattle.listing_definitions.specs.Ending.{VerbStop}
 use Rattle.run_definitions.specs.State.{Present, State, problem_of, choice_of}
-use Rattle.run_definitions.specs.Moves.{Nothing, Prints, Outcome, next, stops, InSelection, Move, Does, MayStop}
+use Rattle.run_definitions.specs.Moves.{Nothing, Prints, StatementOutcome, next, stops, InSelection, StatementMove, Does, MayStop}
 use Rattle.run_definitions.specs.Verbs.{or_selection_fault, verb_move}
 use Rattle.run_machine.specs.declared.act.Act.TheVariants as acts
 use Rattle.run_machine.specs.declared.end.End.TheVariants as ends
@@ -27,7 +27,7 @@ use Rattle.walk_definitions.specs.Walker as walks
 use Rattle.listing_walk.specs.declared.chosen.Chosen.{Chosen}
 use Rattle.listing_walk.specs.declared.chosen.Named.{Named}
 use Rattle.listing_walk.specs.declared.found.Found.{Found}
-use Rattle.listing_walk.specs.declared.place.Place.{Place}
+use Rattle.listing_walk.specs.declared.place.ListingPlace.{ListingPlace}
 use Rattle.listing_walk.specs.declared.selecting.Unselected.{Unselected}
 use Rattle.listing_walk.specs.declared.selecting.Unselected.TheVariants.{Fault, Unchecked}
 use Rattle.job_devices.specs.declared.device.NoMemory.{NoMemory}
@@ -50,10 +50,10 @@ filed_none wanted file none = rw none refl
 -- ---- a fault
 
 -- a move that is a verb fault
-pub faulted : (cards : List (List ℕ)) (machine : Machine Chosen) (old new : Place) (fault : VerbFault) (card : ℕ) (went : Went) → Passes machine old new (acts.Ends (ends.Verb fault card)) [] went →
-    (w : walks.Walker) (move : Move) (position executed : ℕ) → Faces old w → move ≡ Does (stops (VerbStop (record { fault = fault; card = card }))) → Comes (walks.walk_move w move) cards machine position executed new went
+pub faulted : (cards : List (List ℕ)) (machine : Machine Chosen) (old new : ListingPlace) (fault : VerbFault) (card : ℕ) (went : Went) → Passes machine old new (acts.Ends (ends.Verb fault card)) [] went →
+    (w : walks.Walker) (move : StatementMove) (position executed : ℕ) → Faces old w → move ≡ Does (stops (VerbStop (record { fault = fault; card = card }))) → Comes (walks.walk_move w move) cards machine position executed new went
 faulted cards machine old new fault card went passes w move position executed f is =
-    subst (λ (m : Move). Comes (walks.walk_move w m) cards machine position executed new went) (sym is)
+    subst (λ (m : StatementMove). Comes (walks.walk_move w m) cards machine position executed new went) (sym is)
     (passes w card (Does (stops (VerbStop (record { fault = fault; card = card })))) cards position executed Nothing f refl refl refl)
 
 -- ---- what SETUP comes to
@@ -64,14 +64,14 @@ kept problem options lp = record { problem = problem; options = options; opening
 abbrev after_setup : Problem ℕ → SetupOptions → LinearProgram → State → State
 after_setup problem options lp state = record state { setup = Some (kept problem options lp); mark = None }
 
-abbrev outcome_of : Problem ℕ → SetupOptions → LinearProgram → State → Outcome
+abbrev outcome_of : Problem ℕ → SetupOptions → LinearProgram → State → StatementOutcome
 outcome_of problem options lp state = next (Prints (SetUp problem.name options.sense)) (after_setup problem options lp state)
 
 module _ (card : ℕ) (options : SetupOptions) (state : State) where
-  abbrev go_selected : Problem ℕ → LinearProgram → Move
+  abbrev go_selected : Problem ℕ → LinearProgram → StatementMove
   go_selected problem lp = MayStop (InSelection problem (choice_of state.cells options)) (Does (outcome_of problem options lp state))
 
-  abbrev go_found : Problem ℕ → Move
+  abbrev go_found : Problem ℕ → StatementMove
   go_found problem = or_selection_fault card (selected problem (choice_of state.cells options)) (go_selected problem)
 
   no_problem_move : problem_of state.cells.xpbname state.file ≡ None → verb_move (SetupVerb options) card state ≡ Does (stops (VerbStop (record { fault = NoProblem; card = card })))
@@ -102,12 +102,12 @@ module _ (card : ℕ) (cards : List (List ℕ)) (machine : Machine Chosen) (opti
       refused_move card options state problem fault (problem_view s (λ (c : Cells). c.xpbname) (Some problem) some)
       (subst (λ (c : Cells). HasSelectionFault problem (choice_of c options) fault) (sym s.cells) (subst (IsNotMade problem (choice_of machine.cells options)) is h))
 
-  pub setup_faulted : (old new : Place) (fault : VerbFault) (went : Went) → IsNotOpened machine.cells machine.file options (Fault fault) → Passes machine old new (acts.Ends (ends.Verb fault card)) [] went →
+  pub setup_faulted : (old new : ListingPlace) (fault : VerbFault) (went : Went) → IsNotOpened machine.cells machine.file options (Fault fault) → Passes machine old new (acts.Ends (ends.Verb fault card)) [] went →
       Walks (SetupVerb options) card cards machine machine old new went
   setup_faulted old new fault went h passes = λ position executed state w s f.
       faulted cards machine old new fault card went passes w (verb_move (SetupVerb options) card state) position executed f (fault_by fault (Fault fault) refl h s)
 
-  unchecked_by : (refusal : Unselected) → refusal ≡ Unchecked → IsNotOpened machine.cells machine.file options refusal → (found : Found) (place : Place) → IsUnchecked place found →
+  unchecked_by : (refusal : Unselected) → refusal ≡ Unchecked → IsNotOpened machine.cells machine.file options refusal → (found : Found) (place : ListingPlace) → IsUnchecked place found →
       {position executed : ℕ} (state : State) (w : walks.Walker) → machines.Represents IsView cards machine position executed state → Faces place w →
       walks.walk_move w (verb_move (SetupVerb options) card state) ≡ walks.Finds (found_view found)
   unchecked_by (Fault other) is (no_problem none) found place u state w s f = absurd (cc is)
@@ -116,7 +116,7 @@ module _ (card : ℕ) (cards : List (List ℕ)) (machine : Machine Chosen) (opti
       ap (walks.walk_move w) (set_up_move card options state problem r.lp (problem_view s (λ (c : Cells). c.xpbname) (Some problem) some) r.is_selected) ∙
       refused_turn w problem (choice_of state.cells options) (Does (outcome_of problem options r.lp state)) r.is_refused ∙ u w f
 
-  pub setup_unchecked : IsNotOpened machine.cells machine.file options Unchecked → (found : Found) (old new : Place) → IsUnchecked old found →
+  pub setup_unchecked : IsNotOpened machine.cells machine.file options Unchecked → (found : Found) (old new : ListingPlace) → IsUnchecked old found →
       Walks (SetupVerb options) card cards machine machine old new (went.Finds found)
   setup_unchecked h found old new u = λ position executed state w s f. unchecked_by Unchecked refl h found old u state w s f
 
@@ -136,14 +136,14 @@ module _ (card : ℕ) (cards : List (List ℕ)) (machine : Machine Chosen) (opti
       mark = refl;
     }
 
-    pub setup_done : (old new : Place) (text : List ℕ) (went : Went) → text ≡ report_text (SetUp opened.name options.sense) → Passes machine_after old new acts.Next text went →
+    pub setup_done : (old new : ListingPlace) (text : List ℕ) (went : Went) → text ≡ report_text (SetUp opened.name options.sense) → Passes machine_after old new acts.Next text went →
         Walks (SetupVerb options) card cards machine machine_after old new went
     setup_done old new text went is passes = λ position executed state w s f.
         let made : IsMade o.problem (choice_of state.cells options) opened.chosen.lp = subst (λ (c : Cells). IsMade o.problem (choice_of c options) opened.chosen.lp) (sym s.cells) o.made in
         let is_problem : problem_of state.cells.xpbname state.file ≡ Some o.problem =
         problem_view s (λ (c : Cells). c.xpbname) (Some o.problem) (filed_by machine.cells.xpbname machine.file opened.chosen.name (Some o.problem) o.is_named o.is_filed) in
-        let outcome : Outcome = outcome_of o.problem options opened.chosen.lp state in
-        subst (λ (t : walks.Turn). Comes t cards machine_after position executed new went)
+        let outcome : StatementOutcome = outcome_of o.problem options opened.chosen.lp state in
+        subst (λ (t : walks.WalkTurn). Comes t cards machine_after position executed new went)
         (sym (ap (walks.walk_move w) (set_up_move card options state o.problem opened.chosen.lp is_problem made.is_selected) ∙ made_turn w o.problem (choice_of state.cells options) (Does outcome) made.is_made))
         (passes w card (Does outcome) cards position executed (Prints (SetUp o.problem.name options.sense)) f refl
         (after_setup o.problem options opened.chosen.lp state, refl, stands_set_up s)
@@ -151,7 +151,7 @@ module _ (card : ℕ) (cards : List (List ℕ)) (machine : Machine Chosen) (opti
 
 -- ---- by the result
 
-module _ (card : ℕ) (cards : List (List ℕ)) (machine : Machine Chosen) (options : SetupOptions) (old new : Place) (result : Result Went NoMemory) where
+module _ (card : ℕ) (cards : List (List ℕ)) (machine : Machine Chosen) (options : SetupOptions) (old new : ListingPlace) (result : Result Went NoMemory) where
   pub setup_done_by : (opened : Named) (o : IsOpened machine.cells machine.file options opened) (text : List ℕ) → text ≡ report_text (SetUp opened.name options.sense) →
       IfOk result (Passes (record machine { setup = Some opened.chosen; mark = None }) old new acts.Next text) →
       IfOk result (Walks (SetupVerb options) card cards machine (record machine { setup = Some opened.chosen; mark = None }) old new)

@@ -9,48 +9,48 @@ use Rattle.listing_definitions.specs.Report.{Report, Titled, Converted, Revised,
 use Rattle.listing_definitions.specs.Text.{report_text, solver_text}
 use Rattle.deck_definitions.specs.declared.DeckFault.{DeckFault}
 use Rattle.run_definitions.specs.State.{State}
-use Rattle.run_definitions.specs.Moves.{Gain, Nothing, Prints, Punches, printed_by, gain_text, Outcome, Goes, gain_of, Move, Does, MayStop, Asks, Settles, or_fault}
+use Rattle.run_definitions.specs.Moves.{Gain, Nothing, Prints, Punches, printed_by, gain_text, StatementOutcome, Goes, gain_of, StatementMove, Does, MayStop, Asks, Settles, or_fault}
 use Rattle.run_definitions.specs.Verbs.{or_deck_fault}
 use Rattle.walk_definitions.specs.Words.{left_after}
 use Rattle.listing_walk.specs.Walking.{open_by, is_loud, one_if}
-use Rattle.walk_definitions.specs.Walker.{Walker, Found, Unchecked, Turn, Finds, open_stop, open_pending, open_outcome, opened, refuses_selection, unless_found, taken, due, walk_move}
+use Rattle.walk_definitions.specs.Walker.{Walker, Found, Unchecked, WalkTurn, Finds, open_stop, open_pending, open_outcome, opened, refuses_selection, unless_found, taken, due, walk_move}
 
 -- ---- a move that asks nothing
 
-settled_open : (w : Walker) (card : ℕ) (move : Move) (outcome : Outcome) → Settles card move outcome → opened w move ≡ open_outcome w outcome
+settled_open : (w : Walker) (card : ℕ) (move : StatementMove) (outcome : StatementOutcome) → Settles card move outcome → opened w move ≡ open_outcome w outcome
 settled_open w card (Does given) outcome e = ap (open_outcome w) (sym e)
 settled_open w card (MayStop refusals move) outcome e = settled_open w card move outcome e
 settled_open w card (Asks question sheet s go) outcome e = absurd e
 
-settled_due : (w : Walker) (card : ℕ) (move : Move) (outcome : Outcome) → Settles card move outcome → due w move ≡ taken w outcome (left_after (gain_text (gain_of outcome)) w.rest)
-settled_due w card (Does given) outcome e = ap (λ (o : Outcome). taken w o (left_after (gain_text (gain_of o)) w.rest)) (sym e)
+settled_due : (w : Walker) (card : ℕ) (move : StatementMove) (outcome : StatementOutcome) → Settles card move outcome → due w move ≡ taken w outcome (left_after (gain_text (gain_of outcome)) w.rest)
+settled_due w card (Does given) outcome e = ap (λ (o : StatementOutcome). taken w o (left_after (gain_text (gain_of o)) w.rest)) (sym e)
 settled_due w card (MayStop refusals move) outcome e = settled_due w card move outcome e
 settled_due w card (Asks question sheet s go) outcome e = absurd e
 
 -- what such a move comes to
-abbrev pub settled_turn : Walker → Outcome → Turn
+abbrev pub settled_turn : Walker → StatementOutcome → WalkTurn
 settled_turn w outcome = unless_found (open_outcome w outcome) (taken w outcome (left_after (gain_text (gain_of outcome)) w.rest))
 
-abbrev choose : Walker → Move → Option Found → Bool → Turn → Turn
+abbrev choose : Walker → StatementMove → Option Found → Bool → WalkTurn → WalkTurn
 choose w move found refused turn = unless_found found (if refused then Finds (Unchecked w.rest) else turn)
 
-pub settled : (w : Walker) (card : ℕ) (move : Move) (outcome : Outcome) → Settles card move outcome → refuses_selection move ≡ false → walk_move w move ≡ settled_turn w outcome
+pub settled : (w : Walker) (card : ℕ) (move : StatementMove) (outcome : StatementOutcome) → Settles card move outcome → refuses_selection move ≡ false → walk_move w move ≡ settled_turn w outcome
 settled w card move outcome e plain =
     ap (λ (b : Bool). choose w move (opened w move) b (due w move)) plain ∙ ap (λ (found : Option Found). unless_found found (due w move)) (settled_open w card move outcome e) ∙
-    ap (λ (turn : Turn). unless_found (open_outcome w outcome) turn) (settled_due w card move outcome e)
+    ap (λ (turn : WalkTurn). unless_found (open_outcome w outcome) turn) (settled_due w card move outcome e)
 
 -- where a selection is refused
-pub settled_refused : (w : Walker) (card : ℕ) (move : Move) (outcome : Outcome) → Settles card move outcome → refuses_selection move ≡ true → walk_move w move ≡ unless_found (open_outcome w outcome) (Finds (Unchecked w.rest))
+pub settled_refused : (w : Walker) (card : ℕ) (move : StatementMove) (outcome : StatementOutcome) → Settles card move outcome → refuses_selection move ≡ true → walk_move w move ≡ unless_found (open_outcome w outcome) (Finds (Unchecked w.rest))
 settled_refused w card move outcome e refused =
     ap (λ (b : Bool). choose w move (opened w move) b (due w move)) refused ∙ ap (λ (found : Option Found). unless_found found (Finds (Unchecked w.rest))) (settled_open w card move outcome e)
 
 -- ---- a move without a selection
 
-pub plain_fault : {X : Type 0} (card : ℕ) (fault : VerbFault) (found : Option X) (go : X → Move) → ((x : X) → refuses_selection (go x) ≡ false) → refuses_selection (or_fault card fault found go) ≡ false
+pub plain_fault : {X : Type 0} (card : ℕ) (fault : VerbFault) (found : Option X) (go : X → StatementMove) → ((x : X) → refuses_selection (go x) ≡ false) → refuses_selection (or_fault card fault found go) ≡ false
 plain_fault card fault None go h = refl
 plain_fault card fault (Some x) go h = h x
 
-pub plain_deck : {X : Type 0} (found : Result X DeckFault) (go : X → Move) → ((x : X) → refuses_selection (go x) ≡ false) → refuses_selection (or_deck_fault found go) ≡ false
+pub plain_deck : {X : Type 0} (found : Result X DeckFault) (go : X → StatementMove) → ((x : X) → refuses_selection (go x) ≡ false) → refuses_selection (or_deck_fault found go) ≡ false
 plain_deck (Err fault) go h = refl
 plain_deck (Ok x) go h = h x
 

@@ -17,7 +17,7 @@ use Rattle.listing_definitions.specs.Report.{Report}
 use Rattle.listing_definitions.specs.Ending as endings
 use Rattle.question_definitions.specs.Answers.{Basis}
 use Rattle.run_definitions.specs.State.{Present, State, choice_of}
-use Rattle.run_definitions.specs.Moves.{Prints, Ends, stops, InSelection, Move, Does, MayStop, or_fault}
+use Rattle.run_definitions.specs.Moves.{Prints, Ends, stops, InSelection, StatementMove, Does, MayStop, or_fault}
 use Rattle.run_definitions.specs.Verbs.{selects_present, by_verdict, demanded, verb_move}
 use Rattle.run_machine.specs.declared.act.Act.TheVariants as acts
 use Rattle.run_machine.specs.declared.end.End.{End}
@@ -32,7 +32,7 @@ use Rattle.run_machine.specs.Standing as machines
 use Rattle.walk_definitions.specs.Walker as walks
 use Rattle.listing_walk.specs.declared.chosen.Chosen.{Chosen}
 use Rattle.listing_walk.specs.declared.found.Found.{Found}
-use Rattle.listing_walk.specs.declared.place.Place.{Place}
+use Rattle.listing_walk.specs.declared.place.ListingPlace.{ListingPlace}
 use Rattle.listing_walk.specs.declared.selecting.Unselected.{Unselected}
 use Rattle.listing_walk.specs.declared.selecting.Unselected.TheVariants as unselected
 use Rattle.listing_walk.specs.declared.went.Went.{Went}
@@ -79,13 +79,13 @@ stays_on_file file kept chosen is h none = let on = (ready_of file kept chosen i
 
 -- ---- a verb that selects again
 
-abbrev pub selecting : ℕ → State → (Present → LinearProgram → Move) → Move
+abbrev pub selecting : ℕ → State → (Present → LinearProgram → StatementMove) → StatementMove
 selecting card state go = or_fault card NoSetup state.setup (λ present. selects_present card state present (go present))
 
-abbrev pub fault_stop : VerbFault → ℕ → Move
+abbrev pub fault_stop : VerbFault → ℕ → StatementMove
 fault_stop fault card = Does (stops (endings.VerbStop (record { fault = fault; card = card })))
 
-module _ (card : ℕ) (cards : List (List ℕ)) (machine : Machine Chosen) {position executed : ℕ} {state : State} (s : machines.Represents IsView cards machine position executed state) (go : Present → LinearProgram → Move) where
+module _ (card : ℕ) (cards : List (List ℕ)) (machine : Machine Chosen) {position executed : ℕ} {state : State} (s : machines.Represents IsView cards machine position executed state) (go : Present → LinearProgram → StatementMove) where
   pub no_setup_move : machine.setup ≡ None → selecting card state go ≡ fault_stop NoSetup card
   no_setup_move none = fault_move card NoSetup state.setup (λ (present : Present). selects_present card state present (go present)) (none_at s none)
 
@@ -119,7 +119,7 @@ module _ (card : ℕ) (cards : List (List ℕ)) (machine : Machine Chosen) {posi
         (k.lp, ap (walks.walk_move w) (selected_here k.lp k.is_selected) ∙ refused_turn w problem (choice state.cells) (go present k.lp) k.is_refused)
 
     -- an operation of the selection is refused
-    pub refused_here : (opens : (w : walks.Walker) (lp : LinearProgram) → walks.opened w (go present lp) ≡ open_by true true w) → IsRefused problem (choice machine.cells) → (found : Found) (place : Place) → IsUnchecked place found →
+    pub refused_here : (opens : (w : walks.Walker) (lp : LinearProgram) → walks.opened w (go present lp) ≡ open_by true true w) → IsRefused problem (choice machine.cells) → (found : Found) (place : ListingPlace) → IsUnchecked place found →
         (w : walks.Walker) → Faces place w → walks.walk_move w (selecting card state go) ≡ walks.Finds (found_view found)
     refused_here opens refused found place u w f =
         let k : IsRefused problem (choice state.cells) = subst (λ (c : Cells). IsRefused problem (choice c)) (sym s.cells) refused in
@@ -142,7 +142,7 @@ module _ (card : ℕ) (cards : List (List ℕ)) (machine : Machine Chosen) (posi
 
 -- ---- a verb that selects again, in the walk
 
-module _ (verb : Verb ℕ) (card : ℕ) (go : State → Present → LinearProgram → Move) (is_move : (state : State) → verb_move verb card state ≡ selecting card state (go state)) (cards : List (List ℕ)) (machine : Machine Chosen) (old new : Place) where
+module _ (verb : Verb ℕ) (card : ℕ) (go : State → Present → LinearProgram → StatementMove) (is_move : (state : State) → verb_move verb card state ≡ selecting card state (go state)) (cards : List (List ℕ)) (machine : Machine Chosen) (old new : ListingPlace) where
   fault_walks : (fault : VerbFault) → ((position executed : ℕ) (state : State) → machines.Represents IsView cards machine position executed state → verb_move verb card state ≡ fault_stop fault card) → (result : Result Went NoMemory) →
       IfOk result (Passes machine old new (acts.Ends (ends.Verb fault card)) []) → IfOk result (Walks verb card cards machine machine old new)
   fault_walks fault is (Ok w') passes = λ position executed state w s f. faulted cards machine old new fault card w' passes w (verb_move verb card state) position executed f (is position executed state s)
@@ -180,5 +180,5 @@ module _ (verb : Verb ℕ) (card : ℕ) (go : State → Present → LinearProgra
         Comes (walks.walk_move w (go state (present_with problem chosen.options opening steps) lp)) cards after position executed new w') → Walks verb card cards machine after old new w'
     made_walks lp made after w' comes = λ position executed state w s f.
         let p = present_at s chosen is_setup problem on_file in
-        subst (λ (t : walks.Turn). Comes t cards after position executed new w') (sym (ap (walks.walk_move w) (is_move state) ∙ made_here card cards machine s (go state) chosen problem p w lp made))
+        subst (λ (t : walks.WalkTurn). Comes t cards after position executed new w') (sym (ap (walks.walk_move w) (is_move state) ∙ made_here card cards machine s (go state) chosen problem p w lp made))
         (comes position executed state w p.opening p.steps s f p.is_viewed)

@@ -27,7 +27,7 @@ use Rattle.run_machine.specs.Punching.{Performs}
 use Rattle.run_machine.specs.Standing as machines
 use Rattle.walk_definitions.specs.Walker.{refuses_selection}
 use Rattle.listing_walk.specs.declared.chosen.Chosen.{Chosen}
-use Rattle.listing_walk.specs.declared.place.Place.{Place}
+use Rattle.listing_walk.specs.declared.place.ListingPlace.{ListingPlace}
 use Rattle.listing_walk.specs.declared.went.Went.{Went}
 use Rattle.listing_walk.specs.Standing.{IsView}
 use Rattle.listing_walk.specs.Walking.{Passes, Walks}
@@ -96,7 +96,7 @@ appended : (old new : Option (List ℕ)) (bytes text : List ℕ) → Appends old
 appended old new bytes text h none all =
     sym (subst (λ (n : Option (List ℕ)). Appends (Some []) n bytes) all (subst (λ (o : Option (List ℕ)). Appends o new bytes) none h))
 
-module _ (verb : Verb ℕ) (card : ℕ) (cards : List (List ℕ)) (old new : Machine Chosen) (place_old place_new : Place) (act : Act) (text : List ℕ) (plain : IsPlain verb card) where
+module _ (verb : Verb ℕ) (card : ℕ) (cards : List (List ℕ)) (old new : Machine Chosen) (place_old place_new : ListingPlace) (act : Act) (text : List ℕ) (plain : IsPlain verb card) where
   -- with some gain that has this text, the statement comes to this act
   record Gains (position executed : ℕ) (state : State) : Type 0 where
     gain : Gain
@@ -125,14 +125,14 @@ module _ (verb : Verb ℕ) (card : ℕ) (cards : List (List ℕ)) (old new : Mac
         record { gain = a.gain; comes = a.comes; is_text = appended (written print_old) (written print_new) (gain_text a.gain) text a.prints.bytes none all })
 
 -- a statement that prints nothing
-pub walks_quietly : (verb : Verb ℕ) (card : ℕ) (cards : List (List ℕ)) (old new : Machine Chosen) (place_old place_new : Place) (act : Act) → IsPlain verb card → Decides IsView Settles verb card old new act →
+pub walks_quietly : (verb : Verb ℕ) (card : ℕ) (cards : List (List ℕ)) (old new : Machine Chosen) (place_old place_new : ListingPlace) (act : Act) → IsPlain verb card → Decides IsView Settles verb card old new act →
     (result : Result Went NoMemory) → IfOk result (Passes new place_old place_new act []) → IfOk result (Walks verb card cards old new place_old place_new)
 walks_quietly verb card cards old new place_old place_new act plain decides =
     walks_by verb card cards old new place_old place_new act [] plain (λ position executed state s. record { gain = Nothing; comes = decides cards position executed state s; is_text = refl })
 
 -- ---- with a sink in memory
 
-module _ (verb : Verb ℕ) (card : ℕ) (cards : List (List ℕ)) (old new : Machine Chosen) (place_old place_new : Place) (act : Act) (text : List ℕ) (plain : IsPlain verb card) (from to : SureSink) (none : sure_bytes from ≡ []) (all : text ≡ sure_bytes to)
+module _ (verb : Verb ℕ) (card : ℕ) (cards : List (List ℕ)) (old new : Machine Chosen) (place_old place_new : ListingPlace) (act : Act) (text : List ℕ) (plain : IsPlain verb card) (from to : SureSink) (none : sure_bytes from ≡ []) (all : text ≡ sure_bytes to)
     (result : Result Went NoMemory) (passes : IfOk result (Passes new place_old place_new act text)) where
   pub walks_loudly : Executes IsView Settles verb card (λ (s : SureSink). Some (sure_bytes s)) (λ (s : SureSink). sure_stopped s) (λ (s : SureSink). 0) (λ (s : SureSink). s.refusals) from to cards old new (Ok act) →
       IfOk result (Walks verb card cards old new place_old place_new)

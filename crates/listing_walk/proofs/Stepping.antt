@@ -14,7 +14,7 @@ use Rattle.walk_definitions.specs.Walker as walks
 use Rattle.walk_definitions.specs.Found.{first_walker, Reaches, begun, walked}
 use Rattle.listing_walk.specs.declared.chosen.Chosen.{Chosen}
 use Rattle.listing_walk.specs.declared.found.Found.{Found}
-use Rattle.listing_walk.specs.declared.place.Place.{Place}
+use Rattle.listing_walk.specs.declared.place.ListingPlace.{ListingPlace}
 use Rattle.listing_walk.specs.declared.went.Went.TheVariants as went
 use Rattle.listing_walk.specs.declared.went.Onward.TheVariants as onward
 use Rattle.listing_walk.specs.Ended.{found_view, decks_after, IsFoundBy}
@@ -36,7 +36,7 @@ counted_stands s = record {
 
 -- ---- the turn
 
-abbrev turn_by : Program → walks.Walker → Bool → Bool → walks.Turn
+abbrev turn_by : Program → walks.Walker → Bool → Bool → walks.WalkTurn
 turn_by program w over more =
     if over then walks.closes w (Ended 0) else if more then walks.walk_statement w (slice_get program.statements (w.state.position - 1)) else walks.closes w StatementLimit
 
@@ -69,7 +69,7 @@ turn_at program w statement within more there =
 -- ---- a statement
 
 module _ (program : Program) (cards : List (List ℕ)) (position : ℕ) (statement : Statement ℕ) (there : slice_get program.statements (position - 1) ≡ Some statement) (within : position ≤ length program.statements)
-    (old new : Machine Chosen) (place_old place_new : Place) where
+    (old new : Machine Chosen) (place_old place_new : ListingPlace) where
   turn_here : (executed : ℕ) (w : walks.Walker) → executed < 100000 → Represents cards old position executed place_old w → walks.turn program w ≡ walks.walk_statement w (Some statement)
   turn_here executed w more s =
       turn_at program w statement (rw s.state.is_position within) (rw s.state.is_executed more) (rw s.state.is_position there)
@@ -92,7 +92,7 @@ module _ (program : Program) (cards : List (List ℕ)) (position : ℕ) (stateme
 
 module _ (program : Program) (cards : List (List ℕ)) (listing : List ℕ) where
   -- a walker is reached that stands here
-  pub record IsUnderway (machine : Machine Chosen) (place : Place) (position executed : ℕ) : Type 0 where
+  pub record IsUnderway (machine : Machine Chosen) (place : ListingPlace) (position executed : ℕ) : Type 0 where
     pub sound : IsSound cards machine
     pub first : 1 ≤ position
     pub within : executed ≤ 100000
@@ -101,7 +101,7 @@ module _ (program : Program) (cards : List (List ℕ)) (listing : List ℕ) wher
     pub reaches : Reaches program (decks_after program cards) listing walker
     pub stands : Represents cards machine position executed place walker
 
-  pub underway_first : (machine : Machine Chosen) (place : Place) (decks_from : ℕ) → drop (decks_from - 1) (numbered_cards cards) ≡ drop (program.decks_from - 1) (numbered_cards cards) →
+  pub underway_first : (machine : Machine Chosen) (place : ListingPlace) (decks_from : ℕ) → drop (decks_from - 1) (numbered_cards cards) ≡ drop (program.decks_from - 1) (numbered_cards cards) →
       IsSound cards machine → machines.Represents IsView cards machine 1 0 (start (decks_of (drop (decks_from - 1) (numbered_cards cards)))) →
       place.cursor ≡ listing → place.pending ≡ None → place.reports ≡ 0 → IsUnderway machine place 1 0
   underway_first machine place decks_from same sound stands rest none no_reports = record {
@@ -117,8 +117,8 @@ module _ (program : Program) (cards : List (List ℕ)) (listing : List ℕ) wher
     };
   }
 
-  module _ {machine : Machine Chosen} {place : Place} {position executed : ℕ} (u : IsUnderway machine place position executed) where
-    pub underway_more : (new : Machine Chosen) (later : Place) (to : ℕ) → executed < 100000 → IsSound cards new → later.reports ≤ place.reports + 1 →
+  module _ {machine : Machine Chosen} {place : ListingPlace} {position executed : ℕ} (u : IsUnderway machine place position executed) where
+    pub underway_more : (new : Machine Chosen) (later : ListingPlace) (to : ℕ) → executed < 100000 → IsSound cards new → later.reports ≤ place.reports + 1 →
         Steps program cards position machine new place later (onward.Goes to) → IsUnderway new later to (executed + 1)
     underway_more new later to more sound few steps =
         let c = steps executed u.walker more u.stands in
@@ -133,7 +133,7 @@ module _ (program : Program) (cards : List (List ℕ)) (listing : List ℕ) wher
           stands = c.2;
         }
 
-    pub underway_found : (new : Machine Chosen) (later : Place) (found : Found) → executed < 100000 → Steps program cards position machine new place later (onward.Finds found) → IsFoundBy program cards listing found
+    pub underway_found : (new : Machine Chosen) (later : ListingPlace) (found : Found) → executed < 100000 → Steps program cards position machine new place later (onward.Finds found) → IsFoundBy program cards listing found
     underway_found new later found more steps = record { walker = u.walker; reaches = u.reaches; finds = steps executed u.walker more u.stands }
 
     pub underway_over : (found : Found) → length program.statements < position → ((w : walks.Walker) → Faces place w → walks.closes w (Ended 0) ≡ walks.Finds (found_view found)) → IsFoundBy program cards listing found
@@ -153,7 +153,7 @@ module _ (program : Program) (cards : List (List ℕ)) (listing : List ℕ) wher
 
   -- ---- by the result of a comparison with an end
 
-  module _ {machine : Machine Chosen} {place : Place} {position executed : ℕ} (u : IsUnderway machine place position executed) (result : Result Found NoMemory) where
+  module _ {machine : Machine Chosen} {place : ListingPlace} {position executed : ℕ} (u : IsUnderway machine place position executed) (result : Result Found NoMemory) where
     pub over_by : length program.statements < position → IfOk result (λ found. (w : walks.Walker) → Faces place w → walks.closes w (Ended 0) ≡ walks.Finds (found_view found)) → IfOk result (IsFoundBy program cards listing)
     over_by over closes = by result closes
       where
@@ -170,7 +170,7 @@ module _ (program : Program) (cards : List (List ℕ)) (listing : List ℕ) wher
         by (Err stop) h = tt
 
 -- an end before any report
-pub closes_first : (listing : List ℕ) (place : Place) → place.cursor ≡ listing → place.pending ≡ None → place.reports ≡ 0 → (ending : Ending) (result : Result Found NoMemory) →
+pub closes_first : (listing : List ℕ) (place : ListingPlace) → place.cursor ≡ listing → place.pending ≡ None → place.reports ≡ 0 → (ending : Ending) (result : Result Found NoMemory) →
     IfOk result (λ found. (w : walks.Walker) → Faces place w → walks.closes w ending ≡ walks.Finds (found_view found)) → IfOk result (λ found. walks.closes (first_walker [] listing) ending ≡ walks.Finds (found_view found))
 closes_first listing place rest none no_reports ending (Ok found) closes = closes (first_walker [] listing) (record { rest = sym rest; pending = rw none refl; reports = sym no_reports })
 closes_first listing place rest none no_reports ending (Err stop) closes = tt

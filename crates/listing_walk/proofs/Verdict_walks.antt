@@ -13,7 +13,7 @@ use Rattle.listing_definitions.specs.declared.VerbFault.TheVariants.{NoSetup}
 use Rattle.listing_definitions.specs.Report.{Solved}
 use Rattle.question_definitions.specs.Answers.{Basis, Sheet, OfPath, PathEnd, Reached, PathLimit, PricesWrong}
 use Rattle.run_definitions.specs.State.{Present, State, choice_of, gone_through}
-use Rattle.run_definitions.specs.Moves.{Prints, Move}
+use Rattle.run_definitions.specs.Moves.{Prints, StatementMove}
 use Rattle.run_definitions.specs.Verbs.{asks, after_path, mark_of, verb_move}
 use Rattle.run_machine.specs.declared.act.Act.{Act}
 use Rattle.run_machine.specs.declared.act.Act.TheVariants as acts
@@ -30,7 +30,7 @@ use Rattle.listing_walk.specs.declared.answering.Stopped.TheVariants as stops
 use Rattle.listing_walk.specs.declared.answering.Stopped.TheVariants.{Finds}
 use Rattle.listing_walk.specs.declared.selecting.Unselected.{Unselected}
 use Rattle.listing_walk.specs.declared.found.Found.{Found}
-use Rattle.listing_walk.specs.declared.place.Place.{Place}
+use Rattle.listing_walk.specs.declared.place.ListingPlace.{ListingPlace}
 use Rattle.listing_walk.specs.declared.solving.SolvingVerb.{SolvingVerb}
 use Rattle.listing_walk.specs.declared.solving.SolvingVerb.TheVariants.{Primal, Dual}
 use Rattle.listing_walk.specs.declared.went.Went.{Went}
@@ -50,7 +50,7 @@ abbrev sheet_of : Present → LinearProgram → Sheet
 sheet_of present lp = record { problem = present.problem; lp = lp }
 
 -- the path of a verb
-abbrev path_move : SolvingVerb → ℕ → State → Present → LinearProgram → Move
+abbrev path_move : SolvingVerb → ℕ → State → Present → LinearProgram → StatementMove
 path_move verb card state present lp = asks (OfPath (solver_of verb) (limit_of verb state.cells)) (sheet_of present lp) present (after_path (solver_of verb) card present state)
 
 solving_move : (verb : SolvingVerb) (card : ℕ) (state : State) → verb_move (verb_of verb) card state ≡ selecting card state (path_move verb card state)
@@ -58,7 +58,7 @@ unfolding verb_move
 solving_move Primal card state = refl
 solving_move Dual card state = refl
 
-module _ (verb : SolvingVerb) (card : ℕ) (cards : List (List ℕ)) (machine : Machine Chosen) (old new : Place) where
+module _ (verb : SolvingVerb) (card : ℕ) (cards : List (List ℕ)) (machine : Machine Chosen) (old new : ListingPlace) where
   pub solving_no_setup : machine.setup ≡ None → (result : Result Went NoMemory) → IfOk result (Passes machine old new (acts.Ends (ends.Verb NoSetup card)) []) → IfOk result (Walks (verb_of verb) card cards machine machine old new)
   solving_no_setup = no_setup_walks (verb_of verb) card (path_move verb card) (solving_move verb card) cards machine old new
 
@@ -91,7 +91,7 @@ module _ (verb : SolvingVerb) (card : ℕ) (cards : List (List ℕ)) (machine : 
       abbrev pub machine_with : Mark → Machine Chosen
       machine_with mark = record machine { setup = Some (record chosen { lp = lp }); mark = Some mark }
 
-      module _ (demands : AreDemands machine.cells) (mark : Mark) (mid : Place) (answered : (limit : Option ℕ) → Answered (OfPath (solver_of verb) limit) (record { problem = problem; lp = lp }) old mid IsMarked (Ok mark))
+      module _ (demands : AreDemands machine.cells) (mark : Mark) (mid : ListingPlace) (answered : (limit : Option ℕ) → Answered (OfPath (solver_of verb) limit) (record { problem = problem; lp = lp }) old mid IsMarked (Ok mark))
           (act : Act) (is_act : act ≡ act_of machine.cells card (Ended mark)) where
         after_state : Present → State → Mark → List Basis → State
         after_state present state m bases = record state { setup = Some (gone_through bases present); mark = Some m }
@@ -110,12 +110,12 @@ module _ (verb : SolvingVerb) (card : ℕ) (cards : List (List ℕ)) (machine : 
         }
 
         ends_by : (w' : Went) → Finishes mid new act w' → (position executed : ℕ) (state : State) (present : Present) → present.problem ≡ problem → present.options ≡ chosen.options → machines.Represents IsView cards machine position executed state →
-            (turn : walks.Turn) (v : walks.Walker) (answer : PathEnd) → turn ≡ walks.follows v (after_path (solver_of verb) card present state answer) → Faces mid v → IsMarked mark answer → Comes turn cards (machine_with mark) position executed new w'
+            (turn : walks.WalkTurn) (v : walks.Walker) (answer : PathEnd) → turn ≡ walks.follows v (after_path (solver_of verb) card present state answer) → Faces mid v → IsMarked mark answer → Comes turn cards (machine_with mark) position executed new w'
         ends_by w' finishes position executed state present same options s turn v (Reached bases verdict check) is faces e =
             let then : State = record state { setup = Some (gone_through bases present); mark = Some (mark_of verdict) } in
             let t : machines.Represents IsView cards (machine_with mark) position executed then = stands_after s present same options bases (mark_of verdict) e in
             let comes = verdict_comes card cards (machine_with mark) position executed (Solved (solver_of verb) verdict check) then t machine.cells demands s.cells (mark_of verdict) in
-            subst (λ (x : walks.Turn). Comes x cards (machine_with mark) position executed new w') (sym is)
+            subst (λ (x : walks.WalkTurn). Comes x cards (machine_with mark) position executed new w') (sym is)
             (finishes v (after_path (solver_of verb) card present state (Reached bases verdict check)) cards (machine_with mark) position executed (Prints (Solved (solver_of verb) verdict check)) faces
             (subst (λ (a : Act). IsOutcome (after_path (solver_of verb) card present state (Reached bases verdict check)) cards (machine_with mark) position executed (Prints (Solved (solver_of verb) verdict check)) a)
             (ap (λ (m : Mark). act_of machine.cells card (Ended m)) (sym e) ∙ sym is_act) comes))

@@ -13,7 +13,7 @@ use Rattle.listing_definitions.specs.declared.VerbFault.TheVariants.{NoSetup, No
 use Rattle.listing_definitions.specs.Report.{SolutionLines, Solution}
 use Rattle.question_definitions.specs.Answers.{Sheet, OfSolution}
 use Rattle.run_definitions.specs.State.{Present, State, choice_of}
-use Rattle.run_definitions.specs.Moves.{Prints, Outcome, next, Move, or_fault}
+use Rattle.run_definitions.specs.Moves.{Prints, StatementOutcome, next, StatementMove, or_fault}
 use Rattle.run_definitions.specs.Verbs.{asks, shows_present, verb_move}
 use Rattle.run_machine.specs.declared.act.Act.TheVariants as acts
 use Rattle.run_machine.specs.declared.end.End.TheVariants as ends
@@ -24,7 +24,7 @@ use Rattle.listing_walk.specs.declared.answering.Stopped.{Stopped}
 use Rattle.listing_walk.specs.declared.answering.Stopped.TheVariants as stops
 use Rattle.listing_walk.specs.declared.chosen.Chosen.{Chosen}
 use Rattle.listing_walk.specs.declared.found.Found.{Found}
-use Rattle.listing_walk.specs.declared.place.Place.{Place}
+use Rattle.listing_walk.specs.declared.place.ListingPlace.{ListingPlace}
 use Rattle.listing_walk.specs.declared.went.Went.{Went}
 use Rattle.listing_walk.specs.declared.went.Went.TheVariants as went
 use Rattle.listing_walk.specs.Standing.{IsView, IsSolved}
@@ -38,7 +38,7 @@ use Rattle.listing_walk.proofs.Solving_walks.{present_with, present_at, none_at,
 -- ---- faults
 
 -- a statement that is a verb fault
-pub fault_walks : (verb : Verb ℕ) (card : ℕ) (cards : List (List ℕ)) (machine : Machine Chosen) (old new : Place) (fault : VerbFault) →
+pub fault_walks : (verb : Verb ℕ) (card : ℕ) (cards : List (List ℕ)) (machine : Machine Chosen) (old new : ListingPlace) (fault : VerbFault) →
     ((position executed : ℕ) (state : State) → machines.Represents IsView cards machine position executed state → verb_move verb card state ≡ fault_stop fault card) → (result : Result Went NoMemory) →
     IfOk result (Passes machine old new (acts.Ends (ends.Verb fault card)) []) → IfOk result (Walks verb card cards machine machine old new)
 fault_walks verb card cards machine old new fault is (Ok w') passes = λ position executed state w s f.
@@ -54,10 +54,10 @@ some_at {machine = machine} {state = state} s chosen is =
 
 -- ---- verbs that show what is solved
 
-abbrev pub showing : ℕ → State → (Present → Mark → Move) → Move
+abbrev pub showing : ℕ → State → (Present → Mark → StatementMove) → StatementMove
 showing card state go = or_fault card NoSetup state.setup (λ present. or_fault card NotSolved state.mark (go present))
 
-module _ (card : ℕ) (cards : List (List ℕ)) (machine : Machine Chosen) {position executed : ℕ} {state : State} (s : machines.Represents IsView cards machine position executed state) (go : Present → Mark → Move) where
+module _ (card : ℕ) (cards : List (List ℕ)) (machine : Machine Chosen) {position executed : ℕ} {state : State} (s : machines.Represents IsView cards machine position executed state) (go : Present → Mark → StatementMove) where
   pub showing_none : machine.setup ≡ None → showing card state go ≡ fault_stop NoSetup card
   showing_none none = fault_move card NoSetup state.setup (λ (present : Present). or_fault card NotSolved state.mark (go present)) (none_at s none)
 
@@ -85,14 +85,14 @@ selected_now machine chosen is_setup mark is_mark problem on_file solved = solve
 abbrev sheet_of : Present → LinearProgram → Sheet
 sheet_of present lp = record { problem = present.problem; lp = lp }
 
-abbrev lines_move : ℕ → State → Present → Mark → Move
+abbrev lines_move : ℕ → State → Present → Mark → StatementMove
 lines_move card state present mark = shows_present card state present (OfSolution mark) (Solution mark)
 
 solution_move : (card : ℕ) (state : State) → verb_move SolutionVerb card state ≡ showing card state (lines_move card state)
 unfolding verb_move
 solution_move card state = refl
 
-module _ (card : ℕ) (cards : List (List ℕ)) (machine : Machine Chosen) (old new : Place) where
+module _ (card : ℕ) (cards : List (List ℕ)) (machine : Machine Chosen) (old new : ListingPlace) where
   pub solution_no_setup : machine.setup ≡ None → (result : Result Went NoMemory) → IfOk result (Passes machine old new (acts.Ends (ends.Verb NoSetup card)) []) → IfOk result (Walks SolutionVerb card cards machine machine old new)
   solution_no_setup none = fault_walks SolutionVerb card cards machine old new NoSetup (λ position executed state s. solution_move card state ∙ showing_none card cards machine s (lines_move card state) none)
 
@@ -103,7 +103,7 @@ module _ (card : ℕ) (cards : List (List ℕ)) (machine : Machine Chosen) (old 
 
     module _ (mark : Mark) (is_mark : machine.mark ≡ Some mark) (problem : Problem ℕ) (on_file : filed_under chosen.name machine.file ≡ Some problem)
         (solved : IfSome machine.mark (λ mark. IfSome machine.setup (IsSolved mark machine.cells.xobj machine.cells.xrhs machine.file))) where
-      abbrev go_on : State → SolutionLines → Outcome
+      abbrev go_on : State → SolutionLines → StatementOutcome
       go_on state lines = next (Prints (Solution mark lines)) state
 
       turn_view : {position executed : ℕ} {state : State} (w : walks.Walker) → machines.Represents IsView cards machine position executed state →

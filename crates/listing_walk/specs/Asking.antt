@@ -8,8 +8,8 @@ use Rattle.exact_values.specs.Rational.{ℚ}
 use Rattle.exact_values.specs.Tests.{eq_ℚ}
 use Rattle.listing_definitions.specs.declared.Mark.{Mark}
 use Rattle.listing_definitions.specs.declared.Mark.TheVariants.{Optimal, Infeasible, Unbounded}
-use Rattle.question_definitions.specs.Answers.{Sheet, Question, Answer, PathEnd, Reached}
-use Rattle.run_definitions.specs.Moves.{Outcome}
+use Rattle.question_definitions.specs.Answers.{Sheet, Question, AnswerTo, PathEnd, Reached}
+use Rattle.run_definitions.specs.Moves.{StatementOutcome}
 use Rattle.run_definitions.specs.Verbs.{mark_of}
 use Rattle.walk_definitions.specs.Reading.{judged}
 use Rattle.walk_definitions.specs.Walker as walks
@@ -20,7 +20,7 @@ use Rattle.listing_walk.specs.declared.answering.Stopped.TheVariants.{Finds, NoM
 use Rattle.listing_walk.specs.declared.found.Found.{Found}
 use Rattle.listing_walk.specs.declared.found.Found.TheVariants.{Wrong, Unchecked}
 use Rattle.listing_walk.specs.declared.place.Pending.{Pending}
-use Rattle.listing_walk.specs.declared.place.Place.{Place}
+use Rattle.listing_walk.specs.declared.place.ListingPlace.{ListingPlace}
 use Rattle.listing_walk.specs.declared.went.Went.{Went}
 use Rattle.listing_walk.specs.declared.went.Went.TheVariants as went
 use Rattle.listing_walk.specs.Ended.{found_view}
@@ -51,20 +51,20 @@ abbrev pub IsSettling : Option Pending → ℚ → Option Found → Type 0
 IsSettling None objective found = found ≡ None
 IsSettling (Some pending) objective found = found ≡ (if settled_by pending objective then None else Some (Wrong pending.rest))
 
-abbrev pub asked_turn : walks.Walker → (question : Question) → Sheet → (Answer question → Outcome) → walks.Turn
+abbrev pub asked_turn : walks.Walker → (question : Question) → Sheet → (AnswerTo question → StatementOutcome) → walks.WalkTurn
 asked_turn w question sheet go = walks.unless_found (walks.open_question w question sheet go) (walks.answered w question sheet go (judged question sheet w.rest))
 
 -- an answer of which this holds was taken, and the walk goes on with it from a walker that stands here
-pub record IsTaken (question : Question) (Holds : Answer question → Type 0) (new : Place) (turn : walks.Turn) (go : Answer question → Outcome) : Type 0 where
-  pub answer : Answer question
+pub record IsTaken (question : Question) (Holds : AnswerTo question → Type 0) (new : ListingPlace) (turn : walks.WalkTurn) (go : AnswerTo question → StatementOutcome) : Type 0 where
+  pub answer : AnswerTo question
   pub walker : walks.Walker
   pub is_turn : turn ≡ walks.follows walker (go answer)
   pub faces : Faces new walker
   pub holds : Holds answer
 
-abbrev pub Answered : {X : Type 0} → (question : Question) → Sheet → Place → Place → (X → Answer question → Type 0) → Result X Stopped → Type 0
-Answered question sheet old new Holds (Ok x) = (w : walks.Walker) (go : Answer question → Outcome) → Faces old w → IsTaken question (Holds x) new (asked_turn w question sheet go) go
-Answered question sheet old new Holds (Err (Finds found)) = (w : walks.Walker) (go : Answer question → Outcome) → Faces old w → asked_turn w question sheet go ≡ walks.Finds (found_view found)
+abbrev pub Answered : {X : Type 0} → (question : Question) → Sheet → ListingPlace → ListingPlace → (X → AnswerTo question → Type 0) → Result X Stopped → Type 0
+Answered question sheet old new Holds (Ok x) = (w : walks.Walker) (go : AnswerTo question → StatementOutcome) → Faces old w → IsTaken question (Holds x) new (asked_turn w question sheet go) go
+Answered question sheet old new Holds (Err (Finds found)) = (w : walks.Walker) (go : AnswerTo question → StatementOutcome) → Faces old w → asked_turn w question sheet go ≡ walks.Finds (found_view found)
 Answered question sheet old new Holds (Err NoMemory) = Unit {0}
 
 -- the mark is that of the verdict
@@ -73,5 +73,5 @@ IsMarked mark (Reached bases verdict check) = mark ≡ mark_of verdict
 IsMarked mark end = ⊥
 
 -- nothing is asked of the answer
-abbrev pub IsAny : (question : Question) → Unit {0} → Answer question → Type 0
+abbrev pub IsAny : (question : Question) → Unit {0} → AnswerTo question → Type 0
 IsAny question nothing answer = Unit {0}

@@ -16,7 +16,7 @@ use Rattle.walk_definitions.specs.Forms.{is_inserted}
 use Rattle.walk_definitions.specs.Walker as walks
 use Rattle.listing_walk.specs.declared.chosen.Chosen.{Chosen}
 use Rattle.listing_walk.specs.declared.found.Found.{Found}
-use Rattle.listing_walk.specs.declared.place.Place.{Place}
+use Rattle.listing_walk.specs.declared.place.ListingPlace.{ListingPlace}
 use Rattle.listing_walk.specs.declared.selecting.Unselected.{Unselected}
 use Rattle.listing_walk.specs.declared.selecting.Unselected.TheVariants.{Fault, Unchecked, NoMemory}
 use Rattle.listing_walk.specs.declared.went.Went.{Went}
@@ -39,11 +39,11 @@ is_line_of cards (Some deck) rest = is_inserted (deck_name (live (cards_between 
 abbrev pub open_install : Bool → walks.Walker → Option walks.Found
 open_install stands w = option_or (walks.open_stop w) (option_or (walks.open_if stands w) (walks.open_pending w))
 
-abbrev pub IsInstallDue : Place → Bool → Found → Type 0
+abbrev pub IsInstallDue : ListingPlace → Bool → Found → Type 0
 IsInstallDue place stands found = (w : walks.Walker) → Faces place w → walks.unless_found (open_install stands w) (walks.Finds (walks.Wrong w.rest)) ≡ walks.Finds (found_view found)
 
 -- where the line stands, nothing is said of a refused operation
-abbrev pub RefusesInstall : Machine Chosen → Place → Place → ℕ → Bool → Unselected → Went → Type 0
+abbrev pub RefusesInstall : Machine Chosen → ListingPlace → ListingPlace → ℕ → Bool → Unselected → Went → Type 0
 RefusesInstall machine old new card stands (Fault fault) went = Passes machine old new (acts.Ends (ends.Verb fault card)) [] went
 RefusesInstall machine old new card stands Unchecked went = (stands ≡ false) × FindsUnchecked old went
 RefusesInstall machine old new card stands NoMemory went = ⊥

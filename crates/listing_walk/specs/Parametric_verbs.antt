@@ -13,7 +13,7 @@ use Rattle.parametric_request.specs.declared.request.RequestStop.TheVariants as 
 use Rattle.listing_answers.specs.declared.answer.ParametricRunAnswer.{ParametricRunAnswer}
 use Rattle.listing_answers.specs.declared.answer.ParametricRunAnswer.TheVariants.{Opened, RanThrough}
 use Rattle.listing_walk.specs.declared.chosen.Chosen.{Chosen}
-use Rattle.listing_walk.specs.declared.place.Place.{Place}
+use Rattle.listing_walk.specs.declared.place.ListingPlace.{ListingPlace}
 use Rattle.listing_walk.specs.declared.went.Went.{Went}
 use Rattle.listing_walk.specs.Walking.{Passes}
 
@@ -26,6 +26,6 @@ abbrev pub left_by : ParametricRunAnswer → Machine Chosen → Machine Chosen
 left_by (Opened mark) machine = record machine { mark = None }
 left_by (RanThrough last) machine = record machine { cells = record (machine.cells) { xparam = last }; mark = None }
 
-abbrev pub IsUnasked : Machine Chosen → Place → Place → ℕ → RequestStop → Went → Type 0
+abbrev pub IsUnasked : Machine Chosen → ListingPlace → ListingPlace → ℕ → RequestStop → Went → Type 0
 IsUnasked machine old new card (stops.Fault fault) went = Passes machine old new (acts.Ends (ends.Verb fault card)) [] went
 IsUnasked machine old new card stops.NoMemory went = ⊥

@@ -18,7 +18,7 @@ use Rattle.walk_definitions.specs.Tests.{says_checked}
 use Rattle.walk_definitions.specs.Walker as walks
 use Rattle.listing_walk.specs.declared.chosen.Chosen.{Chosen}
 use Rattle.listing_walk.specs.declared.place.Pending.{Pending}
-use Rattle.listing_walk.specs.declared.place.Place.{Place}
+use Rattle.listing_walk.specs.declared.place.ListingPlace.{ListingPlace}
 
 -- ---- what SETUP keeps
 
@@ -50,13 +50,13 @@ ShowsPending None viewed = viewed ≡ None
 ShowsPending (Some pending) viewed =
     (check : Check) × (viewed ≡ Some (record { rest = pending.rest.now; objective = pending.objective; check = check })) × (says_checked check ≡ pending.is_checked)
 
-pub record Faces (place : Place) (w : walks.Walker) : Type 0 where
+pub record Faces (place : ListingPlace) (w : walks.Walker) : Type 0 where
   pub rest : w.rest ≡ place.cursor
   pub pending : ShowsPending place.pending w.pending
   pub reports : w.reports ≡ place.reports
 
 -- ---- both
 
-pub record Represents (cards : List (List ℕ)) (machine : Machine Chosen) (position executed : ℕ) (place : Place) (w : walks.Walker) : Type 0 where
+pub record Represents (cards : List (List ℕ)) (machine : Machine Chosen) (position executed : ℕ) (place : ListingPlace) (w : walks.Walker) : Type 0 where
   pub state : machines.Represents IsView cards machine position executed w.state
   pub faces : Faces place w

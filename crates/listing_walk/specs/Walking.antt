@@ -6,7 +6,7 @@ use Rattle.std.specs.Prelude.{◌≡◌, ℕ, ◌+◌, ◌≤◌, ◌<◌, Bool,
 use Rattle.std.specs.Option.{option_or}
 use Rattle.control_definitions.specs.Program.{Verb, Program}
 use Rattle.run_definitions.specs.State.{State}
-use Rattle.run_definitions.specs.Moves.{Outcome, Move, Does, Gain, Settles, gain_text}
+use Rattle.run_definitions.specs.Moves.{StatementOutcome, StatementMove, Does, Gain, Settles, gain_text}
 use Rattle.run_definitions.specs.Verbs.{verb_move}
 use Rattle.run_machine.specs.declared.act.Act.{Act}
 use Rattle.run_machine.specs.declared.act.Act.TheVariants as acts
@@ -16,7 +16,7 @@ use Rattle.run_machine.specs.Standing as machines
 use Rattle.run_machine.specs.Statements.{Follows}
 use Rattle.walk_definitions.specs.Walker as walks
 use Rattle.listing_walk.specs.declared.chosen.Chosen.{Chosen}
-use Rattle.listing_walk.specs.declared.place.Place.{Place}
+use Rattle.listing_walk.specs.declared.place.ListingPlace.{ListingPlace}
 use Rattle.listing_walk.specs.declared.found.Found.{Found}
 use Rattle.listing_walk.specs.declared.selecting.Unselected.{Unselected}
 use Rattle.listing_walk.specs.declared.selecting.Unselected.TheVariants.{Fault, Unchecked, NoMemory}
@@ -51,68 +51,68 @@ ends_run (acts.Ends end) = true
 -- ---- what comes
 
 -- the walk goes on with a walker that stands here, or it ends
-abbrev pub Comes : walks.Turn → List (List ℕ) → Machine Chosen → ℕ → ℕ → Place → Went → Type 0
+abbrev pub Comes : walks.WalkTurn → List (List ℕ) → Machine Chosen → ℕ → ℕ → ListingPlace → Went → Type 0
 Comes turn cards machine position executed place Next = (v : walks.Walker) × (turn ≡ walks.Walks v) × Represents cards machine (position + 1) executed place v
 Comes turn cards machine position executed place (Jump to) = (v : walks.Walker) × (turn ≡ walks.Walks v) × Represents cards machine to executed place v × (1 ≤ to)
 Comes turn cards machine position executed place (Finds found) = turn ≡ walks.Finds (found_view found)
 
 -- the outcome is that of an act, which was reached with this machine
-abbrev pub IsOutcome : Outcome → List (List ℕ) → Machine Chosen → ℕ → ℕ → Gain → Act → Type 0
+abbrev pub IsOutcome : StatementOutcome → List (List ℕ) → Machine Chosen → ℕ → ℕ → Gain → Act → Type 0
 IsOutcome outcome cards machine position executed gain act = Follows IsView Settles 0 (Does outcome) cards machine position executed gain act
 
 -- after a report was passed, or where none was due
-abbrev pub Finishes : Place → Place → Act → Went → Type 0
+abbrev pub Finishes : ListingPlace → ListingPlace → Act → Went → Type 0
 Finishes old new act went =
-    (v : walks.Walker) (outcome : Outcome) (cards : List (List ℕ)) (machine : Machine Chosen) (position executed : ℕ) (gain : Gain) → Faces old v →
+    (v : walks.Walker) (outcome : StatementOutcome) (cards : List (List ℕ)) (machine : Machine Chosen) (position executed : ℕ) (gain : Gain) → Faces old v →
     IsOutcome outcome cards machine position executed gain act → Comes (walks.follows v outcome) cards machine position executed new went
 
 -- a move that asks nothing, and comes to an act with this text
-abbrev pub Passes : Machine Chosen → Place → Place → Act → List ℕ → Went → Type 0
+abbrev pub Passes : Machine Chosen → ListingPlace → ListingPlace → Act → List ℕ → Went → Type 0
 Passes machine old new act text went =
-    (w : walks.Walker) (card : ℕ) (move : Move) (cards : List (List ℕ)) (position executed : ℕ) (gain : Gain) → Faces old w → walks.refuses_selection move ≡ false →
+    (w : walks.Walker) (card : ℕ) (move : StatementMove) (cards : List (List ℕ)) (position executed : ℕ) (gain : Gain) → Faces old w → walks.refuses_selection move ≡ false →
     Follows IsView Settles card move cards machine position executed gain act → gain_text gain ≡ text → Comes (walks.walk_move w move) cards machine position executed new went
 
 -- an operation is refused here, where a stop and what is pending come first
-abbrev pub IsUnchecked : Place → Found → Type 0
+abbrev pub IsUnchecked : ListingPlace → Found → Type 0
 IsUnchecked place found = (w : walks.Walker) → Faces place w → walks.unless_found (open_by true true w) (walks.Finds (walks.Unchecked w.rest)) ≡ walks.Finds (found_view found)
 
 -- a report that can't be attested is due here, and its line stands or doesn't
-abbrev pub IsReported : Place → Bool → Bool → Found → Type 0
+abbrev pub IsReported : ListingPlace → Bool → Bool → Found → Type 0
 IsReported place stands made found =
     (w : walks.Walker) → Faces place w → walks.unless_found (option_or (walks.open_stop w) (walks.open_if stands w)) (walks.Finds (if made then walks.Wrong w.rest else walks.Unchecked w.rest)) ≡ walks.Finds (found_view found)
 
 -- the walk ends so, where an operation is refused
-abbrev pub FindsUnchecked : Place → Went → Type 0
+abbrev pub FindsUnchecked : ListingPlace → Went → Type 0
 FindsUnchecked place (Finds found) = IsUnchecked place found
 FindsUnchecked place went = ⊥
 
 -- what is refused, and why
-abbrev pub Refuses : Machine Chosen → Place → Place → ℕ → Unselected → Went → Type 0
+abbrev pub Refuses : Machine Chosen → ListingPlace → ListingPlace → ℕ → Unselected → Went → Type 0
 Refuses machine old new card (Fault fault) went = Passes machine old new (acts.Ends (ends.Verb fault card)) [] went
 Refuses machine old new card Unchecked went = FindsUnchecked old went
 Refuses machine old new card NoMemory went = ⊥
 
-abbrev pub FindsReported : Place → Bool → Went → Type 0
+abbrev pub FindsReported : ListingPlace → Bool → Went → Type 0
 FindsReported place stands (Finds found) = IsReported place stands false found
 FindsReported place stands went = ⊥
 
 -- the same, where a report that can't be attested is due
-abbrev pub RefusesReport : Machine Chosen → Place → Place → ℕ → Bool → Unselected → Went → Type 0
+abbrev pub RefusesReport : Machine Chosen → ListingPlace → ListingPlace → ℕ → Bool → Unselected → Went → Type 0
 RefusesReport machine old new card stands (Fault fault) went = Passes machine old new (acts.Ends (ends.Verb fault card)) [] went
 RefusesReport machine old new card stands Unchecked went = FindsReported old stands went
 RefusesReport machine old new card stands NoMemory went = ⊥
 
 -- the statement of a verb
-abbrev pub Walks : Verb ℕ → ℕ → List (List ℕ) → Machine Chosen → Machine Chosen → Place → Place → Went → Type 0
+abbrev pub Walks : Verb ℕ → ℕ → List (List ℕ) → Machine Chosen → Machine Chosen → ListingPlace → ListingPlace → Went → Type 0
 Walks verb card cards old new place_old place_new went =
     (position executed : ℕ) (state : State) (w : walks.Walker) → machines.Represents IsView cards old position executed state → Faces place_old w →
     Comes (walks.walk_move w (verb_move verb card state)) cards new position executed place_new went
 
 -- the statement at a position
-abbrev pub ComesTo : walks.Turn → List (List ℕ) → Machine Chosen → ℕ → Place → Onward → Type 0
+abbrev pub ComesTo : walks.WalkTurn → List (List ℕ) → Machine Chosen → ℕ → ListingPlace → Onward → Type 0
 ComesTo turn cards machine executed place (onward.Goes to) = (v : walks.Walker) × (turn ≡ walks.Walks v) × Represents cards machine to executed place v × (1 ≤ to)
 ComesTo turn cards machine executed place (onward.Finds found) = turn ≡ walks.Finds (found_view found)
 
-abbrev pub Steps : Program → List (List ℕ) → ℕ → Machine Chosen → Machine Chosen → Place → Place → Onward → Type 0
+abbrev pub Steps : Program → List (List ℕ) → ℕ → Machine Chosen → Machine Chosen → ListingPlace → ListingPlace → Onward → Type 0
 Steps program cards position old new place_old place_new went =
     (executed : ℕ) (w : walks.Walker) → executed < 100000 → Represents cards old position executed place_old w → ComesTo (walks.turn program w) cards new (executed + 1) place_new went

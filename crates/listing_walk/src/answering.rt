@@ -14,7 +14,7 @@ ghost use Rattle.listing_walk.specs.Standing.{ShowsPending};
 ghost use Rattle.listing_walk.specs.Asking.{WentBy, stopped_by, is_optimal, settled_by, Answered, IsMarked, IsAny, IsSettling};
 
 use crate::found::Found;
-use crate::place::{Pending, Place};
+use crate::place::{ListingPlace, Pending};
 use crate::went::Went;
 use frac128::Frac;
 use job_devices::NoMemory;
@@ -89,7 +89,7 @@ fn pending_after<'a>(rest: &'a [u8], conclusion: &Conclusion) -> Option<Pending<
 /// Takes the verdict of a solving verb. Gives its mark.
 pub fn answer_path<'a>(
     alloc: Global,
-    place: &mut Place<'a>,
+    place: &mut ListingPlace<'a>,
     sheet: Sheet<'_>,
     solver: Solver,
 ) -> Result<Mark, Stopped<'a>>
@@ -133,7 +133,7 @@ fn settles(pending: &Pending<'_>, objective: Frac) -> bool
 }
 
 // SOLUTION under OPTIMAL settles what is pending, or it is wrong.
-fn settled<'a>(place: &Place<'a>, objective: Frac) -> Option<Found<'a>>
+fn settled<'a>(place: &ListingPlace<'a>, objective: Frac) -> Option<Found<'a>>
     ensures { IsSettling place.now.pending objective result }
 {
     match &place.pending {
@@ -151,7 +151,7 @@ fn settled<'a>(place: &Place<'a>, objective: Frac) -> Option<Found<'a>>
 /// Takes the lines of SOLUTION under a mark. Under OPTIMAL they settle what is pending.
 pub fn answer_solution<'a>(
     alloc: Global,
-    place: &mut Place<'a>,
+    place: &mut ListingPlace<'a>,
     sheet: Sheet<'_>,
     mark: Mark,
 ) -> Result<(), Stopped<'a>>
@@ -196,7 +196,7 @@ pub fn is_optimal(mark: Mark) -> bool
 /// Takes what PARAOBJ or PARARHS prints of a run.
 pub fn answer_parametric_run<'a>(
     alloc: Global,
-    place: &mut Place<'a>,
+    place: &mut ListingPlace<'a>,
     sheet: Sheet<'_>,
     request: &ParametricRequest,
 ) -> Result<ParametricRunAnswer, Stopped<'a>>

@@ -8,7 +8,7 @@ ghost use Rattle.listing_walk.specs.Ended.{found_view, IsFoundBy};
 use crate::chosen::Chosen;
 use crate::execute::step;
 use crate::found::Found;
-use crate::place::Place;
+use crate::place::ListingPlace;
 use crate::went::Onward;
 use card_reader::Cards;
 use control_compiler::Program;
@@ -31,7 +31,7 @@ pub fn walk<'a>(
     ensures { IfOk result (IsFoundBy program.now cards.now listing.now) }
 {
     let mut machine = Machine::<Chosen>::new(alloc, first_after(program.decks_from(), cards));
-    let mut place = Place::new(listing);
+    let mut place = ListingPlace::new(listing);
     let mut position = 1;
     let mut executed = 0;
     while position <= program.count() {
@@ -57,6 +57,6 @@ pub fn closes<'a>(
     requires { IsEnding ending.now }
     ensures { IfOk result (λ found. walks.closes (first_walker [] listing.now) (ending_view ending.now) ≡ walks.Finds (found_view found)) }
 {
-    let mut place = Place::new(listing);
+    let mut place = ListingPlace::new(listing);
     place.close(alloc, ending)
 }

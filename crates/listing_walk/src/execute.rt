@@ -10,7 +10,7 @@ use crate::chosen::Chosen;
 use crate::follow::follow;
 use crate::inserting::insert;
 use crate::parametric_runs::parametric_run;
-use crate::place::Place;
+use crate::place::ListingPlace;
 use crate::reporting::{punch_basis, show_ranges};
 use crate::setup::set_up;
 use crate::solution::show_solution;
@@ -29,7 +29,7 @@ fn execute<'a>(
     alloc: Global,
     machine: &mut Machine<Chosen>,
     cards: &Cards,
-    place: &mut Place<'a>,
+    place: &mut ListingPlace<'a>,
     card: u32,
     verb: &Verb<u32>,
 ) -> Result<Went<'a>, NoMemory>
@@ -91,7 +91,7 @@ pub fn step<'a>(
     machine: &mut Machine<Chosen>,
     program: &Program,
     cards: &Cards,
-    place: &mut Place<'a>,
+    place: &mut ListingPlace<'a>,
     position: u32,
 ) -> Result<Onward<'a>, NoMemory>
     requires valid { IsProgram program.now }

@@ -6,7 +6,7 @@ ghost use Rattle.listing_walk.specs.Walking.{ends_run, Finishes, Passes, Refuses
 
 use crate::chosen::Chosen;
 use crate::found::Found;
-use crate::place::{Place, is_loud};
+use crate::place::{ListingPlace, is_loud};
 use crate::selecting::Unselected;
 use crate::went::Went;
 use job_devices::NoMemory;
@@ -25,7 +25,11 @@ fn ends_run(act: &Act) -> bool
 }
 
 /// Goes on as an act says, once the report is passed. An end is due in a line of its own.
-pub fn finish<'a>(alloc: Global, place: &mut Place<'a>, act: &Act) -> Result<Went<'a>, NoMemory>
+pub fn finish<'a>(
+    alloc: Global,
+    place: &mut ListingPlace<'a>,
+    act: &Act,
+) -> Result<Went<'a>, NoMemory>
     ensures finishes { IfOk result (Finishes place.old place.new act.now) }
     ensures reports { place.new.reports ≡ place.old.reports }
 {
@@ -43,7 +47,7 @@ pub fn finish<'a>(alloc: Global, place: &mut Place<'a>, act: &Act) -> Result<Wen
 pub fn follow<'a>(
     alloc: Global,
     machine: &Machine<Chosen>,
-    place: &mut Place<'a>,
+    place: &mut ListingPlace<'a>,
     act: &Act,
     text: &[u8],
 ) -> Result<Went<'a>, NoMemory>
@@ -68,7 +72,7 @@ pub fn follow<'a>(
 pub fn fault<'a>(
     alloc: Global,
     machine: &Machine<Chosen>,
-    place: &mut Place<'a>,
+    place: &mut ListingPlace<'a>,
     fault: VerbFault,
     card: u32,
 ) -> Result<Went<'a>, NoMemory>
@@ -89,7 +93,7 @@ pub fn fault<'a>(
 pub fn refuse<'a>(
     alloc: Global,
     machine: &Machine<Chosen>,
-    place: &mut Place<'a>,
+    place: &mut ListingPlace<'a>,
     refusal: Unselected,
     card: u32,
 ) -> Result<Went<'a>, NoMemory>

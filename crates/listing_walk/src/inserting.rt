@@ -8,7 +8,7 @@ ghost use Rattle.listing_walk.specs.Inserting.{is_line_of, LiesWithin, IsInstall
 use crate::chosen::Chosen;
 use crate::follow::{fault, follow};
 use crate::found::Found;
-use crate::place::Place;
+use crate::place::ListingPlace;
 use crate::selecting::{Unselected, select_present};
 use crate::went::Went;
 use basis_deck::read_basis;
@@ -39,7 +39,7 @@ fn is_line_of(cards: &Cards, taken: Option<Deck>, rest: &[u8]) -> bool
 
 // The line of INSERT is due here, and stands or doesn't: a stop comes first; where the line doesn't stand, the verdict that is pending
 // comes, and else it is wrong.
-fn install_due<'a>(place: &Place<'a>, stands: bool) -> Found<'a>
+fn install_due<'a>(place: &ListingPlace<'a>, stands: bool) -> Found<'a>
     ensures { IsInstallDue place.now stands result }
 {
     let rest = place.cursor.left();
@@ -56,7 +56,7 @@ fn install_due<'a>(place: &Place<'a>, stands: bool) -> Found<'a>
 fn refuse_install<'a>(
     alloc: Global,
     machine: &Machine<Chosen>,
-    place: &mut Place<'a>,
+    place: &mut ListingPlace<'a>,
     refusal: Unselected,
     stands: bool,
     card: u32,
@@ -84,7 +84,7 @@ pub fn insert<'a>(
     alloc: Global,
     machine: &Machine<Chosen>,
     cards: &Cards,
-    place: &mut Place<'a>,
+    place: &mut ListingPlace<'a>,
     card: u32,
 ) -> Result<Went<'a>, NoMemory>
     requires sound { IsSound cards.now machine.now }

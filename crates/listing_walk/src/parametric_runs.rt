@@ -9,7 +9,7 @@ ghost use Rattle.listing_walk.specs.Walking.{Walks};
 use crate::answering::{answer_parametric_run, stop_walk};
 use crate::chosen::Chosen;
 use crate::follow::{fault, finish, refuse};
-use crate::place::Place;
+use crate::place::ListingPlace;
 use crate::selecting::select_present;
 use crate::went::Went;
 use job_devices::NoMemory;
@@ -25,7 +25,7 @@ use std::alloc::Global;
 fn unasked<'a>(
     alloc: Global,
     machine: &Machine<Chosen>,
-    place: &mut Place<'a>,
+    place: &mut ListingPlace<'a>,
     stop: RequestStop,
     card: u32,
 ) -> Result<Went<'a>, NoMemory>
@@ -64,7 +64,7 @@ fn leave(machine: &mut Machine<Chosen>, answer: &ParametricRunAnswer)
 pub fn parametric_run<'a>(
     alloc: Global,
     machine: &mut Machine<Chosen>,
-    place: &mut Place<'a>,
+    place: &mut ListingPlace<'a>,
     card: u32,
     verb: ParametricVerb,
 ) -> Result<Went<'a>, NoMemory>

@@ -29,7 +29,7 @@ pub struct Pending<'a> {
 
 /// Where the walk stands in a listing: what is left of it, the verdict that is pending, and the number of reports so far.
 #[derive(Drop)]
-pub struct Place<'a> {
+pub struct ListingPlace<'a> {
     pub cursor: Cursor<'a>,
     pub pending: Option<Pending<'a>>,
     pub reports: u32,
@@ -62,14 +62,14 @@ pub fn is_loud(text: &[u8]) -> bool
     !text.is_empty()
 }
 
-impl<'a> Place<'a> {
+impl<'a> ListingPlace<'a> {
     /// At the beginning of a listing.
-    pub fn new(listing: &'a [u8]) -> Place<'a>
+    pub fn new(listing: &'a [u8]) -> ListingPlace<'a>
         ensures rest { result.cursor ≡ listing.now }
         ensures pending { result.pending ≡ None }
         ensures reports { result.reports ≡ 0 }
     {
-        Place {
+        ListingPlace {
             cursor: Cursor::new(listing),
             pending: None,
             reports: 0,

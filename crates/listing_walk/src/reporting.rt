@@ -7,7 +7,7 @@ ghost use Rattle.listing_walk.specs.Walking.{RefusesReport, Walks};
 use crate::answering::is_optimal;
 use crate::chosen::Chosen;
 use crate::follow::fault;
-use crate::place::Place;
+use crate::place::ListingPlace;
 use crate::selecting::{Unselected, select_present};
 use crate::went::Went;
 use job_devices::NoMemory;
@@ -20,7 +20,7 @@ use std::alloc::Global;
 pub fn show_ranges<'a>(
     alloc: Global,
     machine: &Machine<Chosen>,
-    place: &mut Place<'a>,
+    place: &mut ListingPlace<'a>,
     card: u32,
 ) -> Result<Went<'a>, NoMemory>
     requires ready { IfSome machine.now.setup (IsReady machine.now.file) }
@@ -47,7 +47,7 @@ pub fn show_ranges<'a>(
 fn refuse_report<'a>(
     alloc: Global,
     machine: &Machine<Chosen>,
-    place: &mut Place<'a>,
+    place: &mut ListingPlace<'a>,
     refusal: Unselected,
     stands: bool,
     card: u32,
@@ -67,7 +67,7 @@ fn refuse_report<'a>(
 pub fn punch_basis<'a>(
     alloc: Global,
     machine: &Machine<Chosen>,
-    place: &mut Place<'a>,
+    place: &mut ListingPlace<'a>,
     card: u32,
 ) -> Result<Went<'a>, NoMemory>
     requires ready { IfSome machine.now.setup (IsReady machine.now.file) }

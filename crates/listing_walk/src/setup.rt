@@ -12,7 +12,7 @@ ghost use Rattle.listing_walk.specs.Walking.{Walks};
 
 use crate::chosen::{Chosen, Named};
 use crate::follow::{fault, follow};
-use crate::place::Place;
+use crate::place::ListingPlace;
 use crate::selecting::{Unselected, select_present};
 use crate::went::Went;
 use control_verbs::SetupOptions;
@@ -76,7 +76,7 @@ fn set_up_text(alloc: Global, name: Name, sense: Sense) -> Result<SureSink, NoMe
 pub fn set_up<'a>(
     alloc: Global,
     machine: &mut Machine<Chosen>,
-    place: &mut Place<'a>,
+    place: &mut ListingPlace<'a>,
     card: u32,
     options: &SetupOptions,
 ) -> Result<Went<'a>, NoMemory>

@@ -7,7 +7,7 @@ ghost use Rattle.listing_walk.specs.Walking.{Walks};
 use crate::answering::{answer_solution, stop_walk};
 use crate::chosen::Chosen;
 use crate::follow::fault;
-use crate::place::Place;
+use crate::place::ListingPlace;
 use crate::went::Went;
 use job_devices::NoMemory;
 use listing_definitions::VerbFault;
@@ -20,7 +20,7 @@ use std::alloc::Global;
 pub fn show_solution<'a>(
     alloc: Global,
     machine: &Machine<Chosen>,
-    place: &mut Place<'a>,
+    place: &mut ListingPlace<'a>,
     card: u32,
 ) -> Result<Went<'a>, NoMemory>
     requires ready { IfSome machine.now.setup (IsReady machine.now.file) }

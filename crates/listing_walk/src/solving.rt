@@ -8,7 +8,7 @@ ghost use Rattle.listing_walk.specs.Walking.{Walks};
 use crate::answering::{answer_path, stop_walk};
 use crate::chosen::Chosen;
 use crate::follow::{fault, finish, refuse};
-use crate::place::Place;
+use crate::place::ListingPlace;
 use crate::selecting::select_present;
 use crate::went::Went;
 use job_devices::NoMemory;
@@ -51,7 +51,7 @@ fn keep(machine: &mut Machine<Chosen>, lp: Lp, mark: Mark)
 pub fn solve<'a>(
     alloc: Global,
     machine: &mut Machine<Chosen>,
-    place: &mut Place<'a>,
+    place: &mut ListingPlace<'a>,
     card: u32,
     verb: SolvingVerb,
 ) -> Result<Went<'a>, NoMemory>

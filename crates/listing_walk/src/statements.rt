@@ -7,7 +7,7 @@ ghost use Rattle.listing_walk.specs.Walking.{Walks};
 
 use crate::chosen::Chosen;
 use crate::follow::follow;
-use crate::place::Place;
+use crate::place::ListingPlace;
 use crate::went::Went;
 use card_reader::Cards;
 use control_verbs::Text;
@@ -19,7 +19,7 @@ use std::alloc::Global;
 pub fn title<'a>(
     alloc: Global,
     machine: &Machine<Chosen>,
-    place: &mut Place<'a>,
+    place: &mut ListingPlace<'a>,
     text: &Text,
 ) -> Result<Went<'a>, NoMemory>
     requires { place.old.reports < 4294967295 }
@@ -39,7 +39,7 @@ pub fn make_problem<'a>(
     machine: &mut Machine<Chosen>,
     verb: DeckVerb,
     cards: &Cards,
-    place: &mut Place<'a>,
+    place: &mut ListingPlace<'a>,
     card: u32,
 ) -> Result<Went<'a>, NoMemory>
     requires sound { IsSound cards.now machine.old }
@@ -59,7 +59,7 @@ pub fn make_problem<'a>(
 pub fn punch_problem<'a>(
     alloc: Global,
     machine: &Machine<Chosen>,
-    place: &mut Place<'a>,
+    place: &mut ListingPlace<'a>,
     card: u32,
 ) -> Result<Went<'a>, NoMemory>
     requires { place.old.reports < 4294967295 }

@@ -11,7 +11,7 @@ use Rattle.listing_definitions.specs.Ending.{Ending, status_of}
 use Rattle.listing_definitions.specs.Listing.{ending_text}
 use Rattle.question_definitions.specs.Solving.{Solving}
 use Rattle.run_definitions.specs.Answer.{Job, Failures, Gains, MayEnd, IsCutShort, in_end, IsAnswered, whole, print_fails, print_wants_memory}
-use Rattle.control_run.specs.declared.status.Status.{Status}
+use Rattle.control_run.specs.declared.status.RunStatus.{RunStatus}
 use Rattle.control_run.specs.Statuses.{code_of}
 use Rattle.control_run.specs.Finishing.{cut_status}
 use Rattle.job_program.specs.declared.stop.EarlyStop.{EarlyStop}
@@ -22,11 +22,11 @@ use Rattle.mps_cli.specs.Endings.{EndsWith, printed, cut_off, status_at}
 -- ---- the end is printed, or cut off
 
 module _ {P : Type 0} (written stopped_at : P → Option (List ℕ)) (faults refusals : P → ℕ) {old new : P} (viewed : Ending) (stop : EarlyStop) (same : viewed ≡ stop_view stop) where
-  pub end_printed : (status : Status) → status ≡ status_at stop → Writes {T = Unit {0}} written stopped_at faults refusals old new (Ok tt) (ending_text viewed) →
+  pub end_printed : (status : RunStatus) → status ≡ status_at stop → Writes {T = Unit {0}} written stopped_at faults refusals old new (Ok tt) (ending_text viewed) →
       EndsWith written stopped_at faults refusals old new stop status
   end_printed status is writes = printed is (subst (λ (e : Ending). Writes {T = Unit {0}} written stopped_at faults refusals old new (Ok tt) (ending_text e)) same writes)
 
-  pub end_cut : (cause : WriteStop) (status : Status) → status ≡ cut_status cause → Writes {T = Unit {0}} written stopped_at faults refusals old new (Err cause) (ending_text viewed) →
+  pub end_cut : (cause : WriteStop) (status : RunStatus) → status ≡ cut_status cause → Writes {T = Unit {0}} written stopped_at faults refusals old new (Err cause) (ending_text viewed) →
       EndsWith written stopped_at faults refusals old new stop status
   end_cut cause status is writes = cut_off cause is (subst (λ (e : Ending). Writes {T = Unit {0}} written stopped_at faults refusals old new (Err cause) (ending_text e)) same writes)
 
@@ -58,7 +58,7 @@ module _ (S : Solving) (job : Job) (failures : Failures) (stop : EarlyStop) (may
   cut : (status : ℕ) (prefix back : List ℕ) → prefix ++ back ≡ ending_text (stop_view stop) → IsCutShort S job failures (record { status = status; printed = prefix; punched = [] })
   cut status prefix back e = in_end (stop_view stop) prefix may_end (back, e) refl (gains_nothing stop)
 
-  module _ (old new punch : Option (List ℕ)) (status : Status) where
+  module _ (old new punch : Option (List ℕ)) (status : RunStatus) where
     -- the end is printed
     ended : status ≡ status_at stop → Appends old new (ending_text (stop_view stop)) → IsAnswered S job failures (code_of status) (Appends old new) (Appends punch punch)
     ended is text = (ending_text (stop_view stop), [], text, keeps punch, whole (stop_view stop) may_end (ap code_of is ∙ code_is stop) refl (gains_nothing stop))
@@ -69,7 +69,7 @@ module _ (S : Solving) (job : Job) (failures : Failures) (stop : EarlyStop) (may
     ended_early Failed is failed wanted prefix = (prefix.0, [], prefix.2, keeps punch, print_fails (failed refl) (ap code_of is) (cut (code_of status) prefix.0 prefix.1.0 prefix.1.1))
     ended_early NoMemory is failed wanted prefix = (prefix.0, [], prefix.2, keeps punch, print_wants_memory (wanted refl) (ap code_of is) (cut (code_of status) prefix.0 prefix.1.0 prefix.1.1))
 
-  pub ending_answer : {P : Type 0} (written stopped_at : P → Option (List ℕ)) (faults refusals : P → ℕ) {old new : P} (punch : Option (List ℕ)) (status : Status) →
+  pub ending_answer : {P : Type 0} (written stopped_at : P → Option (List ℕ)) (faults refusals : P → ℕ) {old new : P} (punch : Option (List ℕ)) (status : RunStatus) →
       (Rose (faults old) (faults new) → failures.print) → (Rose (refusals old) (refusals new) → failures.memory) → EndsWith written stopped_at faults refusals old new stop status →
       IsAnswered S job failures (code_of status) (Appends (written old) (written new)) (Appends punch punch)
   ending_answer written stopped_at faults refusals {old} {new} punch status failed wanted (printed is writes) = ended (written old) (written new) punch status is writes.bytes

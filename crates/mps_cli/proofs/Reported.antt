@@ -1,6 +1,6 @@
 -- What the status reports of the devices, and what stands in them.
 use Rattle.std.proofs.Common.{◌≡◌, ◌⊎◌, inl, inr, ℕ, ◌<◌, List, Option, Ok, Err, refl, ap, ◌∙◌}
-use Rattle.control_run.specs.declared.status.Status.{Status}
+use Rattle.control_run.specs.declared.status.RunStatus.{RunStatus}
 use Rattle.control_run.specs.Statuses.{code_of}
 use Rattle.control_run.specs.Devices.{Counts, counts, StopsAtPrint, print_failed, print_wants_memory, IsReported, IsStill}
 use Rattle.control_run.proofs.Reported.{none_more, left, stands_still, still_as_before, reported_print, reported_other}
@@ -24,18 +24,18 @@ module _ {P U : Type 0} (written stopped_at : P → Option (List ℕ)) (faults r
   counted read print = counts faults refusals punch_faults punch_refusals read print punch
 
   module _ {old new : P} where
-    pub reported_stop : (read_before read_now : ℕ) (stop : EarlyStop) (ended : Status) → (read_before < read_now → stop ≡ ReadFault) → EndsWith written stopped_at faults refusals old new stop ended →
+    pub reported_stop : (read_before read_now : ℕ) (stop : EarlyStop) (ended : RunStatus) → (read_before < read_now → stop ≡ ReadFault) → EndsWith written stopped_at faults refusals old new stop ended →
         IsReported (counted read_before old) (counted read_now new) (code_of ended)
     reported_stop read_before read_now stop ended read (printed is w) =
         reported_other (counted read_before old) (counted read_now new) (code_of ended) w.cause (λ more. ap code_of (is ∙ ap status_at (read more)))
         (λ more. none_more (punch_faults punch) (punch_faults punch) refl more) (λ more. none_more (punch_refusals punch) (punch_refusals punch) refl more)
     reported_stop read_before read_now stop ended read (cut_off cause is w) = reported_print (counted read_before old) (counted read_now new) cause (code_of ended) (ap code_of is) w.cause
 
-    still_print : (stop : EarlyStop) (ended : Status) → EndsWith written stopped_at faults refusals old new stop ended → IsStill written stopped_at faults refusals old new
+    still_print : (stop : EarlyStop) (ended : RunStatus) → EndsWith written stopped_at faults refusals old new stop ended → IsStill written stopped_at faults refusals old new
     still_print stop ended (printed is w) = stands_still (Ok tt) (left w)
     still_print stop ended (cut_off cause is w) = stands_still (Err cause) (left w)
 
-    pub still_stop : (stop : EarlyStop) (ended : Status) → EndsWith written stopped_at faults refusals old new stop ended →
+    pub still_stop : (stop : EarlyStop) (ended : RunStatus) → EndsWith written stopped_at faults refusals old new stop ended →
         IsStill written stopped_at faults refusals old new × IsStill punch_written punch_stopped_at punch_faults punch_refusals punch punch
     still_stop stop ended ends = (still_print stop ended ends, still_as_before punch_written punch_stopped_at punch_faults punch_refusals punch)
 

@@ -14,7 +14,7 @@ use Rattle.determinism_laws.proofs.Runs.{is_function, answers_once}
 use Rattle.determinism_laws.proofs.Complete.{answer_is_complete, answer_is_decided}
 use Rattle.command_line.specs.declared.request.Request.{Request}
 use Rattle.command_line.specs.declared.request.Request.TheVariants as request
-use Rattle.control_run.specs.declared.status.Status.{Status}
+use Rattle.control_run.specs.declared.status.RunStatus.{RunStatus}
 use Rattle.control_run.specs.Statuses.{code_of}
 use Rattle.control_run.specs.Finishing.{failures_in_run}
 use Rattle.job_program.specs.declared.stop.EarlyStop.TheVariants.{Words, Memory}
@@ -73,7 +73,7 @@ module _ (P : Job → Type 0) (asked : Option Request) (reported : Option (List 
 
 -- ---- the four ways in which a job goes
 
-module _ (asked : Option Request) (reported : Option (List ℕ)) (status : Status) where
+module _ (asked : Option Request) (reported : Option (List ℕ)) (status : RunStatus) where
   module _ {P : Type 0} (written stopped_at : P → Option (List ℕ)) (faults refusals : P → ℕ) {old new : P} (read_failed punch_failed : Type 0) (punch : Option (List ℕ)) where
     -- the words are refused
     words_headline : asked ≡ None → EndsWith written stopped_at faults refusals old new Words status → (job : Job) → IsAsked asked reported job →

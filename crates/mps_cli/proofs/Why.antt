@@ -8,8 +8,8 @@ use Rattle.job_devices.specs.Text.{AppendsPrefix}
 use Rattle.job_devices.specs.declared.device.WriteStop.{WriteStop}
 use Rattle.job_devices.specs.declared.device.WriteStop.TheVariants.{Failed, NoMemory}
 use Rattle.listing_definitions.specs.Listing.{ending_text}
-use Rattle.control_run.specs.declared.status.Status.{Status}
-use Rattle.control_run.specs.declared.status.Status.TheVariants as status
+use Rattle.control_run.specs.declared.status.RunStatus.{RunStatus}
+use Rattle.control_run.specs.declared.status.RunStatus.TheVariants as status
 use Rattle.control_run.specs.Statuses.{IsStatusOfRun}
 use Rattle.control_run.specs.Finishing.{cut_status}
 use Rattle.command_line.specs.declared.request.Request.{Request}
@@ -51,7 +51,7 @@ module _ (asked : Option Request) (read_failed is_read : Type 0) where
   cut_cause print_failed punch_failed GainsPrefixOf stop is NoMemory failed prefix = tt
 
   -- of a job whose listing is the end of a stop alone
-  pub ending_cause : (punch_failed : Type 0) {P : Type 0} (written stopped_at : P → Option (List ℕ)) (faults refusals : P → ℕ) {old new : P} (stop : EarlyStop) (ended : Status) → IsWhy stop → EndsWith written stopped_at faults refusals old new stop ended →
+  pub ending_cause : (punch_failed : Type 0) {P : Type 0} (written stopped_at : P → Option (List ℕ)) (faults refusals : P → ℕ) {old new : P} (stop : EarlyStop) (ended : RunStatus) → IsWhy stop → EndsWith written stopped_at faults refusals old new stop ended →
       HasCause asked read_failed is_read (Rose (faults old) (faults new)) punch_failed (AppendsPrefix (written old) (written new)) ended
   ending_cause punch_failed written stopped_at faults refusals {old} {new} stop ended is (printed same writes) =
       subst (HasCause asked read_failed is_read (Rose (faults old) (faults new)) punch_failed (AppendsPrefix (written old) (written new))) (sym same) (printed_cause _ _ _ stop is)
@@ -60,7 +60,7 @@ module _ (asked : Option Request) (read_failed is_read : Type 0) where
       (cut_cause _ _ _ stop is cause (λ e. writes.cause.failed (ap (λ s. Err s) e)) writes.bytes)
 
   -- of a job whose program has run
-  pub run_cause : (print_failed punch_failed : Type 0) (GainsPrefixOf : List ℕ → Type 0) (ended : Status) → IsAtHand asked is_read → IsStatusOfRun ended → (ended ≡ status.PrintFault → print_failed) → (ended ≡ status.PunchFault → punch_failed) →
+  pub run_cause : (print_failed punch_failed : Type 0) (GainsPrefixOf : List ℕ → Type 0) (ended : RunStatus) → IsAtHand asked is_read → IsStatusOfRun ended → (ended ≡ status.PrintFault → print_failed) → (ended ≡ status.PunchFault → punch_failed) →
       HasCause asked read_failed is_read print_failed punch_failed GainsPrefixOf ended
   run_cause print_failed punch_failed GainsPrefixOf status.Done is own failed stopped = is
   run_cause print_failed punch_failed GainsPrefixOf status.Infeasible is own failed stopped = is
@@ -96,7 +96,7 @@ module _ (asked other : Option Request) (read_failed is_read other_failed other_
   printed_likewise (a_read_fault is failed prefix) = let p = read is failed in a_read_fault p.0 p.1 prefix
   printed_likewise (no_memory prefix) = no_memory prefix
 
-  pub likewise : (ended : Status) → HasCause asked read_failed is_read print_failed punch_failed GainsPrefixOf ended → HasCause other other_failed other_read print_failed punch_failed GainsPrefixOf ended
+  pub likewise : (ended : RunStatus) → HasCause asked read_failed is_read print_failed punch_failed GainsPrefixOf ended → HasCause other other_failed other_read print_failed punch_failed GainsPrefixOf ended
   likewise status.Done is = hand is
   likewise status.Infeasible is = hand is
   likewise status.Unbounded is = hand is
@@ -114,18 +114,18 @@ module _ (asked other : Option Request) (read_failed is_read other_failed other_
   likewise status.Memory is = tt
 
 -- a job that is asked for as another is
-pub same_cause : {asked : Option Request} (request : Request) (read_failed is_read print_failed punch_failed : Type 0) (GainsPrefixOf : List ℕ → Type 0) (ended : Status) → asked ≡ Some request →
+pub same_cause : {asked : Option Request} (request : Request) (read_failed is_read print_failed punch_failed : Type 0) (GainsPrefixOf : List ℕ → Type 0) (ended : RunStatus) → asked ≡ Some request →
     HasCause (Some request) read_failed is_read print_failed punch_failed GainsPrefixOf ended → HasCause asked read_failed is_read print_failed punch_failed GainsPrefixOf ended
 same_cause request read_failed is_read print_failed punch_failed GainsPrefixOf ended is cause =
     subst (λ (o : Option Request). HasCause o read_failed is_read print_failed punch_failed GainsPrefixOf ended) (sym is) cause
 
 -- of a job that is read
-pub read_cause : (read_failed is_read print_failed punch_failed : Type 0) (GainsPrefixOf : List ℕ → Type 0) (ended : Status) {wanted : Request} → wanted ≡ request.Read →
+pub read_cause : (read_failed is_read print_failed punch_failed : Type 0) (GainsPrefixOf : List ℕ → Type 0) (ended : RunStatus) {wanted : Request} → wanted ≡ request.Read →
     HasCause (Some request.Read) read_failed is_read print_failed punch_failed GainsPrefixOf ended → HasCause (Some wanted) read_failed is_read print_failed punch_failed GainsPrefixOf ended
 read_cause read_failed is_read print_failed punch_failed GainsPrefixOf ended is cause = same_cause request.Read read_failed is_read print_failed punch_failed GainsPrefixOf ended (ap (λ (r : Request). Some r) is) cause
 
 -- of a job that is made: nothing is read
-pub made_cause : (read_failed is_read print_failed punch_failed : Type 0) (GainsPrefixOf : List ℕ → Type 0) (ended : Status) (size : ℕ) {wanted : Request} → wanted ≡ request.Make size →
+pub made_cause : (read_failed is_read print_failed punch_failed : Type 0) (GainsPrefixOf : List ℕ → Type 0) (ended : RunStatus) (size : ℕ) {wanted : Request} → wanted ≡ request.Make size →
     HasCause (Some (request.Make size)) ⊥ (Unit {0}) print_failed punch_failed GainsPrefixOf ended → HasCause (Some wanted) read_failed is_read print_failed punch_failed GainsPrefixOf ended
 made_cause read_failed is_read print_failed punch_failed GainsPrefixOf ended size is cause =
     same_cause (request.Make size) read_failed is_read print_failed punch_failed GainsPrefixOf ended (ap (λ (r : Request). Some r) is)
@@ -133,7 +133,7 @@ made_cause read_failed is_read print_failed punch_failed GainsPrefixOf ended siz
     (λ e. e) (λ e failed. absurd failed) (λ here. tt) print_failed punch_failed GainsPrefixOf ended cause)
 
 -- of a job that is made, from that of its source, which doesn't fail
-pub source_cause : (read_failed is_read print_failed punch_failed : Type 0) (GainsPrefixOf : List ℕ → Type 0) (ended : Status) (size : ℕ) → (read_failed → ⊥) →
+pub source_cause : (read_failed is_read print_failed punch_failed : Type 0) (GainsPrefixOf : List ℕ → Type 0) (ended : RunStatus) (size : ℕ) → (read_failed → ⊥) →
     HasCause (Some request.Read) read_failed is_read print_failed punch_failed GainsPrefixOf ended → HasCause (Some (request.Make size)) ⊥ (Unit {0}) print_failed punch_failed GainsPrefixOf ended
 source_cause read_failed is_read print_failed punch_failed GainsPrefixOf ended size sure cause =
     likewise (Some request.Read) (Some (request.Make size)) read_failed is_read ⊥ (Unit {0})
@@ -147,22 +147,22 @@ why_words asked read_failed is_read words.NoMemory are_refused = tt
 -- ---- where something may be punched
 
 -- the punch of a job that is asked for as a request is
-pub same_punch : {asked : Option Request} (request : Request) (reported : Option (List ℕ)) (is_read is_same : Type 0) (ended : Status) → asked ≡ Some request →
+pub same_punch : {asked : Option Request} (request : Request) (reported : Option (List ℕ)) (is_read is_same : Type 0) (ended : RunStatus) → asked ≡ Some request →
     IsPunched (Some request) reported is_read is_same ended → IsPunched asked reported is_read is_same ended
 same_punch request reported is_read is_same ended is punched = subst (λ (o : Option Request). IsPunched o reported is_read is_same ended) (sym is) punched
 
-pub read_punch : (reported : Option (List ℕ)) (is_read is_same : Type 0) (ended : Status) {wanted : Request} → wanted ≡ request.Read →
+pub read_punch : (reported : Option (List ℕ)) (is_read is_same : Type 0) (ended : RunStatus) {wanted : Request} → wanted ≡ request.Read →
     IsPunched (Some request.Read) reported is_read is_same ended → IsPunched (Some wanted) reported is_read is_same ended
 read_punch reported is_read is_same ended is punched = same_punch request.Read reported is_read is_same ended (ap (λ (r : Request). Some r) is) punched
 
 -- of a job that is made, whose source tells its bytes
-pub source_punch : (size : ℕ) (source reported : Option (List ℕ)) (source_read is_read is_same : Type 0) (ended : Status) → source ≡ Some (made_job size) →
+pub source_punch : (size : ℕ) (source reported : Option (List ℕ)) (source_read is_read is_same : Type 0) (ended : RunStatus) → source ≡ Some (made_job size) →
     IsPunched (Some request.Read) source source_read is_same ended → IsPunched (Some (request.Make size)) reported is_read is_same ended
 source_punch size source reported source_read is_read is_same ended tells (nothing same) = nothing same
 source_punch size source reported source_read is_read is_same ended tells (in_run program here known own) =
     in_run program tt (subst (λ (o : Option (List ℕ)). IfSome o (λ bytes. IsProgramOf bytes program)) tells known) own
 
-pub made_punch : (reported other : Option (List ℕ)) (is_read other_read is_same : Type 0) (ended : Status) (size : ℕ) {wanted : Request} → wanted ≡ request.Make size →
+pub made_punch : (reported other : Option (List ℕ)) (is_read other_read is_same : Type 0) (ended : RunStatus) (size : ℕ) {wanted : Request} → wanted ≡ request.Make size →
     IsPunched (Some (request.Make size)) reported is_read is_same ended → IsPunched (Some wanted) other other_read is_same ended
 made_punch reported other is_read other_read is_same ended size is punched =
     same_punch (request.Make size) other other_read is_same ended (ap (λ (r : Request). Some r) is) (moved punched)

@@ -9,8 +9,8 @@ use Rattle.listing_definitions.specs.Ending as endings
 use Rattle.listing_definitions.specs.Listing.{ending_text}
 use Rattle.run_definitions.specs.Answer.{IsProgramOf}
 use Rattle.control_run.specs.Statuses.{IsStatusOfRun}
-use Rattle.control_run.specs.declared.status.Status.{Status}
-use Rattle.control_run.specs.declared.status.Status.TheVariants.{Words, ReadFault, PrintFault, PunchFault, Memory}
+use Rattle.control_run.specs.declared.status.RunStatus.{RunStatus}
+use Rattle.control_run.specs.declared.status.RunStatus.TheVariants.{Words, ReadFault, PrintFault, PunchFault, Memory}
 use Rattle.command_line.specs.declared.request.Request.{Request}
 use Rattle.command_line.specs.declared.request.Request.TheVariants as request
 
@@ -30,7 +30,7 @@ pub data IsPrintedAfter (asked : Option Request) (read_failed is_read : Type 0) 
 
 -- The words may be refused. A job that they ask to read is read, and a read may fail; whatever else ends a job comes when the whole job
 -- is at hand, and so does a write to the punch that fails. A write to the print may fail, and memory may be wanted, at any time.
-abbrev pub HasCause : Option Request → Type 0 → Type 0 → Type 0 → Type 0 → (List ℕ → Type 0) → Status → Type 0
+abbrev pub HasCause : Option Request → Type 0 → Type 0 → Type 0 → Type 0 → (List ℕ → Type 0) → RunStatus → Type 0
 HasCause asked read_failed is_read print_failed punch_failed GainsPrefixOf Words = asked ≡ None
 HasCause asked read_failed is_read print_failed punch_failed GainsPrefixOf ReadFault = (asked ≡ Some request.Read) × read_failed
 HasCause asked read_failed is_read print_failed punch_failed GainsPrefixOf PrintFault = print_failed × IsPrintedAfter asked read_failed is_read GainsPrefixOf
@@ -46,7 +46,7 @@ bytes_at_hand (Some (request.Make size)) reported = Some (made_job size)
 
 -- The punch is as it was; or the whole job is at hand, its cards begin with a program, where they are known, and the status is one that
 -- the run of a program may have.
-pub data IsPunched (asked : Option Request) (reported : Option (List ℕ)) (is_read is_same : Type 0) (status : Status) : Type 0 where
+pub data IsPunched (asked : Option Request) (reported : Option (List ℕ)) (is_read is_same : Type 0) (status : RunStatus) : Type 0 where
   nothing : is_same → IsPunched asked reported is_read is_same status
   in_run : (program : Program) → IsAtHand asked is_read → IfSome (bytes_at_hand asked reported) (λ bytes. IsProgramOf bytes program) →
       IsStatusOfRun status → IsPunched asked reported is_read is_same status

@@ -5,14 +5,14 @@ use Rattle.std.specs.Prelude.{◌≡◌, ℕ, List, Option, Ok, Err}
 use Rattle.job_devices.specs.declared.device.WriteStop.{WriteStop}
 use Rattle.job_devices.specs.Text.{Writes}
 use Rattle.listing_definitions.specs.Listing.{ending_text}
-use Rattle.control_run.specs.declared.status.Status.{Status}
-use Rattle.control_run.specs.declared.status.Status.TheVariants as status
+use Rattle.control_run.specs.declared.status.RunStatus.{RunStatus}
+use Rattle.control_run.specs.declared.status.RunStatus.TheVariants as status
 use Rattle.control_run.specs.Finishing.{cut_status}
 use Rattle.job_program.specs.declared.stop.EarlyStop.{EarlyStop}
 use Rattle.job_program.specs.declared.stop.EarlyStop.TheVariants.{Words, ReadFault, Card, Control, Memory}
 use Rattle.job_program.specs.Stops.{stop_view}
 
-abbrev pub status_at : EarlyStop → Status
+abbrev pub status_at : EarlyStop → RunStatus
 status_at Words = status.Words
 status_at ReadFault = status.ReadFault
 status_at (Card fault) = status.Card
@@ -20,7 +20,7 @@ status_at (Control fault) = status.Control
 status_at Memory = status.Memory
 
 -- The line of the stop is printed, and the status is its own; or the print stops in it.
-pub data EndsWith {P : Type 0} (written stopped_at : P → Option (List ℕ)) (faults refusals : P → ℕ) (old new : P) (stop : EarlyStop) (status : Status) : Type 0 where
+pub data EndsWith {P : Type 0} (written stopped_at : P → Option (List ℕ)) (faults refusals : P → ℕ) (old new : P) (stop : EarlyStop) (status : RunStatus) : Type 0 where
   printed : status ≡ status_at stop → Writes {T = Unit {0}} written stopped_at faults refusals old new (Ok tt) (ending_text (stop_view stop)) →
       EndsWith written stopped_at faults refusals old new stop status
   cut_off : (cause : WriteStop) → status ≡ cut_status cause →

@@ -4,6 +4,6 @@
 mod end;
 mod run;
 
-pub use control_run::Status;
+pub use control_run::RunStatus;
 pub use generated_job::make_job;
 pub use run::run_job;

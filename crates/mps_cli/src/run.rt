@@ -22,7 +22,7 @@ ghost use Rattle.mps_cli.specs.Causes.{HasCause, IsPunched};
 
 use crate::end::end_job;
 use command_line::{Request, request_of};
-use control_run::{Status, run_program};
+use control_run::{RunStatus, run_program};
 use generated_job::make_job;
 use job_devices::{NoMemory, Sink, Source, SureSource};
 use job_program::{EarlyStop, prepare};
@@ -34,7 +34,7 @@ fn run_source<S: Source, P: Sink, U: Sink>(
     job: &mut S,
     print: &mut P,
     punch: &mut U,
-) -> Status
+) -> RunStatus
     ensures answer { (given : Job) (bytes : List ℕ) →
         IsGiven (S.left job.old) (Rose (S.faults job.old) (S.faults job.new)) given bytes →
         IsAnswered linear_programming given
@@ -81,7 +81,7 @@ fn made_source(alloc: Global, size: u32) -> Result<SureSource, NoMemory>
 }
 
 // Runs the generated job of a size.
-fn run_made<P: Sink, U: Sink>(alloc: Global, size: u32, print: &mut P, punch: &mut U) -> Status
+fn run_made<P: Sink, U: Sink>(alloc: Global, size: u32, print: &mut P, punch: &mut U) -> RunStatus
     requires least { 1 ≤ size }
     requires most { size ≤ max_size }
     ensures answer { IsAnswered linear_programming (Made (made_job size))
@@ -118,7 +118,7 @@ fn run_request<S: Source, P: Sink, U: Sink>(
     job: &mut S,
     print: &mut P,
     punch: &mut U,
-) -> Status
+) -> RunStatus
     requires { HasSize request }
     ensures headline { (asked : Job) → IsAsked (Some request) (S.left job.old) asked →
         IsTrueAnswer linear_programming asked
@@ -175,7 +175,7 @@ pub fn run_job<S: Source, P: Sink, U: Sink>(
     job: &mut S,
     print: &mut P,
     punch: &mut U,
-) -> Status
+) -> RunStatus
     // The headline. The printed bytes are the listing of a run of this job's control program, or of its early stop; or the print
     // has stopped in a report or in the lines of an end, and all before stands with a prefix of it. Each report of this run holds
     // of the state in which it was made: a SOLUTION OPTIMAL is a feasible point such that none is better, with prices that

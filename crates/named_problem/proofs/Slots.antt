@@ -15,8 +15,8 @@ use Rattle.problem_definitions.specs.Problem.{Bound, has_bound}
 use Rattle.problem_definitions.proofs.Names.{same_eq, same_sym}
 use Rattle.deck_definitions.specs.Tests.{is_bound_already}
 use Rattle.revise_definitions.specs.Edits.{without_column}
-use Rattle.named_problem.specs.declared.ends.End.{End}
-use Rattle.named_problem.specs.declared.ends.End.TheVariants.{Upper, Lower}
+use Rattle.named_problem.specs.declared.ends.ColumnEnd.{ColumnEnd}
+use Rattle.named_problem.specs.declared.ends.ColumnEnd.TheVariants.{Upper, Lower}
 use Rattle.named_problem.specs.NotedEnds.{held, touches_end, is_at_end, is_at_end_there, AreNoted, AreEmptied, noted}
 use Rattle.named_problem.proofs.NamedValues.{lookup-own, lookup-other}
 
@@ -102,12 +102,12 @@ place_of p (Some x ∷ slots) found = by (p x) refl (place_of p slots) found
 
 -- ---- the place of a bound
 
-hit : (end : End) (column : Name) (o : Option (Option (Bound Name))) → is_at_end_there end column o ≡ true → (bound : Bound Name) × (o ≡ Some (Some bound)) × (is_at_end end column bound ≡ true)
+hit : (end : ColumnEnd) (column : Name) (o : Option (Option (Bound Name))) → is_at_end_there end column o ≡ true → (bound : Bound Name) × (o ≡ Some (Some bound)) × (is_at_end end column bound ≡ true)
 hit end column None is = absurd (cc is)
 hit end column (Some None) is = absurd (cc is)
 hit end column (Some (Some bound)) is = (bound, refl, is)
 
-module _ (end : End) (column : Name) (places : List (Name × ℕ)) (slots : Slots) (notes : AreNoted end places slots) where
+module _ (end : ColumnEnd) (column : Name) (places : List (Name × ℕ)) (slots : Slots) (notes : AreNoted end places slots) where
   noted_at : (place : ℕ) (bound : Bound Name) → slice_get slots place ≡ Some (Some bound) → is_at_end end column bound ≡ true → lookup (same column) places ≡ Some place
   noted_at place bound at is =
       let p = and_parts (same column bound.column) (touches_end end bound.kind) is in
@@ -142,7 +142,7 @@ module _ (end : End) (column : Name) (places : List (Name × ℕ)) (slots : Slot
 
 -- ---- a slot is emptied
 
-pub within : (end : End) (column : Name) (slots : Slots) (place : ℕ) → is_at_end_there end column (slice_get slots place) ≡ true → place < length slots
+pub within : (end : ColumnEnd) (column : Name) (slots : Slots) (place : ℕ) → is_at_end_there end column (slice_get slots place) ≡ true → place < length slots
 within end column [] place is = absurd (cc is)
 within end column (slot ∷ slots) zero is = omega arith
 within end column (slot ∷ slots) (suc place) is = let inner = within end column slots place is in omega (arith, inner)
@@ -155,12 +155,12 @@ none_left p (x ∷ xs) none = by (p x) (none_left p xs) none
     by true more h = absurd (cc h)
     by false more h = ap (λ rest. x ∷ rest) (more h)
 
-no_other : (end : End) (column : Name) (slots : Slots) → ((other : ℕ) → is_at_end_there end column (slice_get slots other) ≡ false) → list_any (is_at_end end column) (held slots) ≡ false
+no_other : (end : ColumnEnd) (column : Name) (slots : Slots) → ((other : ℕ) → is_at_end_there end column (slice_get slots other) ≡ false) → list_any (is_at_end end column) (held slots) ≡ false
 no_other end column [] none = refl
 no_other end column (None ∷ slots) none = no_other end column slots (λ other. none (suc other))
 no_other end column (Some bound ∷ slots) none = ap₂ (λ a b. a || b) (none zero) (no_other end column slots (λ other. none (suc other)))
 
-pub emptied_left : (end : End) (column : Name) (slots : Slots) (place : ℕ) → is_at_end_there end column (slice_get slots place) ≡ true → ((other : ℕ) → is_at_end_there end column (slice_get slots other) ≡ true → other ≡ place)
+pub emptied_left : (end : ColumnEnd) (column : Name) (slots : Slots) (place : ℕ) → is_at_end_there end column (slice_get slots place) ≡ true → ((other : ℕ) → is_at_end_there end column (slice_get slots other) ≡ true → other ≡ place)
     → held (set slots place None) ≡ filter (λ bound. not (is_at_end end column bound)) (held slots)
 emptied_left end column [] place is only = absurd (cc is)
 emptied_left end column (None ∷ slots) zero is only = absurd (cc is)
@@ -186,7 +186,7 @@ emptied_at (slot ∷ slots) zero (suc other) bound at = at
 emptied_at (slot ∷ slots) (suc place) zero bound at = at
 emptied_at (slot ∷ slots) (suc place) (suc other) bound at = emptied_at slots place other bound at
 
-pub still_noted : (end : End) (places : List (Name × ℕ)) (old new : Slots) → AreNoted end places old → AreEmptied old new → AreNoted end places new
+pub still_noted : (end : ColumnEnd) (places : List (Name × ℕ)) (old new : Slots) → AreNoted end places old → AreEmptied old new → AreNoted end places new
 still_noted end places old new notes emptied place bound at touches = notes place bound (emptied place bound at) touches
 
 -- ---- one more bound
@@ -201,7 +201,7 @@ last_or_before x y (z ∷ xs) (suc place) at = on (last_or_before x y xs place a
     on (inl e) = inl e
     on (inr e) = inr (ap suc e.0, e.1)
 
-module _ (end : End) (places : List (Name × ℕ)) (slots : Slots) (bound : Bound Name) (notes : AreNoted end places slots)
+module _ (end : ColumnEnd) (places : List (Name × ℕ)) (slots : Slots) (bound : Bound Name) (notes : AreNoted end places slots)
     (free : touches_end end bound.kind ≡ true → list_any (is_at_end end bound.column) (held slots) ≡ false) where
   abbrev more : List (Name × ℕ)
   more = noted (touches_end end bound.kind) bound.column (length slots) places
@@ -266,7 +266,7 @@ there_at (x ∷ xs) zero d below = refl
 there_at (x ∷ xs) (suc place) d below = let inner : place < length xs = omega (arith, below) in there_at xs place d inner
 
 module _ (slots : Slots) (place : ℕ) (bound : Bound Name) (at : slice_get slots place ≡ Some (Some bound)) where
-  end_is_free : (end : End) (places : List (Name × ℕ)) → AreNoted end places slots → touches_end end bound.kind ≡ true → list_any (is_at_end end bound.column) (held (take place slots)) ≡ false
+  end_is_free : (end : ColumnEnd) (places : List (Name × ℕ)) → AreNoted end places slots → touches_end end bound.kind ≡ true → list_any (is_at_end end bound.column) (held (take place slots)) ≡ false
   end_is_free end places notes touches = by (list_any (is_at_end end bound.column) (held (take place slots))) refl
     where
       by : (b : Bool) → list_any (is_at_end end bound.column) (held (take place slots)) ≡ b → b ≡ false

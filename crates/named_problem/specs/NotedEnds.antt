@@ -6,8 +6,8 @@ use Rattle.problem_definitions.specs.declared.BoundKind.{BoundKind}
 use Rattle.problem_definitions.specs.Kinds.{touches_upper, touches_lower}
 use Rattle.problem_definitions.specs.Names.{Name, same}
 use Rattle.problem_definitions.specs.Problem.{Bound}
-use Rattle.named_problem.specs.declared.ends.End.{End}
-use Rattle.named_problem.specs.declared.ends.End.TheVariants.{Upper, Lower}
+use Rattle.named_problem.specs.declared.ends.ColumnEnd.{ColumnEnd}
+use Rattle.named_problem.specs.declared.ends.ColumnEnd.TheVariants.{Upper, Lower}
 
 -- the things that stand in slots, of which some are empty
 abbrev pub held : {X : Type 0} → List (Option X) → List X
@@ -16,22 +16,22 @@ held (None ∷ slots) = held slots
 held (Some x ∷ slots) = x ∷ held slots
 
 -- whether a bound of this type touches an end of its column
-abbrev pub touches_end : End → BoundKind → Bool
+abbrev pub touches_end : ColumnEnd → BoundKind → Bool
 touches_end Upper kind = touches_upper kind
 touches_end Lower kind = touches_lower kind
 
 -- whether a bound touches an end of this column
-abbrev pub is_at_end : End → Name → Bound Name → Bool
+abbrev pub is_at_end : ColumnEnd → Name → Bound Name → Bool
 is_at_end end column bound = same column bound.column && touches_end end bound.kind
 
 -- the same of what stands at a place, where there may be no slot or an empty one
-abbrev pub is_at_end_there : End → Name → Option (Option (Bound Name)) → Bool
+abbrev pub is_at_end_there : ColumnEnd → Name → Option (Option (Bound Name)) → Bool
 is_at_end_there end column None = false
 is_at_end_there end column (Some None) = false
 is_at_end_there end column (Some (Some bound)) = is_at_end end column bound
 
 -- a bound that touches an end is noted under its column with its place
-abbrev pub AreNoted : End → List (Name × ℕ) → List (Option (Bound Name)) → Type 0
+abbrev pub AreNoted : ColumnEnd → List (Name × ℕ) → List (Option (Bound Name)) → Type 0
 AreNoted end places slots = (place : ℕ) (bound : Bound Name) → slice_get slots place ≡ Some (Some bound) → touches_end end bound.kind ≡ true → lookup (same bound.column) places ≡ Some place
 
 -- a slot that isn't empty is as it was

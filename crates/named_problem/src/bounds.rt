@@ -17,7 +17,7 @@ ghost use Rattle.named_problem.specs.NotedEnds.{held, is_at_end, is_at_end_there
 
 use crate::bound_sets::bound_value;
 use crate::changes::BoundChange;
-use crate::ends::{End, touches, touches_bottom, touches_top};
+use crate::ends::{ColumnEnd, touches, touches_bottom, touches_top};
 use crate::groups::Groups;
 use crate::parts::NamedBound;
 use deck_fields::DataCard;
@@ -42,7 +42,7 @@ impl Model for Bounds {
     ghost use Rattle.std.specs.Prelude.{List};
     ghost use Rattle.problem_definitions.specs.Names.{Name as Text};
     ghost use Rattle.problem_definitions.specs.Problem.{Bound};
-    ghost use Rattle.named_problem.specs.declared.ends.End.TheVariants.{Upper, Lower};
+    ghost use Rattle.named_problem.specs.declared.ends.ColumnEnd.TheVariants.{Upper, Lower};
     ghost use Rattle.named_problem.specs.NotedEnds.{held, AreNoted};
 
     ghost Value = { List (Bound Text) };
@@ -53,7 +53,7 @@ impl Model for Bounds {
 }
 
 // Whether the bound at a place touches this end of a column.
-fn is_there(slots: &[Option<NamedBound>], place: usize, end: End, column: &Name) -> bool
+fn is_there(slots: &[Option<NamedBound>], place: usize, end: ColumnEnd, column: &Name) -> bool
     ensures { result ≡ is_at_end_there end column.now (slice_get slots.now place) }
 {
     let Some(slot) = slots.get(place) else {
@@ -76,7 +76,7 @@ fn any_held(slots: &[Option<NamedBound>]) -> bool
 fn find_end(
     slots: &[Option<NamedBound>],
     places: &IndexMap<Name, usize>,
-    end: End,
+    end: ColumnEnd,
     column: &Name,
 ) -> Option<usize>
     requires { AreNoted end places.now.entries slots.now }
@@ -99,7 +99,7 @@ fn find_end(
 fn empty_end(
     slots: &mut [Option<NamedBound>],
     places: &IndexMap<Name, usize>,
-    end: End,
+    end: ColumnEnd,
     column: &Name,
 )
     requires { AreNoted end places.now.entries slots.old }
@@ -183,17 +183,27 @@ impl Bounds {
     }
 
     // Whether a bound touches this end of a column.
-    fn has_end(&self, end: End, column: &Name) -> bool
+    fn has_end(&self, end: ColumnEnd, column: &Name) -> bool
         ensures { result ≡ list_any (is_at_end end column.now) self.now }
     {
         match end {
-            End::Upper => find_end(&self.slots, &self.uppers, End::Upper, column).is_some(),
-            End::Lower => find_end(&self.slots, &self.lowers, End::Lower, column).is_some(),
+            ColumnEnd::Upper => find_end(
+                &self.slots,
+                &self.uppers,
+                ColumnEnd::Upper,
+                column,
+            ).is_some(),
+            ColumnEnd::Lower => find_end(
+                &self.slots,
+                &self.lowers,
+                ColumnEnd::Lower,
+                column,
+            ).is_some(),
         }
     }
 
     // Whether a bound touches this end of a column, where the end matters.
-    fn has_end_if(&self, matters: bool, end: End, column: &Name) -> bool
+    fn has_end_if(&self, matters: bool, end: ColumnEnd, column: &Name) -> bool
         ensures { result ≡ (matters && list_any (is_at_end end column.now) self.now) }
     {
         matters && self.has_end(end, column)
@@ -203,8 +213,8 @@ impl Bounds {
     pub fn has_met(&self, column: &Name, kind: BoundKind) -> bool
         ensures { result ≡ is_bound_already self.now column.now kind }
     {
-        self.has_end_if(touches_top(kind), End::Upper, column)
-            || self.has_end_if(touches_bottom(kind), End::Lower, column)
+        self.has_end_if(touches_top(kind), ColumnEnd::Upper, column)
+            || self.has_end_if(touches_bottom(kind), ColumnEnd::Lower, column)
     }
 
     /// Whether a bound stands on this column.
@@ -229,17 +239,17 @@ impl Bounds {
     }
 
     // Takes out the bound that touches this end of a column.
-    fn remove_end(&mut self, end: End, column: &Name)
+    fn remove_end(&mut self, end: ColumnEnd, column: &Name)
         ensures { self.new ≡ filter (λ bound. not (is_at_end end column.now bound)) self.old }
     {
         match end {
-            End::Upper => empty_end(&mut self.slots, &self.uppers, End::Upper, column),
-            End::Lower => empty_end(&mut self.slots, &self.lowers, End::Lower, column),
+            ColumnEnd::Upper => empty_end(&mut self.slots, &self.uppers, ColumnEnd::Upper, column),
+            ColumnEnd::Lower => empty_end(&mut self.slots, &self.lowers, ColumnEnd::Lower, column),
         }
     }
 
     // Takes out the bound that touches this end of a column, where the end matters.
-    fn remove_end_if(&mut self, matters: bool, end: End, column: &Name)
+    fn remove_end_if(&mut self, matters: bool, end: ColumnEnd, column: &Name)
         ensures { self.new ≡ filter (λ bound. not (matters && is_at_end end column.now bound))
             self.old }
     {
@@ -253,8 +263,8 @@ impl Bounds {
         ensures { self.new ≡ filter (λ other. not
             (same column.now other.column && meet kind other.kind)) self.old }
     {
-        self.remove_end_if(touches_top(kind), End::Upper, column);
-        self.remove_end_if(touches_bottom(kind), End::Lower, column);
+        self.remove_end_if(touches_top(kind), ColumnEnd::Upper, column);
+        self.remove_end_if(touches_bottom(kind), ColumnEnd::Lower, column);
     }
 
     /// Takes out the bounds on a column.

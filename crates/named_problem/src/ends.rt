@@ -7,7 +7,7 @@ use problem_definitions::BoundKind;
 
 /// An end of a column's interval.
 #[derive(Clone, Copy, Debug, PartialEq, Eq)]
-pub enum End {
+pub enum ColumnEnd {
     Upper,
     Lower,
 }
@@ -33,11 +33,11 @@ pub fn touches_bottom(kind: BoundKind) -> bool
 }
 
 // Whether a bound of this type touches an end of its column.
-pub fn touches(end: End, kind: BoundKind) -> bool
+pub fn touches(end: ColumnEnd, kind: BoundKind) -> bool
     ensures { result ≡ touches_end end kind }
 {
     match end {
-        End::Upper => touches_top(kind),
-        End::Lower => touches_bottom(kind),
+        ColumnEnd::Upper => touches_top(kind),
+        ColumnEnd::Lower => touches_bottom(kind),
     }
 }

@@ -13,9 +13,9 @@ use Rattle.listing_definitions.specs.Report.{Report}
 use Rattle.listing_definitions.specs.Ending.{Ending, Ended, StatementLimit, ControlStop, CardStop}
 use Rattle.listing_definitions.specs.Text.{report_text}
 use Rattle.listing_definitions.specs.Listing.{ending_text, reports_text}
-use Rattle.question_definitions.specs.Answers.{Sheet, Question, OfPath, OfSolution, OfRanges, OfParametricRun, OfPunch, OfInstall, Answer, Installed}
+use Rattle.question_definitions.specs.Answers.{Sheet, Question, OfPath, OfSolution, OfRanges, OfParametricRun, OfPunch, OfInstall, AnswerTo, Installed}
 use Rattle.run_definitions.specs.State.{State}
-use Rattle.run_definitions.specs.Moves.{Gain, printed_by, punched_by, Outcome, Ends, InSelection, InAnswer, Move, Does, MayStop, Asks, Gives}
+use Rattle.run_definitions.specs.Moves.{Gain, printed_by, punched_by, StatementOutcome, Ends, InSelection, InAnswer, StatementMove, Does, MayStop, Asks, Gives}
 use Rattle.run_definitions.specs.Verbs.{verb_move}
 use Rattle.run_definitions.specs.Run.{max_executed, counted, Step, IsOver, at_end, at_limit, Reaches, begun, stepped, is_over, is_ended}
 use Rattle.run_definitions.specs.Answer.{job_decks, IsProgramOf, card_fault, control_fault, run}
@@ -25,7 +25,7 @@ use Rattle.soundness_laws.proofs.Filed.{job_reaching}
 use Rattle.determinism_laws.specs.Laws.{IsOverflow, HasEvidence}
 use Rattle.determinism_laws.proofs.Stops.{statement_evidence}
 use Rattle.walk_definitions.specs.Forms.{is_ranges, is_punched}
-use Rattle.walk_definitions.specs.Walker.{Walker, Found, Attested, Unchecked, Turn, Finds, open_if, open_stop, open_pending, is_inserted_by, open_question, opened, refuses_selection, unless_found, closes, due, walk_move, walk_statement, turn}
+use Rattle.walk_definitions.specs.Walker.{Walker, Found, Attested, Unchecked, WalkTurn, Finds, open_if, open_stop, open_pending, is_inserted_by, open_question, opened, refuses_selection, unless_found, closes, due, walk_move, walk_statement, turn}
 use Rattle.walk_definitions.specs.Found.{Comes, first_walker, of_cards, of_control, of_walk}
 use Rattle.walk_definitions.specs.Found.{Reaches as IsCome}
 use Rattle.reading_laws.specs.Laws.{ReadingLaw}
@@ -41,7 +41,7 @@ both_parts : (a b : Bool) → (not a || b) ≡ false → (a ≡ true) × (b ≡ 
 both_parts true b e = (refl, e)
 both_parts false b e = absurd (cc e)
 
-no_evidence : (move : Move) → refuses_selection move ≡ false → HasEvidence attested move → ⊥
+no_evidence : (move : StatementMove) → refuses_selection move ≡ false → HasEvidence attested move → ⊥
 no_evidence (Does outcome) e evidence = evidence
 no_evidence (MayStop (InSelection problem choice) move) e (inl viewed) = (made_iff problem choice).0 (both_parts (is_made problem choice) (refuses_selection move) e).0 viewed.0 viewed.2.0
 no_evidence (MayStop (InSelection problem choice) move) e (inr later) = no_evidence move (both_parts (is_made problem choice) (refuses_selection move) e).1 later
@@ -51,7 +51,7 @@ no_evidence (Asks question sheet s go) e evidence = evidence
 
 -- ---- what is open isn't attested
 
-never_asked : (w : Walker) (question : Question) (sheet : Sheet) (go : Answer question → Outcome) → NeverAttests (open_question w question sheet go)
+never_asked : (w : Walker) (question : Question) (sheet : Sheet) (go : AnswerTo question → StatementOutcome) → NeverAttests (open_question w question sheet go)
 never_asked w (OfSolution mark) sheet go = never_stop w
 never_asked w OfRanges sheet go = never_either (open_stop w) (open_if (is_ranges w.rest) w) (never_stop w) (never_if (is_ranges w.rest) w)
 never_asked w OfPunch sheet go = never_either (open_stop w) (open_if (is_punched sheet.problem.name w.rest) w) (never_stop w) (never_if (is_punched sheet.problem.name w.rest) w)
@@ -61,22 +61,22 @@ never_asked w (OfInstall basis) sheet go =
 never_asked w (OfPath solver limit) sheet go = never_either (open_stop w) (open_pending w) (never_stop w) (never_pending w.pending)
 never_asked w (OfParametricRun parametric_run) sheet go = never_either (open_stop w) (open_pending w) (never_stop w) (never_pending w.pending)
 
-never_opened : (w : Walker) (move : Move) → NeverAttests (opened w move)
+never_opened : (w : Walker) (move : StatementMove) → NeverAttests (opened w move)
 never_opened w (Does outcome) = never_outcome w outcome
 never_opened w (MayStop refusals move) = never_opened w move
 never_opened w (Asks question sheet s go) = never_asked w question sheet go
 
 -- ---- the statement by which a walk ends attested
 
-is_due : (o : Option Found) (refused : Bool) (rest : List ℕ) (turn : Turn) (count : ℕ) → NeverAttests o → unless_found o (if refused then Finds (Unchecked rest) else turn) ≡ Finds (Attested count) → refused ≡ false
+is_due : (o : Option Found) (refused : Bool) (rest : List ℕ) (turn : WalkTurn) (count : ℕ) → NeverAttests o → unless_found o (if refused then Finds (Unchecked rest) else turn) ≡ Finds (Attested count) → refused ≡ false
 is_due None false rest turn count never e = refl
 is_due None true rest turn count never e = absurd (cc e)
 is_due (Some found) refused rest turn count never e =
     let same : found ≡ Attested count = cc in
     absurd (subst (λ (f : Found). NeverAttests (Some f)) same never)
 
-module _ (program : Program) (w : Walker) (count : ℕ) (outcome : Outcome) (step : Step attested program w.state outcome) where
-  abbrev move : Move
+module _ (program : Program) (w : Walker) (count : ℕ) (outcome : StatementOutcome) (step : Step attested program w.state outcome) where
+  abbrev move : StatementMove
   move = verb_move step.statement.verb step.statement.card (counted w.state)
 
   by_move : walk_move w move ≡ Finds (Attested count) → refuses_selection move ≡ false

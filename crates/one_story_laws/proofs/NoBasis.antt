@@ -24,17 +24,17 @@ use Rattle.listing_definitions.specs.declared.Solver.TheVariants.{Primal as ByPr
 use Rattle.listing_definitions.specs.declared.VerbFault.{VerbFault}
 use Rattle.listing_definitions.specs.Report.{Report, Converted, Revised, Solved, Solution}
 use Rattle.listing_definitions.specs.Ending.{Ending}
-use Rattle.question_definitions.specs.Answers.{Basis, Sheet, Changing, parametric_solver, ParametricRun, Question, OfPath, OfSolution, OfRanges, OfParametricRun, OfPunch, OfInstall, Answer, PathEnd, Reached, PathLimit, PricesWrong, ParametricRunEnd, Opening, Chained, ParametricRunLimit}
+use Rattle.question_definitions.specs.Answers.{Basis, Sheet, Changing, parametric_solver, ParametricRun, Question, OfPath, OfSolution, OfRanges, OfParametricRun, OfPunch, OfInstall, AnswerTo, PathEnd, Reached, PathLimit, PricesWrong, ParametricRunEnd, Opening, Chained, ParametricRunLimit}
 use Rattle.question_definitions.specs.Solving.{IsRight}
 use Rattle.run_definitions.specs.State.{Present, gone_through, State, problem_of, choice_of}
-use Rattle.run_definitions.specs.Moves.{printed_by, Outcome, Goes, Ends, gain_of, Refusals, Move, Does, MayStop, Asks, Gives, or_fault}
+use Rattle.run_definitions.specs.Moves.{printed_by, StatementOutcome, Goes, Ends, gain_of, Refusals, StatementMove, Does, MayStop, Asks, Gives, or_fault}
 use Rattle.run_definitions.specs.Verbs.{or_deck_fault, or_selection_fault, files, selects, not_less, change_row, change_set, mark_of, demanded, by_verdict, if_optimal, after_path, after_parametric_run, solves, shows, ranges, parametric_runs, converts, revises, sets_up, punches, punches_basis, inserts, verb_move}
 use Rattle.run_definitions.specs.Run.{counted, Reaches, begun, stepped, IsRun, is_over, is_ended}
 use Rattle.run_definitions.specs.Answer.{IsJobRun, card_fault, control_fault, run}
 use Rattle.walk_laws.specs.Proved.{attested}
 use Rattle.one_story_laws.specs.Story.{IsOfNoBasis}
 
-abbrev NoneOf : Outcome → Type 0
+abbrev NoneOf : StatementOutcome → Type 0
 NoneOf outcome = All IsOfNoBasis (printed_by (gain_of outcome))
 
 nothing : All IsOfNoBasis []
@@ -55,36 +55,36 @@ by_verdict_none Unbounded report state none = demanded_none state.cells.xdounb 2
 -- ---- moves
 
 module _ (card : ℕ) where
-  record ShowsNone (move : Move) : Type 0 where
-    by : (outcome : Outcome) → Gives attested card move outcome → NoneOf outcome
+  record ShowsNone (move : StatementMove) : Type 0 where
+    by : (outcome : StatementOutcome) → Gives attested card move outcome → NoneOf outcome
 
-  does : (outcome : Outcome) → NoneOf outcome → ShowsNone (Does outcome)
+  does : (outcome : StatementOutcome) → NoneOf outcome → ShowsNone (Does outcome)
   does outcome none = record { by = λ given e. subst NoneOf (sym e) none }
 
-  may_stop : (refusals : Refusals) (move : Move) → ShowsNone move → ShowsNone (MayStop refusals move)
+  may_stop : (refusals : Refusals) (move : StatementMove) → ShowsNone move → ShowsNone (MayStop refusals move)
   may_stop refusals move shows = record { by = stopping }
     where
-      stopping : (given : Outcome) → Gives attested card (MayStop refusals move) given → NoneOf given
+      stopping : (given : StatementOutcome) → Gives attested card (MayStop refusals move) given → NoneOf given
       stopping given (inl gives) = shows.by given gives
       stopping given (inr stop) = subst NoneOf (sym stop.3) nothing
 
-  asked : (question : Question) (sheet : Sheet) (s : Basis) (go : Answer question → Outcome) → ((answer : Answer question) → IsRight attested question sheet s answer → NoneOf (go answer)) →
+  asked : (question : Question) (sheet : Sheet) (s : Basis) (go : AnswerTo question → StatementOutcome) → ((answer : AnswerTo question) → IsRight attested question sheet s answer → NoneOf (go answer)) →
       ShowsNone (Asks question sheet s go)
   asked question sheet s go none = record { by = λ given a. subst NoneOf (sym a.2) (none a.0 a.1) }
 
-  unless_fault : {X : Type 0} (fault : VerbFault) (o : Option X) (go : X → Move) → ((x : X) → ShowsNone (go x)) → ShowsNone (or_fault card fault o go)
+  unless_fault : {X : Type 0} (fault : VerbFault) (o : Option X) (go : X → StatementMove) → ((x : X) → ShowsNone (go x)) → ShowsNone (or_fault card fault o go)
   unless_fault fault None go shows = does _ nothing
   unless_fault fault (Some x) go shows = shows x
 
-  unless_deck_fault : {X : Type 0} (r : Result X DeckFault) (go : X → Move) → ((x : X) → ShowsNone (go x)) → ShowsNone (or_deck_fault r go)
+  unless_deck_fault : {X : Type 0} (r : Result X DeckFault) (go : X → StatementMove) → ((x : X) → ShowsNone (go x)) → ShowsNone (or_deck_fault r go)
   unless_deck_fault (Err fault) go shows = does _ nothing
   unless_deck_fault (Ok x) go shows = shows x
 
-  unless_selection_fault : (r : Result LinearProgram SelectionFault) (go : LinearProgram → Move) → ((lp : LinearProgram) → ShowsNone (go lp)) → ShowsNone (or_selection_fault card r go)
+  unless_selection_fault : (r : Result LinearProgram SelectionFault) (go : LinearProgram → StatementMove) → ((lp : LinearProgram) → ShowsNone (go lp)) → ShowsNone (or_selection_fault card r go)
   unless_selection_fault (Err fault) go shows = does _ nothing
   unless_selection_fault (Ok lp) go shows = shows lp
 
-  selecting : (problem : Problem ℕ) (choice : Choice) (go : LinearProgram → Move) → ((lp : LinearProgram) → ShowsNone (go lp)) → ShowsNone (selects card problem choice go)
+  selecting : (problem : Problem ℕ) (choice : Choice) (go : LinearProgram → StatementMove) → ((lp : LinearProgram) → ShowsNone (go lp)) → ShowsNone (selects card problem choice go)
   selecting problem choice go shows = unless_selection_fault (selected problem choice) _ (λ lp. may_stop _ (go lp) (shows lp))
 
   -- ---- verbs

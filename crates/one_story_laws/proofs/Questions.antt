@@ -12,13 +12,13 @@ use Rattle.control_definitions.specs.Cells.{Cells}
 use Rattle.selection_definitions.specs.Selection.{selected}
 use Rattle.listing_definitions.specs.declared.Mark.{Mark}
 use Rattle.listing_definitions.specs.declared.Solver.{Solver}
-use Rattle.listing_definitions.specs.Report.{PathVerdict, Check, Interval, ChainEnd, EndsAt, UnboundedPast, InfeasiblePast, Chain, Report, Solved, Solution, Parametric}
+use Rattle.listing_definitions.specs.Report.{PathVerdict, Check, ParametricInterval, ChainEnd, EndsAt, UnboundedPast, InfeasiblePast, Chain, Report, Solved, Solution, Parametric}
 use Rattle.listing_definitions.specs.Ending.{LimitStop, PriceStop}
 use Rattle.question_definitions.specs.Answers.{Basis, Sheet, Changing, Row, Set, changing_name, parametric_solver, ParametricRun, OfPath, OfSolution, OfParametricRun, PathEnd, Reached, PathLimit, PricesWrong, ParametricRunEnd, Opening, Chained, ParametricRunLimit}
 use Rattle.question_definitions.specs.Solving.{Solving}
 use Rattle.answer_definitions.specs.ParametricRuns.{family_of}
 use Rattle.run_definitions.specs.State.{Present, present_basis, gone_through, State, choice_of}
-use Rattle.run_definitions.specs.Moves.{Prints, printed_by, Outcome, gain_of, next}
+use Rattle.run_definitions.specs.Moves.{Prints, printed_by, StatementOutcome, gain_of, next}
 use Rattle.run_definitions.specs.Verbs.{mark_of, by_verdict, last_value, asks, after_path, after_parametric_run}
 use Rattle.run_definitions.specs.Run.{counted}
 use Rattle.soundness_laws.specs.Truth.{PresentProgram, sheet_of, IsTrueOf, named_by, ReportsOfRun}
@@ -119,10 +119,10 @@ module _ (S : Solving) (Speaks : State → Report → Type 0) (Open : Type 0) (e
   true_here setup present verdict set selects program holds = subst (λ (x : Sheet). IsTrueOf x verdict) (same_sheet setup state.cells present lp program set selects) holds
 
   module _ (solver : Solver) (is_path : IsPathSolver solver) (limit : Option ℕ) where
-    abbrev path_go : PathEnd → Outcome
+    abbrev path_go : PathEnd → StatementOutcome
     path_go = after_path solver card one (counted first)
 
-    abbrev path_on : PathEnd → Outcome
+    abbrev path_on : PathEnd → StatementOutcome
     path_on = after_path solver card two (counted second)
 
     paths_alike : (x y : PathEnd) → S.Solves solver sheet (present_basis one) limit x → attested.Solves solver sheet (present_basis two) limit y → All (Speaks first) (printed_by (gain_of (path_go x))) →
@@ -152,16 +152,16 @@ module _ (S : Solving) (Speaks : State → Report → Type 0) (Open : Type 0) (e
   -- ---- parametric runs
 
   module _ (parametric_run : ParametricRun) (asks_so : IsAskedBy state.cells parametric_run) where
-    abbrev parametric_run_go : ParametricRunEnd → Outcome
+    abbrev parametric_run_go : ParametricRunEnd → StatementOutcome
     parametric_run_go = after_parametric_run card parametric_run one (counted first)
 
-    abbrev parametric_run_on : ParametricRunEnd → Outcome
+    abbrev parametric_run_on : ParametricRunEnd → StatementOutcome
     parametric_run_on = after_parametric_run card parametric_run two (counted second)
 
     abbrev family : ℚ → LinearProgram
     family = family_of sheet parametric_run.changing
 
-    abbrev chain_of : List Interval → ChainEnd → Chain
+    abbrev chain_of : List ParametricInterval → ChainEnd → Chain
     chain_of intervals end = record { from = parametric_run.from; change = changing_name parametric_run.changing; intervals = intervals; end = end }
 
     fails_here : (setup : Option Present) (present : Present) (verdict : PathVerdict) → setup ≡ Some present → selected present.problem (choice_of state.cells present.options) ≡ Ok lp →
@@ -180,7 +180,7 @@ module _ (S : Solving) (Speaks : State → Report → Type 0) (Open : Type 0) (e
         let best = run.covers.solved parametric_run.from (le_refl parametric_run.from) run.covers.forward in
         fails_or_best (family parametric_run.from) verdict best.0 fails best.1
 
-    chains_alike : (bases more : List Basis) (intervals others_intervals : List Interval) (end another : ChainEnd) → SameClose end another →
+    chains_alike : (bases more : List Basis) (intervals others_intervals : List ParametricInterval) (end another : ChainEnd) → SameClose end another →
         Alike (parametric_run_go (Chained bases intervals end)) (parametric_run_on (Chained more others_intervals another))
     chains_alike bases more intervals others_intervals end another same =
         subst (λ (x : ℚ). Alike (parametric_run_go (Chained bases intervals end))
@@ -200,11 +200,11 @@ module _ (S : Solving) (Speaks : State → Report → Type 0) (Open : Type 0) (e
         fails_here (Some two) two verdict refl is
         (attested_says.openings second parametric_run.changing verdict check (one_verdict (Says second) (mark_of verdict) (Solved (parametric_solver parametric_run.changing) verdict check) _ says))
 
-    spoken_run : (intervals : List Interval) (end : ChainEnd) → All (Speaks first) (Parametric (parametric_solver parametric_run.changing) (chain_of intervals end) ∷ []) → HasRun family parametric_run.from parametric_run.to end
+    spoken_run : (intervals : List ParametricInterval) (end : ChainEnd) → All (Speaks first) (Parametric (parametric_solver parametric_run.changing) (chain_of intervals end) ∷ []) → HasRun family parametric_run.from parametric_run.to end
     spoken_run intervals end speaks =
         runs_here (Some one) one end refl is (enough.chains first (parametric_solver parametric_run.changing) (chain_of intervals end) (All-head (Speaks first) _ [] speaks))
 
-    said_run : (intervals : List Interval) (end : ChainEnd) → All (Says second) (Parametric (parametric_solver parametric_run.changing) (chain_of intervals end) ∷ []) → HasRun family parametric_run.from parametric_run.to end
+    said_run : (intervals : List ParametricInterval) (end : ChainEnd) → All (Says second) (Parametric (parametric_solver parametric_run.changing) (chain_of intervals end) ∷ []) → HasRun family parametric_run.from parametric_run.to end
     said_run intervals end says =
         runs_here (Some two) two end refl is (attested_says.chains second (parametric_solver parametric_run.changing) (chain_of intervals end) (All-head (Says second) _ [] says))
 

@@ -7,7 +7,7 @@ use Rattle.control_definitions.specs.Cells.{Cells}
 use Rattle.simplex_definitions.specs.Chain.{ChainEnd as PastBreakpoint, AtMax, UnboundedPast as PastUnbounded, InfeasiblePast as PastInfeasible}
 use Rattle.listing_definitions.specs.declared.Solver.{Solver}
 use Rattle.listing_definitions.specs.declared.Solver.TheVariants.{Primal as ByPrimal, Dual as ByDual, Paraobj as ByParaobj, Pararhs as ByPararhs}
-use Rattle.listing_definitions.specs.Report.{PathVerdict, Check, Interval, ChainEnd, Chain, Report, Solved, Parametric}
+use Rattle.listing_definitions.specs.Report.{PathVerdict, Check, ParametricInterval, ChainEnd, Chain, Report, Solved, Parametric}
 use Rattle.question_definitions.specs.Answers.{Basis, Sheet, Changing, Row, Set, parametric_solver, ParametricRun, PathLimit, PricesWrong, Chained, ParametricRunLimit}
 use Rattle.question_definitions.specs.Solving.{Solving}
 use Rattle.answer_definitions.specs.ParametricRuns.{family_of, sheet_at, end_of}
@@ -36,7 +36,7 @@ pub record SaysEnough (S : Solving) (Speaks : State → Report → Type 0) (Open
   pub openings : (state : State) (changing : Changing) (verdict : PathVerdict) (check : Check) → Speaks state (Solved (parametric_solver changing) verdict check) →
       ReportsOfRun state.setup state.cells (parametric_solver changing) (Fails verdict)
   pub chains : (state : State) (solver : Solver) (chain : Chain) → Speaks state (Parametric solver chain) → ReportsOfRun state.setup state.cells solver (Runs chain.end)
-  pub lasts : (sheet : Sheet) (s : Basis) (parametric_run : ParametricRun) (bases : List Basis) (intervals : List Interval) (end : ChainEnd) → S.ParametricRuns sheet s parametric_run (Chained bases intervals end) → IsLast parametric_run.to end
+  pub lasts : (sheet : Sheet) (s : Basis) (parametric_run : ParametricRun) (bases : List Basis) (intervals : List ParametricInterval) (end : ChainEnd) → S.ParametricRuns sheet s parametric_run (Chained bases intervals end) → IsLast parametric_run.to end
   pub path_limits : (solver : Solver) (sheet : Sheet) (s : Basis) (limit : Option ℕ) → S.Solves solver sheet s limit PathLimit → Open
   pub price_stops : (solver : Solver) (sheet : Sheet) (s : Basis) (limit : Option ℕ) (j : ℕ) → S.Solves solver sheet s limit (PricesWrong j) → Open
   pub parametric_run_limits : (sheet : Sheet) (s : Basis) (parametric_run : ParametricRun) → S.ParametricRuns sheet s parametric_run ParametricRunLimit → Open

@@ -18,7 +18,7 @@ use Rattle.listing_definitions.specs.Report.{Report}
 use Rattle.listing_definitions.specs.Ending.{Ending}
 use Rattle.question_definitions.specs.Solving.{Solving}
 use Rattle.run_definitions.specs.State.{State, start}
-use Rattle.run_definitions.specs.Moves.{Gain, Nothing, printed_by, Outcome, Goes, Ends, gain_of, Gives}
+use Rattle.run_definitions.specs.Moves.{Gain, Nothing, printed_by, StatementOutcome, Goes, Ends, gain_of, Gives}
 use Rattle.run_definitions.specs.Verbs.{verb_move}
 use Rattle.run_definitions.specs.Run.{counted, Step, IsOver, at_end, at_limit, Reaches, begun, stepped, IsRun, is_over, is_ended}
 use Rattle.soundness_laws.specs.Headline.{HoldSoFar, HoldInRun}
@@ -55,7 +55,7 @@ same_executed _ _ (standing state left right setups) = refl
 
 module _ (T U : Solving) (program : Program) where
   -- a run that is over executes no statement
-  over_or_step : (a b : State) (ending : Ending) (outcome : Outcome) → a.position ≡ b.position → a.executed ≡ b.executed → IsOver T program a ending → Step U program b outcome → ⊥
+  over_or_step : (a b : State) (ending : Ending) (outcome : StatementOutcome) → a.position ≡ b.position → a.executed ≡ b.executed → IsOver T program a ending → Step U program b outcome → ⊥
   over_or_step a b _ outcome positions counts (at_end past) step =
       let within = slice_get_within program.statements (b.position - 1) step.statement step.is_at_position in omega (arith, past, within, positions)
   over_or_step a b _ outcome positions counts (at_limit within limit) step = let below = step.is_within_limit in omega (arith, limit, below, counts)
@@ -138,7 +138,7 @@ ends_unstopped gain ending none stop = let e = stop.1 in none (stop.0, cc)
 
 module _ (S : Solving) (Speaks : State → Report → Type 0) (Open : Type 0) (enough : SaysEnough S Speaks Open) (Same : State → Report → Report → Type 0)
     (shows : (a b : State) → SameStanding a b → (report other : Report) → ReportsSame report other → Speaks a report → Says b other → Same a report other) (program : Program) where
-  step_alike : (a b : State) (x y : Outcome) → SameStanding a b → Step S program a x → Step attested program b y → All (Speaks a) (printed_by (gain_of x)) → All (Says b) (printed_by (gain_of y)) →
+  step_alike : (a b : State) (x y : StatementOutcome) → SameStanding a b → Step S program a x → Step attested program b y → All (Speaks a) (printed_by (gain_of x)) → All (Says b) (printed_by (gain_of y)) →
       (IsOverflowStop y → ⊥) → AlikeOrStopped Open x y
   step_alike _ _ x y (standing state left right setups) first second speaks says unstopped =
       (verb_alike S Speaks Open enough first.statement.card state first.statement.verb left right setups).by x y first.gives moved speaks says unstopped

@@ -10,7 +10,7 @@ use Rattle.selection_definitions.specs.Selection.{selected}
 use Rattle.listing_definitions.specs.declared.Mark.{Mark}
 use Rattle.listing_definitions.specs.declared.Mark.TheVariants.{Optimal, Infeasible, Unbounded}
 use Rattle.listing_definitions.specs.declared.Solver.{Solver}
-use Rattle.listing_definitions.specs.Report.{SolutionLines, Interval, Chain, Report, Titled, Converted, Revised, SetUp, BcdOut, BasisOut, Inserted, Solved, Solution, Ranges, Parametric}
+use Rattle.listing_definitions.specs.Report.{SolutionLines, ParametricInterval, Chain, Report, Titled, Converted, Revised, SetUp, BcdOut, BasisOut, Inserted, Solved, Solution, Ranges, Parametric}
 use Rattle.question_definitions.specs.Answers.{Sheet, Changing, ParametricRun}
 use Rattle.answer_definitions.specs.ParametricRuns.{family_of}
 use Rattle.run_definitions.specs.State.{Present, State, choice_of}
@@ -53,7 +53,7 @@ same_activity cells left right setups lines others first second =
 
 -- ---- parametric runs
 
-same_along : (sheet : Sheet) (parametric_run other : ParametricRun) (intervals others : List Interval) → parametric_run.changing ≡ other.changing → RunsWorth intervals sheet parametric_run → RunsWorth others sheet other →
+same_along : (sheet : Sheet) (parametric_run other : ParametricRun) (intervals others : List ParametricInterval) → parametric_run.changing ≡ other.changing → RunsWorth intervals sheet parametric_run → RunsWorth others sheet other →
     SameAlong intervals others sheet parametric_run
 same_along sheet parametric_run other intervals others changes first second = λ theta one two among also from_one to_one from_two to_two.
     same_worth (family_of sheet parametric_run.changing theta) (objective_at sheet parametric_run theta one) (objective_at sheet parametric_run theta two) (first one among theta from_one to_one)

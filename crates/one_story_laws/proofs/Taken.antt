@@ -10,7 +10,7 @@ use Rattle.check_definitions.specs.declared.Verdict.TheVariants.{Checked, Failed
 use Rattle.check_definitions.specs.Steps.{in_turn}
 use Rattle.check_definitions.proofs.Passing.{both_checked, holds_if_checked}
 use Rattle.listing_definitions.specs.declared.Solver.{Solver}
-use Rattle.listing_definitions.specs.Report.{Interval, ChainEnd, EndsAt, UnboundedPast, InfeasiblePast}
+use Rattle.listing_definitions.specs.Report.{ParametricInterval, ChainEnd, EndsAt, UnboundedPast, InfeasiblePast}
 use Rattle.question_definitions.specs.Answers.{Sheet, Changing, Row, Set, parametric_solver, ParametricRun, OfPath, OfParametricRun, PathEnd, Reached, ParametricRunEnd, Opening, Chained, ParametricRunLimit}
 use Rattle.walk_definitions.specs.Words.{Parsed, left_after}
 use Rattle.walk_definitions.specs.Tests.{asked, interval_test, close_test}
@@ -64,7 +64,7 @@ module _ (sheet : Sheet) (parametric_run : ParametricRun) where
   abbrev Closes : Run → Type 0
   Closes run = IsLast parametric_run.to run.1
 
-  on_onward : (go : ℚ → List ℕ → Judged Run) → ((last : ℚ) (rest : List ℕ) → OnRight Closes (go last rest)) → (judged : Judged Interval) → OnRight Closes (onward sheet parametric_run go judged)
+  on_onward : (go : ℚ → List ℕ → Judged Run) → ((last : ℚ) (rest : List ℕ) → OnRight Closes (go last rest)) → (judged : Judged ParametricInterval) → OnRight Closes (onward sheet parametric_run go judged)
   on_onward go later (Right interval after) = on_map Closes (λ (run : Run). (interval ∷ run.0, run.1)) (go interval.to after) (later interval.to after)
   on_onward go later Fails = tt
   on_onward go later Refuses = tt

@@ -21,7 +21,7 @@ use Rattle.listing_definitions.specs.Report.{Filed, Report, Titled, Converted, R
 use Rattle.question_definitions.specs.Answers.{Changing, changing_name, OfRanges, OfPunch, OfInstall}
 use Rattle.question_definitions.specs.Solving.{Solving}
 use Rattle.run_definitions.specs.State.{Present, State, problem_of, choice_of}
-use Rattle.run_definitions.specs.Moves.{Gain, Nothing, Prints, printed_by, Goes, Move, Does}
+use Rattle.run_definitions.specs.Moves.{Gain, Nothing, Prints, printed_by, Goes, StatementMove, Does}
 use Rattle.run_definitions.specs.Verbs.{size_of, files, not_less, change_row, change_set, mark_after, if_optimal, solves, shows, ranges, parametric_runs, converts, revises, sets_up, punches, punches_basis, inserts, verb_move}
 use Rattle.run_definitions.specs.Run.{counted}
 use Rattle.soundness_laws.specs.Truth.{IsOfProblem, named_by}
@@ -37,7 +37,7 @@ module _ (S : Solving) (Speaks : State → Report → Type 0) (Open : Type 0) (e
   with_setup setup = record state { setup = setup }
 
   -- the moves of two runs that stand alike
-  abbrev LeadsAlike : Option Present → Option Present → (State → Move) → Type 0
+  abbrev LeadsAlike : Option Present → Option Present → (State → StatementMove) → Type 0
   LeadsAlike left right move = IsAlike S Speaks Open (with_setup left) (with_setup right) card (move (counted (with_setup left))) (move (counted (with_setup right)))
 
   -- ---- verbs that don't ask

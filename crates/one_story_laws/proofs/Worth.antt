@@ -17,7 +17,7 @@ use Rattle.simplex_definitions.specs.Chain.{Part, along}
 use Rattle.parametric_laws.specs.Truth.{IsTruePart}
 use Rattle.listing_definitions.specs.declared.Mark.TheVariants.{Optimal}
 use Rattle.listing_definitions.specs.declared.Solver.{Solver}
-use Rattle.listing_definitions.specs.Report.{Value, Line, SolutionLines, Interval, Chain, Report, Solution, Parametric}
+use Rattle.listing_definitions.specs.Report.{Value, Line, SolutionLines, ParametricInterval, Chain, Report, Solution, Parametric}
 use Rattle.question_definitions.specs.Answers.{Basis, Sheet, Changing, Row, Set, ParametricRun}
 use Rattle.answer_definitions.specs.Lines.{lines_of, column_numbers}
 use Rattle.answer_definitions.specs.Sections.{solution_row, solution_column, solution_lines}
@@ -42,11 +42,11 @@ pub record ShowsWorth (setup : Option Present) (cells : Cells) (lines : Solution
   pub program : PresentProgram setup cells
   pub is_worth : IsBestWorth program.lp (point_of (sheet_of program) lines program.lp.objective)
 
-abbrev pub IntervalWorth : Sheet → ParametricRun → Interval → Type 0
+abbrev pub IntervalWorth : Sheet → ParametricRun → ParametricInterval → Type 0
 IntervalWorth sheet parametric_run interval = (theta : ℚ) → interval.from ≤ℚ theta → theta ≤ℚ interval.to → IsBestWorth (family_of sheet parametric_run.changing theta) (objective_at sheet parametric_run theta interval)
 
-abbrev pub RunsWorth : List Interval → Sheet → ParametricRun → Type 0
-RunsWorth intervals sheet parametric_run = (interval : Interval) → Contains intervals interval → IntervalWorth sheet parametric_run interval
+abbrev pub RunsWorth : List ParametricInterval → Sheet → ParametricRun → Type 0
+RunsWorth intervals sheet parametric_run = (interval : ParametricInterval) → Contains intervals interval → IntervalWorth sheet parametric_run interval
 
 pub record SpeaksWorth (Speaks : State → Report → Type 0) : Type 0 where
   pub solutions : (state : State) (lines : SolutionLines) → Speaks state (Solution Optimal lines) → ShowsWorth state.setup state.cells lines
@@ -80,7 +80,7 @@ reported_solution state lines says = record {
   };
 }
 
-reported_interval : (sheet : Sheet) (parametric_run : ParametricRun) (interval : Interval) → IsTruePart (family_of sheet parametric_run.changing) parametric_run.to (part_of interval) → IntervalWorth sheet parametric_run interval
+reported_interval : (sheet : Sheet) (parametric_run : ParametricRun) (interval : ParametricInterval) → IsTruePart (family_of sheet parametric_run.changing) parametric_run.to (part_of interval) → IntervalWorth sheet parametric_run interval
 reported_interval sheet parametric_run interval is_true = λ theta after before. record {
   point = along theta (part_of interval).value (part_of interval).value_rate;
   best = (is_true.solved theta after before).best;
@@ -90,7 +90,7 @@ reported_interval sheet parametric_run interval is_true = λ theta after before.
 reported_run : (chain : Chain) (sheet : Sheet) (parametric_run : ParametricRun) → ShowsProvedChain chain sheet parametric_run → RunsWorth chain.intervals sheet parametric_run
 reported_run chain sheet parametric_run shows = λ interval among.
     All-contains (IntervalWorth sheet parametric_run) chain.intervals interval
-    (all_weaker (λ (i : Interval). IsTruePart (family_of sheet parametric_run.changing) parametric_run.to (part_of i)) (IntervalWorth sheet parametric_run) (reported_interval sheet parametric_run) chain.intervals
+    (all_weaker (λ (i : ParametricInterval). IsTruePart (family_of sheet parametric_run.changing) parametric_run.to (part_of i)) (IntervalWorth sheet parametric_run) (reported_interval sheet parametric_run) chain.intervals
     (all_before (IsTruePart (family_of sheet parametric_run.changing) parametric_run.to) part_of chain.intervals shows.is_true.intervals)) among
 
 reported_chain : (state : State) (solver : Solver) (chain : Chain) → Says state (Parametric solver chain) → ReportsOfRun state.setup state.cells solver (RunsWorth chain.intervals)
@@ -181,7 +181,7 @@ held_interval sheet parametric_run lawful free part is_true = λ theta after bef
 held_run : (chain : Chain) (sheet : Sheet) (parametric_run : ParametricRun) → IsLinearProgram sheet.lp → ChangesFreely sheet parametric_run.changing → ShowsChain chain sheet parametric_run → RunsWorth chain.intervals sheet parametric_run
 held_run chain sheet parametric_run lawful free shows = λ interval among.
     let truth = shows.is_true in
-    let made : Part → Interval = interval_of (sheet_at sheet parametric_run.changing parametric_run.from) in
+    let made : Part → ParametricInterval = interval_of (sheet_at sheet parametric_run.changing parametric_run.from) in
     All-contains (IntervalWorth sheet parametric_run) chain.intervals interval
     (subst (All (IntervalWorth sheet parametric_run)) (sym truth.are_intervals)
     (all_map (IntervalWorth sheet parametric_run) made truth.parts

@@ -12,7 +12,7 @@ use Rattle.control_definitions.specs.Cells.{Cells}
 use Rattle.control_definitions.specs.Program.{Program}
 use Rattle.simplex_definitions.specs.Chain.{along}
 use Rattle.listing_definitions.specs.declared.Mark.TheVariants.{Optimal}
-use Rattle.listing_definitions.specs.Report.{SolutionLines, Interval, Report, Solution, Parametric}
+use Rattle.listing_definitions.specs.Report.{SolutionLines, ParametricInterval, Report, Solution, Parametric}
 use Rattle.listing_definitions.specs.Ending.{Ending}
 use Rattle.question_definitions.specs.Answers.{Sheet, ParametricRun}
 use Rattle.question_definitions.specs.Solving.{Solving}
@@ -56,12 +56,12 @@ pub record SameActivity (setup : Option Present) (cells : Cells) (lines others :
   pub same : point_of (sheet_of program) lines program.lp.objective ≡ point_of (sheet_of program) others program.lp.objective
 
 -- the objective of an interval's point at a value of the parameter
-abbrev pub objective_at : Sheet → ParametricRun → ℚ → Interval → ℚ
+abbrev pub objective_at : Sheet → ParametricRun → ℚ → ParametricInterval → ℚ
 objective_at sheet parametric_run theta interval = objective_value (family_of sheet parametric_run.changing theta) (along theta (part_of interval).value (part_of interval).value_rate)
 
 -- in whatever intervals of the two the value lies
-abbrev pub SameAlong : List Interval → List Interval → Sheet → ParametricRun → Type 0
-SameAlong intervals others sheet parametric_run = (theta : ℚ) (one two : Interval) → Contains intervals one → Contains others two → one.from ≤ℚ theta → theta ≤ℚ one.to → two.from ≤ℚ theta → theta ≤ℚ two.to →
+abbrev pub SameAlong : List ParametricInterval → List ParametricInterval → Sheet → ParametricRun → Type 0
+SameAlong intervals others sheet parametric_run = (theta : ℚ) (one two : ParametricInterval) → Contains intervals one → Contains others two → one.from ≤ℚ theta → theta ≤ℚ one.to → two.from ≤ℚ theta → theta ≤ℚ two.to →
     objective_at sheet parametric_run theta one ≡ objective_at sheet parametric_run theta two
 
 abbrev pub ShowsSame : State → Report → Report → Type 0

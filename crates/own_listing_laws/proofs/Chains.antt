@@ -19,14 +19,14 @@ use Rattle.simplex_definitions.specs.Chain.{Part, ChainEnd as PastBreakpoint, At
 use Rattle.problem_definitions.specs.Problem.{Problem}
 use Rattle.listing_definitions.specs.declared.Solver.{Solver}
 use Rattle.listing_definitions.specs.Numbers.{rational_text}
-use Rattle.listing_definitions.specs.Report.{Interval, ChainEnd, EndsAt, UnboundedPast, InfeasiblePast}
+use Rattle.listing_definitions.specs.Report.{ParametricInterval, ChainEnd, EndsAt, UnboundedPast, InfeasiblePast}
 use Rattle.listing_definitions.specs.Text.{solver_text, interval_text, chain_end_text, chain_text}
 use Rattle.question_definitions.specs.Answers.{Basis, Sheet, Changing, Row, Set, changing_name, parametric_solver, ParametricRun, OfParametricRun, ParametricRunEnd, Chained}
 use Rattle.answer_definitions.specs.ParametricRuns.{row_of, shifts_of, family_of, IsFace, sheet_at, interval_of, end_of, IsChained}
 use Rattle.soundness_laws.specs.ParametricRuns.{ChangesFreely}
 use Rattle.simplex_laws.specs.Laws.{IsNonsingularBasis}
 use Rattle.run_definitions.specs.State.{Present, present_basis, State}
-use Rattle.run_definitions.specs.Moves.{Outcome}
+use Rattle.run_definitions.specs.Moves.{StatementOutcome}
 use Rattle.run_definitions.specs.Verbs.{after_parametric_run}
 use Rattle.run_definitions.specs.Run.{counted}
 use Rattle.parametric_laws.specs.Laws.{HasTrueRuns}
@@ -148,15 +148,15 @@ module _ (problem : Problem ℕ) (lp : LinearProgram) (parametric_run : Parametr
       IsFine (interval_of first part ∷ run.0, run.1) more (run_in sheet parametric_run (byte ∷ room) number last (interval_text (number, interval_of first part) ++ rest))
   part_fine byte room number last part rest run begins passes fit lines_fit later =
       subst (λ (o : Option (List ℕ)). IsFine (interval ∷ run.0, run.1) more (part_in sheet parametric_run go number last text o)) (sym there)
-      (subst (λ (parsed : Parsed Interval). IsFine (interval ∷ run.0, run.1) more (onward sheet parametric_run go (tested test parsed))) (sym read) (by (test interval) passes))
+      (subst (λ (parsed : Parsed ParametricInterval). IsFine (interval ∷ run.0, run.1) more (onward sheet parametric_run go (tested test parsed))) (sym read) (by (test interval) passes))
     where
-      interval : Interval
+      interval : ParametricInterval
       interval = interval_of first part
 
       go : ℚ → List ℕ → Judged Run
       go = run_in sheet parametric_run room (number + 1)
 
-      test : Interval → Verdict
+      test : ParametricInterval → Verdict
       test = interval_test sheet parametric_run.changing (nat_eq number 1) parametric_run.to
 
       text : List ℕ
@@ -227,7 +227,7 @@ module _ (problem : Problem ℕ) (lp : LinearProgram) (parametric_run : Parametr
       chain_fine left (number + 1) part.to (last_of s bases) parts past later room_left (omega (arith, some)) rest (All-tail (IsTruePart family parametric_run.to) part parts truths)
       (tail_long number part parts past_long) (tail_past part parts past_long) end fit.1 end_fit)
 
-  some_interval : (number : ℕ) (interval : Interval) → 1 ≤ length (interval_text (number, interval))
+  some_interval : (number : ℕ) (interval : ParametricInterval) → 1 ≤ length (interval_text (number, interval))
   some_interval number interval = omega arith
 
   -- each interval takes a byte of room at least
@@ -260,7 +260,7 @@ true_run sheet (Row name) lawful free = objective_runs sheet.lp (row_of sheet.pr
 true_run sheet (Set name) lawful free = rhs_runs sheet.lp (shifts_of sheet.problem name) lawful
 
 module _ (problem : Problem ℕ) (lp : LinearProgram) (parametric_run : ParametricRun) (lawful : IsLinearProgram lp) (free : ChangesFreely (record { problem = problem; lp = lp }) parametric_run.changing) (basis : Basis) (at : IsNonsingularBasis lp basis)
-    (bases : List Basis) (intervals : List Interval) (end : ChainEnd) (more : List ℕ) where
+    (bases : List Basis) (intervals : List ParametricInterval) (end : ChainEnd) (more : List ℕ) where
   abbrev sheet_here : Sheet
   sheet_here = record { problem = problem; lp = lp }
 
@@ -269,19 +269,19 @@ module _ (problem : Problem ℕ) (lp : LinearProgram) (parametric_run : Parametr
 
   run_fine : IsChained sheet_here basis parametric_run bases intervals end → begins_table_line more ≡ false → IntervalsFit intervals → EndFits end → IsFine (intervals, end) more (run_in sheet_here parametric_run body_here 1 parametric_run.from body_here)
   run_fine chained plain fits end_fits =
-      subst (λ (is : List Interval). IsFine (is, end) more (run_in sheet_here parametric_run (text_of is end) 1 parametric_run.from (text_of is end))) (sym chained.are_intervals)
+      subst (λ (is : List ParametricInterval). IsFine (is, end) more (run_in sheet_here parametric_run (text_of is end) 1 parametric_run.from (text_of is end))) (sym chained.are_intervals)
       (subst (λ (e : ChainEnd). IsFine (all, e) more (run_in sheet_here parametric_run (text_of all e) 1 parametric_run.from (text_of all e))) (sym end_is)
       (chain_fine problem lp parametric_run lawful free more plain (text_of all close) 1 parametric_run.from (last_of basis chained.is_run.opening) chained.parts chained.past chained.is_run.faces
       (room_enough problem lp parametric_run lawful free more plain 1 chained.parts close) (omega arith) chained.is_run.chain truth.intervals (first_long chained.parts) truth.long truth.closes
       (subst IntervalsFit chained.are_intervals fits) (subst EndFits end_is end_fits)))
     where
-      text_of : List Interval → ChainEnd → List ℕ
+      text_of : List ParametricInterval → ChainEnd → List ℕ
       text_of is e = flat_map interval_text (enumerate_from 1 is) ++ (chain_end_text (parametric_solver parametric_run.changing) e ++ more)
 
       first : Sheet
       first = sheet_at (record { problem = problem; lp = lp }) parametric_run.changing parametric_run.from
 
-      all : List Interval
+      all : List ParametricInterval
       all = map (interval_of first) chained.parts
 
       close : ChainEnd
@@ -328,13 +328,13 @@ module _ (w : Walker) (s : State) (opening : Basis) (steps : List Basis) (limits
   abbrev set_up : Present
   set_up = record present { opening = opening; steps = steps }
 
-  abbrev go : ParametricRunEnd → Outcome
+  abbrev go : ParametricRunEnd → StatementOutcome
   go = after_parametric_run card parametric_run set_up (counted walked)
 
-  abbrev own : ParametricRunEnd → Outcome
+  abbrev own : ParametricRunEnd → StatementOutcome
   own = after_parametric_run card parametric_run present (counted s)
 
-  module _ (bases : List Basis) (intervals : List Interval) (end : ChainEnd) (more : List ℕ) where
+  module _ (bases : List Basis) (intervals : List ParametricInterval) (end : ChainEnd) (more : List ℕ) where
     fine_lands : (j : Judged ParametricRunEnd) → IsFine (Chained [] intervals end) more j → Lands (own (Chained bases intervals end)) more (answered w (OfParametricRun parametric_run) sheet_walked go j)
     fine_lands _ fine_right = record { like = record { opening = opening; steps = steps ++ []; is = refl; limits = limits }; is_rest = refl; waits = tt }
     fine_lands _ fine_refused = tt

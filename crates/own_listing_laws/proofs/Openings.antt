@@ -10,7 +10,7 @@ use Rattle.certificate_check.proofs.True_claims.{NeverFails}
 use Rattle.simplex_definitions.specs.Path.{PathEnding, EndsOptimal, EndsCrossed, EndsInfeasible, EndsUnbounded, last_of}
 use Rattle.simplex_definitions.specs.Chain.{IsFailure}
 use Rattle.listing_definitions.specs.Numbers.{rational_text}
-use Rattle.listing_definitions.specs.Report.{PathVerdict, OptimalAt, CrossedAt, InfeasibleBy, UnboundedBy, Check, Interval, ChainEnd, Solved}
+use Rattle.listing_definitions.specs.Report.{PathVerdict, OptimalAt, CrossedAt, InfeasibleBy, UnboundedBy, Check, ParametricInterval, ChainEnd, Solved}
 use Rattle.listing_definitions.specs.Text.{check_text, table_text, solver_text, verdict_head, verdict_lines, verdict_text}
 use Rattle.listing_laws.proofs.Words.{begin_otherwise}
 use Rattle.question_definitions.specs.Answers.{Basis, Sheet, Changing, Row, Set, changing_name, parametric_solver, ParametricRun, Question, OfParametricRun, ParametricRunEnd, Opening, Chained, ParametricRunLimit}
@@ -19,7 +19,7 @@ use Rattle.answer_definitions.specs.Verdicts as verdicts
 use Rattle.answer_definitions.specs.ParametricRuns.{shifts_of, sheet_at, FailsToOpen, IsChained}
 use Rattle.answer_definitions.specs.Real.{linear_programming}
 use Rattle.run_definitions.specs.State.{Present, present_basis, path_of, gone_through, State}
-use Rattle.run_definitions.specs.Moves.{Gain, Prints, gain_of, gain_text, Outcome, InAnswer, Asks}
+use Rattle.run_definitions.specs.Moves.{Gain, Prints, gain_of, gain_text, StatementOutcome, InAnswer, Asks}
 use Rattle.run_definitions.specs.Verbs.{asks, mark_of, after_parametric_run}
 use Rattle.run_definitions.specs.Run.{counted}
 use Rattle.soundness_laws.proofs.Runs.{knows_linear_programming}
@@ -124,10 +124,10 @@ module _ (w : Walker) (s : State) (opening : Basis) (steps : List Basis) (limits
   abbrev set_up : Present
   set_up = record present { opening = opening; steps = steps }
 
-  abbrev go : ParametricRunEnd → Outcome
+  abbrev go : ParametricRunEnd → StatementOutcome
   go = after_parametric_run card parametric_run set_up (counted walked)
 
-  abbrev own : ParametricRunEnd → Outcome
+  abbrev own : ParametricRunEnd → StatementOutcome
   own = after_parametric_run card parametric_run present (counted s)
 
   abbrev question : Question
@@ -190,7 +190,7 @@ module _ (w : Walker) (s : State) (opening : Basis) (steps : List Basis) (limits
       right = follows_lands (record (passed more 1 w) { pending = None }) (go (Opening [] verdict check)) (own (Opening bases verdict check)) more
           (verdict_alike (Solved (parametric_solver parametric_run.changing) verdict check) after opening (steps ++ []) limits (mark_of verdict)) refl given.ends (verdict_waits None (Solved (parametric_solver parametric_run.changing) verdict check) after tt (mark_of verdict))
 
-  pub parametric_run_followed : ((bases : List Basis) (intervals : List Interval) (end : ChainEnd) (more : List ℕ) → IsChained sheet (present_basis present) parametric_run bases intervals end → ParametricRunLands (Chained bases intervals end) more) →
+  pub parametric_run_followed : ((bases : List Basis) (intervals : List ParametricInterval) (end : ChainEnd) (more : List ℕ) → IsChained sheet (present_basis present) parametric_run bases intervals end → ParametricRunLands (Chained bases intervals end) more) →
       IsFollowed w card (asks question sheet set_up go) (asks question sheet present own)
   parametric_run_followed chained =
       may_stop w card (Asks question sheet (present_basis set_up) go) (Asks question sheet (present_basis present) own) (InAnswer question sheet (path_of set_up)) (InAnswer question sheet (path_of present))

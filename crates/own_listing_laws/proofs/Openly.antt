@@ -16,7 +16,7 @@ use Rattle.question_definitions.specs.Solving.{IsRight}
 use Rattle.answer_definitions.specs.Real.{linear_programming}
 use Rattle.question_definitions.specs.Answers.{Basis, Sheet, OfRanges, OfPunch, OfInstall, InstallEnd, Installed, DependsBy}
 use Rattle.run_definitions.specs.State.{Present, present_basis, path_of, State}
-use Rattle.run_definitions.specs.Moves.{Prints, Punches, Outcome, InAnswer, Asks, next}
+use Rattle.run_definitions.specs.Moves.{Prints, Punches, StatementOutcome, InAnswer, Asks, next}
 use Rattle.run_definitions.specs.Verbs.{asks, max_counted, after_install}
 use Rattle.run_definitions.specs.Run.{counted}
 use Rattle.walk_definitions.specs.Forms.{is_open_stop, is_ranges, is_punched, is_inserted}
@@ -50,7 +50,7 @@ module _ (w : Walker) (s : State) (opening : Basis) (steps : List Basis) (card :
   abbrev set_up : Present
   set_up = record present { opening = opening; steps = steps }
 
-  abbrev ranges_at : State → RangeLines → Outcome
+  abbrev ranges_at : State → RangeLines → StatementOutcome
   ranges_at state lines = next (Prints (Ranges lines)) (counted state)
 
   pub ranges_followed : IsFollowed w card (asks OfRanges sheet set_up (ranges_at walked)) (asks OfRanges sheet present (ranges_at s))
@@ -59,7 +59,7 @@ module _ (w : Walker) (s : State) (opening : Basis) (steps : List Basis) (card :
       (asked_lands w card OfRanges sheet (present_basis set_up) (present_basis present) (ranges_at walked) (ranges_at s)
       (λ small answer more right given none. absurd (alone_open w (is_ranges w.rest) (ap is_ranges given.text ∙ ranges_stand answer more) none)))
 
-  abbrev punch_at : State → List (List ℕ) → Outcome
+  abbrev punch_at : State → List (List ℕ) → StatementOutcome
   punch_at state cards = next (Punches (BasisOut present.problem.name (min (length cards) max_counted)) cards) (counted state)
 
   least_count : (n : ℕ) → min n 4294967295 ≤ 4294967295
@@ -71,10 +71,10 @@ module _ (w : Walker) (s : State) (opening : Basis) (steps : List Basis) (card :
       absurd (alone_open w (is_punched present.problem.name w.rest) (ap (is_punched present.problem.name) given.text ∙ punched_stands present.problem.name (min (length answer) max_counted) more (least_count (length answer))) none))
 
   module _ (t : Basis) (taken : List Card × List (List Card)) (few : size lp.matrix ≤ max_count) where
-    abbrev install_go : InstallEnd → Outcome
+    abbrev install_go : InstallEnd → StatementOutcome
     install_go = after_install card lp t taken set_up (counted walked)
 
-    abbrev install_own : InstallEnd → Outcome
+    abbrev install_own : InstallEnd → StatementOutcome
     install_own = after_install card lp t taken present (counted s)
 
     pub install_followed : IsFollowed w card (asks (OfInstall t) sheet set_up install_go) (asks (OfInstall t) sheet present install_own)

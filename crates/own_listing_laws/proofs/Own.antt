@@ -15,14 +15,14 @@ use Rattle.listing_definitions.specs.Text.{report_text}
 use Rattle.listing_definitions.specs.Listing.{ending_text, reports_text, listing}
 use Rattle.answer_definitions.specs.Real.{linear_programming}
 use Rattle.run_definitions.specs.State.{State, start}
-use Rattle.run_definitions.specs.Moves.{Gain, Nothing, Prints, Punches, printed_by, gain_text, Outcome, Goes, Ends}
+use Rattle.run_definitions.specs.Moves.{Gain, Nothing, Prints, Punches, printed_by, gain_text, StatementOutcome, Goes, Ends}
 use Rattle.run_definitions.specs.Verbs.{verb_move}
 use Rattle.run_definitions.specs.Run.{max_executed, counted, Step, IsOver, at_end, at_limit, Reaches, begun, stepped, IsRun, is_over, is_ended}
 use Rattle.run_definitions.specs.Answer.{job_decks, IsProgramOf, card_fault, control_fault, run}
 use Rattle.soundness_laws.proofs.Moves.{HasProblem, Knows}
 use Rattle.soundness_laws.proofs.Runs.{has_problem, known, knows_linear_programming}
 use Rattle.walk_definitions.specs.Tables.{begins_table_line}
-use Rattle.walk_definitions.specs.Walker.{Walker, Found, Turn, Walks, Finds, closes, walk_move, walk_statement, turn}
+use Rattle.walk_definitions.specs.Walker.{Walker, Found, WalkTurn, Walks, Finds, closes, walk_move, walk_statement, turn}
 use Rattle.walk_definitions.specs.Found.{first_walker, Reaches as Walked, begun as not_begun, walked, of_cards, of_control, of_walk}
 use Rattle.own_listing_laws.specs.Fitting.{ReportsFit, StopFits}
 use Rattle.own_listing_laws.specs.Laws.{IsNotWrong, NeverWrong}
@@ -136,11 +136,11 @@ module _ (program : Program) (small : AreSmall program) where
     pub fits : ReportsFit reports
     pub stop_fits : StopFits ending
 
-  abbrev StandsAfter : Turn → Type 0
+  abbrev StandsAfter : WalkTurn → Type 0
   StandsAfter (Walks v) = Stands v
   StandsAfter (Finds found) = IsNotWrong found
 
-  after_right : (turn : Turn) → IsFoundRight turn → StandsAfter turn
+  after_right : (turn : WalkTurn) → IsFoundRight turn → StandsAfter turn
   after_right (Walks v) right = absurd right
   after_right (Finds found) right = right
 
@@ -179,7 +179,7 @@ module _ (program : Program) (small : AreSmall program) where
           (ap (λ n. nat_lt n max_executed) executed_is ∙ le-ltb s.executed max_executed limit)))
           (after_right (closes w StatementLimit) (closes_right w StatementLimit rest))
 
-      step_turn : (outcome : Outcome) (step : Step linear_programming program s outcome) → turn program w ≡ walk_move w (verb_move step.statement.verb step.statement.card (counted w.state))
+      step_turn : (outcome : StatementOutcome) (step : Step linear_programming program s outcome) → turn program w ≡ walk_move w (verb_move step.statement.verb step.statement.card (counted w.state))
       step_turn outcome step =
           let within : s.position - 1 < length program.statements = slice_get_within program.statements (s.position - 1) step.statement step.is_at_position in
           turn_at_statement step.statement
@@ -187,17 +187,17 @@ module _ (program : Program) (small : AreSmall program) where
           (ap (λ n. nat_lt n max_executed) executed_is ∙ lt-ltb s.executed max_executed step.is_within_limit)
           (ap (λ n. slice_get program.statements (n - 1)) position_is ∙ step.is_at_position)
 
-      step_lands : (outcome : Outcome) (more : List ℕ) → Step linear_programming program s outcome → IsDue w outcome more → Lands outcome more (turn program w)
+      step_lands : (outcome : StatementOutcome) (more : List ℕ) → Step linear_programming program s outcome → IsDue w outcome more → Lands outcome more (turn program w)
       step_lands outcome more step due =
           subst (Lands outcome more) (sym (step_turn outcome step))
           (subst (λ (st : State). Lands outcome more (walk_move w (verb_move step.statement.verb step.statement.card (counted st)))) (sym like.is)
           ((verb_matched w s like.opening like.steps like.limits waits is_known.lawful is_known.knows step.statement.verb step.statement.card (small_at step.statement (s.position - 1) step.is_at_position).0 (small_at step.statement (s.position - 1) step.is_at_position).1).by outcome more step.gives due))
 
-  ended_after : (w : Walker) (gain : Gain) (ending : Ending) (more : List ℕ) (t : Turn) → Lands (Ends gain ending) more t → StandsAfter t
+  ended_after : (w : Walker) (gain : Gain) (ending : Ending) (more : List ℕ) (t : WalkTurn) → Lands (Ends gain ending) more t → StandsAfter t
   ended_after w gain ending more (Walks v) lands = absurd lands
   ended_after w gain ending more (Finds found) lands = lands
 
-  gone_after : (gain : Gain) (after : State) (reports : List Report) (ending : Ending) → RunsOn program after reports ending → ReportsFit reports → StopFits ending → (t : Turn) → Lands (Goes gain after) (listing reports ending) t → StandsAfter t
+  gone_after : (gain : Gain) (after : State) (reports : List Report) (ending : Ending) → RunsOn program after reports ending → ReportsFit reports → StopFits ending → (t : WalkTurn) → Lands (Goes gain after) (listing reports ending) t → StandsAfter t
   gone_after gain after reports ending runs fits stop_fits (Walks v) lands =
       record { state = after; reports = reports; ending = ending; runs = runs; pace = lands; fits = fits; stop_fits = stop_fits }
   gone_after gain after reports ending runs fits stop_fits (Finds found) lands = lands

@@ -23,19 +23,19 @@ use Rattle.listing_definitions.specs.declared.VerbFault.{VerbFault}
 use Rattle.listing_definitions.specs.Report.{Report}
 use Rattle.listing_definitions.specs.Ending.{Overflow, Ending, OverflowStop}
 use Rattle.listing_definitions.specs.Listing.{ending_text}
-use Rattle.question_definitions.specs.Answers.{Basis, Sheet, Question, OfPath, OfSolution, OfRanges, OfParametricRun, OfPunch, OfInstall, Answer, Installed}
+use Rattle.question_definitions.specs.Answers.{Basis, Sheet, Question, OfPath, OfSolution, OfRanges, OfParametricRun, OfPunch, OfInstall, AnswerTo, Installed}
 use Rattle.question_definitions.specs.Solving.{IsRight}
 use Rattle.answer_definitions.specs.Verdicts.{found}
 use Rattle.answer_definitions.specs.Real.{linear_programming}
 use Rattle.run_definitions.specs.State.{Present, present_basis, State}
-use Rattle.run_definitions.specs.Moves.{Gain, Nothing, Prints, Punches, printed_by, gain_text, Outcome, Goes, Ends, gain_of, stops, Refusals, InSelection, InAnswer, Move, Does, MayStop, Asks, Gives, or_fault}
+use Rattle.run_definitions.specs.Moves.{Gain, Nothing, Prints, Punches, printed_by, gain_text, StatementOutcome, Goes, Ends, gain_of, stops, Refusals, InSelection, InAnswer, StatementMove, Does, MayStop, Asks, Gives, or_fault}
 use Rattle.run_definitions.specs.Verbs.{or_deck_fault, or_selection_fault, selects}
 use Rattle.control_definitions.specs.Cells.{steps_allowed}
 use Rattle.walk_definitions.specs.Words.{left_after, max_count}
 use Rattle.walk_definitions.specs.Forms.{is_open_stop, is_ranges, is_punched}
 use Rattle.walk_definitions.specs.Tables.{begins_table_line}
 use Rattle.walk_definitions.specs.Reading.{judged}
-use Rattle.walk_definitions.specs.Walker.{Pending, Walker, Found, Open, Unchecked, Turn, Walks, Finds, open_if, open_stop, pending_found, open_pending, open_outcome, is_inserted_by, open_question, opened, refuses_selection, ended, unless_found, closes, follows, passed, taken, answered, due, walk_move}
+use Rattle.walk_definitions.specs.Walker.{Pending, Walker, Found, Open, Unchecked, WalkTurn, Walks, Finds, open_if, open_stop, pending_found, open_pending, open_outcome, is_inserted_by, open_question, opened, refuses_selection, ended, unless_found, closes, follows, passed, taken, answered, due, walk_move}
 use Rattle.walk_definitions.proofs.Texts.{stands}
 use Rattle.own_listing_laws.specs.Fitting.{ReportFits, StopFits}
 use Rattle.own_listing_laws.specs.Laws.{IsNotWrong}
@@ -79,17 +79,17 @@ pub record KeepsPace (w : Walker) (s : State) (more : List ℕ) : Type 0 where
 
 -- ---- turns
 
-abbrev pub Lands : Outcome → List ℕ → Turn → Type 0
+abbrev pub Lands : StatementOutcome → List ℕ → WalkTurn → Type 0
 Lands outcome more (Finds found) = IsNotWrong found
 Lands (Goes gain after) more (Walks v) = KeepsPace v after more
 Lands (Ends gain ending) more (Walks v) = ⊥
 
 -- found, and not wrong
-abbrev pub IsFoundRight : Turn → Type 0
+abbrev pub IsFoundRight : WalkTurn → Type 0
 IsFoundRight (Walks v) = ⊥
 IsFoundRight (Finds found) = IsNotWrong found
 
-pub lands_right : (outcome : Outcome) (more : List ℕ) (turn : Turn) → IsFoundRight turn → Lands outcome more turn
+pub lands_right : (outcome : StatementOutcome) (more : List ℕ) (turn : WalkTurn) → IsFoundRight turn → Lands outcome more turn
 lands_right outcome more (Walks v) right = absurd right
 lands_right outcome more (Finds found) right = right
 
@@ -98,12 +98,12 @@ GainFits Nothing = Unit {0}
 GainFits (Prints report) = ReportFits report
 GainFits (Punches report cards) = ReportFits report
 
-abbrev pub EndsSo : Outcome → List ℕ → Type 0
+abbrev pub EndsSo : StatementOutcome → List ℕ → Type 0
 EndsSo (Goes gain after) more = Unit {0}
 EndsSo (Ends gain ending) more = (more ≡ ending_text ending) × StopFits ending
 
 -- what the run still prints after this outcome, as the listing has it
-pub record IsDue (w : Walker) (outcome : Outcome) (more : List ℕ) : Type 0 where
+pub record IsDue (w : Walker) (outcome : StatementOutcome) (more : List ℕ) : Type 0 where
   pub text : w.rest ≡ gain_text (gain_of outcome) ++ more
   pub plain : begins_table_line more ≡ false
   pub fits : GainFits (gain_of outcome)
@@ -134,13 +134,13 @@ never_unmarked false pending = tt
 never_stop : (w : Walker) → IsNeverWrong (open_stop w)
 never_stop w = never_if (is_open_stop w.rest) w
 
-never_outcome : (w : Walker) (outcome : Outcome) → IsNeverWrong (open_outcome w outcome)
+never_outcome : (w : Walker) (outcome : StatementOutcome) → IsNeverWrong (open_outcome w outcome)
 never_outcome w (Ends gain ending) = never_either (open_stop w) (open_pending w) (never_stop w) (never_pending w.pending)
 never_outcome w (Goes Nothing after) = never_unmarked (is_none after.mark) w.pending
 never_outcome w (Goes (Prints report) after) = never_either (open_stop w) (if is_none after.mark then open_pending w else None) (never_stop w) (never_unmarked (is_none after.mark) w.pending)
 never_outcome w (Goes (Punches report cards) after) = never_either (open_stop w) (if is_none after.mark then open_pending w else None) (never_stop w) (never_unmarked (is_none after.mark) w.pending)
 
-never_question : (w : Walker) (question : Question) (sheet : Sheet) (go : Answer question → Outcome) → IsNeverWrong (open_question w question sheet go)
+never_question : (w : Walker) (question : Question) (sheet : Sheet) (go : AnswerTo question → StatementOutcome) → IsNeverWrong (open_question w question sheet go)
 never_question w (OfSolution mark) sheet go = never_stop w
 never_question w OfRanges sheet go = never_either (open_stop w) (open_if (is_ranges w.rest) w) (never_stop w) (never_if (is_ranges w.rest) w)
 never_question w OfPunch sheet go = never_either (open_stop w) (open_if (is_punched sheet.problem.name w.rest) w) (never_stop w) (never_if (is_punched sheet.problem.name w.rest) w)
@@ -180,23 +180,23 @@ closes_right u ending is = by (option_or (open_stop u) (open_pending u)) (never_
     by None never = subst (λ left. IsFoundRight (Finds (ended u left))) (sym whole) tt
 
 -- the two go on alike, or end so
-abbrev pub AreAlike : Outcome → Outcome → Type 0
+abbrev pub AreAlike : StatementOutcome → StatementOutcome → Type 0
 AreAlike (Goes gain after) (Goes own other) = (gain ≡ own) × IsLike after other
 AreAlike (Ends gain ending) (Ends own other) = (gain ≡ own) × (ending ≡ other)
 AreAlike outcome other = ⊥
 
-abbrev pub WaitsAfter : Option Pending → Outcome → Type 0
+abbrev pub WaitsAfter : Option Pending → StatementOutcome → Type 0
 WaitsAfter pending (Goes gain after) = WaitsAt pending after
 WaitsAfter pending (Ends gain ending) = Unit {0}
 
-pub follows_lands : (u : Walker) (walked run : Outcome) (more : List ℕ) → AreAlike walked run → u.rest ≡ more → EndsSo run more → WaitsAfter u.pending run → Lands run more (follows u walked)
+pub follows_lands : (u : Walker) (walked run : StatementOutcome) (more : List ℕ) → AreAlike walked run → u.rest ≡ more → EndsSo run more → WaitsAfter u.pending run → Lands run more (follows u walked)
 follows_lands u (Goes gain after) (Goes own other) more alike is ends waits = record { like = alike.1; is_rest = is; waits = waits }
 follows_lands u (Ends gain ending) (Ends own other) more alike is ends waits =
     lands_right (Ends own other) more (closes u ending) (closes_right u ending (is ∙ ends.0 ∙ ap ending_text (sym alike.1)))
 follows_lands u (Goes gain after) (Ends own other) more alike is ends waits = absurd alike
 follows_lands u (Ends gain ending) (Goes own other) more alike is ends waits = absurd alike
 
-gain_alike : (walked run : Outcome) → AreAlike walked run → gain_of walked ≡ gain_of run
+gain_alike : (walked run : StatementOutcome) → AreAlike walked run → gain_of walked ≡ gain_of run
 gain_alike (Goes gain after) (Goes own other) alike = alike.0
 gain_alike (Ends gain ending) (Ends own other) alike = alike.0
 gain_alike (Goes gain after) (Ends own other) alike = absurd alike
@@ -205,47 +205,47 @@ gain_alike (Ends gain ending) (Goes own other) alike = absurd alike
 -- ---- moves
 
 module _ (w : Walker) where
-  pub record IsMatched (card : ℕ) (walked run : Move) : Type 0 where
-    pub by : (outcome : Outcome) (more : List ℕ) → Gives linear_programming card run outcome → IsDue w outcome more → Lands outcome more (walk_move w walked)
+  pub record IsMatched (card : ℕ) (walked run : StatementMove) : Type 0 where
+    pub by : (outcome : StatementOutcome) (more : List ℕ) → Gives linear_programming card run outcome → IsDue w outcome more → Lands outcome more (walk_move w walked)
 
   -- and it looks for stop texts first
-  pub record IsFollowed (card : ℕ) (walked run : Move) : Type 0 where
+  pub record IsFollowed (card : ℕ) (walked run : StatementMove) : Type 0 where
     pub matched : card ≤ max_count → IsMatched card walked run
     pub looks : is_open_stop w.rest ≡ true → opened w walked ≡ Some (Open w.rest)
 
   stop_first : (o : Option Found) → is_open_stop w.rest ≡ true → option_or (open_stop w) o ≡ Some (Open w.rest)
   stop_first o is = ap (λ b. option_or (open_if b w) o) is
 
-  opened_lands : (outcome : Outcome) (more : List ℕ) (walked : Move) → opened w walked ≡ Some (Open w.rest) → Lands outcome more (walk_move w walked)
+  opened_lands : (outcome : StatementOutcome) (more : List ℕ) (walked : StatementMove) → opened w walked ≡ Some (Open w.rest) → Lands outcome more (walk_move w walked)
   opened_lands outcome more walked is =
       subst (λ (o : Option Found). Lands outcome more (unless_found o (if refuses_selection walked then Finds (Unchecked w.rest) else due w walked))) (sym is) tt
 
   -- ---- an operation may be refused
 
-  module _ (card : ℕ) (walked run : Move) (refusals others : Refusals) (followed : IsFollowed card walked run) where
-    refused_too : (outcome : Outcome) (more : List ℕ) (o : Option Found) (refused other : Bool) (turn : Turn) → Lands outcome more (unless_found o (if other then Finds (Unchecked w.rest) else turn)) →
+  module _ (card : ℕ) (walked run : StatementMove) (refusals others : Refusals) (followed : IsFollowed card walked run) where
+    refused_too : (outcome : StatementOutcome) (more : List ℕ) (o : Option Found) (refused other : Bool) (turn : WalkTurn) → Lands outcome more (unless_found o (if other then Finds (Unchecked w.rest) else turn)) →
         Lands outcome more (unless_found o (if refused || other then Finds (Unchecked w.rest) else turn))
     refused_too outcome more (Some found) refused other turn lands = lands
     refused_too outcome more None true other turn lands = tt
     refused_too outcome more None false other turn lands = lands
 
-    stops_too : (outcome : Outcome) (more : List ℕ) → Lands outcome more (walk_move w walked) → (r : Refusals) → Lands outcome more (walk_move w (MayStop r walked))
+    stops_too : (outcome : StatementOutcome) (more : List ℕ) → Lands outcome more (walk_move w walked) → (r : Refusals) → Lands outcome more (walk_move w (MayStop r walked))
     stops_too outcome more lands (InSelection problem choice) = refused_too outcome more (opened w walked) (not (is_made problem choice)) (refuses_selection walked) (due w walked) lands
     stops_too outcome more lands (InAnswer question sheet bases) = lands
 
     pub may_stop : IsFollowed card (MayStop refusals walked) (MayStop others run)
     may_stop = record { matched = λ small. record { by = lands small }; looks = followed.looks }
       where
-        lands : card ≤ max_count → (outcome : Outcome) (more : List ℕ) → Gives linear_programming card (MayStop others run) outcome → IsDue w outcome more → Lands outcome more (walk_move w (MayStop refusals walked))
+        lands : card ≤ max_count → (outcome : StatementOutcome) (more : List ℕ) → Gives linear_programming card (MayStop others run) outcome → IsDue w outcome more → Lands outcome more (walk_move w (MayStop refusals walked))
         lands small outcome more (inl gives) given = stops_too outcome more ((followed.matched small).by outcome more gives given) refusals
         lands small outcome more (inr (evidence, place, holds, is)) given =
             let own : Overflow = record { evidence = evidence; place = place; card = card } in
-            let due : IsDue w (stops (OverflowStop own)) more = subst (λ (o : Outcome). IsDue w o more) is given in
+            let due : IsDue w (stops (OverflowStop own)) more = subst (λ (o : StatementOutcome). IsDue w o more) is given in
             opened_lands outcome more (MayStop refusals walked) (followed.looks (ap is_open_stop (due.text ∙ due.ends.0) ∙ open_overflow own due.ends.1 small))
 
   -- ---- nothing is asked
 
-  module _ (card : ℕ) (walked run : Outcome) (alike : AreAlike walked run) (waits : open_outcome w walked ≡ None → WaitsAfter w.pending run) where
+  module _ (card : ℕ) (walked run : StatementOutcome) (alike : AreAlike walked run) (waits : open_outcome w walked ≡ None → WaitsAfter w.pending run) where
     taken_lands : (more : List ℕ) → IsDue w run more → open_outcome w walked ≡ None → Lands run more (taken w walked (left_after (gain_text (gain_of walked)) w.rest))
     taken_lands more given none =
         let there : left_after (gain_text (gain_of walked)) w.rest ≡ Some more =
@@ -260,8 +260,8 @@ module _ (w : Walker) where
     pub does : IsMatched card (Does walked) (Does run)
     does = record {
       by = λ outcome more gives given.
-          subst (λ (o : Outcome). Lands o more (walk_move w (Does walked))) (sym gives)
-          (does_by more (subst (λ (o : Outcome). IsDue w o more) gives given) (open_outcome w walked) refl (never_outcome w walked));
+          subst (λ (o : StatementOutcome). Lands o more (walk_move w (Does walked))) (sym gives)
+          (does_by more (subst (λ (o : StatementOutcome). IsDue w o more) gives given) (open_outcome w walked) refl (never_outcome w walked));
     }
 
   pub does_stop : (card : ℕ) (ending : Ending) → IsFollowed card (Does (stops ending)) (Does (stops ending))
@@ -281,34 +281,34 @@ module _ (w : Walker) where
 
   -- ---- faults
 
-  pub unless_fault : {X : Type 0} (card : ℕ) (fault : VerbFault) (o : Option X) (go own : X → Move) → ((x : X) → o ≡ Some x → IsFollowed card (go x) (own x)) → IsFollowed card (or_fault card fault o go) (or_fault card fault o own)
+  pub unless_fault : {X : Type 0} (card : ℕ) (fault : VerbFault) (o : Option X) (go own : X → StatementMove) → ((x : X) → o ≡ Some x → IsFollowed card (go x) (own x)) → IsFollowed card (or_fault card fault o go) (or_fault card fault o own)
   unless_fault card fault None go own followed = does_stop card _
   unless_fault card fault (Some x) go own followed = followed x refl
 
   -- the setup of the walk has other bases
-  pub unless_no_setup : (card : ℕ) (fault : VerbFault) (opening : Basis) (steps : List Basis) (setup : Option Present) (go own : Present → Move) →
+  pub unless_no_setup : (card : ℕ) (fault : VerbFault) (opening : Basis) (steps : List Basis) (setup : Option Present) (go own : Present → StatementMove) →
       ((present : Present) → setup ≡ Some present → IsFollowed card (go (record present { opening = opening; steps = steps })) (own present)) →
       IsFollowed card (or_fault card fault (rebased opening steps setup) go) (or_fault card fault setup own)
   unless_no_setup card fault opening steps None go own followed = does_stop card _
   unless_no_setup card fault opening steps (Some present) go own followed = followed present refl
 
-  pub unless_deck_fault : {X : Type 0} (card : ℕ) (r : Result X DeckFault) (go own : X → Move) → ((x : X) → r ≡ Ok x → IsFollowed card (go x) (own x)) → IsFollowed card (or_deck_fault r go) (or_deck_fault r own)
+  pub unless_deck_fault : {X : Type 0} (card : ℕ) (r : Result X DeckFault) (go own : X → StatementMove) → ((x : X) → r ≡ Ok x → IsFollowed card (go x) (own x)) → IsFollowed card (or_deck_fault r go) (or_deck_fault r own)
   unless_deck_fault card (Err fault) go own followed = does_stop card _
   unless_deck_fault card (Ok x) go own followed = followed x refl
 
-  pub unless_selection_fault : (card : ℕ) (r : Result LinearProgram SelectionFault) (go own : LinearProgram → Move) → ((lp : LinearProgram) → r ≡ Ok lp → IsFollowed card (go lp) (own lp)) →
+  pub unless_selection_fault : (card : ℕ) (r : Result LinearProgram SelectionFault) (go own : LinearProgram → StatementMove) → ((lp : LinearProgram) → r ≡ Ok lp → IsFollowed card (go lp) (own lp)) →
       IsFollowed card (or_selection_fault card r go) (or_selection_fault card r own)
   unless_selection_fault card (Err fault) go own followed = does_stop card _
   unless_selection_fault card (Ok lp) go own followed = followed lp refl
 
-  pub selecting : (card : ℕ) (problem : Problem ℕ) (choice : Choice) (go own : LinearProgram → Move) → ((lp : LinearProgram) → selected problem choice ≡ Ok lp → IsFollowed card (go lp) (own lp)) →
+  pub selecting : (card : ℕ) (problem : Problem ℕ) (choice : Choice) (go own : LinearProgram → StatementMove) → ((lp : LinearProgram) → selected problem choice ≡ Ok lp → IsFollowed card (go lp) (own lp)) →
       IsFollowed card (selects card problem choice go) (selects card problem choice own)
   selecting card problem choice go own followed =
       unless_selection_fault card (selected problem choice) _ _ (λ lp e. may_stop card (go lp) (own lp) (InSelection problem choice) (InSelection problem choice) (followed lp e))
 
   -- ---- questions
 
-  question_looks : (question : Question) (sheet : Sheet) (go : Answer question → Outcome) → is_open_stop w.rest ≡ true → open_question w question sheet go ≡ Some (Open w.rest)
+  question_looks : (question : Question) (sheet : Sheet) (go : AnswerTo question → StatementOutcome) → is_open_stop w.rest ≡ true → open_question w question sheet go ≡ Some (Open w.rest)
   question_looks (OfSolution mark) sheet go is = ap (λ b. open_if b w) is
   question_looks OfRanges sheet go is = stop_first _ is
   question_looks OfPunch sheet go is = stop_first _ is
@@ -316,22 +316,22 @@ module _ (w : Walker) where
   question_looks (OfPath solver limit) sheet go is = stop_first _ is
   question_looks (OfParametricRun parametric_run) sheet go is = stop_first _ is
 
-  module _ (card : ℕ) (question : Question) (sheet : Sheet) (s t : Basis) (go own : Answer question → Outcome) where
-    abbrev pub LandsAnswered : Answer question → List ℕ → Type 0
+  module _ (card : ℕ) (question : Question) (sheet : Sheet) (s t : Basis) (go own : AnswerTo question → StatementOutcome) where
+    abbrev pub LandsAnswered : AnswerTo question → List ℕ → Type 0
     LandsAnswered answer more = Lands (own answer) more (answered w question sheet go (judged question sheet w.rest))
 
-    pub asked_lands : (card ≤ max_count → (answer : Answer question) (more : List ℕ) → IsRight linear_programming question sheet t answer → IsDue w (own answer) more → open_question w question sheet go ≡ None → LandsAnswered answer more) →
+    pub asked_lands : (card ≤ max_count → (answer : AnswerTo question) (more : List ℕ) → IsRight linear_programming question sheet t answer → IsDue w (own answer) more → open_question w question sheet go ≡ None → LandsAnswered answer more) →
         IsFollowed card (Asks question sheet s go) (Asks question sheet t own)
     asked_lands lands = record {
       matched = λ small. record {
         by = λ outcome more (answer, right, is) given.
-            subst (λ (o : Outcome). Lands o more (walk_move w (Asks question sheet s go))) (sym is)
-            (by small answer more right (subst (λ (o : Outcome). IsDue w o more) is given) (open_question w question sheet go) refl (never_question w question sheet go));
+            subst (λ (o : StatementOutcome). Lands o more (walk_move w (Asks question sheet s go))) (sym is)
+            (by small answer more right (subst (λ (o : StatementOutcome). IsDue w o more) is given) (open_question w question sheet go) refl (never_question w question sheet go));
       };
       looks = question_looks question sheet go;
     }
       where
-        by : card ≤ max_count → (answer : Answer question) (more : List ℕ) → IsRight linear_programming question sheet t answer → IsDue w (own answer) more → (o : Option Found) → open_question w question sheet go ≡ o → IsNeverWrong o →
+        by : card ≤ max_count → (answer : AnswerTo question) (more : List ℕ) → IsRight linear_programming question sheet t answer → IsDue w (own answer) more → (o : Option Found) → open_question w question sheet go ≡ o → IsNeverWrong o →
             Lands (own answer) more (unless_found o (answered w question sheet go (judged question sheet w.rest)))
         by small answer more right given (Some what) is never = never
         by small answer more right given None is never = lands small answer more right given is

@@ -24,7 +24,7 @@ use Rattle.answer_definitions.specs.Verdicts.{check_of, found, IsVerdict}
 use Rattle.answer_definitions.specs.Verdicts as verdicts
 use Rattle.answer_definitions.specs.Real.{linear_programming}
 use Rattle.run_definitions.specs.State.{Present, present_basis, path_of, gone_through, State, choice_of}
-use Rattle.run_definitions.specs.Moves.{Gain, Prints, gain_of, gain_text, Outcome, InAnswer, Asks}
+use Rattle.run_definitions.specs.Moves.{Gain, Prints, gain_of, gain_text, StatementOutcome, InAnswer, Asks}
 use Rattle.run_definitions.specs.Verbs.{asks, mark_of, demanded, by_verdict, after_path}
 use Rattle.run_definitions.specs.Run.{counted}
 use Rattle.soundness_laws.proofs.Runs.{knows_linear_programming}
@@ -188,10 +188,10 @@ module _ (w : Walker) (s : State) (opening : Basis) (steps : List Basis) (card :
   abbrev set_up : Present
   set_up = record present { opening = opening; steps = steps }
 
-  abbrev go : PathEnd → Outcome
+  abbrev go : PathEnd → StatementOutcome
   go = after_path solver card set_up (counted walked)
 
-  abbrev own : PathEnd → Outcome
+  abbrev own : PathEnd → StatementOutcome
   own = after_path solver card present (counted s)
 
   abbrev question : Question

@@ -10,7 +10,7 @@ use Rattle.listing_definitions.specs.declared.Mark.{Mark}
 use Rattle.listing_definitions.specs.declared.Solver.{Solver}
 use Rattle.listing_definitions.specs.declared.Solver.TheVariants.{Primal, Dual, Paraobj, Pararhs}
 use Rattle.listing_definitions.specs.Numbers.{digits, rational_text}
-use Rattle.listing_definitions.specs.Report.{Line, SolutionLines, Interval, ChainEnd, EndsAt, UnboundedPast, InfeasiblePast}
+use Rattle.listing_definitions.specs.Report.{Line, SolutionLines, ParametricInterval, ChainEnd, EndsAt, UnboundedPast, InfeasiblePast}
 use Rattle.listing_definitions.specs.Text.{mark_text, solver_text, table_text, solution_text, interval_text, chain_end_text}
 use Rattle.question_definitions.specs.Answers.{Basis, Sheet}
 use Rattle.answer_definitions.specs.Lines.{row_numbers, column_numbers, lines_of, pair_lines, ray_lines}
@@ -93,7 +93,7 @@ module _ (sheet : Sheet) where
             (table_read sheet part_slots (part_values sheet.lp part) (variables sheet.lp.matrix) after (matched_of sheet part_slots (part_values sheet.lp part) (part_matches part) (variables sheet.lp.matrix) lines_fit));
       })))).of
     where
-      last : ℚ → List ℕ → Parsed Interval
+      last : ℚ → List ℕ → Parsed ParametricInterval
       last to rest = option_map (λ got. (record { from = part.from; to = to; lines = got.0 }, got.1)) (table_in sheet part_slots (variables sheet.lp.matrix) rest)
 
   -- ---- closes

@@ -27,7 +27,7 @@ use Rattle.answer_definitions.specs.Verdicts.{found}
 use Rattle.answer_definitions.specs.Sections.{IsSolutionOf, solution_lines}
 use Rattle.answer_definitions.specs.Real.{linear_programming}
 use Rattle.run_definitions.specs.State.{Present, present_basis, path_of, State, choice_of}
-use Rattle.run_definitions.specs.Moves.{Prints, Outcome, InAnswer, Asks, next}
+use Rattle.run_definitions.specs.Moves.{Prints, StatementOutcome, InAnswer, Asks, next}
 use Rattle.run_definitions.specs.Verbs.{asks}
 use Rattle.run_definitions.specs.Run.{counted}
 use Rattle.soundness_laws.proofs.Runs.{knows_linear_programming}
@@ -37,7 +37,7 @@ use Rattle.walk_definitions.specs.Words.{Parsed, max_count}
 use Rattle.walk_definitions.specs.Tables.{column_of}
 use Rattle.walk_definitions.specs.Tests.{says_checked, point_of, prices_of, slacks_of, slack_steps, solution_test}
 use Rattle.walk_definitions.specs.Reading.{Judged, Right, tested, judged, solution_in}
-use Rattle.walk_definitions.specs.Walker.{Pending, Walker, Turn, Finds, Wrong, open_question, follows, passed, noted, settles, settled, settling, answered}
+use Rattle.walk_definitions.specs.Walker.{Pending, Walker, WalkTurn, Finds, Wrong, open_question, follows, passed, noted, settles, settled, settling, answered}
 use Rattle.own_listing_laws.proofs.Columns.{listed_same, points_of_lines, prices_of_lines}
 use Rattle.own_listing_laws.proofs.Tests.{Passes, passes_checked, reported_passes, best_passes}
 use Rattle.own_listing_laws.proofs.Sections.{reported_read}
@@ -129,10 +129,10 @@ module _ (w : Walker) (s : State) (opening : Basis) (steps : List Basis) (card :
   abbrev set_up : Present
   set_up = record present { opening = opening; steps = steps }
 
-  abbrev go : SolutionLines → Outcome
+  abbrev go : SolutionLines → StatementOutcome
   go lines = next (Prints (Solution mark lines)) (counted walked)
 
-  abbrev own : SolutionLines → Outcome
+  abbrev own : SolutionLines → StatementOutcome
   own lines = next (Prints (Solution mark lines)) (counted s)
 
   test_passes : (t : Tableau) → IsTableau lp (present_basis present) t → Passes (solution_test sheet mark (solution_lines sheet (present_basis present) t))
@@ -157,7 +157,7 @@ module _ (w : Walker) (s : State) (opening : Basis) (steps : List Basis) (card :
       goes_on : (pending : Option Pending) → WaitsAt pending s → Lands (own lines) more (follows (record (passed more 1 w) { pending = pending }) (go lines))
       goes_on pending still = record { like = record { opening = opening; steps = steps; is = refl; limits = limits }; is_rest = refl; waits = still }
 
-      settled_lands : (pending : Option Pending) → WaitsAt pending s → solution_test sheet Optimal lines ≡ Checked → (turn : Turn) → Lands (own lines) more turn → Lands (own lines) more (settled w pending (point_of sheet lines lp.objective) turn)
+      settled_lands : (pending : Option Pending) → WaitsAt pending s → solution_test sheet Optimal lines ≡ Checked → (turn : WalkTurn) → Lands (own lines) more turn → Lands (own lines) more (settled w pending (point_of sheet lines lp.objective) turn)
       settled_lands None still checked turn lands = lands
       settled_lands (Some pending) still checked turn lands =
           subst (λ b. Lands (own lines) more (if b then turn else Finds (Wrong pending.rest)))

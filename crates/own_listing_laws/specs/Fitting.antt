@@ -5,7 +5,7 @@
 --     StopFits ending              those of the evidence of an overflow, with its counts, which have 32 bits
 use Rattle.std.specs.Prelude.{◌≤◌, List, [], ◌∷◌}
 use Rattle.frac128.specs.Operations.{TermsFit}
-use Rattle.listing_definitions.specs.Report.{Value, Number, Line, PathVerdict, OptimalAt, CrossedAt, InfeasibleBy, UnboundedBy, Check, Checked, Unchecked, Interval, ChainEnd, EndsAt, UnboundedPast, InfeasiblePast, Report, Solved, Solution, Parametric}
+use Rattle.listing_definitions.specs.Report.{Value, Number, Line, PathVerdict, OptimalAt, CrossedAt, InfeasibleBy, UnboundedBy, Check, Checked, Unchecked, ParametricInterval, ChainEnd, EndsAt, UnboundedPast, InfeasiblePast, Report, Solved, Solution, Parametric}
 use Rattle.listing_definitions.specs.Ending.{Overflow, Ending, OverflowStop}
 use Rattle.walk_definitions.specs.Words.{max_count}
 
@@ -31,7 +31,7 @@ VerdictFits (CrossedAt k) = Unit {0}
 VerdictFits (InfeasibleBy steps lines) = LinesFit lines
 VerdictFits (UnboundedBy steps objective lines) = TermsFit objective × LinesFit lines
 
-abbrev pub IntervalsFit : List Interval → Type 0
+abbrev pub IntervalsFit : List ParametricInterval → Type 0
 IntervalsFit [] = Unit {0}
 IntervalsFit (interval ∷ intervals) = (TermsFit interval.to × LinesFit interval.lines) × IntervalsFit intervals
 

@@ -15,7 +15,7 @@ use Rattle.certificate_check.specs.Results.{IsNotFailed}
 use Rattle.listing_definitions.specs.declared.Mark.TheVariants.{Optimal}
 use Rattle.listing_definitions.specs.declared.Mark.{Mark}
 use Rattle.listing_definitions.specs.declared.Solver.{Solver}
-use Rattle.listing_definitions.specs.Report.{PathVerdict, Check, SolutionLines, Interval, ChainEnd, Chain, Report}
+use Rattle.listing_definitions.specs.Report.{PathVerdict, Check, SolutionLines, ParametricInterval, ChainEnd, Chain, Report}
 use Rattle.listing_definitions.specs.Text.{verdict_text, solution_text, interval_text, chain_end_text, chain_text}
 use Rattle.listing_definitions.specs.Ending.{Ending}
 use Rattle.listing_definitions.specs.Listing.{listing}
@@ -46,7 +46,7 @@ IsNoFailure Fails = ⊥
 IsNoFailure _ = Unit {0}
 
 -- what is printed of a parametric run
-abbrev pub chain_of : ParametricRun → List Interval → ChainEnd → Chain
+abbrev pub chain_of : ParametricRun → List ParametricInterval → ChainEnd → Chain
 chain_of parametric_run intervals end = record { from = parametric_run.from; change = changing_name parametric_run.changing; intervals = intervals; end = end }
 
 abbrev pub IsNotWrong : Found → Type 0
@@ -74,7 +74,7 @@ pub record TestsPass : Type 0 where
   pub solution : (mark : Mark) (sheet : Sheet) (s : Basis) (lines : SolutionLines) → IsLinearProgram sheet.lp → IsNonsingularBasis sheet.lp s → (mark ≡ Optimal → EndsBest sheet.lp s) → IsSolutionOf sheet s lines →
       IsNotFailed (solution_test sheet mark lines)
   -- a parametric run, whose intervals and close are tested as they are read of its text
-  pub run : (sheet : Sheet) (s : Basis) (parametric_run : ParametricRun) (bases : List Basis) (intervals : List Interval) (end : ChainEnd) (after : List ℕ) → IsLinearProgram sheet.lp → ChangesFreely sheet parametric_run.changing →
+  pub run : (sheet : Sheet) (s : Basis) (parametric_run : ParametricRun) (bases : List Basis) (intervals : List ParametricInterval) (end : ChainEnd) (after : List ℕ) → IsLinearProgram sheet.lp → ChangesFreely sheet parametric_run.changing →
       IsNonsingularBasis sheet.lp s → IsChained sheet s parametric_run bases intervals end → IntervalsFit intervals → EndFits end → begins_table_line after ≡ false →
       IsNoFailure (judged (OfParametricRun parametric_run) sheet (chain_text (parametric_solver parametric_run.changing) (chain_of parametric_run intervals end) ++ after))
 

@@ -4,7 +4,7 @@ use Rattle.std.specs.Prelude.{◌↔◌, Option, Some, None, IsSome, unwrap_or, 
 use Rattle.exact_values.specs.Rational.{ℚ, ◌≤ℚ◌, ◌<ℚ◌}
 use Rattle.exact_values.proofs.Order.{le_refl, le_trans, le_of_lt, lt_or_le}
 use Rattle.affine_laws.specs.Ends.{IsBefore, IsBetweenEnds}
-use Rattle.affine_laws.specs.declared.tightening.End.{End}
+use Rattle.affine_laws.specs.declared.tightening.Endpoint.{Endpoint}
 use Rattle.affine_laws.specs.declared.tightening.Ends.{Ends}
 use Rattle.lp_definitions.specs.LinearProgram.{LinearProgram, Vector, size, IsLinearProgram}
 use Rattle.lp_definitions.specs.Basis.{IsPointOf, IsOptimalBasis}
@@ -59,13 +59,13 @@ module _ (p : LinearProgram) (shift : List ℚ) (lawful : IsLinearProgram p) (s 
       }
 
 -- past a value between the ends, those between them are those up to the upper one
-module _ (low high : Option End) (from : ℚ) (starts : IsBetweenEnds (record { low = low; high = high }) from) where
-  above_low : (o : Option End) → IsBefore false o from → (x : ℚ) → from ≤ℚ x → IsBefore false o x
+module _ (low high : Option Endpoint) (from : ℚ) (starts : IsBetweenEnds (record { low = low; high = high }) from) where
+  above_low : (o : Option Endpoint) → IsBefore false o from → (x : ℚ) → from ≤ℚ x → IsBefore false o x
   above_low None h x after = tt
   above_low (Some e) h x after = le_trans h after
 
-  below_high : (o : Option End) (max : ℚ) → IsSome o → (x : ℚ) → IsBefore true o x ↔ (x ≤ℚ unwrap_or (option_map (λ e. e.value) o) max)
-  below_high None max there x = absurd (let P : IsSome (let o : Option End = None in o) → ⊥ = λ e. cc in P there)
+  below_high : (o : Option Endpoint) (max : ℚ) → IsSome o → (x : ℚ) → IsBefore true o x ↔ (x ≤ℚ unwrap_or (option_map (λ e. e.value) o) max)
+  below_high None max there x = absurd (let P : IsSome (let o : Option Endpoint = None in o) → ⊥ = λ e. cc in P there)
   below_high (Some e) max there x = (λ h. h, λ h. h)
 
   pub up_to_high : (max : ℚ) → IsSome high → (x : ℚ) → from ≤ℚ x → IsBetweenEnds (record { low = low; high = high }) x ↔ (x ≤ℚ unwrap_or (option_map (λ e. e.value) high) max)

@@ -16,7 +16,7 @@ use Rattle.std.specs.Prelude.{◌≡◌, ◌≢◌, ◌↔◌, ◌⊎◌, ℕ, �
 use Rattle.exact_values.specs.Rational.{ℚ, zero_ℚ, ◌-ℚ◌, ◌≤ℚ◌}
 use Rattle.exact_values.specs.Tests.{lt_ℚ}
 use Rattle.affine_laws.specs.Ends.{IsBetweenEnds}
-use Rattle.affine_laws.specs.declared.tightening.Bound.{Bound}
+use Rattle.affine_laws.specs.declared.tightening.ProductBound.{ProductBound}
 use Rattle.affine_laws.specs.declared.tightening.Ends.{Ends}
 use Rattle.sensitivity_laws.specs.Changes.{Sides, SidesHold, value_sides}
 use Rattle.frac128.specs.declared.Op.TheVariants.{Sub, Div}
@@ -37,7 +37,7 @@ abbrev pub side_ahead : ℚ → ℚ → Option Side
 side_ahead slope by = if lt_ℚ slope by then Some Lower else (if lt_ℚ by slope then Some Upper else None)
 
 -- theta times the closing is at most the distance to an upper limit, and at least that to a lower one
-abbrev pub bound_of : Side → ℚ → ℚ → ℕ → Bound
+abbrev pub bound_of : Side → ℚ → ℚ → ℕ → ProductBound
 bound_of side closing distance k = record { at_most = is_upper side; slope = closing; number = distance; by = k; which = number_of side }
 
 abbrev pub high_of : Ends → ℚ → ℚ

@@ -14,7 +14,7 @@ ghost use Rattle.para_rhs.specs.Reach.{side_ahead, bound_of, IsApproachOf, limit
 ghost use Rattle.para_rhs.specs.Refusals.{RunRefused};
 
 use crate::limits::{Side, is_upper, limit_on, number_of, shift_of};
-use affine_laws::{Bound, End, Ends, tightened};
+use affine_laws::{Endpoint, Ends, ProductBound, tightened};
 use basis_values::Formula;
 use frac128::Frac;
 use lp_model::{Basis, Evidence, Lp};
@@ -87,10 +87,10 @@ pub fn approach_of(
 
 /// The bound that the limit ahead makes on theta: theta times the closing is at most the distance to an upper limit, and at least
 /// that to a lower one.
-fn bound(approach: &Approach, k: u32) -> Bound
+fn bound(approach: &Approach, k: u32) -> ProductBound
     ensures { result ≡ bound_of approach.now.side approach.now.closing approach.now.distance k }
 {
-    Bound {
+    ProductBound {
         at_most: is_upper(approach.side),
         slope: approach.closing,
         number: approach.distance,
@@ -169,7 +169,7 @@ fn ends_by(
 {
     let mut ends = Ends {
         low: None,
-        high: Some(End {
+        high: Some(Endpoint {
             value: max,
             by: 0,
             which: 0,

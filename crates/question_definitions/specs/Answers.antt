@@ -2,7 +2,7 @@
 --     Sheet                        a problem, which has the names, and the linear program that is selected from it
 --     PathEnd, ParametricRunEnd    where a path or a parametric run ends
 --     InstallEnd                   what comes of a basis that a deck gives
---     Question, Answer             what a statement asks, and what an answer to it is
+--     Question, AnswerTo           what a statement asks, and what an answer to it is
 use Rattle.std.specs.Prelude.{ℕ, List, Option}
 use Rattle.exact_values.specs.Rational.{ℚ}
 use Rattle.lp_definitions.specs.declared.Status.{Status}
@@ -12,7 +12,7 @@ use Rattle.problem_definitions.specs.Problem.{Problem}
 use Rattle.listing_definitions.specs.declared.Mark.{Mark}
 use Rattle.listing_definitions.specs.declared.Solver.{Solver}
 use Rattle.listing_definitions.specs.declared.Solver.TheVariants.{Paraobj, Pararhs}
-use Rattle.listing_definitions.specs.Report.{Line, SolutionLines, RangeLines, PathVerdict, Check, Interval, ChainEnd}
+use Rattle.listing_definitions.specs.Report.{Line, SolutionLines, RangeLines, PathVerdict, Check, ParametricInterval, ChainEnd}
 
 -- a basis says where each variable stands
 abbrev pub Basis : Type 0
@@ -53,7 +53,7 @@ pub data PathEnd : Type 0 where
 -- hasn't ended within its limit.
 pub data ParametricRunEnd : Type 0 where
   Opening : List Basis → PathVerdict → Check → ParametricRunEnd
-  Chained : List Basis → List Interval → ChainEnd → ParametricRunEnd
+  Chained : List Basis → List ParametricInterval → ChainEnd → ParametricRunEnd
   ParametricRunLimit : ParametricRunEnd
 
 -- What comes of a basis that a deck gives: its inverse is there; or it is singular, and these lines show a dependency of its columns.
@@ -72,10 +72,10 @@ pub data Question : Type 0 where
   OfPunch : Question
   OfInstall : Basis → Question
 
-abbrev pub Answer : Question → Type 0
-Answer (OfPath solver limit) = PathEnd
-Answer (OfSolution mark) = SolutionLines
-Answer OfRanges = RangeLines
-Answer (OfParametricRun parametric_run) = ParametricRunEnd
-Answer OfPunch = List (List ℕ)
-Answer (OfInstall basis) = InstallEnd
+abbrev pub AnswerTo : Question → Type 0
+AnswerTo (OfPath solver limit) = PathEnd
+AnswerTo (OfSolution mark) = SolutionLines
+AnswerTo OfRanges = RangeLines
+AnswerTo (OfParametricRun parametric_run) = ParametricRunEnd
+AnswerTo OfPunch = List (List ℕ)
+AnswerTo (OfInstall basis) = InstallEnd

@@ -9,7 +9,7 @@ use Rattle.listing_definitions.specs.declared.Mark.{Mark}
 use Rattle.listing_definitions.specs.declared.Solver.{Solver}
 use Rattle.listing_definitions.specs.Report.{SolutionLines, RangeLines}
 use Rattle.listing_definitions.specs.Ending.{Place}
-use Rattle.question_definitions.specs.Answers.{Basis, Sheet, ParametricRun, Question, OfPath, OfSolution, OfRanges, OfParametricRun, OfPunch, OfInstall, Answer, PathEnd, ParametricRunEnd, InstallEnd}
+use Rattle.question_definitions.specs.Answers.{Basis, Sheet, ParametricRun, Question, OfPath, OfSolution, OfRanges, OfParametricRun, OfPunch, OfInstall, AnswerTo, PathEnd, ParametricRunEnd, InstallEnd}
 
 pub record Solving : Type 1 where
   -- the path of a solving verb from a basis ends so, where it may take so many steps, or any number of them
@@ -28,7 +28,7 @@ pub record Solving : Type 1 where
   pub Overflows : Question → Sheet → List Basis → Evidence → Option Place → Type 0
 
 -- the answer to a question about a linear program at a basis is right
-abbrev pub IsRight : Solving → (question : Question) → Sheet → Basis → Answer question → Type 0
+abbrev pub IsRight : Solving → (question : Question) → Sheet → Basis → AnswerTo question → Type 0
 IsRight S (OfPath solver limit) sheet s = S.Solves solver sheet s limit
 IsRight S (OfSolution mark) sheet s = S.Shows mark sheet s
 IsRight S OfRanges sheet s = S.Ranges sheet s

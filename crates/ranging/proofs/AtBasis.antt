@@ -5,7 +5,7 @@ use Rattle.std.proofs.lemmas.Bool.Decides.{eqb_tells}
 use Rattle.exact_values.specs.Rational.{ℚ, zero_ℚ, neg_ℚ, ◌-ℚ◌, ◌/ℚ◌, ◌≤ℚ◌}
 use Rattle.exact_values.proofs.Ring.{by_ring2, number, ◌⊕◌, ◌⊗◌, ◌≐◌}
 use Rattle.affine_laws.specs.Ends.{IsBetweenEnds}
-use Rattle.affine_laws.specs.declared.tightening.End.{End}
+use Rattle.affine_laws.specs.declared.tightening.Endpoint.{Endpoint}
 use Rattle.affine_laws.specs.declared.tightening.Ends.{Ends}
 use Rattle.sensitivity_laws.specs.Changes.{SidesHold, value_sides, limit_sides, rate_sides, sign_sides, RatesStay}
 use Rattle.sensitivity_laws.specs.Laws.{IsPresent}
@@ -131,7 +131,7 @@ module _ (p : LinearProgram) (s : List Status) (lawful : IsLinearProgram p) (no_
           exact rate are y =
               (λ b k is. (same rate are (neg_ℚ y) k is).0 ((h.exact y).0 b k is.0 is.1), λ r. (h.exact y).1 (λ k low high. (same rate are (neg_ℚ y) k (low, high)).1 (r k (low, high))))
 
-          made : (rate : ℕ → ℕ → ℚ) → AreRates p.matrix (basics_of s) rate → (end : Option End) → IfSome end (IsRateEnd prices row (size p.matrix)) → IfSome end (IsRowEnd p s rate i)
+          made : (rate : ℕ → ℕ → ℚ) → AreRates p.matrix (basics_of s) rate → (end : Option Endpoint) → IfSome end (IsRateEnd prices row (size p.matrix)) → IfSome end (IsRowEnd p s rate i)
           made rate are None m = tt
           made rate are (Some e) m =
               let out = moves_out e.by (m.low, m.high) m.moves in
@@ -179,7 +179,7 @@ module _ (p : LinearProgram) (s : List Status) (lawful : IsLinearProgram p) (no_
               let kept = old.made rate are in
               (at (ends_at before k).low (ends_at now k).low step.made.low kept.0, at (ends_at before k).high (ends_at now k).high step.made.high kept.1)
             where
-              at : (a b : Option End) → IsKeptOr (IsLimitEnd p (z i) (row k) i) a b → IfSome a (IsBasicsEnd p s z rate k) → IfSome b (IsBasicsEnd p s z rate k)
+              at : (a b : Option Endpoint) → IsKeptOr (IsLimitEnd p (z i) (row k) i) a b → IfSome a (IsBasicsEnd p s z rate k) → IfSome b (IsBasicsEnd p s z rate k)
               at a b (inl same) m = subst (λ o. IfSome o (IsBasicsEnd p s z rate k)) (sym same) m
               at a b (inr new) m =
                   let f = new.2 in

@@ -8,8 +8,8 @@ use Rattle.exact_values.proofs.Ring.{by_ring2, by_ring3, number, ◌⊕◌, ◌�
 use Rattle.exact_values.proofs.Order.{le_by_one}
 use Rattle.exact_values.proofs.Inverse.{zero_or_not}
 use Rattle.affine_laws.specs.Ends.{MeetsBy, IsBetweenEnds, IsTightened, IsRefused}
-use Rattle.affine_laws.specs.declared.tightening.Bound.{Bound}
-use Rattle.affine_laws.specs.declared.tightening.End.{End}
+use Rattle.affine_laws.specs.declared.tightening.ProductBound.{ProductBound}
+use Rattle.affine_laws.specs.declared.tightening.Endpoint.{Endpoint}
 use Rattle.affine_laws.specs.declared.tightening.Ends.{Ends}
 use Rattle.sensitivity_laws.specs.Changes.{SidesHold, value_sides}
 use Rattle.sensitivity_laws.proofs.Limits.{sides_of_value}
@@ -35,7 +35,7 @@ limit_refused p value i which e (Some l) is small refused there = record { which
 
 -- ---- one limit
 
-either_end : (far : Option ℚ) (n rate : ℚ) (i which : ℕ) → far ≡ Some n → (before now : Option End)
+either_end : (far : Option ℚ) (n rate : ℚ) (i which : ℕ) → far ≡ Some n → (before now : Option Endpoint)
     → (now ≡ before) ⊎ (now ≡ Some (record { value = n /ℚ rate; by = i; which = which })) → IsKeptOr (IsQuotientOf far rate i which) before now
 either_end far n rate i which is before now (inl same) = inl same
 either_end far n rate i which is before now (inr new) = inr (_, new, record { distance = n; is_distance = is; is_end = refl })
@@ -50,7 +50,7 @@ one_distance at_most far n rate i which ends now is h = record {
   };
 }
 
-pub refused_quotient : (b : Bound) (r : Refused) (e : Evidence) (f : Formula) → Names e f.number f.p f.q f.i f.j f.term → e.way ≡ 0 → e.theta ≡ f.theta → e.refused ≡ r → IsRefused b r
+pub refused_quotient : (b : ProductBound) (r : Refused) (e : Evidence) (f : Formula) → Names e f.number f.p f.q f.i f.j f.term → e.way ≡ 0 → e.theta ≡ f.theta → e.refused ≡ r → IsRefused b r
     → IsRefusal f Div b.number b.slope e
 refused_quotient b r e f names no_way is_theta is h = record {
   names = names;
@@ -64,25 +64,25 @@ refused_quotient b r e f names no_way is_theta is h = record {
 -- ---- both limits
 
 module _ (far : Distances) (rate : ℚ) (apart : rate ≢ zero_ℚ) (i : ℕ) where
-  of_low : (e : End) → IsQuotientOf far.low rate i 1 e → IsBasicEnd far rate i e
+  of_low : (e : Endpoint) → IsQuotientOf far.low rate i 1 e → IsBasicEnd far rate i e
   of_low e h = record {
     distance = h.distance;
-    is_distance = ap (λ (e : End). distance_numbered far e.which) h.is_end ∙ h.is_distance;
-    is_i = ap (λ (e : End). e.by) h.is_end;
+    is_distance = ap (λ (e : Endpoint). distance_numbered far e.which) h.is_end ∙ h.is_distance;
+    is_i = ap (λ (e : Endpoint). e.by) h.is_end;
     moves = apart;
-    is_quotient = ap (λ (e : End). e.value) h.is_end;
+    is_quotient = ap (λ (e : Endpoint). e.value) h.is_end;
   }
 
-  of_high : (e : End) → IsQuotientOf far.high rate i 2 e → IsBasicEnd far rate i e
+  of_high : (e : Endpoint) → IsQuotientOf far.high rate i 2 e → IsBasicEnd far rate i e
   of_high e h = record {
     distance = h.distance;
-    is_distance = ap (λ (e : End). distance_numbered far e.which) h.is_end ∙ h.is_distance;
-    is_i = ap (λ (e : End). e.by) h.is_end;
+    is_distance = ap (λ (e : Endpoint). distance_numbered far e.which) h.is_end ∙ h.is_distance;
+    is_i = ap (λ (e : Endpoint). e.by) h.is_end;
     moves = apart;
-    is_quotient = ap (λ (e : End). e.value) h.is_end;
+    is_quotient = ap (λ (e : Endpoint). e.value) h.is_end;
   }
 
-  in_turn : (a b c : Option End) → IsKeptOr (IsQuotientOf far.low rate i 1) a b → IsKeptOr (IsQuotientOf far.high rate i 2) b c → IsKeptOr (IsBasicEnd far rate i) a c
+  in_turn : (a b c : Option Endpoint) → IsKeptOr (IsQuotientOf far.low rate i 1) a b → IsKeptOr (IsQuotientOf far.high rate i 2) b c → IsKeptOr (IsBasicEnd far rate i) a c
   in_turn a b c _ (inr new) = inr (new.0, new.1, of_high new.0 new.2)
   in_turn a b c (inl same) (inl last) = inl (last ∙ same)
   in_turn a b c (inr new) (inl last) = inr (new.0, last ∙ new.1, of_low new.0 new.2)
@@ -119,12 +119,12 @@ module _ (p : LinearProgram) (z : ℚ) (i : ℕ) where
       at false true e = from_some (upper_of p i) d e
       at false false e = let P : (x : ℚ) → None ≡ Some x → ⊥ = λ x e. cc in absurd (P d e)
 
-  limit_end : (v : ℚ) (e : End) → IsBasicEnd (distances_of p z i) v i e → IsLimitEnd p z v i e
+  limit_end : (v : ℚ) (e : Endpoint) → IsBasicEnd (distances_of p z i) v i e → IsLimitEnd p z v i e
   limit_end v e h =
       let l = limit_of e.which h.distance h.is_distance in
       record { limit = l.0; is_limit = l.1; is_i = h.is_i; moves = h.moves; is_quotient = h.is_quotient ∙ ap (λ d. d /ℚ v) l.2 }
 
-  kept_limit : (v : ℚ) (a b : Option End) → IsKeptOr (IsBasicEnd (distances_of p z i) v i) a b → IsKeptOr (IsLimitEnd p z v i) a b
+  kept_limit : (v : ℚ) (a b : Option Endpoint) → IsKeptOr (IsBasicEnd (distances_of p z i) v i) a b → IsKeptOr (IsLimitEnd p z v i) a b
   kept_limit v a b (inl same) = inl same
   kept_limit v a b (inr new) = inr (new.0, new.1, limit_end v new.0 new.2)
 

@@ -8,7 +8,7 @@ use Rattle.exact_values.proofs.Ring_laws.{mul-one}
 use Rattle.exact_values.proofs.Inverse.{div_is, one_apart}
 use Rattle.affine_laws.specs.Conditions.{Holds}
 use Rattle.affine_laws.specs.Ends.{IsOnSide, IsBefore, IsBetweenEnds}
-use Rattle.affine_laws.specs.declared.tightening.End.{End}
+use Rattle.affine_laws.specs.declared.tightening.Endpoint.{Endpoint}
 use Rattle.affine_laws.specs.declared.tightening.Ends.{Ends}
 use Rattle.sensitivity_laws.specs.Changes.{SidesHold, sign_sides, rate_sides, sides_at, condition, condition_if, RatesStay}
 use Rattle.sensitivity_laws.proofs.Limits.{limit, sides_of_value}
@@ -57,16 +57,16 @@ own_case Max rises falls price y k =
     (λ b. (up.0 b.0, down.0 b.1), λ h. (up.1 h.0, down.1 h.1))
 
 -- each end is the price
-price_end_is : (b : Bool) (price : ℚ) (k : ℕ) (P : End → Type 0) → P (record { value = price; by = k; which = 0 }) → IfSome (price_end b price k) P
+price_end_is : (b : Bool) (price : ℚ) (k : ℕ) (P : Endpoint → Type 0) → P (record { value = price; by = k; which = 0 }) → IfSome (price_end b price k) P
 price_end_is true price k P h = h
 price_end_is false price k P h = tt
 
-own_ends_each : (s : Sense) (rises falls : Bool) (price : ℚ) (k : ℕ) (P : End → Type 0) → P (record { value = price; by = k; which = 0 }) → AreEnds P (own_ends_of s rises falls price k)
+own_ends_each : (s : Sense) (rises falls : Bool) (price : ℚ) (k : ℕ) (P : Endpoint → Type 0) → P (record { value = price; by = k; which = 0 }) → AreEnds P (own_ends_of s rises falls price k)
 own_ends_each Min rises falls price k P h = (price_end_is falls price k P h, price_end_is rises price k P h)
 own_ends_each Max rises falls price k P h = (price_end_is rises price k P h, price_end_is falls price k P h)
 
 -- what holds of each end holds of one of them
-one_of : (ends : Ends) (P : End → Type 0) → AreEnds P ends → (e : End) → IsOneOf ends e → P e
+one_of : (ends : Ends) (P : Endpoint → Type 0) → AreEnds P ends → (e : Endpoint) → IsOneOf ends e → P e
 one_of ends P each e (inl low) = subst (λ o. IfSome o P) low each.0
 one_of ends P each e (inr high) = subst (λ o. IfSome o P) high each.1
 

@@ -6,7 +6,7 @@ use Rattle.exact_values.proofs.Ring.{by_ring1, by_ring3, number, opposite, ◌�
 use Rattle.exact_values.proofs.Order.{le_by_one}
 use Rattle.affine_laws.specs.Conditions.{Holds}
 use Rattle.affine_laws.specs.Ends.{Meets, IsBetweenEnds}
-use Rattle.affine_laws.specs.declared.tightening.End.{End}
+use Rattle.affine_laws.specs.declared.tightening.Endpoint.{Endpoint}
 use Rattle.affine_laws.specs.declared.tightening.Ends.{Ends}
 use Rattle.sensitivity_laws.specs.Changes.{SidesHold, condition, condition_if}
 use Rattle.lp_definitions.specs.LinearProgram.{LinearProgram, Vector, for_min}
@@ -77,7 +77,7 @@ module _ (p : LinearProgram) (s : List Status) (price rate : ℚ) (j : ℕ) wher
         flat_if (may_fall p s j) (neg_ℚ (for_min p.sense price)) (neg_ℚ (for_min p.sense rate)) zero_ℚ (neg_ℚ y) (neg_zero (for_min p.sense rate) (for_min_zero p.sense rate none)) holds.1,
       )
 
-  either_then : (rate ≢ zero_ℚ) → (a b c : Option End) → (b ≡ a) ⊎ (b ≡ Some (record { value = price /ℚ rate; by = j; which = 0 })) → (c ≡ b) ⊎ (c ≡ Some (record { value = price /ℚ rate; by = j; which = 0 })) → IsEitherRate price rate j a c
+  either_then : (rate ≢ zero_ℚ) → (a b c : Option Endpoint) → (b ≡ a) ⊎ (b ≡ Some (record { value = price /ℚ rate; by = j; which = 0 })) → (c ≡ b) ⊎ (c ≡ Some (record { value = price /ℚ rate; by = j; which = 0 })) → IsEitherRate price rate j a c
   either_then apart a b c _ (inr new) = inr (apart, new)
   either_then apart a b c (inl same) (inl last) = inl (last ∙ same)
   either_then apart a b c (inr new) (inl last) = inr (apart, last ∙ new)
@@ -114,10 +114,10 @@ module _ (p : LinearProgram) (s : List Status) (prices row : Vector) where
     made = (tt, tt);
   }
 
-  more_ends : (n : ℕ) (before now : Option End) → (price rate : ℚ) → prices (n + 1) ≡ price → row (n + 1) ≡ rate → IsEitherRate price rate (n + 1) before now → IfSome before (IsRateEnd prices row n) → IfSome now (IsRateEnd prices row (n + 1))
+  more_ends : (n : ℕ) (before now : Option Endpoint) → (price rate : ℚ) → prices (n + 1) ≡ price → row (n + 1) ≡ rate → IsEitherRate price rate (n + 1) before now → IfSome before (IsRateEnd prices row n) → IfSome now (IsRateEnd prices row (n + 1))
   more_ends n before now price rate price_is rate_is (inl same) made = subst (λ o. IfSome o (IsRateEnd prices row (n + 1))) (sym same) (at before made)
     where
-      at : (o : Option End) → IfSome o (IsRateEnd prices row n) → IfSome o (IsRateEnd prices row (n + 1))
+      at : (o : Option Endpoint) → IfSome o (IsRateEnd prices row n) → IfSome o (IsRateEnd prices row (n + 1))
       at None h = tt
       at (Some e) h = record { low = h.low; high = omega (arith, h.high); moves = h.moves; is_quotient = h.is_quotient }
   more_ends n before now price rate price_is rate_is (inr new) made = subst (λ o. IfSome o (IsRateEnd prices row (n + 1))) (sym new.1) (record {

@@ -6,7 +6,7 @@
 --     SumRefused, DifferenceRefused    the sum of a limit or the difference of a cost with an end is refused
 use Rattle.std.specs.Prelude.{◌≡◌, ◌⊎◌, ℕ, List, Option, Some, IfSome, option_map, Bool, true, false}
 use Rattle.exact_values.specs.Rational.{ℚ, neg_ℚ, ◌-ℚ◌, ◌≤ℚ◌}
-use Rattle.affine_laws.specs.declared.tightening.End.{End}
+use Rattle.affine_laws.specs.declared.tightening.Endpoint.{Endpoint}
 use Rattle.affine_laws.specs.declared.tightening.Ends.{Ends}
 use Rattle.frac128.specs.declared.Op.TheVariants.{Add, Sub}
 use Rattle.lp_definitions.specs.LinearProgram.{LinearProgram, lower_of, upper_of}
@@ -28,13 +28,13 @@ IsAtMost high t = IfSome high (λ h. t ≤ℚ h)
 abbrev pub IsIn : Interval → ℚ → Type 0
 IsIn interval t = IsAtLeast interval.low t × IsAtMost interval.high t
 
-abbrev pub less_end : ℚ → Option End → Option ℚ
+abbrev pub less_end : ℚ → Option Endpoint → Option ℚ
 less_end cost end = option_map (λ e. cost -ℚ e.value) end
 
 abbrev pub taken_from : ℚ → Ends → Interval
 taken_from cost ends = record { low = less_end cost ends.high; high = less_end cost ends.low }
 
-abbrev pub opposite_end : Option End → Option ℚ
+abbrev pub opposite_end : Option Endpoint → Option ℚ
 opposite_end end = option_map (λ e. neg_ℚ e.value) end
 
 abbrev pub opposite : Ends → Interval
@@ -55,15 +55,15 @@ IsOwnAt false st low high t = IsUpToOther st low high t
 abbrev pub IsOwn : LinearProgram → List Status → ℕ → ℚ → Type 0
 IsOwn p s k t = IsOwnAt (is_fixed p k) (status_of s k) (lower_of p k) (upper_of p k) t
 
-abbrev pub IsOneOf : Ends → End → Type 0
+abbrev pub IsOneOf : Ends → Endpoint → Type 0
 IsOneOf ends e = (ends.low ≡ Some e) ⊎ (ends.high ≡ Some e)
 
 pub record DifferenceRefused (cost : ℚ) (ends : Ends) (i : ℕ) (e : Evidence) : Type 0 where
-  pub end : End
+  pub end : Endpoint
   pub is_end : IsOneOf ends end
   pub refused : IsRefusal (end_formula i end.by 0) Sub cost end.value e
 
 pub record SumRefused (stands : ℚ) (ends : Ends) (k : ℕ) (e : Evidence) : Type 0 where
-  pub end : End
+  pub end : Endpoint
   pub is_end : IsOneOf ends end
   pub refused : IsRefusal (end_formula end.by k end.which) Add stands end.value e

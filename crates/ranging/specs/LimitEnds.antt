@@ -7,7 +7,7 @@
 use Rattle.std.specs.Prelude.{◌≡◌, ◌≢◌, ◌↔◌, ◌⊎◌, ℕ, ◌-◌, ◌≤◌, ◌<◌, Bool, true, List, Option, Some, None, IfSome, option_map, slice_index_or, nat_eq, if◌then◌else◌}
 use Rattle.exact_values.specs.Rational.{ℚ, zero_ℚ, ◌-ℚ◌, ◌*ℚ◌, ◌/ℚ◌, ◌≤ℚ◌}
 use Rattle.affine_laws.specs.Ends.{MeetsBy, IsBetweenEnds}
-use Rattle.affine_laws.specs.declared.tightening.End.{End}
+use Rattle.affine_laws.specs.declared.tightening.Endpoint.{Endpoint}
 use Rattle.affine_laws.specs.declared.tightening.Ends.{Ends}
 use Rattle.sensitivity_laws.specs.Changes.{SidesHold, value_sides}
 use Rattle.lp_definitions.specs.Basis.{status_of}
@@ -32,7 +32,7 @@ abbrev pub distance_numbered : Distances → ℕ → Option ℚ
 distance_numbered far which = if nat_eq which 1 then far.low else (if nat_eq which 2 then far.high else None)
 
 -- a distance of i over its rate
-pub record IsBasicEnd (far : Distances) (rate : ℚ) (i : ℕ) (e : End) : Type 0 where
+pub record IsBasicEnd (far : Distances) (rate : ℚ) (i : ℕ) (e : Endpoint) : Type 0 where
   pub distance : ℚ
   pub is_distance : distance_numbered far e.which ≡ Some distance
   pub is_i : e.by ≡ i
@@ -40,16 +40,16 @@ pub record IsBasicEnd (far : Distances) (rate : ℚ) (i : ℕ) (e : End) : Type 
   pub is_quotient : e.value ≡ distance /ℚ rate
 
 -- the end is as it was, or one of which P holds
-abbrev pub IsKeptOr : (End → Type 0) → Option End → Option End → Type 0
-IsKeptOr P before now = (now ≡ before) ⊎ ((e : End) × (now ≡ Some e) × P e)
+abbrev pub IsKeptOr : (Endpoint → Type 0) → Option Endpoint → Option Endpoint → Type 0
+IsKeptOr P before now = (now ≡ before) ⊎ ((e : Endpoint) × (now ≡ Some e) × P e)
 
 -- so is each end
-pub record KeepOr (P : End → Type 0) (ends now : Ends) : Type 0 where
+pub record KeepOr (P : Endpoint → Type 0) (ends now : Ends) : Type 0 where
   pub low : IsKeptOr P ends.low now.low
   pub high : IsKeptOr P ends.high now.high
 
 -- the one distance over the rate
-pub record IsQuotientOf (far : Option ℚ) (rate : ℚ) (i which : ℕ) (e : End) : Type 0 where
+pub record IsQuotientOf (far : Option ℚ) (rate : ℚ) (i which : ℕ) (e : Endpoint) : Type 0 where
   pub distance : ℚ
   pub is_distance : far ≡ Some distance
   pub is_end : e ≡ record { value = distance /ℚ rate; by = i; which = which }
@@ -95,7 +95,7 @@ abbrev pub ends_at : List Ends → ℕ → Ends
 ends_at xs k = slice_index_or xs (k - 1) no_ends
 
 -- a limit of i, less its value z, over its rate v
-pub record IsLimitEnd (p : LinearProgram) (z v : ℚ) (i : ℕ) (e : End) : Type 0 where
+pub record IsLimitEnd (p : LinearProgram) (z v : ℚ) (i : ℕ) (e : Endpoint) : Type 0 where
   pub limit : ℚ
   pub is_limit : limit_numbered p i e.which ≡ Some limit
   pub is_i : e.by ≡ i

@@ -5,7 +5,7 @@
 --     interval_of, report_of               the items and the report as the definitions have them
 use Rattle.std.specs.Prelude.{◌≡◌, ◌↔◌, ℕ, Bool, List, map, All, Option, Some, None, if◌then◌else◌}
 use Rattle.exact_values.specs.Rational.{ℚ}
-use Rattle.affine_laws.specs.declared.tightening.End.{End}
+use Rattle.affine_laws.specs.declared.tightening.Endpoint.{Endpoint}
 use Rattle.affine_laws.specs.declared.tightening.Ends.{Ends}
 use Rattle.basis_values.specs.Calls.{RangeRefused}
 use Rattle.lp_definitions.specs.LinearProgram.{LinearProgram}
@@ -19,7 +19,7 @@ use Rattle.lp_model.specs.declared.reports.RangeReport as report
 use Rattle.simplex_definitions.specs.Ranges.{Interval, RangeReport}
 use Rattle.ranging.specs.Intervals.{IsIn}
 
-abbrev pub price_end : Bool → ℚ → ℕ → Option End
+abbrev pub price_end : Bool → ℚ → ℕ → Option Endpoint
 price_end there price k = if there then Some (record { value = price; by = k; which = 0 }) else None
 
 abbrev pub own_ends_of : Sense → Bool → Bool → ℚ → ℕ → Ends

@@ -7,8 +7,8 @@
 use Rattle.std.specs.Prelude.{◌≡◌, ◌≢◌, ◌↔◌, ◌⊎◌, ℕ, ◌≤◌, Bool, true, not, List, Option, Some, IfSome}
 use Rattle.exact_values.specs.Rational.{ℚ, zero_ℚ, neg_ℚ, ◌/ℚ◌}
 use Rattle.affine_laws.specs.Ends.{Meets, IsBetweenEnds, IsEither}
-use Rattle.affine_laws.specs.declared.tightening.Bound.{Bound}
-use Rattle.affine_laws.specs.declared.tightening.End.{End}
+use Rattle.affine_laws.specs.declared.tightening.ProductBound.{ProductBound}
+use Rattle.affine_laws.specs.declared.tightening.Endpoint.{Endpoint}
 use Rattle.affine_laws.specs.declared.tightening.Ends.{Ends}
 use Rattle.sensitivity_laws.specs.Changes.{Sides, SidesHold, sign_sides}
 use Rattle.frac128.specs.declared.Op.TheVariants.{Div}
@@ -26,7 +26,7 @@ abbrev pub keeps_below : Sense → Bool → Bool
 keeps_below Min rising = rising
 keeps_below Max rising = not rising
 
-abbrev pub rate_bound : Sense → Bool → ℚ → ℚ → ℕ → Bound
+abbrev pub rate_bound : Sense → Bool → ℚ → ℚ → ℕ → ProductBound
 rate_bound s rising price rate j = record { at_most = keeps_below s rising; slope = rate; number = price; by = j; which = 0 }
 
 abbrev pub worth : Sense → Vector → Vector
@@ -40,16 +40,16 @@ abbrev pub RatesStayTo : LinearProgram → List Status → Vector → Vector →
 RatesStayTo p s prices row n x = (k : ℕ) → 1 ≤ k → k ≤ n → SidesHold (sides_of p s (prices k) (row k) k) x
 
 -- the ends now keep what the earlier ones keep and the bound, if it is one
-pub record IsTightenedIf (may : Bool) (ends : Ends) (b : Bound) (now : Ends) : Type 0 where
+pub record IsTightenedIf (may : Bool) (ends : Ends) (b : ProductBound) (now : Ends) : Type 0 where
   pub exact : (y : ℚ) → IsBetweenEnds now y ↔ (IsBetweenEnds ends y × (may ≡ true → Meets b y))
   pub low : IsEither b ends.low now.low
   pub high : IsEither b ends.high now.high
 
-abbrev pub AreEnds : (End → Type 0) → Ends → Type 0
+abbrev pub AreEnds : (Endpoint → Type 0) → Ends → Type 0
 AreEnds P ends = IfSome ends.low P × IfSome ends.high P
 
 -- the price of one of the first n variables, over its rate
-pub record IsRateEnd (prices row : Vector) (n : ℕ) (e : End) : Type 0 where
+pub record IsRateEnd (prices row : Vector) (n : ℕ) (e : Endpoint) : Type 0 where
   pub low : 1 ≤ e.by
   pub high : e.by ≤ n
   pub moves : row e.by ≢ zero_ℚ
@@ -63,10 +63,10 @@ pub record RatioRefused (prices row : Vector) (n i : ℕ) (e : Evidence) : Type 
   pub moves : row j ≢ zero_ℚ
   pub refused : IsRefusal (ratio_formula i j) Div (prices j) (row j) e
 
-abbrev pub rate_end : ℚ → ℚ → ℕ → End
+abbrev pub rate_end : ℚ → ℚ → ℕ → Endpoint
 rate_end price rate j = record { value = price /ℚ rate; by = j; which = 0 }
 
-abbrev pub IsEitherRate : ℚ → ℚ → ℕ → Option End → Option End → Type 0
+abbrev pub IsEitherRate : ℚ → ℚ → ℕ → Option Endpoint → Option Endpoint → Type 0
 IsEitherRate price rate j before now = (now ≡ before) ⊎ ((rate ≢ zero_ℚ) × (now ≡ Some (rate_end price rate j)))
 
 -- the ends now keep what the earlier ones keep and the conditions of j

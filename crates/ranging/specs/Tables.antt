@@ -7,7 +7,7 @@
 use Rattle.std.specs.Prelude.{◌≡◌, ◌≢◌, ◌↔◌, ℕ, ◌≤◌, true, List, Some}
 use Rattle.exact_values.specs.Rational.{ℚ, zero_ℚ, neg_ℚ, ◌-ℚ◌, ◌/ℚ◌}
 use Rattle.affine_laws.specs.Ends.{IsBetweenEnds}
-use Rattle.affine_laws.specs.declared.tightening.End.{End}
+use Rattle.affine_laws.specs.declared.tightening.Endpoint.{Endpoint}
 use Rattle.affine_laws.specs.declared.tightening.Ends.{Ends}
 use Rattle.sensitivity_laws.specs.Changes.{SidesHold, limit_sides, RatesStay}
 use Rattle.simplex_definitions.specs.Formulas.{limit_numbered}
@@ -18,7 +18,7 @@ use Rattle.simplex_definitions.specs.Ranges.{stands_at_limit}
 use Rattle.ranging.specs.LimitEnds.{ends_at}
 use Rattle.ranging.specs.RowEnds.{AreEnds}
 
-pub record IsBasicsEnd (p : LinearProgram) (s : List Status) (z : Vector) (rate : ℕ → ℕ → ℚ) (k : ℕ) (e : End) : Type 0 where
+pub record IsBasicsEnd (p : LinearProgram) (s : List Status) (z : Vector) (rate : ℕ → ℕ → ℚ) (k : ℕ) (e : Endpoint) : Type 0 where
   pub is_basic : IsBasic p.matrix (basics_of s) e.by
   pub limit : ℚ
   pub is_limit : limit_numbered p e.by e.which ≡ Some limit
@@ -33,7 +33,7 @@ pub record AreLimitEnds (p : LinearProgram) (s : List Status) (z : Vector) (n k 
 abbrev pub AllMet : LinearProgram → List Status → Vector → ℕ → List Ends → Type 0
 AllMet p s z n ends = (k : ℕ) → IsVariable p.matrix k → stands_at_limit (status_of s k) ≡ true → AreLimitEnds p s z n k (ends_at ends k)
 
-pub record IsRowEnd (p : LinearProgram) (s : List Status) (rate : ℕ → ℕ → ℚ) (i : ℕ) (e : End) : Type 0 where
+pub record IsRowEnd (p : LinearProgram) (s : List Status) (rate : ℕ → ℕ → ℚ) (i : ℕ) (e : Endpoint) : Type 0 where
   pub is_nonbasic : IsNonbasic p.matrix (basics_of s) e.by
   pub moves : rate i e.by ≢ zero_ℚ
   pub is_quotient : e.value ≡ rate p.objective e.by /ℚ rate i e.by

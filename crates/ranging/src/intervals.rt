@@ -9,7 +9,7 @@ ghost use Rattle.basis_values.specs.Formulas.{IsRefusal};
 ghost use Rattle.ranging.specs.Formulas.{end_formula};
 ghost use Rattle.ranging.specs.Intervals.{IsAtLeast, IsAtMost, IsIn, less_end, taken_from, opposite_end, opposite, IsOwn, DifferenceRefused, SumRefused};
 
-use affine_laws::{End, Ends};
+use affine_laws::{Endpoint, Ends};
 use basis_values::Formula;
 use frac128::Frac;
 use lp_model::{Basis, Evidence, Interval, Lp, Status};
@@ -31,7 +31,7 @@ fn formula(i: u32, j: u32, term: u32) -> Formula
 }
 
 /// The cost, less the end. `i` is the basic whose rate makes the end, or 0.
-fn cost_less(cost: Frac, end: Option<End>, i: u32) -> Result<Option<Frac>, Evidence>
+fn cost_less(cost: Frac, end: Option<Endpoint>, i: u32) -> Result<Option<Frac>, Evidence>
     ensures value { IfOk result (λ now. now ≡ less_end cost end) }
     ensures refused { IfErr result
         (λ e. IfSome end (λ d. IsRefusal (end_formula i d.by 0) Sub cost d.value e)) }
@@ -55,7 +55,7 @@ pub fn cost_interval(cost: Frac, ends: &Ends, i: u32) -> Result<Interval, Eviden
 }
 
 /// The opposite of an end.
-fn opposite_of(end: Option<End>) -> Option<Frac>
+fn opposite_of(end: Option<Endpoint>) -> Option<Frac>
     ensures { result ≡ opposite_end end }
 {
     match end {
@@ -75,7 +75,7 @@ pub fn row_interval(ends: &Ends) -> Interval
 }
 
 /// The limit at which `k` stands, moved to the end.
-fn limit_plus(stands: Frac, end: Option<End>, k: u32) -> Result<Option<Frac>, Evidence>
+fn limit_plus(stands: Frac, end: Option<Endpoint>, k: u32) -> Result<Option<Frac>, Evidence>
     ensures value { IfOk result (λ now. now ≡ option_map (λ e. stands +ℚ e.value) end) }
     ensures refused { IfErr result
         (λ e. IfSome end (λ d. IsRefusal (end_formula d.by k d.which) Add stands d.value e)) }

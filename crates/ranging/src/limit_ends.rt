@@ -11,7 +11,7 @@ ghost use Rattle.basis_values.specs.Reach.{reach_formula};
 ghost use Rattle.ranging.specs.LimitEnds.{less_value, distances_of, IsWithDistance, IsWithDistances, IsWithBasic, IsDistanceRefused, IsBasicRefused, AreMet, IsLimitRefused, IsRateRefused};
 
 use crate::choices::at_limit;
-use affine_laws::{Bound, Ends, tightened};
+use affine_laws::{Ends, ProductBound, tightened};
 use basis_values::reach::{distance_formula, length_formula};
 use frac128::Frac;
 use lp_model::{Basis, Evidence, Lp};
@@ -74,7 +74,7 @@ impl TableauEntry {
         let Some(number) = far else {
             return Ok(ends);
         };
-        let bound = Bound {
+        let bound = ProductBound {
             at_most,
             slope: self.rate,
             number,

@@ -15,7 +15,7 @@ ghost use Rattle.ranging.specs.Lists.{price_end, own_ends_of, ListsTo, RefusedAn
 use crate::choices::{at_limit, falls, rises, stands_basic};
 use crate::intervals::{cost_interval, limit_interval, row_interval};
 use crate::optimum::Optimum;
-use affine_laws::{End, Ends};
+use affine_laws::{Endpoint, Ends};
 use frac128::Frac;
 use lp_model::{Basis, Evidence, Interval, Lp, NoMemory, Sense, Stop};
 use std::alloc::Global;
@@ -55,11 +55,11 @@ pub fn row_list(
 }
 
 /// An end at the price of `k`, if it is one.
-fn end_at(there: bool, price: Frac, k: u32) -> Option<End>
+fn end_at(there: bool, price: Frac, k: u32) -> Option<Endpoint>
     ensures { result ≡ price_end there price k }
 {
     if there {
-        Some(End {
+        Some(Endpoint {
             value: price,
             by: k,
             which: 0,

@@ -10,7 +10,7 @@ ghost use Rattle.ranging.specs.Formulas.{ratio_formula};
 ghost use Rattle.ranging.specs.RowEnds.{rate_bound, keeps_below, sides_of, RatesStayTo, IsTightenedIf, IsWithRate, AreRowEnds, RatioRefused};
 
 use crate::choices::{falls, rises};
-use affine_laws::{Bound, Ends, tightened};
+use affine_laws::{Ends, ProductBound, tightened};
 use basis_values::Formula;
 use frac128::Frac;
 use lp_model::{Basis, Evidence, Lp, Sense};
@@ -51,10 +51,10 @@ impl PricedRate {
     }
 
     /// The bound of the price on the multiple that is taken off.
-    fn bound(&self, sense: Sense, rising: bool) -> Bound
+    fn bound(&self, sense: Sense, rising: bool) -> ProductBound
         ensures { result ≡ rate_bound sense rising self.now.price self.now.rate self.now.nonbasic }
     {
-        Bound {
+        ProductBound {
             at_most: is_below(sense, rising),
             slope: self.rate,
             number: self.price,

@@ -8,7 +8,7 @@ use Rattle.check_definitions.specs.declared.Verdict.TheVariants.{Checked, Failed
 use Rattle.check_definitions.specs.Steps.{verdict_of, in_turn}
 use Rattle.listing_definitions.specs.declared.Solver.{Solver}
 use Rattle.listing_definitions.specs.Numbers.{rational_text}
-use Rattle.listing_definitions.specs.Report.{Interval}
+use Rattle.listing_definitions.specs.Report.{ParametricInterval}
 use Rattle.listing_definitions.specs.Text.{solver_text, interval_text, chain_end_text, verdict_text, solution_text}
 use Rattle.listing_definitions.specs.Listing.{reports_text}
 use Rattle.question_definitions.specs.Answers.{Sheet, changing_name, parametric_solver, ParametricRun, OfPath, OfSolution, OfRanges, OfParametricRun, OfPunch, OfInstall, PathEnd, ParametricRunEnd, Reached, Opening, Chained}
@@ -58,7 +58,7 @@ module _ (sheet : Sheet) (parametric_run : ParametricRun) where
   abbrev ReportsRun : ℕ → (ℚ → List ℕ → Judged Run) → Type 0
   ReportsRun number go = (last : ℚ) (rest : List ℕ) (run : Run) (after : List ℕ) → go last rest ≡ Right run after → rest ≡ run_text solver number run ++ after
 
-  onward_tells : (go : ℚ → List ℕ → Judged Run) (number : ℕ) → ReportsRun (number + 1) go → (rest : List ℕ) (j : Judged Interval) → ((x : Interval) (left : List ℕ) → j ≡ Right x left → rest ≡ interval_text (number, x) ++ left) →
+  onward_tells : (go : ℚ → List ℕ → Judged Run) (number : ℕ) → ReportsRun (number + 1) go → (rest : List ℕ) (j : Judged ParametricInterval) → ((x : ParametricInterval) (left : List ℕ) → j ≡ Right x left → rest ≡ interval_text (number, x) ++ left) →
       (run : Run) (after : List ℕ) → onward sheet parametric_run go j ≡ Right run after → rest ≡ run_text solver number run ++ after
   unfolding run_text
   onward_tells go number later rest (Right interval left) tells run after e =

@@ -7,7 +7,7 @@ use Rattle.listing_definitions.specs.declared.Mark.{Mark}
 use Rattle.listing_definitions.specs.declared.Solver.{Solver}
 use Rattle.listing_definitions.specs.declared.Solver.TheVariants.{Primal, Dual, Paraobj, Pararhs}
 use Rattle.listing_definitions.specs.Numbers.{digits, rational_text}
-use Rattle.listing_definitions.specs.Report.{Interval, ChainEnd, EndsAt, UnboundedPast, InfeasiblePast}
+use Rattle.listing_definitions.specs.Report.{ParametricInterval, ChainEnd, EndsAt, UnboundedPast, InfeasiblePast}
 use Rattle.listing_definitions.specs.Text.{mark_text, solver_text, table_text, solution_text, interval_text, chain_end_text}
 use Rattle.question_definitions.specs.Answers.{Sheet}
 use Rattle.answer_definitions.specs.Lines.{row_numbers, column_numbers}
@@ -61,7 +61,7 @@ module _ (sheet : Sheet) where
 
   pub interval_tells : (number : ℕ) (from : ℚ) → Tells [] (interval_in sheet number from) (λ interval. interval_text (number, interval))
   interval_tells number from =
-      let whole = λ (interval : Interval). interval_text (number, interval) in
+      let whole = λ (interval : ParametricInterval). interval_text (number, interval) in
       after_text [] (codes "INTERVAL " ++ (digits number ++ (codes " FROM " ++ (rational_text from ++ codes " TO ")))) _ whole (after_word _ fraction_in rational_text _ whole fraction_spells (λ to.
       after_text _ (codes "\n") _ whole (made _ (table_in sheet part_slots (variables sheet.lp.matrix)) table_text (λ lines. record { from = from; to = to; lines = lines }) whole
       (table_tells sheet part_slots (variables sheet.lp.matrix))

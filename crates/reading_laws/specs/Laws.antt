@@ -4,10 +4,10 @@
 use Rattle.std.specs.Prelude.{◌≡◌, ℕ, List, [], ◌∷◌, ◌++◌}
 use Rattle.listing_definitions.specs.Report.{Report, Solved, Solution, Ranges, Parametric}
 use Rattle.listing_definitions.specs.Listing.{reports_text}
-use Rattle.question_definitions.specs.Answers.{Sheet, changing_name, parametric_solver, Question, OfPath, OfSolution, OfRanges, OfParametricRun, OfPunch, OfInstall, Answer, Reached, Opening, Chained}
+use Rattle.question_definitions.specs.Answers.{Sheet, changing_name, parametric_solver, Question, OfPath, OfSolution, OfRanges, OfParametricRun, OfPunch, OfInstall, AnswerTo, Reached, Opening, Chained}
 use Rattle.walk_definitions.specs.Reading.{Right, judged}
 
-abbrev pub reported : (question : Question) → Answer question → List Report
+abbrev pub reported : (question : Question) → AnswerTo question → List Report
 reported (OfPath solver limit) (Reached bases verdict check) = Solved solver verdict check ∷ []
 reported (OfPath solver limit) _ = []
 reported (OfSolution mark) lines = Solution mark lines ∷ []
@@ -20,5 +20,5 @@ reported OfPunch cards = []
 reported (OfInstall basis) end = []
 
 abbrev pub ReadingLaw : Type 0
-ReadingLaw = (question : Question) (sheet : Sheet) (rest after : List ℕ) (answer : Answer question) → judged question sheet rest ≡ Right answer after →
+ReadingLaw = (question : Question) (sheet : Sheet) (rest after : List ℕ) (answer : AnswerTo question) → judged question sheet rest ≡ Right answer after →
     rest ≡ reports_text (reported question answer) ++ after

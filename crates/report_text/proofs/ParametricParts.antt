@@ -11,7 +11,7 @@ use Rattle.lp_definitions.specs.LinearProgram.{size, numbers_from, variables}
 use Rattle.lp_model.specs.declared.reports.ParaPart.{ParaPart}
 use Rattle.listing_definitions.specs.Numbers.{digits, rational_text}
 use Rattle.listing_definitions.specs.declared.Solver.{Solver}
-use Rattle.listing_definitions.specs.Report.{Line, Interval, UnboundedPast, InfeasiblePast, Chain}
+use Rattle.listing_definitions.specs.Report.{Line, ParametricInterval, UnboundedPast, InfeasiblePast, Chain}
 use Rattle.listing_definitions.specs.Text.{solver_text, line_text, table_text, interval_text, chain_end_text, chain_text}
 use Rattle.listing_tables.specs.declared.sheet.Sheet.{Sheet}
 use Rattle.listing_tables.specs.declared.table.Table.TheVariants.{Parts}
@@ -22,7 +22,7 @@ use Rattle.report_text.specs.Parametric.{interval_view}
 pub chain_parts : (by : Solver) (chain : Chain) → concat (solver_text by ∷ codes " FROM " ∷ rational_text chain.from ∷ codes " CHANGE " ∷ chain.change ∷ codes "\n" ∷ []) ++ (flat_map interval_text (enumerate_from 1 chain.intervals) ++ chain_end_text by chain.end) ≡ chain_text by chain
 chain_parts by chain = simp (append_assoc, append-nil)
 
-pub interval_parts : (number : ℕ) (interval : Interval) → concat (codes "INTERVAL " ∷ digits number ∷ codes " FROM " ∷ rational_text interval.from ∷ codes " TO " ∷ rational_text interval.to ∷ codes "\n" ∷ []) ++ table_text interval.lines ≡ interval_text (number, interval)
+pub interval_parts : (number : ℕ) (interval : ParametricInterval) → concat (codes "INTERVAL " ∷ digits number ∷ codes " FROM " ∷ rational_text interval.from ∷ codes " TO " ∷ rational_text interval.to ∷ codes "\n" ∷ []) ++ table_text interval.lines ≡ interval_text (number, interval)
 interval_parts number interval = simp (append_assoc, append-nil)
 
 -- the line of an end, and the lines after it

@@ -12,7 +12,7 @@ use Rattle.lp_model.specs.declared.reports.ParaEnd.{ParaEnd}
 use Rattle.lp_model.specs.declared.reports.ParaEnd.TheVariants.{AtMax, Unbounded, Infeasible}
 use Rattle.lp_model.specs.declared.reports.ParaRun.{ParaRun}
 use Rattle.problem_definitions.specs.Names.{Name}
-use Rattle.listing_definitions.specs.Report.{Interval, ChainEnd, EndsAt, UnboundedPast, InfeasiblePast, Chain}
+use Rattle.listing_definitions.specs.Report.{ParametricInterval, ChainEnd, EndsAt, UnboundedPast, InfeasiblePast, Chain}
 use Rattle.listing_tables.specs.declared.sheet.Sheet.{Sheet}
 use Rattle.listing_tables.specs.Sheets.{IsSheet}
 use Rattle.listing_tables.specs.Tables.{IsPart}
@@ -37,7 +37,7 @@ pub record IsParametric (sheet : Sheet) (run : ParaRun) : Type 0 where
   pub end : AreEndLists sheet run.end
 
 -- from one value to another, with a line for each row, and then for each column
-abbrev pub interval_view : Sheet → ParaPart → Interval
+abbrev pub interval_view : Sheet → ParaPart → ParametricInterval
 interval_view sheet part = record {
   from = part.from;
   to = part.to;

@@ -10,7 +10,7 @@ use Rattle.listing_definitions.specs.Numbers.{digits}
 use Rattle.listing_definitions.specs.Report.{Titled}
 use Rattle.listing_definitions.specs.Ending.{Ended, WordsRefused, ControlStop, ReadFault, Memory}
 use Rattle.run_definitions.specs.State.{State, start}
-use Rattle.run_definitions.specs.Moves.{Prints, Outcome, next}
+use Rattle.run_definitions.specs.Moves.{Prints, StatementOutcome, next}
 use Rattle.run_definitions.specs.Verbs.{verb_move}
 use Rattle.run_definitions.specs.Run.{counted, Step, begun, stepped, is_over, at_end, IsRun}
 use Rattle.run_definitions.specs.Answer.{Failures, WithoutBytes, Read, Made, job_decks, control_fault as by_control_fault, run, IsJobRun, words_refused, read_fails, by_itself, memory_at_start, IsSoFar, in_report, in_end, whole, print_fails, IsAnswer}
@@ -68,7 +68,7 @@ title_answer = whole (Ended 0) (by_itself title_bytes refl title_job) refl refl 
 title_start : State
 title_start = start (job_decks title_program title_bytes)
 
-title_outcome : Outcome
+title_outcome : StatementOutcome
 title_outcome = next (Prints (Titled (codes "A B"))) (counted title_start)
 
 title_step : Step silent title_program title_start title_outcome

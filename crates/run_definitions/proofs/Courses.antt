@@ -11,7 +11,7 @@ use Rattle.listing_definitions.specs.Report.{Report}
 use Rattle.listing_definitions.specs.Ending.{Ending, Ended, ControlStop, CardStop}
 use Rattle.question_definitions.specs.Solving.{Solving}
 use Rattle.run_definitions.specs.State.{State, start}
-use Rattle.run_definitions.specs.Moves.{Gain, Nothing, printed_by, punched_by, Outcome, Goes, Ends, Move, Does, MayStop, Asks, Gives}
+use Rattle.run_definitions.specs.Moves.{Gain, Nothing, printed_by, punched_by, StatementOutcome, Goes, Ends, StatementMove, Does, MayStop, Asks, Gives}
 use Rattle.run_definitions.specs.Verbs.{verb_move}
 use Rattle.run_definitions.specs.Run.{counted, max_executed, Step, Reaches, begun, stepped, IsRun, is_over, is_ended, at_end}
 use Rattle.run_definitions.specs.Answer.{job_decks, IsJobRun, card_fault, control_fault, run}
@@ -35,7 +35,7 @@ pub record Course : Type 0 where
   pub ending : Option Ending
 
 -- the outcome of a move that doesn't ask, and doesn't stop freely
-abbrev pub settled : Move → Option Outcome
+abbrev pub settled : StatementMove → Option StatementOutcome
 settled (Does outcome) = Some outcome
 settled (MayStop refusals move) = settled move
 settled (Asks question sheet s go) = None
@@ -49,7 +49,7 @@ unanswered = record { reports = []; cards = []; ending = None }
 abbrev pub end : Gain → Ending → Course
 end gain ending = record { reports = printed_by gain; cards = punched_by gain; ending = Some ending }
 
-abbrev pub goes_on : (State → Course) → Option Outcome → Course
+abbrev pub goes_on : (State → Course) → Option StatementOutcome → Course
 goes_on course None = unanswered
 goes_on course (Some (Goes gain state)) = following gain (course state)
 goes_on course (Some (Ends gain ending)) = end gain ending
@@ -96,7 +96,7 @@ some_apart e = subst IsNothing e tt
 from_some : {X : Type 0} {x y : X} → Some x ≡ Some y → x ≡ y
 from_some {x = x} e = ap (λ o. unwrap_or o x) e
 
-settled_gives : (card : ℕ) (move : Move) (outcome : Outcome) → settled move ≡ Some outcome → Gives silent card move outcome
+settled_gives : (card : ℕ) (move : StatementMove) (outcome : StatementOutcome) → settled move ≡ Some outcome → Gives silent card move outcome
 settled_gives card (Does found) outcome e = sym (from_some e)
 settled_gives card (MayStop refusals move) outcome e = inl (settled_gives card move outcome e)
 settled_gives card (Asks question sheet s go) outcome e = absurd (some_apart e)
@@ -107,8 +107,8 @@ module _ (program : Program) (decks : List (List Card)) where
   Completes state course = (reports : List Report) (cards : List (List ℕ)) (ending : Ending) → Reaches silent program decks reports cards state →
       course.ending ≡ Some ending → IsRun silent program decks (reports ++ course.reports) (cards ++ course.cards) ending
 
-  completes-goes_on : (course : State → Course) → ((state : State) → Completes state (course state)) → (state : State) (found : Option Outcome) →
-      ((outcome : Outcome) → found ≡ Some outcome → Step silent program state outcome) → Completes state (goes_on course found)
+  completes-goes_on : (course : State → Course) → ((state : State) → Completes state (course state)) → (state : State) (found : Option StatementOutcome) →
+      ((outcome : StatementOutcome) → found ≡ Some outcome → Step silent program state outcome) → Completes state (goes_on course found)
   completes-goes_on course rest state None step reports cards ending reach e = absurd (some_apart e)
   completes-goes_on course rest state (Some (Goes gain after)) step reports cards ending reach e =
       rw (sym (append_assoc reports (printed_by gain) (course after).reports), sym (append_assoc cards (punched_by gain) (course after).cards))

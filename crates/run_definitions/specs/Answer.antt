@@ -20,7 +20,7 @@ use Rattle.card_definitions.specs.Prefixes.{IsPrefix}
 use Rattle.listing_definitions.specs.Listing.{ending_text, reports_text, listing}
 use Rattle.question_definitions.specs.Solving.{Solving}
 use Rattle.run_definitions.specs.State.{State}
-use Rattle.run_definitions.specs.Moves.{Punches, printed_by, punched_by, Outcome, Goes, gain_of}
+use Rattle.run_definitions.specs.Moves.{Punches, printed_by, punched_by, StatementOutcome, Goes, gain_of}
 use Rattle.run_definitions.specs.Run.{Step, Reaches, IsRun}
 
 -- The words are refused; or the job is read from its source; or the words have made it.
@@ -100,7 +100,7 @@ module _ (S : Solving) where
   -- prefix stands. Where that is the report of a statement to which the run has come, the cards of the reports before and those of this
   -- statement are punched; where it is the end, what is punched by this end, or a prefix of that where the deck in hand isn't whole.
   pub data IsCutShort (job : Job) (failures : Failures) (answer : Answer) : Type 0 where
-    in_report : (bytes : List ℕ) (program : Program) (state : State) {reports : List Report} {cards : List (List ℕ)} (outcome : Outcome) (part : List ℕ) →
+    in_report : (bytes : List ℕ) (program : Program) (state : State) {reports : List Report} {cards : List (List ℕ)} (outcome : StatementOutcome) (part : List ℕ) →
         bytes_of job ≡ Some bytes → IsSoFar bytes reports cards program state → Step S program state outcome →
         IsPrefix part (reports_text (printed_by (gain_of outcome))) → answer.printed ≡ reports_text reports ++ part →
         answer.punched ≡ card_text (cards ++ punched_by (gain_of outcome)) → IsCutShort job failures answer

@@ -9,7 +9,7 @@ use Rattle.listing_definitions.specs.Report.{Report}
 use Rattle.listing_definitions.specs.Ending.{Ending, Ended, StatementLimit}
 use Rattle.question_definitions.specs.Solving.{Solving}
 use Rattle.run_definitions.specs.State.{State, start}
-use Rattle.run_definitions.specs.Moves.{Gain, printed_by, punched_by, Outcome, Goes, Ends, Gives}
+use Rattle.run_definitions.specs.Moves.{Gain, printed_by, punched_by, StatementOutcome, Goes, Ends, Gives}
 use Rattle.run_definitions.specs.Verbs.{verb_move}
 
 -- a run executes at most so many statements
@@ -22,7 +22,7 @@ counted state = record state { executed = state.executed + 1 }
 
 module _ (S : Solving) (program : Program) where
   -- the run isn't over, and the statement at its position comes to this
-  pub record Step (state : State) (outcome : Outcome) : Type 0 where
+  pub record Step (state : State) (outcome : StatementOutcome) : Type 0 where
     pub statement : Statement ℕ
     pub is_at_position : slice_get program.statements (state.position - 1) ≡ Some statement
     pub is_within_limit : state.executed < max_executed

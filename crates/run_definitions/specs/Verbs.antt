@@ -32,10 +32,10 @@ use Rattle.listing_definitions.specs.declared.VerbFault.{VerbFault}
 use Rattle.listing_definitions.specs.declared.VerbFault.TheVariants.{DeckNotFound, NoProblem, NoSetup, NotSolved, NotOptimal, NoChangeRow, NoChangeSet, NoParmax, ParmaxBelow, NoObjective, ObjectiveNotFree, NoRhsSet, NoRangeSet, NoBoundSet}
 use Rattle.listing_definitions.specs.Report.{SolutionLines, RangeLines, PathVerdict, OptimalAt, CrossedAt, InfeasibleBy, UnboundedBy, Report, Titled, Filed, Converted, Revised, SetUp, BcdOut, BasisOut, Inserted, Solved, Solution, Ranges, Parametric, ChainEnd, EndsAt, UnboundedPast, InfeasiblePast}
 use Rattle.listing_definitions.specs.Ending.{Place, Ending, Ended, VerbStop, SingularStop, PriceStop, DeckStop, LimitStop}
-use Rattle.question_definitions.specs.Answers.{Basis, Sheet, Changing, Row, Set, changing_name, parametric_solver, ParametricRun, Question, Answer, OfPath, OfSolution, OfRanges, OfParametricRun, OfPunch, OfInstall, PathEnd, Reached, PathLimit, PricesWrong, ParametricRunEnd, Opening, Chained, ParametricRunLimit, InstallEnd, Installed, DependsBy}
+use Rattle.question_definitions.specs.Answers.{Basis, Sheet, Changing, Row, Set, changing_name, parametric_solver, ParametricRun, Question, AnswerTo, OfPath, OfSolution, OfRanges, OfParametricRun, OfPunch, OfInstall, PathEnd, Reached, PathLimit, PricesWrong, ParametricRunEnd, Opening, Chained, ParametricRunLimit, InstallEnd, Installed, DependsBy}
 use Rattle.control_definitions.specs.Cells.{default_cells, move_name, move_number, move_limit, steps_allowed, set_demand}
 use Rattle.run_definitions.specs.State.{Present, present_basis, path_of, gone_through, State, problem_of, choice_of}
-use Rattle.run_definitions.specs.Moves.{Nothing, Prints, Punches, Outcome, Ends, next, jump, stops, InSelection, InAnswer, Move, Does, MayStop, Asks, or_fault}
+use Rattle.run_definitions.specs.Moves.{Nothing, Prints, Punches, StatementOutcome, Ends, next, jump, stops, InSelection, InAnswer, StatementMove, Does, MayStop, Asks, or_fault}
 
 -- ---- decks
 
@@ -88,7 +88,7 @@ abbrev pub deck_stop : DeckFault → Ending
 deck_stop fault = DeckStop (record { fault = deck_fault_number fault.kind; card = fault.card; number = number_fault_of fault.kind; column = column_of fault.kind })
 
 -- a fault of a deck ends the run, or else it is done what is done with what the deck gives
-abbrev pub or_deck_fault : {X : Type 0} → Result X DeckFault → (X → Move) → Move
+abbrev pub or_deck_fault : {X : Type 0} → Result X DeckFault → (X → StatementMove) → StatementMove
 or_deck_fault (Err fault) go = Does (stops (deck_stop fault))
 or_deck_fault (Ok given) go = go given
 
@@ -96,19 +96,19 @@ abbrev pub size_of : Problem ℕ → Filed
 size_of problem = record { name = problem.name; rows = length problem.rows; columns = length problem.columns; entries = entry_count problem }
 
 -- the problem is filed, these decks are left, and setup, basis and mark are cleared
-abbrev pub files : (Filed → Report) → List (List Card) → State → Problem ℕ → Move
+abbrev pub files : (Filed → Report) → List (List Card) → State → Problem ℕ → StatementMove
 files report decks state problem =
     Does (next (Prints (report (size_of problem))) (record state { file = problem ∷ state.file; decks = decks; setup = None; mark = None }))
 
 -- CONVERT takes a deck, and files what it describes under XPBNAME if moved, else under the deck's name.
-abbrev pub converts : ℕ → State → Move
+abbrev pub converts : ℕ → State → StatementMove
 converts card state =
     or_fault card DeckNotFound (deck_taken state.cells.xdata state.decks) (λ taken.
     or_deck_fault (conversion taken.0 state.cells.xpbname) (files Converted taken.1 state))
 
 -- REVISE gets the old problem, named by XOLDNAME if moved, else filed last; it takes a deck, and files the revised problem as CONVERT
 -- does.
-abbrev pub revises : ℕ → State → Move
+abbrev pub revises : ℕ → State → StatementMove
 revises card state =
     or_fault card NoProblem (problem_of state.cells.xoldname state.file) (λ old.
     or_fault card DeckNotFound (deck_taken state.cells.xdata state.decks) (λ taken.
@@ -119,7 +119,7 @@ abbrev pub max_counted : ℕ
 max_counted = 4294967295
 
 -- BCDOUT gets the problem named by XPBNAME if moved, else filed last; it punches it, and prints the number of cards.
-abbrev pub punches : ℕ → State → Move
+abbrev pub punches : ℕ → State → StatementMove
 punches card state =
     or_fault card NoProblem (problem_of state.cells.xpbname state.file) (λ problem.
     let cards = written (by_names problem) in
@@ -135,17 +135,17 @@ selection_verb_fault SelectionFault.NoRhsSet = NoRhsSet
 selection_verb_fault SelectionFault.NoRangeSet = NoRangeSet
 selection_verb_fault SelectionFault.NoBoundSet = NoBoundSet
 
-abbrev pub or_selection_fault : ℕ → Result LinearProgram SelectionFault → (LinearProgram → Move) → Move
+abbrev pub or_selection_fault : ℕ → Result LinearProgram SelectionFault → (LinearProgram → StatementMove) → StatementMove
 or_selection_fault card (Err fault) go = Does (stops (VerbStop (record { fault = selection_verb_fault fault; card = card })))
 or_selection_fault card (Ok lp) go = go lp
 
 -- a selection: its faults come first, and then one of its operations may be refused
-abbrev pub selects : ℕ → Problem ℕ → Choice → (LinearProgram → Move) → Move
+abbrev pub selects : ℕ → Problem ℕ → Choice → (LinearProgram → StatementMove) → StatementMove
 selects card problem choice go = or_selection_fault card (selected problem choice) (λ lp. MayStop (InSelection problem choice) (go lp))
 
 -- SETUP gets the problem named by XPBNAME if moved, else filed last; it selects, keeps problem and options, makes the opening basis,
 -- and clears the mark.
-abbrev pub sets_up : ℕ → SetupOptions → State → Move
+abbrev pub sets_up : ℕ → SetupOptions → State → StatementMove
 sets_up card options state =
     or_fault card NoProblem (problem_of state.cells.xpbname state.file) (λ problem.
     selects card problem (choice_of state.cells options) (λ lp.
@@ -153,7 +153,7 @@ sets_up card options state =
     (record state { setup = Some (record { problem = problem; options = options; opening = opening_statuses lp; steps = [] }); mark = None }))))
 
 -- the present problem is what the present cells select of the setup's problem with its options
-abbrev pub selects_present : ℕ → State → Present → (LinearProgram → Move) → Move
+abbrev pub selects_present : ℕ → State → Present → (LinearProgram → StatementMove) → StatementMove
 selects_present card state present go = selects card present.problem (choice_of state.cells present.options) go
 
 -- ---- verdicts
@@ -165,16 +165,16 @@ mark_of (InfeasibleBy steps lines) = Infeasible
 mark_of (UnboundedBy steps objective lines) = Unbounded
 
 -- a verdict that isn't optimal goes to the position of its demand, or ends the run with its code where that isn't set
-abbrev pub demanded : Option ℕ → ℕ → Report → State → Outcome
+abbrev pub demanded : Option ℕ → ℕ → Report → State → StatementOutcome
 demanded (Some position) code report state = jump (Prints report) position state
 demanded None code report state = Ends (Prints report) (Ended code)
 
-abbrev pub by_verdict : Mark → Report → State → Outcome
+abbrev pub by_verdict : Mark → Report → State → StatementOutcome
 by_verdict Optimal report state = next (Prints report) state
 by_verdict Infeasible report state = demanded state.cells.xdonfs 1 report state
 by_verdict Unbounded report state = demanded state.cells.xdounb 2 report state
 
-abbrev pub limit_stop : ℕ → State → Outcome
+abbrev pub limit_stop : ℕ → State → StatementOutcome
 limit_stop card state = stops (LimitStop (record { limit = steps_allowed state.cells; card = card }))
 
 -- ---- parametric runs
@@ -203,18 +203,18 @@ mark_after Xrhs mark = None
 mark_after _ mark = mark
 
 -- a question at the present basis: the statement may stop with an overflow of its own formulas, or goes on by the answer
-abbrev pub asks : (question : Question) → Sheet → Present → (Answer question → Outcome) → Move
+abbrev pub asks : (question : Question) → Sheet → Present → (AnswerTo question → StatementOutcome) → StatementMove
 asks question sheet present go = MayStop (InAnswer question sheet (path_of present)) (Asks question sheet (present_basis present) go)
 
 -- the basis where the path ends becomes the present one, and the verdict is printed and leaves a mark
-abbrev pub after_path : Solver → ℕ → Present → State → PathEnd → Outcome
+abbrev pub after_path : Solver → ℕ → Present → State → PathEnd → StatementOutcome
 after_path solver card present state (Reached bases verdict check) =
     by_verdict (mark_of verdict) (Solved solver verdict check) (record state { setup = Some (gone_through bases present); mark = Some (mark_of verdict) })
 after_path solver card present state PathLimit = limit_stop card state
 after_path solver card present state (PricesWrong j) = stops (PriceStop (record { card = card; variable = j }))
 
 -- A solving verb needs a setup; it selects, and follows its path from the present basis, within its limit if it has one.
-abbrev pub solves : Solver → Option ℕ → ℕ → State → Move
+abbrev pub solves : Solver → Option ℕ → ℕ → State → StatementMove
 solves solver limit card state =
     or_fault card NoSetup state.setup (λ present.
     selects_present card state present (λ lp.
@@ -223,14 +223,14 @@ solves solver limit card state =
 
 -- SOLUTION and RANGE speak of the linear program that PRIMAL solved: since then the mark stands, so that the present cells select
 -- it again, without a fault.
-abbrev pub shows_present : ℕ → State → Present → (question : Question) → (Answer question → Report) → Move
+abbrev pub shows_present : ℕ → State → Present → (question : Question) → (AnswerTo question → Report) → StatementMove
 shows_present card state present question report =
     or_selection_fault card (selected present.problem (choice_of state.cells present.options)) (λ lp.
     let sheet : Sheet = record { problem = present.problem; lp = lp } in
     asks question sheet present (λ lines. next (Prints (report lines)) state))
 
 -- SOLUTION needs a setup and a mark; it prints the basis's point and prices.
-abbrev pub shows : ℕ → State → Move
+abbrev pub shows : ℕ → State → StatementMove
 shows card state =
     or_fault card NoSetup state.setup (λ present.
     or_fault card NotSolved state.mark (λ mark.
@@ -242,7 +242,7 @@ if_optimal Infeasible = None
 if_optimal Unbounded = None
 
 -- RANGE needs a setup, a mark, and the mark OPTIMAL; it prints the intervals.
-abbrev pub ranges : ℕ → State → Move
+abbrev pub ranges : ℕ → State → StatementMove
 ranges card state =
     or_fault card NoSetup state.setup (λ present.
     or_fault card NotSolved state.mark (λ mark.
@@ -251,7 +251,7 @@ ranges card state =
 
 -- A run along the parameter leaves XPARAM at its last end, and one whose opening isn't optimal leaves it where it was and goes on as
 -- PRIMAL does. The basis reached last becomes the present one, and neither leaves a mark.
-abbrev pub after_parametric_run : ℕ → ParametricRun → Present → State → ParametricRunEnd → Outcome
+abbrev pub after_parametric_run : ℕ → ParametricRun → Present → State → ParametricRunEnd → StatementOutcome
 after_parametric_run card parametric_run present state (Opening bases verdict check) =
     by_verdict (mark_of verdict) (Solved (parametric_solver parametric_run.changing) verdict check) (record state { setup = Some (gone_through bases present); mark = None })
 after_parametric_run card parametric_run present state (Chained bases intervals end) =
@@ -260,7 +260,7 @@ after_parametric_run card parametric_run present state (Chained bases intervals 
 after_parametric_run card parametric_run present state ParametricRunLimit = limit_stop card state
 
 -- PARAOBJ and PARARHS need a setup; they select; and they need what changes, a last value, and one that isn't less than the first.
-abbrev pub parametric_runs : ℕ → VerbFault → (Problem ℕ → Name → Option Changing) → Option Name → State → Move
+abbrev pub parametric_runs : ℕ → VerbFault → (Problem ℕ → Name → Option Changing) → Option Name → State → StatementMove
 parametric_runs card fault change moved state =
     or_fault card NoSetup state.setup (λ present.
     selects_present card state present (λ lp.
@@ -274,7 +274,7 @@ parametric_runs card fault change moved state =
 -- ---- bases that go out and come in
 
 -- PUNCH needs a setup; it selects, punches the deck of the present basis, and prints the number of its cards.
-abbrev pub punches_basis : ℕ → State → Move
+abbrev pub punches_basis : ℕ → State → StatementMove
 punches_basis card state =
     or_fault card NoSetup state.setup (λ present.
     selects_present card state present (λ lp.
@@ -284,7 +284,7 @@ punches_basis card state =
 
 -- the basis that was read becomes the present one, with which the path in hand begins anew, and the mark is cleared; a singular one ends
 -- the run
-abbrev pub after_install : ℕ → LinearProgram → Basis → List Card × List (List Card) → Present → State → InstallEnd → Outcome
+abbrev pub after_install : ℕ → LinearProgram → Basis → List Card × List (List Card) → Present → State → InstallEnd → StatementOutcome
 after_install card lp s taken present state Installed =
     next (Prints (Inserted (deck_name (live taken.0)) (length (basic_columns lp s))))
     (record state { decks = taken.1; setup = Some (record present { opening = s; steps = [] }); mark = None })
@@ -292,7 +292,7 @@ after_install card lp s taken present state (DependsBy lines) = stops (SingularS
 
 -- INSERT needs a setup; it selects, takes a deck, and reads the basis that the deck stands for. That is one if its columns don't depend
 -- on each other.
-abbrev pub inserts : ℕ → State → Move
+abbrev pub inserts : ℕ → State → StatementMove
 inserts card state =
     or_fault card NoSetup state.setup (λ present.
     selects_present card state present (λ lp.
@@ -302,7 +302,7 @@ inserts card state =
     asks (OfInstall s) sheet present (after_install card lp s taken present state)))))
 
 -- What the statement of a verb on a card does. PRIMAL alone may have no limit on its steps.
-unfoldable pub verb_move : Verb ℕ → ℕ → State → Move
+unfoldable pub verb_move : Verb ℕ → ℕ → State → StatementMove
 verb_move Initialz card state = Does (next Nothing (record state { cells = default_cells; mark = None }))
 verb_move (Title text) card state = Does (next (Prints (Titled text)) state)
 verb_move (MoveName cell name) card state = Does (next Nothing (record state { cells = move_name cell name state.cells; mark = mark_after cell state.mark }))

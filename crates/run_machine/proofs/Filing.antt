@@ -21,7 +21,7 @@ use Rattle.listing_definitions.specs.Ending.{VerbStop}
 use Rattle.listing_definitions.specs.Report as reports
 use Rattle.listing_definitions.specs.Text.{report_text}
 use Rattle.run_definitions.specs.State.{Present, State, problem_of}
-use Rattle.run_definitions.specs.Moves.{Prints, Outcome, next, stops, Move, Settles, or_fault}
+use Rattle.run_definitions.specs.Moves.{Prints, StatementOutcome, next, stops, StatementMove, Settles, or_fault}
 use Rattle.run_definitions.specs.Verbs.{deck_stop, or_deck_fault, size_of, files, verb_move}
 use Rattle.run_machine.specs.declared.act.Act.TheVariants.{Next}
 use Rattle.run_machine.specs.declared.act.Halt.TheVariants as halt
@@ -49,17 +49,17 @@ put_in_front old new problem problems held put last (Some name) =
     ap by_test (same_sym name problem.name) ∙ ap by_rest (held (Some name)) ∙ sym (put name)
 
 -- a deck fault
-settles_deck_fault : (card : ℕ) (found : Result (Problem ℕ) DeckFault) (go : Problem ℕ → Move) (fault : DeckFault) → found ≡ Err fault → Settles card (or_deck_fault found go) (stops (deck_stop fault))
+settles_deck_fault : (card : ℕ) (found : Result (Problem ℕ) DeckFault) (go : Problem ℕ → StatementMove) (fault : DeckFault) → found ≡ Err fault → Settles card (or_deck_fault found go) (stops (deck_stop fault))
 settles_deck_fault card found go fault err = subst (λ r. Settles card (or_deck_fault r go) (stops (deck_stop fault))) (sym err) refl
 
-settles_problem : (card : ℕ) (found : Result (Problem ℕ) DeckFault) (go : Problem ℕ → Move) (problem : Problem ℕ) (outcome : Outcome) → found ≡ Ok problem → Settles card (go problem) outcome →
+settles_problem : (card : ℕ) (found : Result (Problem ℕ) DeckFault) (go : Problem ℕ → StatementMove) (problem : Problem ℕ) (outcome : StatementOutcome) → found ≡ Ok problem → Settles card (go problem) outcome →
     Settles card (or_deck_fault found go) outcome
 settles_problem card found go problem outcome ok given = subst (λ r. Settles card (or_deck_fault r go) outcome) (sym ok) given
 
 -- ---- a deck is taken
 
 -- a deck is taken, and the problem that it gives is filed
-abbrev pub takes : ℕ → (List Card → Result (Problem ℕ) DeckFault) → (reports.Filed → reports.Report) → State → Move
+abbrev pub takes : ℕ → (List Card → Result (Problem ℕ) DeckFault) → (reports.Filed → reports.Report) → State → StatementMove
 takes card gives report state =
     or_fault card DeckNotFound (deck_taken state.cells.xdata state.decks) (λ taken. or_deck_fault (gives taken.0) (files report taken.1 state))
 

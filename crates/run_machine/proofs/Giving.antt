@@ -13,7 +13,7 @@ use Rattle.listing_definitions.specs.Report.{Report}
 use Rattle.listing_definitions.specs.Text.{report_text}
 use Rattle.listing_definitions.specs.Ending.{VerbStop}
 use Rattle.run_definitions.specs.State.{Present, State, problem_of}
-use Rattle.run_definitions.specs.Moves.{Gain, Nothing, Prints, punched_by, Outcome, stops, Move, Settles, or_fault, gain_of, gain_text}
+use Rattle.run_definitions.specs.Moves.{Gain, Nothing, Prints, punched_by, StatementOutcome, stops, StatementMove, Settles, or_fault, gain_of, gain_text}
 use Rattle.run_definitions.specs.Verbs.{verb_move}
 use Rattle.run_machine.specs.declared.act.Act.{Act}
 use Rattle.run_machine.specs.declared.act.Halt.TheVariants as halt
@@ -27,16 +27,16 @@ pub problem_view : {K : Type 0} {Shows : Filed → K → Present → Type 0} {ca
 problem_view {machine = machine} {state = state} s cell found e = s.file (cell state.cells) ∙ ap (λ (c : Cells). filed (cell c) machine.file) s.cells ∙ e
 
 -- a verb fault
-pub settles_fault : {X : Type 0} (card : ℕ) (fault : VerbFault) (found : Option X) (go : X → Move) → found ≡ None → Settles card (or_fault card fault found go) (stops (VerbStop (record { fault = fault; card = card })))
+pub settles_fault : {X : Type 0} (card : ℕ) (fault : VerbFault) (found : Option X) (go : X → StatementMove) → found ≡ None → Settles card (or_fault card fault found go) (stops (VerbStop (record { fault = fault; card = card })))
 settles_fault card fault found go none = subst (λ o. Settles card (or_fault card fault o go) (stops (VerbStop (record { fault = fault; card = card })))) (sym none) refl
 
 -- no verb fault
-pub settles_found : {X : Type 0} (card : ℕ) (fault : VerbFault) (found : Option X) (go : X → Move) (x : X) (outcome : Outcome) → found ≡ Some x → Settles card (go x) outcome → Settles card (or_fault card fault found go) outcome
+pub settles_found : {X : Type 0} (card : ℕ) (fault : VerbFault) (found : Option X) (go : X → StatementMove) (x : X) (outcome : StatementOutcome) → found ≡ Some x → Settles card (go x) outcome → Settles card (or_fault card fault found go) outcome
 settles_found card fault found go x outcome some given = subst (λ o. Settles card (or_fault card fault o go) outcome) (sym some) given
 
 -- ---- with what is printed
 
-module _ {K : Type 0} (Shows : Filed → K → Present → Type 0) (Given : ℕ → Move → Outcome → Type 0) (verb : Verb ℕ) (card : ℕ) {P : Type 0} (written stopped_at : P → Option (List ℕ)) (faults refusals : P → ℕ) (cards : List (List ℕ)) (old : Machine K) where
+module _ {K : Type 0} (Shows : Filed → K → Present → Type 0) (Given : ℕ → StatementMove → StatementOutcome → Type 0) (verb : Verb ℕ) (card : ℕ) {P : Type 0} (written stopped_at : P → Option (List ℕ)) (faults refusals : P → ℕ) (cards : List (List ℕ)) (old : Machine K) where
   pub quietly : (print : P) {new : Machine K} {act : Act} →
       ((position executed : ℕ) (state : State) → Represents Shows cards old position executed state → Comes Shows Given verb card cards position executed state new Nothing act) →
       Executes Shows Given verb card written stopped_at faults refusals print print cards old new (Ok act)
@@ -50,7 +50,7 @@ module _ {K : Type 0} (Shows : Filed → K → Present → Type 0) (Given : ℕ 
 
   -- the report is broken off
   pub cut_off : {print_old print_new : P} (new : Machine K) (stop : WriteStop) (report : Report) →
-      ((position executed : ℕ) (state : State) → Represents Shows cards old position executed state → (outcome : Outcome) × Given card (verb_move verb card state) outcome × (gain_of outcome ≡ Prints report)) →
+      ((position executed : ℕ) (state : State) → Represents Shows cards old position executed state → (outcome : StatementOutcome) × Given card (verb_move verb card state) outcome × (gain_of outcome ≡ Prints report)) →
       Writes {T = Unit {0}} written stopped_at faults refusals print_old print_new (Err stop) (report_text report) →
       Executes Shows Given verb card written stopped_at faults refusals print_old print_new cards old new (Err (halt.Print stop))
   cut_off {print_old = print_old} {print_new = print_new} new stop report comes writes = λ position executed state s.

@@ -16,7 +16,7 @@ use Rattle.listing_definitions.specs.Report.{BcdOut}
 use Rattle.listing_definitions.specs.Text.{report_text}
 use Rattle.problem_file.specs.Filed.{Filed}
 use Rattle.run_definitions.specs.State.{Present, State, problem_of}
-use Rattle.run_definitions.specs.Moves.{Gain, Punches, punched_by, Outcome, next, Move, Does, Settles, gain_of}
+use Rattle.run_definitions.specs.Moves.{Gain, Punches, punched_by, StatementOutcome, next, StatementMove, Does, Settles, gain_of}
 use Rattle.run_definitions.specs.Verbs.{max_counted, verb_move}
 use Rattle.run_machine.specs.declared.act.Act.{Act}
 use Rattle.run_machine.specs.declared.act.Act.TheVariants.{Next, Ends}
@@ -35,7 +35,7 @@ module _ {U : Type 0} (punch_written punch_stopped_at : U → Option (List ℕ))
   no_cards_written gain none = writes_same (sym (ap card_text none)) (writes_nothing punch_written punch_stopped_at punch_faults punch_refusals punch tt)
 
   -- a statement that punches nothing leaves the punch as it is
-  pub punches_nothing : {K : Type 0} (Shows : Filed → K → Present → Type 0) (Given : ℕ → Move → Outcome → Type 0) (verb : Verb ℕ) (card : ℕ) {P : Type 0} (written stopped_at : P → Option (List ℕ)) (faults refusals : P → ℕ) (print_old print_new : P) (cards : List (List ℕ)) (old new : Machine K) (result : Result Act Halt) →
+  pub punches_nothing : {K : Type 0} (Shows : Filed → K → Present → Type 0) (Given : ℕ → StatementMove → StatementOutcome → Type 0) (verb : Verb ℕ) (card : ℕ) {P : Type 0} (written stopped_at : P → Option (List ℕ)) (faults refusals : P → ℕ) (print_old print_new : P) (cards : List (List ℕ)) (old new : Machine K) (result : Result Act Halt) →
       Executes Shows Given verb card written stopped_at faults refusals print_old print_new cards old new result →
       Performs Shows Given verb card written stopped_at faults refusals print_old print_new punch_written punch_stopped_at punch_faults punch_refusals punch punch cards old new result
   punches_nothing Shows Given verb card written stopped_at faults refusals print_old print_new cards old new (Ok act) executes = λ position executed state s.
@@ -82,7 +82,7 @@ stopped written stopped_at faults refusals stop text w = record {
 abbrev cards_of : Problem ℕ → List (List ℕ)
 cards_of problem = deck_fields (by_names problem)
 
-abbrev punches_it : State → Problem ℕ → Outcome
+abbrev punches_it : State → Problem ℕ → StatementOutcome
 punches_it state problem = next (Punches (BcdOut problem.name (min (length (cards_of problem)) max_counted)) (cards_of problem)) state
 
 punch_gives : (card : ℕ) (state : State) (problem : Problem ℕ) → problem_of state.cells.xpbname state.file ≡ Some problem → Settles card (verb_move Bcdout card state) (punches_it state problem)

@@ -8,7 +8,7 @@ use Rattle.control_definitions.specs.Program.{Verb}
 use Rattle.listing_definitions.specs.Report.{Report}
 use Rattle.problem_file.specs.Filed.{Filed}
 use Rattle.run_definitions.specs.State.{Present, State}
-use Rattle.run_definitions.specs.Moves.{Gain, Punches, punched_by, Outcome, Goes, gain_of, gain_text, Move}
+use Rattle.run_definitions.specs.Moves.{Gain, Punches, punched_by, StatementOutcome, Goes, gain_of, gain_text, StatementMove}
 use Rattle.run_definitions.specs.Verbs.{verb_move}
 use Rattle.run_machine.specs.declared.act.Act.{Act}
 use Rattle.run_machine.specs.declared.act.Halt.{Halt}
@@ -21,7 +21,7 @@ use Rattle.run_machine.specs.Statements.{Comes}
 abbrev pub gain_cards : Gain → List ℕ
 gain_cards gain = card_text (punched_by gain)
 
-module _ {K : Type 0} (Shows : Filed → K → Present → Type 0) (Given : ℕ → Move → Outcome → Type 0) (verb : Verb ℕ) (card : ℕ) {P U : Type 0} (written stopped_at : P → Option (List ℕ)) (faults refusals : P → ℕ) (print_old print_new : P)
+module _ {K : Type 0} (Shows : Filed → K → Present → Type 0) (Given : ℕ → StatementMove → StatementOutcome → Type 0) (verb : Verb ℕ) (card : ℕ) {P U : Type 0} (written stopped_at : P → Option (List ℕ)) (faults refusals : P → ℕ) (print_old print_new : P)
     (punch_written punch_stopped_at : U → Option (List ℕ)) (punch_faults punch_refusals : U → ℕ) (punch_old punch_new : U) where
   -- with some gain, which is printed and punched, the statement comes to this act
   pub record ActsWith (cards : List (List ℕ)) (position executed : ℕ) (state : State) (new : Machine K) (act : Act) : Type 0 where
@@ -32,7 +32,7 @@ module _ {K : Type 0} (Shows : Filed → K → Present → Type 0) (Given : ℕ 
 
   -- the statement comes to something, and the print stops before all that it gains is printed; what it punches is punched before
   pub record IsPrintCut (state : State) (stop : WriteStop) : Type 0 where
-    pub outcome : Outcome
+    pub outcome : StatementOutcome
     pub gives : Given card (verb_move verb card state) outcome
     pub prints : Writes {T = Unit {0}} written stopped_at faults refusals print_old print_new (Err stop) (gain_text (gain_of outcome))
     pub punches : Writes {T = Unit {0}} punch_written punch_stopped_at punch_faults punch_refusals punch_old punch_new (Ok tt) (gain_cards (gain_of outcome))

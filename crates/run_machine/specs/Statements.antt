@@ -10,7 +10,7 @@ use Rattle.control_definitions.specs.Program.{Verb, MoveLimit, Mvadr, Goto}
 use Rattle.control_definitions.specs.declared.TheConstants.{MAX_STEPS}
 use Rattle.problem_file.specs.Filed.{Filed}
 use Rattle.run_definitions.specs.State.{Present, State}
-use Rattle.run_definitions.specs.Moves.{Gain, Nothing, punched_by, gain_text, Outcome, Ends, gain_of, next, jump, Move}
+use Rattle.run_definitions.specs.Moves.{Gain, Nothing, punched_by, gain_text, StatementOutcome, Ends, gain_of, next, jump, StatementMove}
 use Rattle.run_definitions.specs.Verbs.{verb_move}
 use Rattle.run_machine.specs.declared.act.Act.{Act}
 use Rattle.run_machine.specs.declared.act.Act.TheVariants as act
@@ -27,9 +27,9 @@ IsSoundVerb (Mvadr demand position) = 1 ≤ position
 IsSoundVerb (Goto position) = 1 ≤ position
 IsSoundVerb _ = Unit {0}
 
-module _ {K : Type 0} (Shows : Filed → K → Present → Type 0) (Given : ℕ → Move → Outcome → Type 0) where
+module _ {K : Type 0} (Shows : Filed → K → Present → Type 0) (Given : ℕ → StatementMove → StatementOutcome → Type 0) where
   -- the run goes on with a state that the machine shows, or it ends
-  abbrev pub Follows : ℕ → Move → List (List ℕ) → Machine K → ℕ → ℕ → Gain → Act → Type 0
+  abbrev pub Follows : ℕ → StatementMove → List (List ℕ) → Machine K → ℕ → ℕ → Gain → Act → Type 0
   Follows card move cards new position executed gain act.Next = (after : State) × Given card move (next gain after) × Represents Shows cards new position executed after
   Follows card move cards new position executed gain (act.Jump to) = (after : State) × Given card move (jump gain to after) × Represents Shows cards new position executed after × (1 ≤ to)
   Follows card move cards new position executed gain (act.Ends end) = Given card move (Ends gain (end_view end))
@@ -53,7 +53,7 @@ module _ {K : Type 0} (Shows : Filed → K → Present → Type 0) (Given : ℕ 
 
       -- the statement comes to something, and the print stops before all that it gains is printed
       pub record IsCutOff (state : State) (stop : WriteStop) : Type 0 where
-        pub outcome : Outcome
+        pub outcome : StatementOutcome
         pub no_cards : punched_by (gain_of outcome) ≡ []
         pub gives : Given card (verb_move verb card state) outcome
         pub writes : Writes {T = Unit {0}} written stopped_at faults refusals print_old print_new (Err stop) (gain_text (gain_of outcome))

@@ -19,7 +19,7 @@ use Rattle.listing_definitions.specs.Text.{report_text}
 use Rattle.question_definitions.specs.Answers.{Basis}
 use Rattle.control_definitions.specs.Cells.{Cells}
 use Rattle.run_definitions.specs.State.{Present, State, problem_of, choice_of}
-use Rattle.run_definitions.specs.Moves.{Prints, Outcome, next, stops, InSelection, Move, Does, MayStop, Gives}
+use Rattle.run_definitions.specs.Moves.{Prints, StatementOutcome, next, stops, InSelection, StatementMove, Does, MayStop, Gives}
 use Rattle.run_definitions.specs.Verbs.{or_selection_fault, verb_move}
 use Rattle.run_machine.specs.declared.act.Act.TheVariants.{Next}
 use Rattle.run_machine.specs.declared.act.Halt.TheVariants as halt
@@ -54,14 +54,14 @@ kept problem options basis = record { problem = problem; options = options; open
 abbrev after_setup : Problem ℕ → SetupOptions → Basis → State → State
 after_setup problem options basis state = record state { setup = Some (kept problem options basis); mark = None }
 
-abbrev outcome_of : Problem ℕ → SetupOptions → Basis → State → Outcome
+abbrev outcome_of : Problem ℕ → SetupOptions → Basis → State → StatementOutcome
 outcome_of problem options basis state = next (Prints (SetUp problem.name options.sense)) (after_setup problem options basis state)
 
 module _ (card : ℕ) (options : SetupOptions) (state : State) where
-  abbrev go_selected : Problem ℕ → LinearProgram → Move
+  abbrev go_selected : Problem ℕ → LinearProgram → StatementMove
   go_selected problem lp = MayStop (InSelection problem (choice_of state.cells options)) (Does (outcome_of problem options (opening_statuses lp) state))
 
-  abbrev go_found : Problem ℕ → Move
+  abbrev go_found : Problem ℕ → StatementMove
   go_found problem = or_selection_fault card (selected problem (choice_of state.cells options)) (go_selected problem)
 
   gives_no_problem : problem_of state.cells.xpbname state.file ≡ None → Gives linear_programming card (verb_move (SetupVerb options) card state) (stops (VerbStop (record { fault = verb_fault.NoProblem; card = card })))

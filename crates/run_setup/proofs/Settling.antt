@@ -4,7 +4,7 @@ use Rattle.problem_file.specs.Filed.{Filed}
 use Rattle.control_definitions.specs.Program.{Verb}
 use Rattle.question_definitions.specs.Solving.{Solving}
 use Rattle.run_definitions.specs.State.{Present}
-use Rattle.run_definitions.specs.Moves.{Gain, Goes, Punches, Move, Gives, Settles}
+use Rattle.run_definitions.specs.Moves.{Gain, Goes, Punches, StatementMove, Gives, Settles}
 use Rattle.run_definitions.specs.Verbs.{verb_move}
 use Rattle.run_definitions.proofs.Settling.{settles_gives}
 use Rattle.run_machine.specs.declared.act.Act.{Act}
@@ -18,7 +18,7 @@ use Rattle.run_machine.proofs.Giving.{quietly}
 use Rattle.run_machine.proofs.Punching.{punches_nothing}
 
 module _ {K : Type 0} (Shows : Filed → K → Present → Type 0) (S : Solving) where
-  follows : (card : ℕ) (move : Move) (cards : List (List ℕ)) (new : Machine K) (position executed : ℕ) (gain : Gain) (then : Act) →
+  follows : (card : ℕ) (move : StatementMove) (cards : List (List ℕ)) (new : Machine K) (position executed : ℕ) (gain : Gain) (then : Act) →
       Follows Shows Settles card move cards new position executed gain then → Follows Shows (Gives S) card move cards new position executed gain then
   follows card move cards new position executed gain act.Next f = (f.0, settles_gives S card move _ f.1, f.2)
   follows card move cards new position executed gain (act.Jump to) f = (f.0, settles_gives S card move _ f.1, f.2, f.3)

@@ -4,7 +4,7 @@ use Rattle.std.specs.Prelude.{ℕ, List, Option, Result}
 use Rattle.control_definitions.specs.Program.{Verb}
 use Rattle.question_definitions.specs.Solving.{Solving}
 use Rattle.run_definitions.specs.State.{State}
-use Rattle.run_definitions.specs.Moves.{Gain, Move, Gives}
+use Rattle.run_definitions.specs.Moves.{Gain, StatementMove, Gives}
 use Rattle.run_machine.specs.declared.act.Act.{Act}
 use Rattle.run_machine.specs.declared.act.Halt.{Halt}
 use Rattle.run_machine.specs.Statements as statements
@@ -13,7 +13,7 @@ use Rattle.run_setup.specs.Machines.{Machine}
 use Rattle.run_setup.specs.Standing.{IsPresent}
 
 -- the run goes on with a state that the machine shows, or it ends
-abbrev pub Follows : Solving → ℕ → Move → List (List ℕ) → Machine → ℕ → ℕ → Gain → Act → Type 0
+abbrev pub Follows : Solving → ℕ → StatementMove → List (List ℕ) → Machine → ℕ → ℕ → Gain → Act → Type 0
 Follows S = statements.Follows IsPresent (Gives S)
 
 module _ (S : Solving) (verb : Verb ℕ) (card : ℕ) where

@@ -16,60 +16,64 @@ use std::test::Fail;
 
 /// Where a path ends.
 #[derive(Drop)]
-enum End {
+enum PathResult {
     Found(Outcome),
     Reported(String),
 }
 
 /// What a path that isn't ended says.
-fn reported(alloc: Global, text: &str) -> Result<End, Fail> {
-    Ok(End::Reported(String::from_str(alloc, text)?))
+fn reported(alloc: Global, text: &str) -> Result<PathResult, Fail> {
+    Ok(PathResult::Reported(String::from_str(alloc, text)?))
 }
 
-fn primal_end(alloc: Global, answer: Result<Outcome, PrimalStop>) -> Result<End, Fail> {
+fn primal_end(alloc: Global, answer: Result<Outcome, PrimalStop>) -> Result<PathResult, Fail> {
     match answer {
-        Ok(outcome) => Ok(End::Found(outcome)),
+        Ok(outcome) => Ok(PathResult::Found(outcome)),
         Err(PrimalStop::Limit) => reported(alloc, "LIMIT"),
-        Err(PrimalStop::Overflow(evidence)) => Ok(End::Reported(evidence_text(alloc, &evidence)?)),
+        Err(PrimalStop::Overflow(evidence)) => Ok(PathResult::Reported(evidence_text(
+            alloc, &evidence,
+        )?)),
         Err(PrimalStop::NoMemory) => Err(Fail::from("memory")),
     }
 }
 
-fn free_end(alloc: Global, answer: Result<Outcome, Stop>) -> Result<End, Fail> {
+fn free_end(alloc: Global, answer: Result<Outcome, Stop>) -> Result<PathResult, Fail> {
     match answer {
-        Ok(outcome) => Ok(End::Found(outcome)),
-        Err(Stop::Overflow(evidence)) => Ok(End::Reported(evidence_text(alloc, &evidence)?)),
+        Ok(outcome) => Ok(PathResult::Found(outcome)),
+        Err(Stop::Overflow(evidence)) => Ok(PathResult::Reported(evidence_text(alloc, &evidence)?)),
         Err(Stop::NoMemory) => Err(Fail::from("memory")),
     }
 }
 
-fn dual_end(alloc: Global, answer: Result<Outcome, DualStop>) -> Result<End, Fail> {
+fn dual_end(alloc: Global, answer: Result<Outcome, DualStop>) -> Result<PathResult, Fail> {
     match answer {
-        Ok(outcome) => Ok(End::Found(outcome)),
+        Ok(outcome) => Ok(PathResult::Found(outcome)),
         Err(DualStop::NotDualFeasible(k)) => {
-            Ok(End::Reported(format!(in alloc; "WRONG PRICE {k}")?))
+            Ok(PathResult::Reported(format!(in alloc; "WRONG PRICE {k}")?))
         }
         Err(DualStop::Limit) => reported(alloc, "LIMIT"),
-        Err(DualStop::Overflow(evidence)) => Ok(End::Reported(evidence_text(alloc, &evidence)?)),
+        Err(DualStop::Overflow(evidence)) => Ok(PathResult::Reported(evidence_text(
+            alloc, &evidence,
+        )?)),
         Err(DualStop::NoMemory) => Err(Fail::from("memory")),
     }
 }
 
 /// The simplex path within a limit of steps, over an engine.
-fn by_primal<E: Engine>(alloc: Global, lp: &Lp, limit: u32) -> Result<(End, Basis), Fail> {
+fn by_primal<E: Engine>(alloc: Global, lp: &Lp, limit: u32) -> Result<(PathResult, Basis), Fail> {
     let (mut basis, mut rates) = opening::<E>(alloc, lp)?;
     let answer = primal(alloc, lp, &mut basis, &mut rates, limit);
     Ok((primal_end(alloc, answer)?, basis))
 }
 
 /// The simplex path without a limit.
-fn by_free(alloc: Global, lp: &Lp) -> Result<(End, Basis), Fail> {
+fn by_free(alloc: Global, lp: &Lp) -> Result<(PathResult, Basis), Fail> {
     let (mut basis, mut rates) = opening::<Dense>(alloc, lp)?;
     let answer = primal_free(alloc, lp, &mut basis, &mut rates);
     Ok((free_end(alloc, answer)?, basis))
 }
 
-fn by_dual(alloc: Global, lp: &Lp, limit: u32) -> Result<(End, Basis), Fail>
+fn by_dual(alloc: Global, lp: &Lp, limit: u32) -> Result<(PathResult, Basis), Fail>
     requires { lp.now.change ≡ None }
 {
     let (mut basis, mut rates) = opening::<Dense>(alloc, lp)?;
@@ -88,7 +92,7 @@ enum Way {
     Dual,
 }
 
-fn followed(alloc: Global, lp: &Lp, way: Way, limit: u32) -> Result<(End, Basis), Fail>
+fn followed(alloc: Global, lp: &Lp, way: Way, limit: u32) -> Result<(PathResult, Basis), Fail>
     requires { lp.now.change ≡ None }
 {
     match way {
@@ -137,15 +141,15 @@ fn verdict_on(lp: &Lp, outcome: &Outcome) -> Option<Verdict> {
 }
 
 /// The text of an end, which is checked where it is an outcome.
-fn end_text(alloc: Global, lp: &Lp, end: End) -> Result<String, Fail> {
+fn end_text(alloc: Global, lp: &Lp, end: PathResult) -> Result<String, Fail> {
     match end {
-        End::Found(outcome) => {
+        PathResult::Found(outcome) => {
             if verdict_on(lp, &outcome) != Some(Verdict::Checked) {
                 return Err(Fail::from("a wrong outcome"));
             }
             Ok(outcome_text(alloc, &outcome)?)
         }
-        End::Reported(text) => Ok(text),
+        PathResult::Reported(text) => Ok(text),
     }
 }
 

@@ -34,11 +34,11 @@ use Rattle.listing_definitions.specs.declared.Solver.{Solver}
 use Rattle.listing_definitions.specs.declared.Solver.TheVariants.{Primal as ByPrimal, Dual as ByDual}
 use Rattle.listing_definitions.specs.declared.VerbFault.{VerbFault}
 use Rattle.listing_definitions.specs.Report.{Report, Converted, Revised, Solution, Ranges}
-use Rattle.question_definitions.specs.Answers.{Basis, Sheet, Changing, ParametricRun, Question, Answer, OfPath, OfSolution, OfRanges, OfParametricRun, OfPunch, OfInstall, PathEnd, Reached, PathLimit, PricesWrong, ParametricRunEnd, Opening, Chained, ParametricRunLimit, InstallEnd, Installed, DependsBy}
+use Rattle.question_definitions.specs.Answers.{Basis, Sheet, Changing, ParametricRun, Question, AnswerTo, OfPath, OfSolution, OfRanges, OfParametricRun, OfPunch, OfInstall, PathEnd, Reached, PathLimit, PricesWrong, ParametricRunEnd, Opening, Chained, ParametricRunLimit, InstallEnd, Installed, DependsBy}
 use Rattle.question_definitions.specs.Solving.{Solving}
 use Rattle.control_definitions.specs.Cells.{Cells, move_name, move_number, steps_allowed, set_demand}
 use Rattle.run_definitions.specs.State.{Present, gone_through, State, problem_of, choice_of}
-use Rattle.run_definitions.specs.Moves.{Outcome, Goes, Ends, Refusals, Move, Does, MayStop, Asks, Gives, or_fault}
+use Rattle.run_definitions.specs.Moves.{StatementOutcome, Goes, Ends, Refusals, StatementMove, Does, MayStop, Asks, Gives, or_fault}
 use Rattle.run_definitions.specs.Verbs.{revises, or_deck_fault, or_selection_fault, files, selects, not_less, change_row, change_set, asks, demanded, by_verdict, if_optimal, after_path, after_parametric_run, after_install, shows_present, solves, shows, ranges, parametric_runs, converts, sets_up, punches, punches_basis, inserts, verb_move}
 use Rattle.run_definitions.specs.Run.{counted, Step, Reaches, begun, stepped}
 use Rattle.run_definitions.specs.Answer.{IsSoFar}
@@ -63,39 +63,39 @@ with_setup present is other e = subst (λ (p : Present). IsProblem p.problem) (s
 
 -- ---- moves
 
-abbrev Leads : Outcome → Type 0
+abbrev Leads : StatementOutcome → Type 0
 Leads (Goes gain after) = AreLawful after
 Leads (Ends gain ending) = Unit {0}
 
-record IsLed (S : Solving) (card : ℕ) (move : Move) : Type 0 where
-  by : (outcome : Outcome) → Gives S card move outcome → Leads outcome
+record IsLed (S : Solving) (card : ℕ) (move : StatementMove) : Type 0 where
+  by : (outcome : StatementOutcome) → Gives S card move outcome → Leads outcome
 
-does : (S : Solving) (card : ℕ) (outcome : Outcome) → Leads outcome → IsLed S card (Does outcome)
+does : (S : Solving) (card : ℕ) (outcome : StatementOutcome) → Leads outcome → IsLed S card (Does outcome)
 does S card outcome leads = record { by = λ given e. subst Leads (sym e) leads }
 
-may_stop : (S : Solving) (card : ℕ) (refusals : Refusals) (move : Move) → IsLed S card move → IsLed S card (MayStop refusals move)
+may_stop : (S : Solving) (card : ℕ) (refusals : Refusals) (move : StatementMove) → IsLed S card move → IsLed S card (MayStop refusals move)
 may_stop S card refusals move led = record { by = at }
   where
-    at : (given : Outcome) → Gives S card (MayStop refusals move) given → Leads given
+    at : (given : StatementOutcome) → Gives S card (MayStop refusals move) given → Leads given
     at given (inl gives) = led.by given gives
     at given (inr stop) = subst Leads (sym stop.3) tt
 
-answered : (S : Solving) (card : ℕ) (question : Question) (sheet : Sheet) (s : Basis) (go : Answer question → Outcome) → ((answer : Answer question) → Leads (go answer)) → IsLed S card (Asks question sheet s go)
+answered : (S : Solving) (card : ℕ) (question : Question) (sheet : Sheet) (s : Basis) (go : AnswerTo question → StatementOutcome) → ((answer : AnswerTo question) → Leads (go answer)) → IsLed S card (Asks question sheet s go)
 answered S card question sheet s go leads = record { by = λ given a. subst Leads (sym a.2) (leads a.0) }
 
-unless_fault : {X : Type 0} (S : Solving) (card : ℕ) (fault : VerbFault) (o : Option X) (go : X → Move) → ((x : X) → o ≡ Some x → IsLed S card (go x)) → IsLed S card (or_fault card fault o go)
+unless_fault : {X : Type 0} (S : Solving) (card : ℕ) (fault : VerbFault) (o : Option X) (go : X → StatementMove) → ((x : X) → o ≡ Some x → IsLed S card (go x)) → IsLed S card (or_fault card fault o go)
 unless_fault S card fault None go led = does S card _ tt
 unless_fault S card fault (Some x) go led = led x refl
 
-unless_deck_fault : {X : Type 0} (S : Solving) (card : ℕ) (r : Result X DeckFault) (go : X → Move) → ((x : X) → r ≡ Ok x → IsLed S card (go x)) → IsLed S card (or_deck_fault r go)
+unless_deck_fault : {X : Type 0} (S : Solving) (card : ℕ) (r : Result X DeckFault) (go : X → StatementMove) → ((x : X) → r ≡ Ok x → IsLed S card (go x)) → IsLed S card (or_deck_fault r go)
 unless_deck_fault S card (Err fault) go led = does S card _ tt
 unless_deck_fault S card (Ok x) go led = led x refl
 
-unless_selection_fault : (S : Solving) (card : ℕ) (r : Result LinearProgram SelectionFault) (go : LinearProgram → Move) → ((lp : LinearProgram) → IsLed S card (go lp)) → IsLed S card (or_selection_fault card r go)
+unless_selection_fault : (S : Solving) (card : ℕ) (r : Result LinearProgram SelectionFault) (go : LinearProgram → StatementMove) → ((lp : LinearProgram) → IsLed S card (go lp)) → IsLed S card (or_selection_fault card r go)
 unless_selection_fault S card (Err fault) go led = does S card _ tt
 unless_selection_fault S card (Ok lp) go led = led lp
 
-selecting : (S : Solving) (card : ℕ) (problem : Problem ℕ) (choice : Choice) (go : LinearProgram → Move) → ((lp : LinearProgram) → IsLed S card (go lp)) → IsLed S card (selects card problem choice go)
+selecting : (S : Solving) (card : ℕ) (problem : Problem ℕ) (choice : Choice) (go : LinearProgram → StatementMove) → ((lp : LinearProgram) → IsLed S card (go lp)) → IsLed S card (selects card problem choice go)
 selecting S card problem choice go led = unless_selection_fault S card (selected problem choice) _ (λ lp. may_stop S card _ (go lp) (led lp))
 
 -- ---- states
@@ -215,7 +215,7 @@ module _ (S : Solving) where
       selecting S card present.problem _ _ (λ lp.
       may_stop S card _ _ (answered S card (OfPath solver limit) _ _ _ (pathed solver card present state lawful (lawful.setup present e)))))
 
-  showing_led : (card : ℕ) (state : State) (present : Present) (question : Question) (report : Answer question → Report) → AreLawful state →
+  showing_led : (card : ℕ) (state : State) (present : Present) (question : Question) (report : AnswerTo question → Report) → AreLawful state →
       IsLed S card (shows_present card state present question report)
   showing_led card state present question report lawful =
       unless_selection_fault S card (selected present.problem (choice_of state.cells present.options)) _ (λ lp.
@@ -287,7 +287,7 @@ module _ (S : Solving) where
 
   -- ---- runs
 
-  step_leads : (program : Program) (state : State) (outcome : Outcome) → HasNames program → AreLawful state → Step S program state outcome → Leads outcome
+  step_leads : (program : Program) (state : State) (outcome : StatementOutcome) → HasNames program → AreLawful state → Step S program state outcome → Leads outcome
   step_leads program state outcome names lawful step =
       (verb_led step.statement.verb step.statement.card (counted state) (statement_at program _ step.statement names step.is_at_position)
       (record { file = lawful.file; setup = lawful.setup; decks = lawful.decks; name = lawful.name })).by outcome step.gives

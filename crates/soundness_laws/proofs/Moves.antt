@@ -18,10 +18,10 @@ use Rattle.selection_definitions.specs.Selection.{selected}
 use Rattle.listing_definitions.specs.declared.Mark.{Mark}
 use Rattle.listing_definitions.specs.declared.Mark.TheVariants.{Optimal}
 use Rattle.listing_definitions.specs.declared.VerbFault.{VerbFault}
-use Rattle.question_definitions.specs.Answers.{Basis, Sheet, Question, Answer}
+use Rattle.question_definitions.specs.Answers.{Basis, Sheet, Question, AnswerTo}
 use Rattle.question_definitions.specs.Solving.{Solving, IsRight}
 use Rattle.run_definitions.specs.State.{Present, present_basis, State}
-use Rattle.run_definitions.specs.Moves.{Gain, Nothing, Prints, Punches, Outcome, Goes, Ends, Refusals, Move, Does, MayStop, Asks, Gives, or_fault}
+use Rattle.run_definitions.specs.Moves.{Gain, Nothing, Prints, Punches, StatementOutcome, Goes, Ends, Refusals, StatementMove, Does, MayStop, Asks, Gives, or_fault}
 use Rattle.run_definitions.specs.Verbs.{or_deck_fault, or_selection_fault, selects}
 use Rattle.simplex_laws.specs.Laws.{IsNonsingularBasis}
 use Rattle.soundness_laws.specs.Truth.{Holds, HoldsAtEnd}
@@ -78,40 +78,40 @@ HoldsGain at Nothing = Unit {0}
 HoldsGain at (Prints report) = Holds at report
 HoldsGain at (Punches report cards) = Holds at report
 
-abbrev pub Keeps : State → Outcome → Type 0
+abbrev pub Keeps : State → StatementOutcome → Type 0
 Keeps at (Goes gain after) = HoldsGain at gain × Knows after
 Keeps at (Ends gain ending) = HoldsGain at gain × HoldsAtEnd at ending
 
-pub record IsKept (S : Solving) (at : State) (card : ℕ) (move : Move) : Type 0 where
-  pub by : (outcome : Outcome) → Gives S card move outcome → Keeps at outcome
+pub record IsKept (S : Solving) (at : State) (card : ℕ) (move : StatementMove) : Type 0 where
+  pub by : (outcome : StatementOutcome) → Gives S card move outcome → Keeps at outcome
 
-pub does : (S : Solving) (at : State) (card : ℕ) (outcome : Outcome) → Keeps at outcome → IsKept S at card (Does outcome)
+pub does : (S : Solving) (at : State) (card : ℕ) (outcome : StatementOutcome) → Keeps at outcome → IsKept S at card (Does outcome)
 does S at card outcome keeps = record { by = λ given e. subst (Keeps at) (sym e) keeps }
 
-pub may_stop : (S : Solving) (at : State) (card : ℕ) (refusals : Refusals) (move : Move) → IsKept S at card move → IsKept S at card (MayStop refusals move)
+pub may_stop : (S : Solving) (at : State) (card : ℕ) (refusals : Refusals) (move : StatementMove) → IsKept S at card move → IsKept S at card (MayStop refusals move)
 may_stop S at card refusals move kept = record { by = gives_so }
   where
-    gives_so : (given : Outcome) → Gives S card (MayStop refusals move) given → Keeps at given
+    gives_so : (given : StatementOutcome) → Gives S card (MayStop refusals move) given → Keeps at given
     gives_so given (inl gives) = kept.by given gives
     gives_so given (inr stop) = subst (Keeps at) (sym stop.3) (tt, tt)
 
-pub answered : (S : Solving) (at : State) (card : ℕ) (question : Question) (sheet : Sheet) (s : Basis) (go : Answer question → Outcome) →
-    ((answer : Answer question) → IsRight S question sheet s answer → Keeps at (go answer)) → IsKept S at card (Asks question sheet s go)
+pub answered : (S : Solving) (at : State) (card : ℕ) (question : Question) (sheet : Sheet) (s : Basis) (go : AnswerTo question → StatementOutcome) →
+    ((answer : AnswerTo question) → IsRight S question sheet s answer → Keeps at (go answer)) → IsKept S at card (Asks question sheet s go)
 answered S at card question sheet s go kept = record { by = λ given a. subst (Keeps at) (sym a.2) (kept a.0 a.1) }
 
-pub unless_fault : {X : Type 0} (S : Solving) (at : State) (card : ℕ) (fault : VerbFault) (o : Option X) (go : X → Move) → ((x : X) → o ≡ Some x → IsKept S at card (go x)) → IsKept S at card (or_fault card fault o go)
+pub unless_fault : {X : Type 0} (S : Solving) (at : State) (card : ℕ) (fault : VerbFault) (o : Option X) (go : X → StatementMove) → ((x : X) → o ≡ Some x → IsKept S at card (go x)) → IsKept S at card (or_fault card fault o go)
 unless_fault S at card fault None go kept = does S at card _ (tt, tt)
 unless_fault S at card fault (Some x) go kept = kept x refl
 
-pub unless_deck_fault : {X : Type 0} (S : Solving) (at : State) (card : ℕ) (r : Result X DeckFault) (go : X → Move) → ((x : X) → r ≡ Ok x → IsKept S at card (go x)) → IsKept S at card (or_deck_fault r go)
+pub unless_deck_fault : {X : Type 0} (S : Solving) (at : State) (card : ℕ) (r : Result X DeckFault) (go : X → StatementMove) → ((x : X) → r ≡ Ok x → IsKept S at card (go x)) → IsKept S at card (or_deck_fault r go)
 unless_deck_fault S at card (Err fault) go kept = does S at card _ (tt, tt)
 unless_deck_fault S at card (Ok x) go kept = kept x refl
 
-pub unless_selection_fault : (S : Solving) (at : State) (card : ℕ) (r : Result LinearProgram SelectionFault) (go : LinearProgram → Move) → ((lp : LinearProgram) → r ≡ Ok lp → IsKept S at card (go lp)) →
+pub unless_selection_fault : (S : Solving) (at : State) (card : ℕ) (r : Result LinearProgram SelectionFault) (go : LinearProgram → StatementMove) → ((lp : LinearProgram) → r ≡ Ok lp → IsKept S at card (go lp)) →
     IsKept S at card (or_selection_fault card r go)
 unless_selection_fault S at card (Err fault) go kept = does S at card _ (tt, tt)
 unless_selection_fault S at card (Ok lp) go kept = kept lp refl
 
-pub selecting : (S : Solving) (at : State) (card : ℕ) (problem : Problem ℕ) (choice : Choice) (go : LinearProgram → Move) → ((lp : LinearProgram) → selected problem choice ≡ Ok lp → IsKept S at card (go lp)) →
+pub selecting : (S : Solving) (at : State) (card : ℕ) (problem : Problem ℕ) (choice : Choice) (go : LinearProgram → StatementMove) → ((lp : LinearProgram) → selected problem choice ≡ Ok lp → IsKept S at card (go lp)) →
     IsKept S at card (selects card problem choice go)
 selecting S at card problem choice go kept = unless_selection_fault S at card (selected problem choice) _ (λ lp e. may_stop S at card _ (go lp) (kept lp e))

@@ -3,7 +3,7 @@ use Rattle.std.proofs.Common.{◌≡◌, List, map, length, refl, sym, ap, ap₂
 use Rattle.lp_definitions.specs.LinearProgram.{IsLinearProgram}
 use Rattle.simplex_laws.specs.Laws.{IsNonsingularBasis}
 use Rattle.simplex_definitions.specs.Chain.{FailedOpening, Chain}
-use Rattle.listing_definitions.specs.Report.{PathVerdict, Check, Checked, Unchecked, Interval, ChainEnd}
+use Rattle.listing_definitions.specs.Report.{PathVerdict, Check, Checked, Unchecked, ParametricInterval, ChainEnd}
 use Rattle.question_definitions.specs.Answers.{Basis, Sheet, Changing, Row, Set, ParametricRun, ParametricRunEnd, Opening, Chained, ParametricRunLimit}
 use Rattle.answer_definitions.specs.Verdicts.{verdict_of, check_of, found}
 use Rattle.answer_definitions.specs.ParametricRuns.{row_of, shifts_of, family_of, IsFace, sheet_at, interval_of, end_of, FailsToOpen, IsChained, IsParametricRun}
@@ -41,7 +41,7 @@ module _ (sheet : Sheet) (s : Basis) (parametric_run : ParametricRun) (lawful : 
       one_check check check' (sym first.is_verdict.is_check ∙ ap (check_of first_sheet.lp) ends ∙ second.is_verdict.is_check) in
       λ i. Opening (same.same_path i) (verdicts i) (checks i)
 
-  chains : (bases others : List Basis) (intervals intervals' : List Interval) (end end' : ChainEnd) → IsChained sheet s parametric_run bases intervals end → IsChained sheet s parametric_run others intervals' end' →
+  chains : (bases others : List Basis) (intervals intervals' : List ParametricInterval) (end end' : ChainEnd) → IsChained sheet s parametric_run bases intervals end → IsChained sheet s parametric_run others intervals' end' →
       Chained bases intervals end ≡ Chained others intervals' end'
   chains bases others intervals intervals' end end' first second =
       let same = one_report sheet.lp (family_of sheet parametric_run.changing) (IsFace sheet parametric_run.changing) one parametric_run.from parametric_run.to s (Chain first.parts first.past) (Chain second.parts second.past) bases others at
@@ -53,7 +53,7 @@ module _ (sheet : Sheet) (s : Basis) (parametric_run : ParametricRun) (lawful : 
       let ends : end ≡ end' = first.is_end ∙ ap (end_of sheet parametric_run.to) pasts ∙ sym second.is_end in
       λ i. Chained (same.same_path i) (printed i) (ends i)
 
-  opens_or_chains : (bases others : List Basis) (verdict : PathVerdict) (check : Check) (intervals : List Interval) (end : ChainEnd) → FailsToOpen sheet s parametric_run bases verdict check →
+  opens_or_chains : (bases others : List Basis) (verdict : PathVerdict) (check : Check) (intervals : List ParametricInterval) (end : ChainEnd) → FailsToOpen sheet s parametric_run bases verdict check →
       IsChained sheet s parametric_run others intervals end → ⊥
   opens_or_chains bases others verdict check intervals end first second =
       let reports = (one_report sheet.lp (family_of sheet parametric_run.changing) (IsFace sheet parametric_run.changing) one parametric_run.from parametric_run.to s (FailedOpening first.ending) (Chain second.parts second.past) bases others at

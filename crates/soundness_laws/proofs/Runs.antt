@@ -10,7 +10,7 @@ use Rattle.listing_definitions.specs.Ending.{Ending, Ended, WordsRefused, Contro
 use Rattle.question_definitions.specs.Solving.{Solving}
 use Rattle.answer_definitions.specs.Real.{linear_programming}
 use Rattle.run_definitions.specs.State.{State}
-use Rattle.run_definitions.specs.Moves.{Gain, Nothing, Prints, Punches, printed_by, Outcome, Goes, Ends}
+use Rattle.run_definitions.specs.Moves.{Gain, Nothing, Prints, Punches, printed_by, StatementOutcome, Goes, Ends}
 use Rattle.run_definitions.specs.Run.{counted, Step, Reaches, begun, stepped, IsRun, is_over, is_ended}
 use Rattle.run_definitions.specs.Answer.{Job, Failures, Answer, IsProgramOf, job_decks, IsJobRun, card_fault, control_fault, run, MayEnd, words_refused, read_fails, by_itself, memory_at_start, memory_in_run, memory_at_punch, punch_fails, IsCutShort, in_report, in_end, IsAnswer, whole, print_fails, print_wants_memory}
 use Rattle.soundness_laws.specs.Truth.{Holds, HoldsAtEnd}
@@ -63,12 +63,12 @@ printed_holds state Nothing holds = All-nil (Holds state)
 printed_holds state (Prints report) holds = All-cons (Holds state) report [] (uncounted state report holds) (All-nil (Holds state))
 printed_holds state (Punches report cards) holds = All-cons (Holds state) report [] (uncounted state report holds) (All-nil (Holds state))
 
-outcome_holds : (state : State) (outcome : Outcome) → Keeps (counted state) outcome → All (Holds state) (reports_of outcome)
+outcome_holds : (state : State) (outcome : StatementOutcome) → Keeps (counted state) outcome → All (Holds state) (reports_of outcome)
 outcome_holds state (Goes gain after) keeps = printed_holds state gain keeps.0
 outcome_holds state (Ends gain ending) keeps = printed_holds state gain keeps.0
 
 module _ (S : Solving) (solving : KnowsSolving S) where
-  step_keeps : (program : Program) (state : State) (outcome : Outcome) → HasProblem state.setup → Knows state → Step S program state outcome → Keeps (counted state) outcome
+  step_keeps : (program : Program) (state : State) (outcome : StatementOutcome) → HasProblem state.setup → Knows state → Step S program state outcome → Keeps (counted state) outcome
   step_keeps program state outcome lawful knows step =
       (verb_kept S solving step.statement.verb step.statement.card (counted state) lawful (record { marked = knows.marked; bases = knows.bases })).by outcome step.gives
 
@@ -81,7 +81,7 @@ module _ (S : Solving) (solving : KnowsSolving S) where
     known _ _ _ (stepped {reports} {cards} {state} gain after before step) =
         (step_keeps program state (Goes gain after) (has_problem reports cards state before) (known reports cards state before) step).1
 
-    step_holds : (reports : List Report) (cards : List (List ℕ)) (state : State) (outcome : Outcome) → Reaches S program (job_decks program bytes) reports cards state → Step S program state outcome →
+    step_holds : (reports : List Report) (cards : List (List ℕ)) (state : State) (outcome : StatementOutcome) → Reaches S program (job_decks program bytes) reports cards state → Step S program state outcome →
         All (Holds state) (reports_of outcome)
     step_holds reports cards state outcome reaches step =
         outcome_holds state outcome (step_keeps program state outcome (has_problem reports cards state reaches) (known reports cards state reaches) step)

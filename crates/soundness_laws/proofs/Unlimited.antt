@@ -17,34 +17,34 @@ use Rattle.question_definitions.specs.Solving.{Solving}
 use Rattle.answer_definitions.specs.Verdicts.{IsSolved}
 use Rattle.answer_definitions.specs.Real.{linear_programming}
 use Rattle.run_definitions.specs.State.{Present, present_basis, gone_through, State, choice_of}
-use Rattle.run_definitions.specs.Moves.{Outcome, Refusals, Move, Does, MayStop, Gives, or_fault}
+use Rattle.run_definitions.specs.Moves.{StatementOutcome, Refusals, StatementMove, Does, MayStop, Gives, or_fault}
 use Rattle.run_definitions.specs.Verbs.{or_selection_fault, selects, mark_of, demanded, by_verdict, after_path, solves, verb_move}
 use Rattle.soundness_laws.specs.Laws.{IsNoLimitStop, EndsUnlimited}
 
 module _ (S : Solving) (card : ℕ) where
   -- no outcome of a move is a stop at a limit
-  record NeverLimited (move : Move) : Type 0 where
-    by : (outcome : Outcome) → Gives S card move outcome → IsNoLimitStop outcome
+  record NeverLimited (move : StatementMove) : Type 0 where
+    by : (outcome : StatementOutcome) → Gives S card move outcome → IsNoLimitStop outcome
 
-  does : (outcome : Outcome) → IsNoLimitStop outcome → NeverLimited (Does outcome)
+  does : (outcome : StatementOutcome) → IsNoLimitStop outcome → NeverLimited (Does outcome)
   does outcome other = record { by = λ given e. subst IsNoLimitStop (sym e) other }
 
-  may_stop : (refusals : Refusals) (move : Move) → NeverLimited move → NeverLimited (MayStop refusals move)
+  may_stop : (refusals : Refusals) (move : StatementMove) → NeverLimited move → NeverLimited (MayStop refusals move)
   may_stop refusals move never = record { by = gives_so }
     where
-      gives_so : (given : Outcome) → Gives S card (MayStop refusals move) given → IsNoLimitStop given
+      gives_so : (given : StatementOutcome) → Gives S card (MayStop refusals move) given → IsNoLimitStop given
       gives_so given (inl gives) = never.by given gives
       gives_so given (inr stop) = subst IsNoLimitStop (sym stop.3) tt
 
-  unless_fault : {X : Type 0} (fault : VerbFault) (o : Option X) (go : X → Move) → ((x : X) → NeverLimited (go x)) → NeverLimited (or_fault card fault o go)
+  unless_fault : {X : Type 0} (fault : VerbFault) (o : Option X) (go : X → StatementMove) → ((x : X) → NeverLimited (go x)) → NeverLimited (or_fault card fault o go)
   unless_fault fault None go never = does _ tt
   unless_fault fault (Some x) go never = never x
 
-  unless_selection_fault : (r : Result LinearProgram SelectionFault) (go : LinearProgram → Move) → ((lp : LinearProgram) → NeverLimited (go lp)) → NeverLimited (or_selection_fault card r go)
+  unless_selection_fault : (r : Result LinearProgram SelectionFault) (go : LinearProgram → StatementMove) → ((lp : LinearProgram) → NeverLimited (go lp)) → NeverLimited (or_selection_fault card r go)
   unless_selection_fault (Err fault) go never = does _ tt
   unless_selection_fault (Ok lp) go never = never lp
 
-  selecting : (problem : Problem ℕ) (choice : Choice) (go : LinearProgram → Move) → ((lp : LinearProgram) → NeverLimited (go lp)) → NeverLimited (selects card problem choice go)
+  selecting : (problem : Problem ℕ) (choice : Choice) (go : LinearProgram → StatementMove) → ((lp : LinearProgram) → NeverLimited (go lp)) → NeverLimited (selects card problem choice go)
   selecting problem choice go never = unless_selection_fault (selected problem choice) _ (λ lp. may_stop _ (go lp) (never lp))
 
 demanded_other : (set : Option ℕ) (code : ℕ) (report : Report) (state : State) → IsNoLimitStop (demanded set code report state)

@@ -30,7 +30,7 @@ use Rattle.listing_definitions.specs.declared.Solver.{Solver}
 use Rattle.listing_definitions.specs.declared.Solver.TheVariants.{Primal as ByPrimal, Dual as ByDual}
 use Rattle.listing_definitions.specs.declared.VerbFault.{VerbFault}
 use Rattle.listing_definitions.specs.Report.{SolutionLines, RangeLines, PathVerdict, Check, Filed, Report, Converted, Revised, SetUp, BcdOut, BasisOut, Inserted, Solved, Solution, Ranges}
-use Rattle.question_definitions.specs.Answers.{Basis, Sheet, Changing, Row, Set, changing_name, parametric_solver, ParametricRun, Question, Answer, OfPath, OfSolution, OfRanges, OfParametricRun, OfPunch, OfInstall, PathEnd, Reached, PathLimit, PricesWrong, ParametricRunEnd, Opening, Chained, ParametricRunLimit, InstallEnd, Installed, DependsBy}
+use Rattle.question_definitions.specs.Answers.{Basis, Sheet, Changing, Row, Set, changing_name, parametric_solver, ParametricRun, Question, AnswerTo, OfPath, OfSolution, OfRanges, OfParametricRun, OfPunch, OfInstall, PathEnd, Reached, PathLimit, PricesWrong, ParametricRunEnd, Opening, Chained, ParametricRunLimit, InstallEnd, Installed, DependsBy}
 use Rattle.question_definitions.specs.Solving.{Solving, IsRight}
 use Rattle.answer_definitions.specs.Verdicts.{verdict_of}
 use Rattle.answer_definitions.specs.Sections.{IsSolutionOf, IsRanged}
@@ -337,8 +337,8 @@ module _ (S : Solving) (solving : KnowsSolving S) where
       selecting S state card present.problem _ _ (λ lp is.
       may_stop S state card _ _ (answered S state card (OfPath ByPrimal state.cells.xiterlim) _ _ _ (pathed card present state lp lawful is e (knows.bases present e)))))
 
-  showing : (card : ℕ) (state : State) (present : Present) (question : Question) (report : Answer question → Report) → Knows state →
-      ((lp : LinearProgram) → selected present.problem (choice_of state.cells present.options) ≡ Ok lp → (lines : Answer question) → IsRight S question (record { problem = present.problem; lp = lp }) (present_basis present) lines →
+  showing : (card : ℕ) (state : State) (present : Present) (question : Question) (report : AnswerTo question → Report) → Knows state →
+      ((lp : LinearProgram) → selected present.problem (choice_of state.cells present.options) ≡ Ok lp → (lines : AnswerTo question) → IsRight S question (record { problem = present.problem; lp = lp }) (present_basis present) lines →
       Holds state (report lines)) → IsKept S state card (shows_present card state present question report)
   showing card state present question report knows holds =
       unless_selection_fault S state card (selected present.problem (choice_of state.cells present.options)) _ (λ lp is.

@@ -22,7 +22,7 @@ use Rattle.answer_definitions.specs.ParametricRuns.{IsParametricRun}
 use Rattle.answer_definitions.specs.Bases.{ArePunched, IsInstalled}
 use Rattle.answer_definitions.specs.Real.{linear_programming}
 use Rattle.run_definitions.specs.State.{Present, State}
-use Rattle.run_definitions.specs.Moves.{Gain, printed_by, Outcome, Ends, gain_of, Gives}
+use Rattle.run_definitions.specs.Moves.{Gain, printed_by, StatementOutcome, Ends, gain_of, Gives}
 use Rattle.run_definitions.specs.Verbs.{verb_move}
 use Rattle.run_definitions.specs.Run.{Step}
 use Rattle.run_definitions.specs.Answer.{IsJobRun, IsSoFar}
@@ -41,7 +41,7 @@ pub record KnowsSolving (S : Solving) : Type 0 where
   pub installs : (sheet : Sheet) (t : Basis) (end : InstallEnd) → S.Installs sheet t end → IsInstalled sheet t end
 
 -- what a statement prints, where the run goes on and where it ends
-abbrev pub reports_of : Outcome → List Report
+abbrev pub reports_of : StatementOutcome → List Report
 reports_of outcome = printed_by (gain_of outcome)
 
 -- In the run of a job, each report of a statement holds of the state in which it is executed, and so does
@@ -49,7 +49,7 @@ reports_of outcome = printed_by (gain_of outcome)
 -- holds of the state in which it was made.
 pub record ReportsTheTruth (S : Solving) : Type 0 where
   pub step : (bytes : List ℕ) (program : Program) (reports : List Report) (cards : List (List ℕ)) (state : State)
-      (outcome : Outcome) → IsSoFar S bytes reports cards program state → Step S program state outcome →
+      (outcome : StatementOutcome) → IsSoFar S bytes reports cards program state → Step S program state outcome →
       All (Holds state) (reports_of outcome)
   pub stop : (bytes : List ℕ) (program : Program) (reports : List Report) (cards : List (List ℕ)) (state : State)
       (gain : Gain) (ending : Ending) → IsSoFar S bytes reports cards program state →
@@ -67,13 +67,13 @@ pub record FilesProblems (S : Solving) : Type 0 where
       IsProblem present.problem
 
 -- the run doesn't end at the limit on steps
-abbrev pub IsNoLimitStop : Outcome → Type 0
+abbrev pub IsNoLimitStop : StatementOutcome → Type 0
 IsNoLimitStop (Ends gain (LimitStop reached)) = ⊥
 IsNoLimitStop _ = Unit {0}
 
 -- Where there is no limit, PRIMAL doesn't stop at one.
 abbrev pub EndsUnlimited : Solving → Type 0
-EndsUnlimited S = (card : ℕ) (state : State) (outcome : Outcome) → state.cells.xiterlim ≡ None →
+EndsUnlimited S = (card : ℕ) (state : State) (outcome : StatementOutcome) → state.cells.xiterlim ≡ None →
     Gives S card (verb_move Primal card state) outcome → IsNoLimitStop outcome
 
 -- of the runs whose answers are those of linear programming

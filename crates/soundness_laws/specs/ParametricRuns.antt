@@ -10,7 +10,7 @@ use Rattle.lp_definitions.specs.LinearProgram.{IsRow, HasNoLimits, IsLinearProgr
 use Rattle.simplex_definitions.specs.Path.{PathEnding, last_of}
 use Rattle.simplex_definitions.specs.Chain.{Part, ChainEnd as PastBreakpoint}
 use Rattle.simplex_laws.specs.Laws.{IsNonsingularBasis}
-use Rattle.listing_definitions.specs.Report.{PathVerdict, Check, Interval, ChainEnd}
+use Rattle.listing_definitions.specs.Report.{PathVerdict, Check, ParametricInterval, ChainEnd}
 use Rattle.question_definitions.specs.Answers.{Basis, Sheet, Changing, Row, Set, ParametricRun, ParametricRunEnd, Opening, Chained, ParametricRunLimit}
 use Rattle.answer_definitions.specs.ParametricRuns.{row_of, family_of, sheet_at, interval_of, end_of, IsParametricRun}
 use Rattle.answer_definitions.specs.Verdicts.{IsVerdict}
@@ -37,7 +37,7 @@ module _ (sheet : Sheet) (parametric_run : ParametricRun) where
     pub is_true : IsTrueFailure (family_of sheet parametric_run.changing parametric_run.from) ending
     pub is_verdict : IsVerdict first_sheet (length bases) ending verdict check
 
-  pub record IsTrueChain (intervals : List Interval) (end : ChainEnd) : Type 0 where
+  pub record IsTrueChain (intervals : List ParametricInterval) (end : ChainEnd) : Type 0 where
     pub parts : List Part
     pub past : PastBreakpoint
     pub is_true : IsTrueRun (family_of sheet parametric_run.changing) parametric_run.from parametric_run.to parts past

@@ -13,10 +13,10 @@ use Rattle.listing_definitions.specs.declared.Mark.{Mark}
 use Rattle.listing_definitions.specs.declared.Solver.{Solver}
 use Rattle.listing_definitions.specs.declared.Solver.TheVariants.{Primal, Dual, Paraobj, Pararhs}
 use Rattle.listing_definitions.specs.Numbers.{digits, rational_text}
-use Rattle.listing_definitions.specs.Report.{Number, limit_value, PathVerdict, OptimalAt, CrossedAt, InfeasibleBy, UnboundedBy, Check, SolutionLines, RangeLines, Interval, ChainEnd, EndsAt, UnboundedPast, InfeasiblePast}
+use Rattle.listing_definitions.specs.Report.{Number, limit_value, PathVerdict, OptimalAt, CrossedAt, InfeasibleBy, UnboundedBy, Check, SolutionLines, RangeLines, ParametricInterval, ChainEnd, EndsAt, UnboundedPast, InfeasiblePast}
 use Rattle.listing_definitions.specs.Report as reports
 use Rattle.listing_definitions.specs.Text.{solver_text, mark_text}
-use Rattle.question_definitions.specs.Answers.{Sheet, changing_name, parametric_solver, ParametricRun, Question, OfPath, OfSolution, OfRanges, OfParametricRun, OfPunch, OfInstall, Answer, Reached, ParametricRunEnd, Opening, Chained}
+use Rattle.question_definitions.specs.Answers.{Sheet, changing_name, parametric_solver, ParametricRun, Question, OfPath, OfSolution, OfRanges, OfParametricRun, OfPunch, OfInstall, AnswerTo, Reached, ParametricRunEnd, Opening, Chained}
 use Rattle.answer_definitions.specs.Lines.{row_numbers, column_numbers}
 use Rattle.answer_definitions.specs.ParametricRuns.{sheet_at}
 use Rattle.walk_definitions.specs.Words.{Parsed, left_after, with_text, with_word, fraction_in, count_in, max_count}
@@ -103,7 +103,7 @@ module _ (sheet : Sheet) where
   -- ---- parametric runs
 
   -- the interval of a number, from the last end on
-  abbrev pub interval_in : ℕ → ℚ → List ℕ → Parsed Interval
+  abbrev pub interval_in : ℕ → ℚ → List ℕ → Parsed ParametricInterval
   interval_in number from =
       with_text (codes "INTERVAL " ++ (digits number ++ (codes " FROM " ++ (rational_text from ++ codes " TO ")))) (with_word fraction_in (λ to. with_text (codes "\n") (λ rest.
       option_map (λ got. (record { from = from; to = to; lines = got.0 }, got.1)) (table_in sheet part_slots (variables p.matrix) rest))))
@@ -127,11 +127,11 @@ parametric_run_head parametric_run =
 
 -- the intervals of a run, and how it closes
 abbrev pub Run : Type 0
-Run = List Interval × ChainEnd
+Run = List ParametricInterval × ChainEnd
 
 module _ (sheet : Sheet) (parametric_run : ParametricRun) where
   -- an interval, and the rest of the run after it
-  abbrev pub onward : (ℚ → List ℕ → Judged Run) → Judged Interval → Judged Run
+  abbrev pub onward : (ℚ → List ℕ → Judged Run) → Judged ParametricInterval → Judged Run
   onward go (Right interval after) = judged_map (λ run. (interval ∷ run.0, run.1)) (go interval.to after)
   onward go Fails = Fails
   onward go Refuses = Refuses
@@ -160,7 +160,7 @@ module _ (sheet : Sheet) (parametric_run : ParametricRun) where
   parametric_run_in rest (Some after) = judged_map (λ run. Chained [] run.0 run.1) (run_in after 1 parametric_run.from after)
 
 -- the answer to a question, as the listing has it; those of RANGE, PUNCH and INSERT can't be computed without a basis
-abbrev pub judged : (question : Question) → Sheet → List ℕ → Judged (Answer question)
+abbrev pub judged : (question : Question) → Sheet → List ℕ → Judged (AnswerTo question)
 judged (OfPath solver limit) sheet rest =
     judged_map (λ claim. Reached [] claim.0 claim.1) (tested (λ claim. verdict_test sheet claim.0 claim.1) (verdict_in sheet solver rest))
 judged (OfSolution mark) sheet rest = tested (solution_test sheet mark) (solution_in sheet mark rest)

@@ -13,7 +13,7 @@ use Rattle.check_definitions.specs.Checks.{is_at, by_sign, equations, feasible_p
 use Rattle.simplex_definitions.specs.Chain.{along}
 use Rattle.listing_definitions.specs.declared.Mark.{Mark}
 use Rattle.listing_definitions.specs.declared.Mark.TheVariants.{Optimal}
-use Rattle.listing_definitions.specs.Report.{PathVerdict, OptimalAt, CrossedAt, InfeasibleBy, UnboundedBy, Check, SolutionLines, Interval, ChainEnd, EndsAt, UnboundedPast, InfeasiblePast}
+use Rattle.listing_definitions.specs.Report.{PathVerdict, OptimalAt, CrossedAt, InfeasibleBy, UnboundedBy, Check, SolutionLines, ParametricInterval, ChainEnd, EndsAt, UnboundedPast, InfeasiblePast}
 use Rattle.listing_definitions.specs.Report as reports
 use Rattle.question_definitions.specs.Answers.{Sheet, Changing, Row, Set}
 use Rattle.answer_definitions.specs.Lines.{row_numbers}
@@ -120,7 +120,7 @@ module _ (sheet : Sheet) (changing : Changing) where
         asked (lt_ℚ from to || (is_first && eq_ℚ from to)) ∷ asked (le_ℚ to max) ∷
         end_test sheet changing from value value_rate price price_rate ∷ end_test sheet changing to value value_rate price price_rate ∷ verdict_of keeping_steps ∷ [])
 
-  abbrev pub interval_test : Bool → ℚ → Interval → Verdict
+  abbrev pub interval_test : Bool → ℚ → ParametricInterval → Verdict
   interval_test is_first max interval =
       part_test interval.from interval.to (column_of 1 interval.lines) (column_of 2 interval.lines) (column_of 3 interval.lines) (column_of 4 interval.lines) is_first max
 

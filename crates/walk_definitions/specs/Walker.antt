@@ -13,9 +13,9 @@ use Rattle.listing_definitions.specs.declared.Mark.TheVariants.{Optimal}
 use Rattle.listing_definitions.specs.Report.{Check, Inserted, PathVerdict, OptimalAt}
 use Rattle.listing_definitions.specs.Ending.{Ending, Ended, StatementLimit}
 use Rattle.listing_definitions.specs.Listing.{ending_text}
-use Rattle.question_definitions.specs.Answers.{Sheet, Question, OfPath, OfSolution, OfRanges, OfParametricRun, OfPunch, OfInstall, Answer, Reached, PathLimit, PricesWrong, Installed}
+use Rattle.question_definitions.specs.Answers.{Sheet, Question, OfPath, OfSolution, OfRanges, OfParametricRun, OfPunch, OfInstall, AnswerTo, Reached, PathLimit, PricesWrong, Installed}
 use Rattle.run_definitions.specs.State.{State}
-use Rattle.run_definitions.specs.Moves.{Nothing, Prints, printed_by, gain_text, gain_of, Outcome, Goes, Ends, InSelection, InAnswer, Move, Does, MayStop, Asks}
+use Rattle.run_definitions.specs.Moves.{Nothing, Prints, printed_by, gain_text, gain_of, StatementOutcome, Goes, Ends, InSelection, InAnswer, StatementMove, Does, MayStop, Asks}
 use Rattle.run_definitions.specs.Verbs.{verb_move}
 use Rattle.run_definitions.specs.Run.{max_executed, counted}
 use Rattle.walk_definitions.specs.Words.{left_after}
@@ -43,9 +43,9 @@ pub data Found : Type 0 where
   Attested : ℕ → Found
   Wrong Open Unchecked : List ℕ → Found
 
-pub data Turn : Type 0 where
-  Walks : Walker → Turn
-  Finds : Found → Turn
+pub data WalkTurn : Type 0 where
+  Walks : Walker → WalkTurn
+  Finds : Found → WalkTurn
 
 -- ---- what can't be attested
 
@@ -65,19 +65,19 @@ abbrev pub open_pending : Walker → Option Found
 open_pending w = pending_found w.pending
 
 -- where the mark is cleared, or the run ends
-abbrev pub open_outcome : Walker → Outcome → Option Found
+abbrev pub open_outcome : Walker → StatementOutcome → Option Found
 open_outcome w (Ends gain ending) = option_or (open_stop w) (open_pending w)
 open_outcome w (Goes Nothing after) = if is_none after.mark then open_pending w else None
 open_outcome w (Goes gain after) = option_or (open_stop w) (if is_none after.mark then open_pending w else None)
 
 -- the line of INSERT, for the deck that the outcome names
-abbrev pub is_inserted_by : Outcome → List ℕ → Bool
+abbrev pub is_inserted_by : StatementOutcome → List ℕ → Bool
 is_inserted_by (Goes (Prints (Inserted name basic)) after) rest = is_inserted name rest
 is_inserted_by outcome rest = false
 
 -- Where a further verdict comes, and where INSERT clears the mark. The walk goes past no report of RANGE, PUNCH and INSERT; RANGE and PUNCH
 -- leave what is pending as it is.
-abbrev pub open_question : Walker → (question : Question) → Sheet → (Answer question → Outcome) → Option Found
+abbrev pub open_question : Walker → (question : Question) → Sheet → (AnswerTo question → StatementOutcome) → Option Found
 open_question w (OfSolution mark) sheet go = open_stop w
 open_question w OfRanges sheet go = option_or (open_stop w) (open_if (is_ranges w.rest) w)
 open_question w OfPunch sheet go = option_or (open_stop w) (open_if (is_punched sheet.problem.name w.rest) w)
@@ -85,7 +85,7 @@ open_question w (OfInstall basis) sheet go = option_or (open_stop w) (option_or 
 open_question w (OfPath solver limit) sheet go = option_or (open_stop w) (open_pending w)
 open_question w (OfParametricRun parametric_run) sheet go = option_or (open_stop w) (open_pending w)
 
-abbrev pub opened : Walker → Move → Option Found
+abbrev pub opened : Walker → StatementMove → Option Found
 opened w (Does outcome) = open_outcome w outcome
 opened w (MayStop refusals move) = opened w move
 opened w (Asks question sheet s go) = open_question w question sheet go
@@ -93,7 +93,7 @@ opened w (Asks question sheet s go) = open_question w question sheet go
 -- ---- what is due
 
 -- an operation of a selection is refused; the walk never takes the free choice of the run
-abbrev pub refuses_selection : Move → Bool
+abbrev pub refuses_selection : StatementMove → Bool
 refuses_selection (Does outcome) = false
 refuses_selection (MayStop (InSelection problem choice) move) = not (is_made problem choice) || refuses_selection move
 refuses_selection (MayStop (InAnswer question sheet bases) move) = refuses_selection move
@@ -105,16 +105,16 @@ ended w None = Wrong w.rest
 ended w (Some []) = Attested w.reports
 ended w (Some (byte ∷ rest)) = Wrong (byte ∷ rest)
 
-abbrev pub unless_found : Option Found → Turn → Turn
+abbrev pub unless_found : Option Found → WalkTurn → WalkTurn
 unless_found (Some found) turn = Finds found
 unless_found None turn = turn
 
 -- the end is due, in a line of its own: what is open comes first here too
-abbrev pub closes : Walker → Ending → Turn
+abbrev pub closes : Walker → Ending → WalkTurn
 closes w ending = unless_found (option_or (open_stop w) (open_pending w)) (Finds (ended w (left_after (ending_text ending) w.rest)))
 
 -- after its report the run goes on, or its end is due
-abbrev pub follows : Walker → Outcome → Turn
+abbrev pub follows : Walker → StatementOutcome → WalkTurn
 follows w (Goes gain after) = Walks (record w { state = after })
 follows w (Ends gain ending) = closes w ending
 
@@ -122,7 +122,7 @@ follows w (Ends gain ending) = closes w ending
 abbrev pub passed : List ℕ → ℕ → Walker → Walker
 passed rest reports w = record w { rest = rest; reports = w.reports + reports }
 
-abbrev pub taken : Walker → Outcome → Option (List ℕ) → Turn
+abbrev pub taken : Walker → StatementOutcome → Option (List ℕ) → WalkTurn
 taken w outcome None = Finds (Wrong w.rest)
 taken w outcome (Some rest) = follows (passed rest (length (printed_by (gain_of outcome))) w) outcome
 
@@ -136,12 +136,12 @@ pending_after rest verdict check = None
 abbrev pub settles : Pending → ℚ → Bool
 settles pending objective = if eq_ℚ pending.objective objective then says_checked pending.check else false
 
-abbrev pub settled : Walker → Option Pending → ℚ → Turn → Turn
+abbrev pub settled : Walker → Option Pending → ℚ → WalkTurn → WalkTurn
 settled w None objective turn = turn
 settled w (Some pending) objective turn = if settles pending objective then turn else Finds (Wrong pending.rest)
 
 -- what an answer leaves pending, and what it settles
-abbrev pub noted : Walker → (question : Question) → Sheet → Answer question → Option Pending
+abbrev pub noted : Walker → (question : Question) → Sheet → AnswerTo question → Option Pending
 noted w (OfPath solver limit) sheet (Reached bases verdict check) = pending_after w.rest verdict check
 noted w (OfPath solver limit) sheet PathLimit = None
 noted w (OfPath solver limit) sheet (PricesWrong j) = None
@@ -152,18 +152,18 @@ noted w OfPunch sheet cards = w.pending
 noted w (OfInstall basis) sheet end = None
 noted w (OfParametricRun parametric_run) sheet end = None
 
-abbrev pub settling : Walker → (question : Question) → Sheet → Answer question → Turn → Turn
+abbrev pub settling : Walker → (question : Question) → Sheet → AnswerTo question → WalkTurn → WalkTurn
 settling w (OfSolution Optimal) sheet lines turn = settled w w.pending (point_of sheet lines sheet.lp.objective) turn
 settling w question sheet answer turn = turn
 
-abbrev pub answered : Walker → (question : Question) → Sheet → (Answer question → Outcome) → Judged (Answer question) → Turn
+abbrev pub answered : Walker → (question : Question) → Sheet → (AnswerTo question → StatementOutcome) → Judged (AnswerTo question) → WalkTurn
 answered w question sheet go Fails = Finds (Wrong w.rest)
 answered w question sheet go Refuses = Finds (Unchecked w.rest)
 answered w question sheet go (Right answer rest) =
     settling w question sheet answer (follows (record (passed rest 1 w) { pending = noted w question sheet answer }) (go answer))
 
 -- the report or the end that is due
-abbrev pub due : Walker → Move → Turn
+abbrev pub due : Walker → StatementMove → WalkTurn
 due w (Does outcome) = taken w outcome (left_after (gain_text (gain_of outcome)) w.rest)
 due w (MayStop refusals move) = due w move
 due w (Asks question sheet s go) = answered w question sheet go (judged question sheet w.rest)
@@ -171,15 +171,15 @@ due w (Asks question sheet s go) = answered w question sheet go (judged question
 -- ---- the walk
 
 -- what can't be attested comes first, then a selection that is refused, then what is due
-abbrev pub walk_move : Walker → Move → Turn
+abbrev pub walk_move : Walker → StatementMove → WalkTurn
 walk_move w move = unless_found (opened w move) (if refuses_selection move then Finds (Unchecked w.rest) else due w move)
 
-abbrev pub walk_statement : Walker → Option (Statement ℕ) → Turn
+abbrev pub walk_statement : Walker → Option (Statement ℕ) → WalkTurn
 walk_statement w None = closes w (Ended 0)
 walk_statement w (Some statement) = walk_move w (verb_move statement.verb statement.card (counted w.state))
 
 -- the end, after the last statement, or the limit of statements, or the statement at the position
-unfoldable pub turn : Program → Walker → Turn
+unfoldable pub turn : Program → Walker → WalkTurn
 turn program w =
     if nat_lt (length program.statements) w.state.position then closes w (Ended 0)
     else if nat_lt w.state.executed max_executed then walk_statement w (slice_get program.statements (w.state.position - 1)) else closes w StatementLimit

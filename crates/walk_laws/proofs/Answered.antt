@@ -11,7 +11,7 @@ use Rattle.listing_definitions.specs.declared.Solver.TheVariants.{Primal as ByPr
 use Rattle.listing_definitions.specs.Report.{PathVerdict, OptimalAt, CrossedAt, InfeasibleBy, UnboundedBy, Check, Report, Solved}
 use Rattle.question_definitions.specs.Answers.{Basis, Sheet, OfPath, PathEnd, Reached, PathLimit, PricesWrong}
 use Rattle.run_definitions.specs.State.{Present, present_basis, path_of, gone_through, State, choice_of}
-use Rattle.run_definitions.specs.Moves.{printed_by, Outcome, gain_of, InAnswer, Move, Asks}
+use Rattle.run_definitions.specs.Moves.{printed_by, StatementOutcome, gain_of, InAnswer, StatementMove, Asks}
 use Rattle.run_definitions.specs.Verbs.{asks, mark_of, demanded, by_verdict, after_path}
 use Rattle.run_definitions.specs.Run.{counted}
 use Rattle.soundness_laws.specs.Truth.{PresentProgram, sheet_of, IsTrueOf, IsNotUnbounded}
@@ -102,10 +102,10 @@ module _ (reading : ReadingLaw) (truth : JudgedLaws) (Holds : Type 0) (w : Walke
     abbrev program : PresentProgram w.state.setup w.state.cells
     program = program_of w.state.setup w.state.cells present lp lawful set is
 
-    abbrev go : PathEnd → Outcome
+    abbrev go : PathEnd → StatementOutcome
     go = after_path solver card present (counted w.state)
 
-    abbrev move : Move
+    abbrev move : StatementMove
     move = Asks (OfPath solver limit) sheet (present_basis present) go
 
     owes_verdict : (rest : List ℕ) (bases : List Basis) (verdict : PathVerdict) (check : Check) → Holds → IsTrueUnlessOptimal sheet verdict → IsBounded solver verdict →

@@ -31,40 +31,40 @@ use Rattle.listing_definitions.specs.Report.{Report, Solved}
 use Rattle.listing_definitions.specs.Report as reports
 use Rattle.listing_definitions.specs.Ending.{Ending, Ended, StatementLimit}
 use Rattle.listing_definitions.specs.Listing.{ending_text}
-use Rattle.question_definitions.specs.Answers.{Basis, Sheet, Changing, parametric_solver, ParametricRun, Question, OfPath, OfSolution, OfRanges, OfParametricRun, OfPunch, OfInstall, Answer, PathEnd, Reached, PathLimit, PricesWrong, ParametricRunEnd, Opening, Chained, ParametricRunLimit, InstallEnd, Installed, DependsBy}
+use Rattle.question_definitions.specs.Answers.{Basis, Sheet, Changing, parametric_solver, ParametricRun, Question, OfPath, OfSolution, OfRanges, OfParametricRun, OfPunch, OfInstall, AnswerTo, PathEnd, Reached, PathLimit, PricesWrong, ParametricRunEnd, Opening, Chained, ParametricRunLimit, InstallEnd, Installed, DependsBy}
 use Rattle.run_definitions.specs.State.{Present, gone_through, State, problem_of, choice_of}
-use Rattle.run_definitions.specs.Moves.{printed_by, gain_text, gain_of, Outcome, Goes, Ends, InSelection, Move, Does, MayStop, Asks, or_fault}
+use Rattle.run_definitions.specs.Moves.{printed_by, gain_text, gain_of, StatementOutcome, Goes, Ends, InSelection, StatementMove, Does, MayStop, Asks, or_fault}
 use Rattle.run_definitions.specs.Verbs.{or_deck_fault, or_selection_fault, selects, mark_of, demanded, by_verdict, change_row, change_set, not_less, after_path, solves, shows_present, if_optimal, after_parametric_run, parametric_runs, after_install, verb_move}
 use Rattle.run_definitions.specs.Run.{max_executed, counted}
 use Rattle.walk_definitions.specs.Words.{left_after}
 use Rattle.walk_definitions.specs.Tests.{point_of}
 use Rattle.walk_definitions.specs.Reading.{Judged, Right, Fails, Refuses, judged}
-use Rattle.walk_definitions.specs.Walker.{Pending, Walker, Found, Wrong, Unchecked, Turn, Walks, Finds, open_stop, open_pending, opened, refuses_selection, ended, unless_found, closes, follows, passed, taken, settles, settled, noted, settling, answered, due, walk_move, walk_statement, turn}
+use Rattle.walk_definitions.specs.Walker.{Pending, Walker, Found, Wrong, Unchecked, WalkTurn, Walks, Finds, open_stop, open_pending, opened, refuses_selection, ended, unless_found, closes, follows, passed, taken, settles, settled, noted, settling, answered, due, walk_move, walk_statement, turn}
 
 -- the state after has so many statements executed
-abbrev pub Counts : ℕ → Outcome → Type 0
+abbrev pub Counts : ℕ → StatementOutcome → Type 0
 Counts n (Goes gain after) = after.executed ≡ n
 Counts n (Ends gain ending) = Unit {0}
 
 -- so has the state after each outcome of a move
-abbrev pub KeepsCount : ℕ → Move → Type 0
+abbrev pub KeepsCount : ℕ → StatementMove → Type 0
 KeepsCount n (Does outcome) = Counts n outcome
 KeepsCount n (MayStop refusals move) = KeepsCount n move
-KeepsCount n (Asks question sheet s go) = (answer : Answer question) → Counts n (go answer)
+KeepsCount n (Asks question sheet s go) = (answer : AnswerTo question) → Counts n (go answer)
 
-with_value : {X : Type 0} (n card : ℕ) (fault : VerbFault) (o : Option X) (go : X → Move) → ((x : X) → KeepsCount n (go x)) → KeepsCount n (or_fault card fault o go)
+with_value : {X : Type 0} (n card : ℕ) (fault : VerbFault) (o : Option X) (go : X → StatementMove) → ((x : X) → KeepsCount n (go x)) → KeepsCount n (or_fault card fault o go)
 with_value n card fault None go keeps = tt
 with_value n card fault (Some x) go keeps = keeps x
 
-with_deck : {X : Type 0} (n : ℕ) (r : Result X DeckFault) (go : X → Move) → ((x : X) → KeepsCount n (go x)) → KeepsCount n (or_deck_fault r go)
+with_deck : {X : Type 0} (n : ℕ) (r : Result X DeckFault) (go : X → StatementMove) → ((x : X) → KeepsCount n (go x)) → KeepsCount n (or_deck_fault r go)
 with_deck n (Err fault) go keeps = tt
 with_deck n (Ok x) go keeps = keeps x
 
-with_program : (n card : ℕ) (r : Result LinearProgram SelectionFault) (go : LinearProgram → Move) → ((lp : LinearProgram) → KeepsCount n (go lp)) → KeepsCount n (or_selection_fault card r go)
+with_program : (n card : ℕ) (r : Result LinearProgram SelectionFault) (go : LinearProgram → StatementMove) → ((lp : LinearProgram) → KeepsCount n (go lp)) → KeepsCount n (or_selection_fault card r go)
 with_program n card (Err fault) go keeps = tt
 with_program n card (Ok lp) go keeps = keeps lp
 
-with_selection : (n card : ℕ) (problem : Problem ℕ) (choice : Choice) (go : LinearProgram → Move) → ((lp : LinearProgram) → KeepsCount n (go lp)) → KeepsCount n (selects card problem choice go)
+with_selection : (n card : ℕ) (problem : Problem ℕ) (choice : Choice) (go : LinearProgram → StatementMove) → ((lp : LinearProgram) → KeepsCount n (go lp)) → KeepsCount n (selects card problem choice go)
 with_selection n card problem choice go keeps = with_program n card (selected problem choice) (λ lp. MayStop (InSelection problem choice) (go lp)) keeps
 
 demanded_counts : (position : Option ℕ) (code : ℕ) (report : Report) (state : State) → Counts state.executed (demanded position code report state)
@@ -101,7 +101,7 @@ solves_counts solver limit card state =
     with_value state.executed card NoSetup state.setup _ (λ present.
     with_selection state.executed card present.problem (choice_of state.cells present.options) _ (λ lp. path_counts solver card present state))
 
-present_counts : (card : ℕ) (state : State) (present : Present) (question : Question) (report : Answer question → Report) → KeepsCount state.executed (shows_present card state present question report)
+present_counts : (card : ℕ) (state : State) (present : Present) (question : Question) (report : AnswerTo question → Report) → KeepsCount state.executed (shows_present card state present question report)
 present_counts card state present question report = with_program state.executed card (selected present.problem (choice_of state.cells present.options)) _ (λ lp answer. refl)
 
 parametric_runs_count : (card : ℕ) (fault : VerbFault) (change : Problem ℕ → Name → Option Changing) (moved : Option Name) (state : State) → KeepsCount state.executed (parametric_runs card fault change moved state)
@@ -155,26 +155,26 @@ verb_counts Exit card state = tt
 -- ---- turns
 
 -- so has the state to which a turn walks
-abbrev pub CountsTurn : ℕ → Turn → Type 0
+abbrev pub CountsTurn : ℕ → WalkTurn → Type 0
 CountsTurn n (Walks w) = w.state.executed ≡ n
 CountsTurn n (Finds found) = Unit {0}
 
-unless_counts : (n : ℕ) (o : Option Found) (turn : Turn) → CountsTurn n turn → CountsTurn n (unless_found o turn)
+unless_counts : (n : ℕ) (o : Option Found) (turn : WalkTurn) → CountsTurn n turn → CountsTurn n (unless_found o turn)
 unless_counts n None turn counts = counts
 unless_counts n (Some found) turn counts = tt
 
 closes_counts : (n : ℕ) (w : Walker) (ending : Ending) → CountsTurn n (closes w ending)
 closes_counts n w ending = unless_counts n (option_or (open_stop w) (open_pending w)) _ tt
 
-follows_counts : (n : ℕ) (w : Walker) (outcome : Outcome) → Counts n outcome → CountsTurn n (follows w outcome)
+follows_counts : (n : ℕ) (w : Walker) (outcome : StatementOutcome) → Counts n outcome → CountsTurn n (follows w outcome)
 follows_counts n w (Goes gain after) counts = counts
 follows_counts n w (Ends gain ending) counts = closes_counts n w ending
 
-taken_counts : (n : ℕ) (w : Walker) (outcome : Outcome) (o : Option (List ℕ)) → Counts n outcome → CountsTurn n (taken w outcome o)
+taken_counts : (n : ℕ) (w : Walker) (outcome : StatementOutcome) (o : Option (List ℕ)) → Counts n outcome → CountsTurn n (taken w outcome o)
 taken_counts n w outcome None counts = tt
 taken_counts n w outcome (Some rest) counts = follows_counts n (passed rest (length (printed_by (gain_of outcome))) w) outcome counts
 
-settled_counts : (n : ℕ) (w : Walker) (o : Option Pending) (objective : ℚ) (turn : Turn) → CountsTurn n turn → CountsTurn n (settled w o objective turn)
+settled_counts : (n : ℕ) (w : Walker) (o : Option Pending) (objective : ℚ) (turn : WalkTurn) → CountsTurn n turn → CountsTurn n (settled w o objective turn)
 settled_counts n w None objective turn counts = counts
 settled_counts n w (Some pending) objective turn counts = by (settles pending objective)
   where
@@ -182,7 +182,7 @@ settled_counts n w (Some pending) objective turn counts = by (settles pending ob
     by true = counts
     by false = tt
 
-settling_counts : (n : ℕ) (w : Walker) (question : Question) (sheet : Sheet) (answer : Answer question) (turn : Turn) → CountsTurn n turn → CountsTurn n (settling w question sheet answer turn)
+settling_counts : (n : ℕ) (w : Walker) (question : Question) (sheet : Sheet) (answer : AnswerTo question) (turn : WalkTurn) → CountsTurn n turn → CountsTurn n (settling w question sheet answer turn)
 settling_counts n w (OfSolution Optimal) sheet lines turn counts = settled_counts n w w.pending (point_of sheet lines sheet.lp.objective) turn counts
 settling_counts n w (OfSolution Infeasible) sheet lines turn counts = counts
 settling_counts n w (OfSolution Unbounded) sheet lines turn counts = counts
@@ -192,18 +192,18 @@ settling_counts n w (OfParametricRun parametric_run) sheet answer turn counts = 
 settling_counts n w OfPunch sheet answer turn counts = counts
 settling_counts n w (OfInstall basis) sheet answer turn counts = counts
 
-answered_counts : (n : ℕ) (w : Walker) (question : Question) (sheet : Sheet) (go : Answer question → Outcome) (j : Judged (Answer question)) → ((answer : Answer question) → Counts n (go answer)) → CountsTurn n (answered w question sheet go j)
+answered_counts : (n : ℕ) (w : Walker) (question : Question) (sheet : Sheet) (go : AnswerTo question → StatementOutcome) (j : Judged (AnswerTo question)) → ((answer : AnswerTo question) → Counts n (go answer)) → CountsTurn n (answered w question sheet go j)
 answered_counts n w question sheet go Fails counts = tt
 answered_counts n w question sheet go Refuses counts = tt
 answered_counts n w question sheet go (Right answer rest) counts =
     settling_counts n w question sheet answer _ (follows_counts n (record (passed rest 1 w) { pending = noted w question sheet answer }) (go answer) (counts answer))
 
-due_counts : (n : ℕ) (w : Walker) (move : Move) → KeepsCount n move → CountsTurn n (due w move)
+due_counts : (n : ℕ) (w : Walker) (move : StatementMove) → KeepsCount n move → CountsTurn n (due w move)
 due_counts n w (Does outcome) counts = taken_counts n w outcome (left_after (gain_text (gain_of outcome)) w.rest) counts
 due_counts n w (MayStop refusals move) counts = due_counts n w move counts
 due_counts n w (Asks question sheet s go) counts = answered_counts n w question sheet go (judged question sheet w.rest) counts
 
-move_counts : (n : ℕ) (w : Walker) (move : Move) → KeepsCount n move → CountsTurn n (walk_move w move)
+move_counts : (n : ℕ) (w : Walker) (move : StatementMove) → KeepsCount n move → CountsTurn n (walk_move w move)
 move_counts n w move counts = unless_counts n (opened w move) _ (by (refuses_selection move))
   where
     by : (b : Bool) → CountsTurn n (if b then Finds (Unchecked w.rest) else due w move)
@@ -227,7 +227,7 @@ turn_counts program w = by (nat_lt (length program.statements) w.state.position)
 -- ---- what closes
 
 -- a turn finds something
-pub record HasFound (turn : Turn) : Type 0 where
+pub record HasFound (turn : WalkTurn) : Type 0 where
   pub found : Found
   pub is : turn ≡ Finds found
 

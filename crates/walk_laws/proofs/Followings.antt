@@ -25,10 +25,10 @@ use Rattle.listing_definitions.specs.declared.Solver.TheVariants.{Primal as ByPr
 use Rattle.listing_definitions.specs.declared.VerbFault.{VerbFault}
 use Rattle.listing_definitions.specs.Report.{Filed, Report, Titled, Converted, Revised, SetUp}
 use Rattle.listing_definitions.specs.Ending.{Ended}
-use Rattle.question_definitions.specs.Answers.{Basis, Sheet, Changing, changing_name, Answer, OfRanges, OfPunch, OfInstall, Installed}
+use Rattle.question_definitions.specs.Answers.{Basis, Sheet, Changing, changing_name, AnswerTo, OfRanges, OfPunch, OfInstall, Installed}
 use Rattle.control_definitions.specs.Cells.{Cells, move_name, move_number, steps_allowed, set_demand}
 use Rattle.run_definitions.specs.State.{Present, State, problem_of, choice_of}
-use Rattle.run_definitions.specs.Moves.{Nothing, Prints, Outcome, Goes, stops, Does, Asks}
+use Rattle.run_definitions.specs.Moves.{Nothing, Prints, StatementOutcome, Goes, stops, Does, Asks}
 use Rattle.run_definitions.specs.Verbs.{size_of, files, not_less, change_row, change_set, mark_after, if_optimal, solves, shows, ranges, parametric_runs, converts, revises, sets_up, punches, punches_basis, inserts, verb_move}
 use Rattle.run_definitions.specs.Run.{counted}
 use Rattle.soundness_laws.specs.Truth.{IsOfProblem, named_by}
@@ -138,19 +138,19 @@ module _ (reading : ReadingLaw) (truth : JudgedLaws) (Holds : Type 0) (w : Walke
 
   -- ---- what can't be read
 
-  ranges_asked : (card : ℕ) (sheet : Sheet) (s : Basis) (go : Answer OfRanges → Outcome) → IsFollowed Holds w card (Asks OfRanges sheet s go)
+  ranges_asked : (card : ℕ) (sheet : Sheet) (s : Basis) (go : AnswerTo OfRanges → StatementOutcome) → IsFollowed Holds w card (Asks OfRanges sheet s go)
   ranges_asked card sheet s go = record {
     comes = on_unless (GoesOn Holds w card (Asks OfRanges sheet s go)) (EndsSo Holds w card (Asks OfRanges sheet s go)) (open_question w OfRanges sheet go) (Finds (Wrong w.rest))
         (never_either (open_stop w) (open_if (is_ranges w.rest) w) (never_stop w) (never_if (is_ranges w.rest) w)) (λ none. tt);
   }
 
-  punch_asked : (card : ℕ) (sheet : Sheet) (s : Basis) (go : Answer OfPunch → Outcome) → IsFollowed Holds w card (Asks OfPunch sheet s go)
+  punch_asked : (card : ℕ) (sheet : Sheet) (s : Basis) (go : AnswerTo OfPunch → StatementOutcome) → IsFollowed Holds w card (Asks OfPunch sheet s go)
   punch_asked card sheet s go = record {
     comes = on_unless (GoesOn Holds w card (Asks OfPunch sheet s go)) (EndsSo Holds w card (Asks OfPunch sheet s go)) (open_question w OfPunch sheet go) (Finds (Wrong w.rest))
         (never_either (open_stop w) (open_if (is_punched sheet.problem.name w.rest) w) (never_stop w) (never_if (is_punched sheet.problem.name w.rest) w)) (λ none. tt);
   }
 
-  install_asked : (card : ℕ) (t : Basis) (sheet : Sheet) (s : Basis) (go : Answer (OfInstall t) → Outcome) → IsFollowed Holds w card (Asks (OfInstall t) sheet s go)
+  install_asked : (card : ℕ) (t : Basis) (sheet : Sheet) (s : Basis) (go : AnswerTo (OfInstall t) → StatementOutcome) → IsFollowed Holds w card (Asks (OfInstall t) sheet s go)
   install_asked card t sheet s go = record {
     comes = on_unless (GoesOn Holds w card (Asks (OfInstall t) sheet s go)) (EndsSo Holds w card (Asks (OfInstall t) sheet s go)) (open_question w (OfInstall t) sheet go) (Finds (Wrong w.rest))
         (never_either (open_stop w) (option_or (open_if (is_inserted_by (go Installed) w.rest) w) (open_pending w)) (never_stop w)

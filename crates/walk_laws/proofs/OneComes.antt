@@ -10,13 +10,13 @@ use Rattle.control_definitions.specs.Compiled.{compiled}
 use Rattle.listing_definitions.specs.Ending.{ControlStop, CardStop}
 use Rattle.run_definitions.specs.Answer.{job_decks}
 use Rattle.run_definitions.specs.Run.{max_executed}
-use Rattle.walk_definitions.specs.Walker.{Walker, Found, Turn, Walks, Finds, closes, turn}
+use Rattle.walk_definitions.specs.Walker.{Walker, Found, WalkTurn, Walks, Finds, closes, turn}
 use Rattle.walk_definitions.specs.Found.{first_walker, Reaches, begun, walked, Comes, of_cards, of_control, of_walk}
 use Rattle.walk_laws.specs.Laws.{OneComesLaw}
 use Rattle.walk_laws.proofs.Derivations.{CountsTurn, turn_counts, closes_finds, limit_finds}
 
 -- one turn finds one thing
-same_finding : (a b : Turn) (found other : Found) → a ≡ b → a ≡ Finds found → b ≡ Finds other → other ≡ found
+same_finding : (a b : WalkTurn) (found other : Found) → a ≡ b → a ≡ Finds found → b ≡ Finds other → other ≡ found
 same_finding a b found other same first second = let e : Finds other ≡ Finds found = sym second ∙ sym same ∙ first in cc e
 
 module _ (program : Program) (decks : List (List Card)) (listing : List ℕ) where
@@ -81,7 +81,7 @@ module _ (program : Program) (decks : List (List Card)) (listing : List ℕ) whe
   finds_within zero w reaches left = let h = limit_finds program w (omega (arith, left)) in record { walker = w; found = h.found; reaches = reaches; finds = h.is }
   finds_within (suc room) w reaches left = by (turn program w) refl (turn_counts program w) (λ v reaches at. finds_within room v reaches at)
     where
-      by : (next : Turn) → turn program w ≡ next → CountsTurn (w.state.executed + 1) next → ((v : Walker) → Arrives v → max_executed ≤ v.state.executed + room → FindsSome) → FindsSome
+      by : (next : WalkTurn) → turn program w ≡ next → CountsTurn (w.state.executed + 1) next → ((v : Walker) → Arrives v → max_executed ≤ v.state.executed + room → FindsSome) → FindsSome
       by (Finds found) is counts later = record { walker = w; found = found; reaches = reaches; finds = is }
       by (Walks v) is counts later = later v (walked reaches is) (omega (arith, left, counts))
 

@@ -7,7 +7,7 @@ use Rattle.listing_definitions.specs.Report.{PathVerdict, Check, Solved, Paramet
 use Rattle.question_definitions.specs.Answers.{Sheet, Changing, Row, Set, changing_name, parametric_solver, ParametricRun, OfParametricRun, ParametricRunEnd, Opening, Chained, ParametricRunLimit}
 use Rattle.answer_definitions.specs.ParametricRuns.{sheet_at}
 use Rattle.run_definitions.specs.State.{Present, present_basis, path_of, gone_through, State, choice_of}
-use Rattle.run_definitions.specs.Moves.{Outcome, InAnswer, Move, Asks}
+use Rattle.run_definitions.specs.Moves.{StatementOutcome, InAnswer, StatementMove, Asks}
 use Rattle.run_definitions.specs.Verbs.{asks, mark_of, after_parametric_run}
 use Rattle.run_definitions.specs.Run.{counted}
 use Rattle.soundness_laws.specs.ParametricRuns.{ChangesFreely}
@@ -52,10 +52,10 @@ module _ (reading : ReadingLaw) (truth : JudgedLaws) (Holds : Type 0) (w : Walke
     abbrev program : PresentProgram w.state.setup w.state.cells
     program = program_of w.state.setup w.state.cells present lp lawful set is
 
-    abbrev go : ParametricRunEnd → Outcome
+    abbrev go : ParametricRunEnd → StatementOutcome
     go = after_parametric_run card parametric_run present (counted w.state)
 
-    abbrev move : Move
+    abbrev move : StatementMove
     move = Asks (OfParametricRun parametric_run) sheet (present_basis present) go
 
     free : MayChange sheet parametric_run.changing

@@ -7,19 +7,19 @@ use Rattle.std.specs.Option.{option_or}
 use Rattle.listing_definitions.specs.Ending.{Ending}
 use Rattle.listing_definitions.specs.Listing.{ending_text}
 use Rattle.run_definitions.specs.State.{State}
-use Rattle.run_definitions.specs.Moves.{Gain, Nothing, Prints, Punches, Outcome, Goes, Ends}
+use Rattle.run_definitions.specs.Moves.{Gain, Nothing, Prints, Punches, StatementOutcome, Goes, Ends}
 use Rattle.walk_definitions.specs.Words.{left_after}
 use Rattle.walk_definitions.specs.Forms.{is_open_stop}
-use Rattle.walk_definitions.specs.Walker.{Pending, Walker, Found, Attested, Wrong, Open, Unchecked, Turn, Walks, Finds, open_if, open_stop, pending_found, open_pending, open_outcome, ended, unless_found, closes}
+use Rattle.walk_definitions.specs.Walker.{Pending, Walker, Found, Attested, Wrong, Open, Unchecked, WalkTurn, Walks, Finds, open_if, open_stop, pending_found, open_pending, open_outcome, ended, unless_found, closes}
 use Rattle.walk_definitions.proofs.Texts.{is_text}
 
-abbrev pub On : (Walker → Type 0) → (ℕ → Type 0) → Turn → Type 0
+abbrev pub On : (Walker → Type 0) → (ℕ → Type 0) → WalkTurn → Type 0
 On Walked Ended (Walks v) = Walked v
 On Walked Ended (Finds (Attested count)) = Ended count
 On Walked Ended (Finds found) = Unit {0}
 
 pub on_map : (Walked Walked' : Walker → Type 0) (Ended Ended' : ℕ → Type 0) → ((v : Walker) → Walked v → Walked' v) → ((count : ℕ) → Ended count → Ended' count) →
-    (turn : Turn) → On Walked Ended turn → On Walked' Ended' turn
+    (turn : WalkTurn) → On Walked Ended turn → On Walked' Ended' turn
 on_map Walked Walked' Ended Ended' walks ends (Walks v) on = walks v on
 on_map Walked Walked' Ended Ended' walks ends (Finds (Attested count)) on = ends count on
 on_map Walked Walked' Ended Ended' walks ends (Finds (Wrong rest)) on = tt
@@ -51,7 +51,7 @@ never_unmarked false pending = tt
 pub never_stop : (w : Walker) → NeverAttests (open_stop w)
 never_stop w = never_if (is_open_stop w.rest) w
 
-pub never_outcome : (w : Walker) (outcome : Outcome) → NeverAttests (open_outcome w outcome)
+pub never_outcome : (w : Walker) (outcome : StatementOutcome) → NeverAttests (open_outcome w outcome)
 never_outcome w (Ends gain ending) = never_either (open_stop w) (open_pending w) (never_stop w) (never_pending w.pending)
 never_outcome w (Goes Nothing after) = never_unmarked (is_none after.mark) w.pending
 never_outcome w (Goes (Prints report) after) = never_either (open_stop w) (if is_none after.mark then open_pending w else None) (never_stop w) (never_unmarked (is_none after.mark) w.pending)
@@ -82,7 +82,7 @@ stays_marked w (Punches report cards) after p is none =
 
 module _ (Walked : Walker → Type 0) (Ended : ℕ → Type 0) where
   -- unless something is open
-  pub on_unless : (o : Option Found) (turn : Turn) → NeverAttests o → (o ≡ None → On Walked Ended turn) → On Walked Ended (unless_found o turn)
+  pub on_unless : (o : Option Found) (turn : WalkTurn) → NeverAttests o → (o ≡ None → On Walked Ended turn) → On Walked Ended (unless_found o turn)
   on_unless None turn never on = on refl
   on_unless (Some (Attested count)) turn never on = absurd never
   on_unless (Some (Wrong rest)) turn never on = tt

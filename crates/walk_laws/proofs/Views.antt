@@ -12,7 +12,7 @@ use Rattle.listing_definitions.specs.declared.Mark.TheVariants.{Optimal, Infeasi
 use Rattle.listing_definitions.specs.Report.{SolutionLines, Solution}
 use Rattle.question_definitions.specs.Answers.{Sheet, OfSolution}
 use Rattle.run_definitions.specs.State.{Present, present_basis, path_of, choice_of}
-use Rattle.run_definitions.specs.Moves.{Prints, Outcome, next, InAnswer, Move, Asks}
+use Rattle.run_definitions.specs.Moves.{Prints, StatementOutcome, next, InAnswer, StatementMove, Asks}
 use Rattle.run_definitions.specs.Verbs.{asks}
 use Rattle.run_definitions.specs.Run.{counted}
 use Rattle.soundness_laws.specs.Truth.{PresentProgram}
@@ -46,10 +46,10 @@ module _ (reading : ReadingLaw) (truth : JudgedLaws) (Holds : Type 0) (w : Walke
     abbrev program : PresentProgram w.state.setup w.state.cells
     program = program_of w.state.setup w.state.cells present lp lawful set is
 
-    abbrev go : Mark → SolutionLines → Outcome
+    abbrev go : Mark → SolutionLines → StatementOutcome
     go mark = λ lines. next (Prints (Solution mark lines)) (counted w.state)
 
-    abbrev move : Mark → Move
+    abbrev move : Mark → StatementMove
     move mark = Asks (OfSolution mark) sheet (present_basis present) (go mark)
 
     -- ---- under OPTIMAL

@@ -14,7 +14,7 @@ use Rattle.listing_definitions.specs.Ending.{Ending, Ended, StatementLimit}
 use Rattle.listing_definitions.specs.Text.{report_text}
 use Rattle.listing_definitions.specs.Listing.{ending_text, reports_text}
 use Rattle.run_definitions.specs.State.{State}
-use Rattle.run_definitions.specs.Moves.{Gain, printed_by, punched_by, Goes, Ends, Move}
+use Rattle.run_definitions.specs.Moves.{Gain, printed_by, punched_by, Goes, Ends, StatementMove}
 use Rattle.run_definitions.specs.Verbs.{verb_move}
 use Rattle.run_definitions.specs.Run.{max_executed, counted, Step, IsOver, at_end, at_limit, Reaches, begun, stepped, is_over, is_ended}
 use Rattle.run_definitions.specs.Answer.{job_decks, IsProgramOf, run}
@@ -60,7 +60,7 @@ module _ (reading : ReadingLaw) (truth : JudgedLaws) (program : Program) (Holds 
   executes : (statement : Statement ℕ) → slice_get program.statements (w.state.position - 1) ≡ Some statement → w.state.executed < max_executed →
       On (StepsTo program Holds w) (Finishes program Holds w) (walk_move w (verb_move statement.verb statement.card (counted w.state)))
   executes statement at below =
-      let move : Move = verb_move statement.verb statement.card (counted w.state) in
+      let move : StatementMove = verb_move statement.verb statement.card (counted w.state) in
       on_map (GoesOn Holds w statement.card move) (StepsTo program Holds w) (EndsSo Holds w statement.card move) (Finishes program Holds w)
       (λ v on. record {
         gain = on.gain;

@@ -11,7 +11,7 @@ use Rattle.listing_definitions.specs.declared.Solver.TheVariants.{Primal as ByPr
 use Rattle.listing_definitions.specs.Report.{SolutionLines, Chain, Report, Solved, Solution, Parametric}
 use Rattle.listing_definitions.specs.Ending.{Ending}
 use Rattle.listing_definitions.specs.Listing.{listing}
-use Rattle.question_definitions.specs.Answers.{Sheet, changing_name, ParametricRun, Question, OfPath, OfSolution, OfParametricRun, Answer}
+use Rattle.question_definitions.specs.Answers.{Sheet, changing_name, ParametricRun, Question, OfPath, OfSolution, OfParametricRun, AnswerTo}
 use Rattle.question_definitions.specs.Solving.{Solving}
 use Rattle.answer_definitions.specs.ParametricRuns.{family_of, sheet_at}
 use Rattle.run_definitions.specs.State.{Present, State}
@@ -23,7 +23,7 @@ use Rattle.walk_definitions.specs.Tests.{point_of, prices_of}
 use Rattle.walk_definitions.specs.Reading.{Right, judged}
 use Rattle.judged_laws.specs.Views.{part_of, past_of, IsTrueAtFirst}
 
-abbrev pub IsTaken : (question : Question) → Sheet → Answer question → Type 0
+abbrev pub IsTaken : (question : Question) → Sheet → AnswerTo question → Type 0
 IsTaken question sheet answer = (rest : List ℕ) × (after : List ℕ) × (judged question sheet rest ≡ Right answer after)
 
 -- no basis is looked at, and no operation is refused

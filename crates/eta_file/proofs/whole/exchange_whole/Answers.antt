@@ -1,6 +1,6 @@
 use Rattle.std.proofs.Common.{◌∙◌, ap, subst}
 use Rattle.exact_values.specs.Rational.{neg_ℚ}
-use Rattle.eta_file.specs.Crossings.{IsSubtracted}
+use Rattle.eta_file.specs.Transformations.{IsSubtracted}
 use Rattle.eta_file.proofs.WholeSteps.{exchanged_by}
 use Rattle.eta_file.proofs.whole.exchange_whole.Goals as goal
 

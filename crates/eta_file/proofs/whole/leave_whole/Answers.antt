@@ -1,7 +1,7 @@
 use Rattle.std.proofs.Common.{◌≡◌, ◌-◌, ◌∙◌, sym, length, set, All, arith, subst, refl, IfSome}
 use Rattle.std.proofs.lemmas.List.{length-set}
 use Rattle.eta_file.specs.Entries.{IsEntryWithin, AreApart, IsWholeOf}
-use Rattle.eta_file.specs.Crossings.{IsScaled}
+use Rattle.eta_file.specs.Transformations.{IsScaled}
 use Rattle.exact_values.specs.Rational.{one_ℚ}
 use Rattle.eta_file.proofs.WholeSteps.{whole_within, whole_apart, left_whole}
 use Rattle.eta_file.proofs.whole.leave_whole.Goals as goal

@@ -1,7 +1,7 @@
 use Rattle.std.proofs.Common.{◌≡◌, ◌≤◌, ◌+◌, ◌-◌, length, arith, ◌∙◌, ap}
 use Rattle.lp_definitions.specs.LinearProgram.{size}
 use Rattle.eta_file.specs.declared.eta.StoredEta.{StoredEta}
-use Rattle.eta_file.specs.Crossings.{IsLeaving}
+use Rattle.eta_file.specs.Transformations.{IsLeaving}
 use Rattle.eta_file.specs.Refusals.{LeaveRefused}
 use Rattle.eta_file.specs.File.{inverse_of}
 use Rattle.eta_file.proofs.FileLaws.{refused_map, ok_map, within_places, entries_apart, fewer, count_next, left, leaving_refused, nonbasic_from, is_column, column_number, column_within, column_distinct, filled}

@@ -3,7 +3,7 @@ use Rattle.lp_definitions.specs.LinearProgram.{size, column}
 use Rattle.whole_vectors.specs.Quotients.{quotients, Represent}
 use Rattle.whole_vectors.proofs.Over.{length-quotients, stand_map}
 use Rattle.eta_file.specs.declared.eta.StoredEta.{StoredEta}
-use Rattle.eta_file.specs.Crossings.{IsLeaving, IsColumnFilled}
+use Rattle.eta_file.specs.Transformations.{IsLeaving, IsColumnFilled}
 use Rattle.eta_file.specs.Inverse.{IsDirectionAfter}
 use Rattle.eta_file.specs.File.{inverse_of}
 use Rattle.eta_file.proofs.FileLaws.{some_map, within_places, whole_is, entries_apart, left, nonbasic_from, is_column, column_number, column_within, column_distinct, filled}

@@ -6,15 +6,15 @@ use Rattle.eta_file.specs.File.{inverse_of}
 use Rattle.eta_file.proofs.FileLaws.{nonbasic_from, some_map, divided}
 use Rattle.eta_file.proofs.file.EtaFile.carried_whole.Goals as goal
 
-pub cross_whole_at-requires-clause-before : goal.cross_whole_at-requires-clause-before
-cross_whole_at-requires-clause-before c =
+pub transform_whole_at-requires-clause-before : goal.transform_whole_at-requires-clause-before
+transform_whole_at-requires-clause-before c =
     let f = inverse_of c.self.inside in
     rw (← c.self.view_is)
     (nonbasic_from f.matrix f.etas f.basics c.self.invariant c.args.j c.last_left-first.result (rw c.deref.ensures.value at c.last_left-first.ensures.none_later) (rw (← c.self.view_is) at c.requires.nonbasic)
     c.loop-place.place (omega arith))
 
-pub cross_whole_at-requires-clause-then : goal.cross_whole_at-requires-clause-then
-cross_whole_at-requires-clause-then c =
+pub transform_whole_at-requires-clause-then : goal.transform_whole_at-requires-clause-then
+transform_whole_at-requires-clause-then c =
     let f = inverse_of c.self.inside in
     rw (← c.self.view_is)
     (nonbasic_from f.matrix f.etas f.basics c.self.invariant c.args.j c.last_left-first.result (rw c.deref.ensures.value at c.last_left-first.ensures.none_later) (rw (← c.self.view_is) at c.requires.nonbasic)

@@ -1,6 +1,6 @@
 use Rattle.std.proofs.Common.{Some, [], ◌∷◌, ap, ◌∙◌}
 use Rattle.deck_definitions.specs.Tests.{is_bound_already}
-use Rattle.named_problem.specs.declared.ends.End.TheVariants.{Upper, Lower}
+use Rattle.named_problem.specs.declared.ends.ColumnEnd.TheVariants.{Upper, Lower}
 use Rattle.named_problem.specs.NotedEnds.{held}
 use Rattle.named_problem.proofs.Slots.{added, free_ends, held-append}
 use Rattle.named_problem.proofs.bounds.Bounds.add.Goals as goal

@@ -1,5 +1,5 @@
 use Rattle.named_problem.specs.NotedEnds.{AreNoted}
-use Rattle.named_problem.specs.declared.ends.End.TheVariants.{Upper, Lower}
+use Rattle.named_problem.specs.declared.ends.ColumnEnd.TheVariants.{Upper, Lower}
 use Rattle.std.proofs.Common.{[], ◌∷◌, ◌++◌, ap, sym, ◌∙◌, subst}
 use Rattle.named_problem.proofs.Slots.{held_some, held_gap, still_apart}
 use Rattle.named_problem.proofs.bounds.Bounds.closed_up.Goals as goal

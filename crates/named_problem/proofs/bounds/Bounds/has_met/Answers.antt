@@ -2,7 +2,7 @@ use Rattle.std.proofs.Common.{◌||◌, ◌&&◌, ap, sym, ◌∙◌}
 use Rattle.std.specs.List.{list_any}
 use Rattle.problem_definitions.specs.Kinds.{touches_lower}
 use Rattle.named_problem.proofs.Slots.{met_at_ends}
-use Rattle.named_problem.specs.declared.ends.End.TheVariants.{Upper, Lower}
+use Rattle.named_problem.specs.declared.ends.ColumnEnd.TheVariants.{Upper, Lower}
 use Rattle.named_problem.specs.NotedEnds.{is_at_end}
 use Rattle.named_problem.proofs.bounds.Bounds.has_met.Goals as goal
 

@@ -4,8 +4,8 @@ use Rattle.exact_values.proofs.Ring_laws.{mul-zero}
 use Rattle.eta_file.specs.declared.eta.EtaEntry.{EtaEntry}
 use Rattle.eta_file.specs.Entries.{IsEntryWithin}
 use Rattle.eta_file.proofs.CarrySteps.{scaled_more, sum_next_other, others_next_same, others_next_other, others_room, entry_at}
-use Rattle.eta_file.proofs.carry.Crossing.scale.Goals as goal
-use Rattle.eta_file.proofs.carry.Crossing.scale.Goals.{then-entry-self+in_ok-out, else-entry-self}
+use Rattle.eta_file.proofs.carry.Transformation.scale.Goals as goal
+use Rattle.eta_file.proofs.carry.Transformation.scale.Goals.{then-entry-self+in_ok-out, else-entry-self}
 
 pub loop-entry-init : goal.loop-entry-init
 loop-entry-init g c = record { each = λ k low high other. c.requires.zero k low ∙ sym (mul-zero c.args.reciprocal); cost = omega arith }

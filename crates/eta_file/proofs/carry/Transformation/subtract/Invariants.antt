@@ -2,7 +2,7 @@ use Rattle.std.proofs.Common.{◌≡◌, ◌≢◌, ℕ, ◌+◌, ◌*◌, ◌�
 use Rattle.exact_values.specs.Rational.{◌-ℚ◌, ◌*ℚ◌}
 use Rattle.lp_definitions.specs.LinearProgram.{value_at}
 use Rattle.eta_file.specs.Entries.{sum_rate, others}
-use Rattle.eta_file.proofs.carry.Crossing.subtract.Given as goal
+use Rattle.eta_file.proofs.carry.Transformation.subtract.Given as goal
 
 -- the entries so far are taken
 abbrev pub invariant-loop-entry : goal.invariant-loop-entry

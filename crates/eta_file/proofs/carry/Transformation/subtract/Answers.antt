@@ -5,8 +5,8 @@ use Rattle.eta_file.specs.declared.eta.EtaEntry.{EtaEntry}
 use Rattle.eta_file.specs.Entries.{sum_rate, IsEntryWithin}
 use Rattle.eta_file.specs.Refusals.{IsRestRefused}
 use Rattle.eta_file.proofs.CarrySteps.{subtracted_more, sum_next_other, others_next_same, others_next_other, others_room, entry_at, minus_nothing}
-use Rattle.eta_file.proofs.carry.Crossing.subtract.Goals as goal
-use Rattle.eta_file.proofs.carry.Crossing.subtract.Goals.{then-entry-self+in_ok-out, else-entry-self}
+use Rattle.eta_file.proofs.carry.Transformation.subtract.Goals as goal
+use Rattle.eta_file.proofs.carry.Transformation.subtract.Goals.{then-entry-self+in_ok-out, else-entry-self}
 use Rattle.lp_laws.proofs.Places.{value_at_place}
 
 pub loop-entry-init : goal.loop-entry-init

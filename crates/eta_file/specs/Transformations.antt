@@ -1,7 +1,7 @@
 -- What an eta makes of a column, in the numbers of the list that holds it.
 --     IsWithinPlaces n eta         the eta speaks of the first n variables, and its pivot is not 0
 --     IsSubtracted p u es old new  each value but that of p, less u times the rate there
---     IsCrossed eta old new        what the eta makes of a direction
+--     IsTransformed eta old new    what the eta makes of a direction
 --     IsExchanged p q c w old new  the numbers, less c times those of an eta; the opposite of c times its scale at q, and 0 at p
 --     IsScaled p u es new          u times the rate, at each variable but p
 --     IsLeaving eta new            the direction of the leaver after the eta
@@ -29,12 +29,12 @@ pub record IsWithinPlaces (n : ℕ) (eta : StoredEta) : Type 0 where
 pub record IsSubtracted (p : ℕ) (u : ℚ) (es : List EtaEntry) (old new : List ℚ) : Type 0 where
   pub each : (k : ℕ) → 1 ≤ k → k ≤ length old → k ≢ p → value_at new k ≡ value_at old k -ℚ u *ℚ sum_rate es k
 
-pub data IsCrossed (eta : StoredEta) (old new : List ℚ) : Type 0 where
-  untouched : value_at old eta.p ≡ zero_ℚ → new ≡ old → IsCrossed eta old new
+pub data IsTransformed (eta : StoredEta) (old new : List ℚ) : Type 0 where
+  untouched : value_at old eta.p ≡ zero_ℚ → new ≡ old → IsTransformed eta old new
   changed : value_at new eta.p ≡ (if nat_eq eta.p eta.q then neg_ℚ (value_at old eta.p /ℚ eta.pivot) else zero_ℚ) →
       value_at new eta.q ≡ neg_ℚ (value_at old eta.p /ℚ eta.pivot) →
       ((k : ℕ) → 1 ≤ k → k ≤ length old → k ≢ eta.p → k ≢ eta.q → value_at new k ≡ value_at old k -ℚ (value_at old eta.p /ℚ eta.pivot) *ℚ sum_rate eta.entries.items k) →
-      IsCrossed eta old new
+      IsTransformed eta old new
 
 pub record IsExchanged (p q : ℕ) (c : ℚ) (w : WholeEta) (old new : List ℚ) : Type 0 where
   pub at_p : value_at new p ≡ (if nat_eq p q then neg_ℚ (c *ℚ w.scale) else zero_ℚ)
