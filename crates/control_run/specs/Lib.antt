@@ -5,3 +5,4 @@ pub mod Finishing
 pub mod Running
 pub mod ParametricVerbs
 pub mod Ended
+pub mod Shown

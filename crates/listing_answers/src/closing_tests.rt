@@ -1,8 +1,8 @@
 // The tests of how a parametric run closes.
-ghost use Rattle.std.specs.Prelude.{◌≡◌, [], ◌∷◌, None, is_some, unwrap_or, length, map, if◌then◌else◌};
+ghost use Rattle.std.specs.Prelude.{◌≡◌, [], ◌∷◌, None, is_some, unwrap_or, length, map};
 ghost use Rattle.exact_values.specs.Rational.{ℚ, zero_ℚ, ◌+ℚ◌, ◌*ℚ◌};
-ghost use Rattle.exact_values.specs.Tests.{eq_ℚ, lt_ℚ};
-ghost use Rattle.lp_definitions.specs.LinearProgram.{IsLinearProgram, IsRow, IsVariable, size, value_at, lower_of, upper_of};
+ghost use Rattle.exact_values.specs.Tests.{eq_ℚ};
+ghost use Rattle.lp_definitions.specs.LinearProgram.{IsLinearProgram, IsRow, IsVariable, size, value_at};
 ghost use Rattle.check_definitions.specs.Steps.{comparison, verdict_of, in_turn, sum_steps, sum_of};
 ghost use Rattle.check_definitions.specs.Checks.{limit_product, ray_limits, multiplied, multiplied_among};
 ghost use Rattle.question_definitions.specs.Answers.{Changing};
@@ -18,8 +18,11 @@ use crate::answer::Stop;
 use crate::claims::Pair;
 use crate::closing::Closing;
 use crate::families::{plus_product, program_at};
-use crate::judging::{ask, counted_for, is_at_most, is_equal, judge};
-use certificate_check::{check_combination, check_direction, check_direction_limits, check_point};
+use crate::judging::{ask, is_at_most, judge};
+use certificate_check::{
+    check_combination, check_direction, check_direction_limits, check_point, counted_for, is_equal,
+    limit_met,
+};
 use frac128::Frac;
 use listing_tables::{Sheet, objective_of};
 use lp_model::Lp;
@@ -61,18 +64,6 @@ fn check_unbounded_past(
 }
 
 // ---- past a value no point is feasible
-
-// The limit that a multiplier meets.
-fn limit_met(lp: &Lp, multiplier: Frac, k: u32) -> Option<Frac>
-    requires { IsVariable lp.now.matrix k }
-    ensures { result ≡ (if lt_ℚ zero_ℚ multiplier then upper_of lp.now k else lower_of lp.now k) }
-{
-    if Frac::whole(0).is_less(multiplier) {
-        lp.upper_limit(k)
-    } else {
-        lp.lower_limit(k)
-    }
-}
 
 // A sum, and a multiplier times the limit that it meets.
 fn plus_met(sum: Frac, multiplier: Frac, limit: Option<Frac>, k: u32) -> Result<Frac, Stop>

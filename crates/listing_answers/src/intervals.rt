@@ -1,11 +1,10 @@
 // The intervals of a parametric run.
 ghost use Rattle.std.specs.Prelude.{◌≡◌, ◌++◌, ◌&&◌, ◌||◌, ℕ, IfOk, None, nat_eq};
 ghost use Rattle.std.specs.List.{flat_map};
-ghost use Rattle.exact_values.specs.Rational.{zero_ℚ, compare_ℚ};
 ghost use Rattle.exact_values.specs.Tests.{lt_ℚ, eq_ℚ};
 ghost use Rattle.lp_definitions.specs.LinearProgram.{IsLinearProgram, IsVariable, value_at, variables, lower_of, upper_of};
 ghost use Rattle.check_definitions.specs.Steps.{verdict_of};
-ghost use Rattle.check_definitions.specs.Checks.{is_at, by_sign};
+ghost use Rattle.check_definitions.specs.Checks.{is_at};
 ghost use Rattle.listing_definitions.specs.Numbers.{digits};
 ghost use Rattle.listing_tables.specs.Sheets.{IsSheet};
 ghost use Rattle.parametric_request.specs.Asking.{Serves, changing_of};
@@ -21,8 +20,8 @@ ghost use Rattle.listing_answers.specs.Taken.{Taken};
 
 use crate::answer::Stop;
 use crate::families::{along, program_at};
-use crate::judging::{ask, counted_for, is_at_most, is_equal, judge, judge_at};
-use certificate_check::check_optimal;
+use crate::judging::{ask, is_at_most, judge, judge_at};
+use certificate_check::{check_optimal, counted_for, holds_by_sign, is_equal, stands_at};
 use frac128::Frac;
 use itoa::Buffer;
 use listing_readers::{Cursor, Shape, firsts, fourths, fraction_in, seconds, table, thirds};
@@ -30,7 +29,6 @@ use listing_tables::{Sheet, fraction};
 use lp_model::{Lp, NoMemory};
 use parametric_request::ParametricRequest;
 use std::alloc::Global;
-use std::cmp::Ordering;
 
 /// The lines of an interval: the values and the prices of the variables, with their rates.
 #[derive(Drop)]
@@ -210,27 +208,6 @@ fn check_end(
         point,
         prices,
     })
-}
-
-// The limit is there, and it is the value.
-fn stands_at(limit: Option<Frac>, value: Frac) -> bool
-    ensures { result ≡ is_at limit value }
-{
-    match limit {
-        Some(limit) => is_equal(limit, value),
-        None => false,
-    }
-}
-
-// What is asked of a negative number, and what of a positive one.
-fn holds_by_sign(x: Frac, negative: bool, positive: bool) -> bool
-    ensures { result ≡ by_sign (compare_ℚ x zero_ℚ) negative positive }
-{
-    match x.compare(Frac::whole(0)) {
-        Ordering::Less => negative,
-        Ordering::Equal => true,
-        Ordering::Greater => positive,
-    }
 }
 
 // Whether each point stands at its upper limit.

@@ -9,18 +9,7 @@ ghost use Rattle.report_text.specs.Solutions.{IsSolution, lines_view, rows_headi
 
 use job_devices::{Sink, WriteStop, put_all, put_each};
 use listing_definitions::Mark;
-use listing_tables::{Sheet, Standing, Table, put_table, row_count};
-
-// The word of a mark.
-fn mark_word(mark: Mark) -> &'static [u8]
-    ensures { result.now ≡ mark_text mark }
-{
-    match mark {
-        Mark::Optimal => b"OPTIMAL",
-        Mark::Infeasible => b"INFEASIBLE",
-        Mark::Unbounded => b"UNBOUNDED",
-    }
-}
+use listing_tables::{Sheet, Standing, Table, mark_word, put_table, row_count};
 
 fn put_mark<P: Sink>(print: &mut P, mark: Mark) -> Result<(), WriteStop>
     ensures { Writes P.written P.stopped_at P.faults P.refusals print.old print.new result
