@@ -3,3 +3,4 @@ pub mod Ranges
 pub mod Views
 pub mod Solutions
 pub mod Verdicts
+pub mod Filed
