@@ -10,11 +10,11 @@ put_row_section-requires g c = limit_rows_lines c.args.sheet c.args.ranging c.re
 pub put_column_section-requires : goal.put_column_section-requires
 put_column_section-requires g c = limit_columns_lines c.args.sheet c.args.ranging c.requires
 
-pub put_row_section-2-requires : goal.put_row_section-2-requires
-put_row_section-2-requires g c = between_rows_lines c.args.sheet c.args.ranging c.requires
+pub put_row_section-requires-2 : goal.put_row_section-requires-2
+put_row_section-requires-2 g c = between_rows_lines c.args.sheet c.args.ranging c.requires
 
-pub put_column_section-2-requires : goal.put_column_section-2-requires
-put_column_section-2-requires g c = between_columns_lines c.args.sheet c.args.ranging c.requires
+pub put_column_section-requires-2 : goal.put_column_section-requires-2
+put_column_section-requires-2 g c = between_columns_lines c.args.sheet c.args.ranging c.requires
 
 pub returns-in_err-put_all : goal.returns-in_err-put_all
 returns-in_err-put_all g c =
