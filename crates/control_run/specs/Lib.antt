@@ -6,3 +6,4 @@ pub mod Running
 pub mod ParametricVerbs
 pub mod Ended
 pub mod Shown
+pub mod Beginning

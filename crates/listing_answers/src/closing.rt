@@ -1,13 +1,13 @@
 // How a parametric run closes.
-ghost use Rattle.std.specs.Prelude.{◌≡◌, None, IfOk};
-ghost use Rattle.lp_definitions.specs.LinearProgram.{IsLinearProgram};
+ghost use Rattle.std.specs.Prelude.{◌≡◌, IfOk};
 ghost use Rattle.listing_tables.specs.Sheets.{IsSheet};
 ghost use Rattle.question_definitions.specs.Answers.{parametric_solver};
-ghost use Rattle.parametric_request.specs.Asking.{Serves, changing_of};
+ghost use Rattle.parametric_request.specs.Asking.{changing_of};
 ghost use Rattle.run_definitions.specs.Verbs.{last_value};
 ghost use Rattle.walk_definitions.specs.Tests.{close_test};
 ghost use Rattle.walk_definitions.specs.Reading.{close_in, tested};
 ghost use Rattle.listing_readers.specs.Read.{sheet_view};
+ghost use Rattle.listing_answers.specs.Asked.{IsAskedOf};
 ghost use Rattle.listing_answers.specs.Words.{Found};
 ghost use Rattle.listing_answers.specs.Closings.{IsValueRead, IsEndRead, Closes, unbounded_in, infeasible_in, past_in, close_after_in, value_of};
 ghost use Rattle.listing_answers.specs.Taken.{Taken};
@@ -152,9 +152,7 @@ pub fn read_close(
     last: Frac,
 ) -> Result<Frac, Stop>
     requires sheet { IsSheet sheet }
-    requires lawful { IsLinearProgram sheet.lp.now }
-    requires no_change { sheet.lp.now.change ≡ None }
-    requires serves { Serves sheet.problem.now sheet.lp.now request.now }
+    requires asked { IsAskedOf sheet request.now }
     ensures { let changing = changing_of request.now.name request.now.change in
         Taken (λ end close. end ≡ last_value close) (tested (close_test (sheet_view sheet.entry) changing request.now.to last) (close_in
         (sheet_view sheet.entry) (parametric_solver changing) cursor.old)) cursor.new result }

@@ -1,14 +1,15 @@
 // The tests of how a parametric run closes.
-ghost use Rattle.std.specs.Prelude.{◌≡◌, [], ◌∷◌, None, is_some, unwrap_or, length, map};
+ghost use Rattle.std.specs.Prelude.{◌≡◌, [], ◌∷◌, is_some, unwrap_or, length, map};
 ghost use Rattle.exact_values.specs.Rational.{ℚ, zero_ℚ, ◌+ℚ◌, ◌*ℚ◌};
 ghost use Rattle.exact_values.specs.Tests.{eq_ℚ};
-ghost use Rattle.lp_definitions.specs.LinearProgram.{IsLinearProgram, IsRow, IsVariable, size, value_at};
+ghost use Rattle.lp_definitions.specs.LinearProgram.{IsRow, IsVariable, size, value_at};
 ghost use Rattle.check_definitions.specs.Steps.{comparison, verdict_of, in_turn, sum_steps, sum_of};
 ghost use Rattle.check_definitions.specs.Checks.{limit_product, ray_limits, multiplied, multiplied_among};
 ghost use Rattle.question_definitions.specs.Answers.{Changing};
 ghost use Rattle.parametric_request.specs.Asking.{Serves, changing_of};
 ghost use Rattle.walk_definitions.specs.Tests.{asked, past_test, unbounded_past, infeasible_past, shift_products};
 ghost use Rattle.listing_readers.specs.Read.{sheet_view};
+ghost use Rattle.listing_answers.specs.Asked.{IsAskedOf};
 ghost use Rattle.listing_answers.specs.Passing.{Judges};
 ghost use Rattle.listing_answers.specs.Making.{Makes};
 ghost use Rattle.listing_answers.specs.Claims.{IsPairOf};
@@ -128,9 +129,7 @@ fn check_infeasible_past(
     value: Frac,
     ray: &[Frac],
 ) -> Result<(), Stop>
-    requires lawful { IsLinearProgram sheet.lp.now }
-    requires no_change { sheet.lp.now.change ≡ None }
-    requires serves { Serves sheet.problem.now sheet.lp.now request.now }
+    requires asked { IsAskedOf sheet request.now }
     requires shifts { length shift.now ≡ sheet.lp.now.matrix.rows }
     requires places { length ray.now ≡ size sheet.lp.now.matrix }
     ensures { Judges (infeasible_past (sheet_view sheet.entry) (changing_of request.now.name request.now.change) shift.now value
@@ -208,9 +207,7 @@ fn check_past_infeasible(
     shift: &[Frac],
     past: &PastRay<'_>,
 ) -> Result<(), Stop>
-    requires lawful { IsLinearProgram sheet.lp.now }
-    requires no_change { sheet.lp.now.change ≡ None }
-    requires serves { Serves sheet.problem.now sheet.lp.now request.now }
+    requires asked { IsAskedOf sheet request.now }
     requires shifts { length shift.now ≡ sheet.lp.now.matrix.rows }
     requires places { length past.now.ray.now ≡ size sheet.lp.now.matrix }
     ensures { Judges (past_test request.now.to last past.now.value (infeasible_past (sheet_view sheet.entry)
@@ -231,9 +228,7 @@ fn check_infeasible(
     value: Frac,
     ray: &[Frac],
 ) -> Result<(), Stop>
-    requires lawful { IsLinearProgram sheet.lp.now }
-    requires no_change { sheet.lp.now.change ≡ None }
-    requires serves { Serves sheet.problem.now sheet.lp.now request.now }
+    requires asked { IsAskedOf sheet request.now }
     requires places { length ray.now ≡ size sheet.lp.now.matrix }
     ensures { Judges (infeasible_test (sheet_view sheet.entry)
         (changing_of request.now.name request.now.change) request.now.to last value ray.now) result }
@@ -255,9 +250,7 @@ pub fn check_closing(
     last: Frac,
     closing: &Closing,
 ) -> Result<(), Stop>
-    requires lawful { IsLinearProgram sheet.lp.now }
-    requires no_change { sheet.lp.now.change ≡ None }
-    requires serves { Serves sheet.problem.now sheet.lp.now request.now }
+    requires asked { IsAskedOf sheet request.now }
     requires fits { ClosingFits sheet.lp.now closing.now }
     ensures { Judges (closing_test (sheet_view sheet.entry) (changing_of request.now.name request.now.change) request.now.to last
         closing.now) result }
