@@ -157,7 +157,7 @@ fn take_measured(
     items: &mut Entries,
     count: u32,
     card: &DataCard<'_>,
-) -> Result<Lengths, CardStop>
+) -> Result<Lengths, CardStop<DeckFaultKind>>
     requires { count ≤ 100000 }
     ensures no_fault { OnOk result (pairs_fault (rows_alone rows.now) section items.old count
         (pairs_of (viewed card.now)) ≡ None) }
@@ -181,7 +181,7 @@ fn take_into(
     groups: &mut IndexMap<Name, Entries>,
     count: u32,
     card: &DataCard<'_>,
-) -> Result<Lengths, CardStop>
+) -> Result<Lengths, CardStop<DeckFaultKind>>
     requires { count ≤ 100000 }
     ensures no_fault { OnOk result
         (pairs_fault (rows_alone rows.now) section (items_of card.now.name1
@@ -204,7 +204,7 @@ fn take_column_into(
     columns: &mut IndexMap<Name, Entries>,
     count: u32,
     card: &DataCard<'_>,
-) -> Result<Lengths, CardStop>
+) -> Result<Lengths, CardStop<DeckFaultKind>>
     requires { count ≤ 100000 }
     ensures no_fault { OnOk result
         (column_fault (map group_at columns.old.entries) card.now.name1
@@ -222,7 +222,7 @@ fn take_column_into(
     let entry = columns.entry(card.name1)?;
     let place = entry.index();
     if let Some(kind) = place_fault(place, before) {
-        return Err(CardStop::Refused(kind));
+        return Err(CardStop::Fault(kind));
     }
     let items = entry.or_insert(Entries::new(alloc));
     take_measured(rows, Section::Columns, items, count, card)
@@ -372,7 +372,7 @@ impl Groups {
         section: Section,
         count: u32,
         card: &DataCard<'_>,
-    ) -> Result<(), CardStop>
+    ) -> Result<(), CardStop<DeckFaultKind>>
         requires { count ≤ 100000 }
         ensures no_fault { OnOk result
             (pairs_fault (rows_alone rows.now) section (items_of card.now.name1 self.old) count
@@ -402,7 +402,7 @@ impl Groups {
         rows: &Rows,
         count: u32,
         card: &DataCard<'_>,
-    ) -> Result<(), CardStop>
+    ) -> Result<(), CardStop<DeckFaultKind>>
         requires { count ≤ 100000 }
         ensures no_fault { OnOk result
             (column_fault self.old card.now.name1
