@@ -105,7 +105,7 @@ fn take_bound(
     let bound = NamedBound {
         kind,
         column: card.name2,
-        value: bound_value(kind, card)?,
+        value: bound_value(kind, card).map_err(CardStop::Fault)?,
     };
     items.add(bound)?;
     Ok(())
