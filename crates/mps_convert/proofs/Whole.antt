@@ -1,5 +1,5 @@
 -- The conversion of a whole deck, by its parts: the first faulty card, its end and its name.
-use Rattle.std.proofs.Common.{◌≡◌, ℕ, ◌+◌, ◌-◌, ◌≤◌, true, false, cond, not, List, [], ◌∷◌, ◌++◌, Option, Some, None, Result, Ok, Err, IfOk, IfErr, take, drop, slice_get, refl, ap, sym, subst, ◌∙◌, unwrap_or}
+use Rattle.std.proofs.Common.{◌≡◌, ℕ, ◌+◌, ◌-◌, ◌≤◌, true, false, cond, not, List, [], ◌∷◌, ◌++◌, Option, Some, None, Ok, take, drop, slice_get, refl, ap, sym, subst, ◌∙◌, unwrap_or}
 use Rattle.card_definitions.specs.Words.{unless}
 use Rattle.card_definitions.specs.Cards.{Card, live, numbered_cards, cards_between, is_skipped}
 use Rattle.card_definitions.proofs.FirstFaults.{no_first}
@@ -20,15 +20,6 @@ use Rattle.deck_fields.specs.Stops.{Stops}
 use Rattle.deck_fields.proofs.Between.{cards_up_to, cards_more, cards_split}
 use Rattle.mps_convert.specs.State.{State, state_of}
 use Rattle.mps_convert.specs.Conversion.{Refuses}
-
--- what holds of a result from what does
-pub if_ok_then : {X E : Type 0} (P Q : X → Type 0) (result : Result X E) → ((x : X) → P x → Q x) → IfOk result P → IfOk result Q
-if_ok_then P Q (Ok x) leads h = leads x h
-if_ok_then P Q (Err e) leads h = tt
-
-pub if_no_memory : {X : Type 0} (P : CardStop DeckFault → Type 0) (result : Result X (CardStop DeckFault)) → P NoMemory → IfErr result (λ stop. stop ≡ NoMemory) → IfErr result P
-if_no_memory P (Ok x) p h = tt
-if_no_memory P (Err stop) p h = subst P (sym h) p
 
 module _ (deck : List Card) (name : Option Name) where
   made : Problem ℕ

@@ -1,9 +1,9 @@
 use Rattle.std.proofs.Common.{◌≡◌, Ok, refl, ap, sym, subst, ◌∙◌, unwrap_or}
-use Rattle.std.proofs.lemmas.Result.{err_from_is_err_and}
+use Rattle.std.proofs.lemmas.Result.{IfOk-weaker, IfErr-weaker, err_from_is_err_and}
 use Rattle.card_definitions.specs.Cards.{live, cards_between}
 use Rattle.problem_definitions.specs.Numbering.{numbered, by_names}
 use Rattle.deck_definitions.specs.Conversion.{fault_by, deck_name}
-use Rattle.mps_convert.proofs.Whole.{if_ok_then, if_no_memory}
+use Rattle.card_reader.specs.declared.stop.CardStop.TheVariants.{NoMemory}
 use Rattle.deck_fields.specs.Stops.{Stops}
 use Rattle.revise_definitions.specs.Revision.{revise_card_fault, revision}
 use Rattle.revise_deck.specs.State.{State, state_of}
@@ -35,11 +35,13 @@ returns-clause-problem c =
     let deck = cards_between c.args.first c.args.last c.args.cards.now in
     let own = unwrap_or c.args.name (deck_name (live deck)) in
     let begins : c.new-draft.result.problem ≡ by_names c.args.old.now = ap (λ (s : State). s.problem) c.new-draft.ensures ∙ c.in-Ok.ensures in
-    if_ok_then (λ problem. problem ≡ numbered (problem_named own c.read_cards.new.draft)) (λ problem. revision c.args.old.now deck c.args.name ≡ Ok problem) c.problem_of.result
+    IfOk-weaker c.problem_of.result (λ problem. problem ≡ numbered (problem_named own c.read_cards.new.draft)) (λ problem. revision c.args.old.now deck c.args.name ≡ Ok problem)
     (λ problem is. gives c.args.old.now deck c.args.name own c.read_cards.new.draft.problem problem
     (ap (λ problem. fault_by (revise_card_fault problem) deck) (sym begins) ∙ c.in_ok-read_cards.ensures.no_fault)
     (ap (λ (s : State). s.problem) (c.in_ok-read_cards.ensures.made ∙ ap (λ problem. state_of problem (live deck)) begins)) refl is)
     c.problem_of.ensures.problem
 
 pub returns-clause-stop : goal.returns-clause-stop
-returns-clause-stop c = if_no_memory (Refuses c.args.old.now (cards_between c.args.first c.args.last c.args.cards.now) c.args.name) c.problem_of.result tt c.problem_of.ensures.stop
+returns-clause-stop c =
+    let Goal = Refuses c.args.old.now (cards_between c.args.first c.args.last c.args.cards.now) c.args.name in
+    IfErr-weaker c.problem_of.result (λ stop. stop ≡ NoMemory) Goal (λ stop is. subst Goal (sym is) tt) c.problem_of.ensures.stop
