@@ -12,19 +12,19 @@ use Rattle.card_reader.specs.Reading.{EndsAtStop, ReadsAtStop, ReadsJob, ReadsPr
 use Rattle.card_reader.specs.Stop.{stop_of_source}
 use Rattle.card_reader.specs.declared.stop.CardStop.{CardStop}
 use Rattle.card_reader.specs.declared.stop.CardStop.TheVariants.{Fault, NoMemory}
-use Rattle.card_reader.specs.declared.stop.ReadFault.{ReadFault}
-use Rattle.card_reader.specs.declared.stop.ReadFault.TheVariants.{Source, Card}
+use Rattle.card_reader.specs.declared.stop.ReadingFault.{ReadingFault}
+use Rattle.card_reader.specs.declared.stop.ReadingFault.TheVariants.{Source, Card}
 
 -- a job that was read as far as the limit had a prefix read
 pub prefix_of_job : (old new : Option (List ℕ)) → ReadsJob old new → ReadsPrefix old new
 prefix_of_job old new read = prefix_of_whole read_limit old new read
 
-pub reads_at_stop : (stop : CardStop ReadFault) (old new : Option (List ℕ)) → ReadsJob old new → ReadsAtStop stop old new
+pub reads_at_stop : (stop : CardStop ReadingFault) (old new : Option (List ℕ)) → ReadsJob old new → ReadsAtStop stop old new
 reads_at_stop (Fault Source) old new read = prefix_of_job old new read
 reads_at_stop (Fault (Card found)) old new read = read
 reads_at_stop NoMemory old new read = prefix_of_job old new read
 
-pub ends_at_stop : (stop : CardStop ReadFault) (new : Option (List ℕ)) → IsAtEnd new → EndsAtStop stop new
+pub ends_at_stop : (stop : CardStop ReadingFault) (new : Option (List ℕ)) → IsAtEnd new → EndsAtStop stop new
 ends_at_stop (Fault Source) new end = tt
 ends_at_stop (Fault (Card fault.TooLong)) new end = tt
 ends_at_stop (Fault (Card (fault.CardTooLong number))) new end = end

@@ -12,4 +12,4 @@ mod stop;
 pub use card::Card;
 pub use cards::Cards;
 pub use read::read_job;
-pub use stop::{CardStop, ReadFault};
+pub use stop::{CardStop, ReadingFault};

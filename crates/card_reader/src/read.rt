@@ -7,14 +7,14 @@ ghost use Rattle.card_reader.specs.Reading.{HasCause, Judges, Reads, ReadsPrefix
 
 use crate::cards::Cards;
 use crate::cut::cut_cards;
-use crate::stop::{CardStop, ReadFault};
+use crate::stop::{CardStop, ReadingFault};
 use card_definitions::{CardFault, MAX_JOB_BYTES};
 use job_devices::{Source, read_up_to};
 use std::alloc::Global;
 
 // The bytes of the source, and one at most after those that a job may have. It stops where the source fails or memory runs out,
 // and nowhere else.
-fn read_bytes<S: Source>(alloc: Global, source: &mut S) -> Result<Vec<u8>, CardStop<ReadFault>>
+fn read_bytes<S: Source>(alloc: Global, source: &mut S) -> Result<Vec<u8>, CardStop<ReadingFault>>
     ensures bytes { IfOk result (λ bytes. IfSome (S.left source.old)
         (λ job. bytes.items ≡ take read_limit job)) }
     ensures reads { Reads result (S.left source.old) (S.left source.new) }
@@ -33,7 +33,7 @@ fn read_bytes<S: Source>(alloc: Global, source: &mut S) -> Result<Vec<u8>, CardS
 ///
 /// A fault of the source is reported first, then a job that is too long, then the first card with a fault. Memory may run out
 /// before any of these.
-pub fn read_job<S: Source>(alloc: Global, source: &mut S) -> Result<Cards, CardStop<ReadFault>>
+pub fn read_job<S: Source>(alloc: Global, source: &mut S) -> Result<Cards, CardStop<ReadingFault>>
     ensures cards { IfOk result (λ cards. IfSome (S.left source.old)
         (λ job. cards ≡ cards_of job)) }
     ensures fault { Judges result (S.left source.old) }
@@ -45,7 +45,7 @@ pub fn read_job<S: Source>(alloc: Global, source: &mut S) -> Result<Cards, CardS
 {
     let bytes = read_bytes(alloc, source)?;
     if bytes.len() > MAX_JOB_BYTES {
-        return Err(CardStop::Fault(ReadFault::Card(CardFault::TooLong)));
+        return Err(CardStop::Fault(ReadingFault::Card(CardFault::TooLong)));
     }
     let spans = cut_cards(alloc, &bytes)?;
     Ok(Cards::new(bytes, spans))

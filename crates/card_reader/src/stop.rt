@@ -40,7 +40,7 @@ impl<F: Display, T: Drop> From<AllocFailed<T>> for CardStop<F> {
 
 /// What keeps a job from being read.
 #[derive(Clone, Copy, Debug, PartialEq, Eq, Error)]
-pub enum ReadFault {
+pub enum ReadingFault {
     /// The source failed, and has counted it.
     #[error("a read failed")]
     Source,
@@ -49,14 +49,14 @@ pub enum ReadFault {
     Card(CardFault),
 }
 
-impl From<SourceStop> for CardStop<ReadFault> {
+impl From<SourceStop> for CardStop<ReadingFault> {
     ghost use Rattle.card_reader.specs.Stop.{stop_of_source};
 
     ghost from_gives = { λ source_stop stop. stop ≡ stop_of_source source_stop };
 
     fn from(stop: SourceStop) -> Self {
         match stop {
-            SourceStop::Failed => CardStop::Fault(ReadFault::Source),
+            SourceStop::Failed => CardStop::Fault(ReadingFault::Source),
             SourceStop::NoMemory => CardStop::NoMemory,
         }
     }

@@ -7,8 +7,8 @@ use Rattle.std.specs.Prelude.{◌≡◌, ℕ, List, Option, None, Some, Err, IfS
 use Rattle.card_definitions.specs.Cards.{cards_of, job_fault}
 use Rattle.card_reader.specs.declared.stop.CardStop.{CardStop}
 use Rattle.card_reader.specs.declared.stop.CardStop.TheVariants as cards
-use Rattle.card_reader.specs.declared.stop.ReadFault.{ReadFault as WhyUnread}
-use Rattle.card_reader.specs.declared.stop.ReadFault.TheVariants as unread
+use Rattle.card_reader.specs.declared.stop.ReadingFault.{ReadingFault}
+use Rattle.card_reader.specs.declared.stop.ReadingFault.TheVariants as reading
 use Rattle.command_line.specs.declared.request.WordsStop.{WordsStop}
 use Rattle.command_line.specs.declared.request.WordsStop.TheVariants as words
 use Rattle.control_definitions.specs.Compiled.{compiled}
@@ -35,9 +35,9 @@ stop_of_words words.Refused = Words
 stop_of_words words.NoMemory = Memory
 
 -- where the job isn't read
-abbrev pub stop_of_reading : CardStop WhyUnread → EarlyStop
-stop_of_reading (cards.Fault unread.Source) = ReadFault
-stop_of_reading (cards.Fault (unread.Card fault)) = Card fault
+abbrev pub stop_of_reading : CardStop ReadingFault → EarlyStop
+stop_of_reading (cards.Fault reading.Source) = ReadFault
+stop_of_reading (cards.Fault (reading.Card fault)) = Card fault
 stop_of_reading cards.NoMemory = Memory
 
 -- where the program isn't compiled

@@ -3,7 +3,7 @@ ghost use Rattle.std.specs.Prelude.{◌≡◌};
 ghost use Rattle.report_text.specs.Views.{IsEnding, ending_view};
 
 use card_definitions::CardFault;
-use card_reader::{CardStop, ReadFault};
+use card_reader::{CardStop, ReadingFault};
 use command_line::WordsStop;
 use control_compiler::{CompileStop, ControlFault};
 use report_text::Ending;
@@ -36,15 +36,15 @@ impl From<WordsStop> for EarlyStop {
     }
 }
 
-impl From<CardStop<ReadFault>> for EarlyStop {
+impl From<CardStop<ReadingFault>> for EarlyStop {
     ghost use Rattle.job_program.specs.Stops.{stop_of_reading};
 
     ghost from_gives = { λ stop given. given ≡ stop_of_reading stop };
 
-    fn from(stop: CardStop<ReadFault>) -> EarlyStop {
+    fn from(stop: CardStop<ReadingFault>) -> EarlyStop {
         match stop {
-            CardStop::Fault(ReadFault::Source) => EarlyStop::ReadFault,
-            CardStop::Fault(ReadFault::Card(fault)) => EarlyStop::Card(fault),
+            CardStop::Fault(ReadingFault::Source) => EarlyStop::ReadFault,
+            CardStop::Fault(ReadingFault::Card(fault)) => EarlyStop::Card(fault),
             CardStop::NoMemory => EarlyStop::Memory,
         }
     }
