@@ -5,15 +5,16 @@ use Rattle.card_definitions.specs.Cards.{Card, live}
 use Rattle.lp_definitions.specs.LinearProgram.{LinearProgram}
 use Rattle.problem_definitions.specs.Problem.{Problem}
 use Rattle.deck_definitions.specs.Conversion.{fault_by}
-use Rattle.deck_fields.specs.declared.stop.DeckStop.{DeckStop}
-use Rattle.deck_fields.specs.declared.stop.DeckStop.TheVariants.{Fault, NoMemory}
+use Rattle.deck_definitions.specs.declared.DeckFault.{DeckFault}
+use Rattle.card_reader.specs.declared.stop.CardStop.{CardStop}
+use Rattle.card_reader.specs.declared.stop.CardStop.TheVariants.{Fault, NoMemory}
 use Rattle.deck_fields.specs.Stops.{Stops}
 use Rattle.basis_deck_definitions.specs.Reading.{stands_for, basis_card_fault, basis_reading}
 use Rattle.basis_deck.specs.Reading.{State, state_of, Refuses}
 
 module _ (problem : Problem ℕ) (lp : LinearProgram) (deck : List Card) where
   -- the fault of the deck is what it gives
-  refused : (stop : DeckStop) → Stops (basis_card_fault problem lp) deck stop → Refuses problem lp deck stop
+  refused : (stop : CardStop DeckFault) → Stops (basis_card_fault problem lp) deck stop → Refuses problem lp deck stop
   unfolding basis_reading
   refused NoMemory h = tt
   refused (Fault found) h = ap (λ o. unless o (stands_for problem lp (live deck))) h
@@ -24,7 +25,7 @@ module _ (problem : Problem ℕ) (lp : LinearProgram) (deck : List Card) where
   whole fine = ap (λ o. unless o (stands_for problem lp (live deck))) fine
 
   module _ (start : State) (begins : start ≡ state_of problem lp []) where
-    pub faulty : (stop : DeckStop) → Stops (basis_card_fault start.problem start.lp) deck stop → Refuses problem lp deck stop
+    pub faulty : (stop : CardStop DeckFault) → Stops (basis_card_fault start.problem start.lp) deck stop → Refuses problem lp deck stop
     faulty stop h = refused stop (subst (λ (s : State). Stops (basis_card_fault s.problem s.lp) deck stop) begins h)
 
     pub gives : (now : State) → fault_by (basis_card_fault start.problem start.lp) deck ≡ None → now ≡ state_of start.problem start.lp (live deck) → basis_reading problem lp deck ≡ Ok now.statuses

@@ -15,8 +15,9 @@ use Rattle.deck_definitions.specs.declared.Section.{Section}
 use Rattle.deck_definitions.specs.declared.Section.TheVariants.{Header, Endata}
 use Rattle.deck_definitions.specs.Sections.{is_section, is_section_card, section_begun, section_after}
 use Rattle.deck_definitions.specs.Conversion.{section_card_fault, gaps_fault}
-use Rattle.deck_fields.specs.declared.stop.DeckStop.{DeckStop}
-use Rattle.deck_fields.specs.declared.stop.DeckStop.TheVariants.{Fault, NoMemory}
+use Rattle.deck_definitions.specs.declared.DeckFault.{DeckFault}
+use Rattle.card_reader.specs.declared.stop.CardStop.{CardStop}
+use Rattle.card_reader.specs.Stop.{IfFault}
 use Rattle.basis_deck_definitions.specs.declared.Code.{Code}
 use Rattle.basis_deck_definitions.specs.Placings.{code_words, Placing, placings_by}
 use Rattle.basis_deck_definitions.specs.Reading.{has_limit_of, row_fault, filled_after, placings_of, stands_for, basis_reading}
@@ -90,7 +91,6 @@ state_with state card =
     if is_section_card card then record state { section = option_or (section_begun card) state.section }
     else with_data state (reading_of Fixed card)
 
--- a fault is what the deck gives, and memory may run out at any time
-abbrev pub Refuses : Problem ℕ → LinearProgram → List Card → DeckStop → Type 0
-Refuses problem lp deck (Fault fault) = basis_reading problem lp deck ≡ Err fault
-Refuses problem lp deck NoMemory = Unit {0}
+-- a fault is what the deck gives
+abbrev pub Refuses : Problem ℕ → LinearProgram → List Card → CardStop DeckFault → Type 0
+Refuses problem lp deck stop = IfFault (λ found. basis_reading problem lp deck ≡ Err found) stop

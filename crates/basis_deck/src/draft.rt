@@ -185,7 +185,11 @@ impl<'a> BasisDraft<'a> {
     }
 
     // Takes a card with a code for an exchange.
-    fn take_exchange(&mut self, card: &DataCard<'_>, to: Status) -> Result<(), CardStop>
+    fn take_exchange(
+        &mut self,
+        card: &DataCard<'_>,
+        to: Status,
+    ) -> Result<(), CardStop<DeckFaultKind>>
         ensures no_fault { OnOk result (code_test (state_view self.old) (viewed card.now)
             (Exchanges to) ≡ None) }
         ensures step { OnOk result (state_view self.new ≡ with_code (state_view self.old)
@@ -199,12 +203,12 @@ impl<'a> BasisDraft<'a> {
                 self.place(exchange.row, to);
                 Ok(())
             }
-            Err(kind) => Err(CardStop::Refused(kind)),
+            Err(kind) => Err(CardStop::Fault(kind)),
         }
     }
 
     // Takes a card with a code for a limit.
-    fn take_limit(&mut self, card: &DataCard<'_>, at: Status) -> Result<(), CardStop>
+    fn take_limit(&mut self, card: &DataCard<'_>, at: Status) -> Result<(), CardStop<DeckFaultKind>>
         ensures no_fault { OnOk result (code_test (state_view self.old) (viewed card.now)
             (Stands at) ≡ None) }
         ensures step { OnOk result (state_view self.new ≡ with_code (state_view self.old)
@@ -217,12 +221,12 @@ impl<'a> BasisDraft<'a> {
                 self.place(column, at);
                 Ok(())
             }
-            Err(kind) => Err(CardStop::Refused(kind)),
+            Err(kind) => Err(CardStop::Fault(kind)),
         }
     }
 
     // Takes what was read of a data card.
-    fn take_read(&mut self, card: &DataCard<'_>) -> Result<(), CardStop>
+    fn take_read(&mut self, card: &DataCard<'_>) -> Result<(), CardStop<DeckFaultKind>>
         ensures no_fault { OnOk result (read_test (state_view self.old) (viewed card.now)
             (named code_words card.now.kind.now) ≡ None) }
         ensures step { OnOk result (state_view self.new ≡ with_read (state_view self.old)
@@ -233,12 +237,12 @@ impl<'a> BasisDraft<'a> {
         match code_named(card.kind) {
             Some(Code::Exchanges(to)) => self.take_exchange(card, to),
             Some(Code::Stands(at)) => self.take_limit(card, at),
-            None => Err(CardStop::Refused(DeckFaultKind::BadBasisCode)),
+            None => Err(CardStop::Fault(DeckFaultKind::BadBasisCode)),
         }
     }
 
     // Takes a data card.
-    fn take_data(&mut self, card: Card<'_>) -> Result<(), CardStop>
+    fn take_data(&mut self, card: Card<'_>) -> Result<(), CardStop<DeckFaultKind>>
         ensures no_fault { OnOk result (inner_test (state_view self.old)
             (card_bytes card.entry) ≡ None) }
         ensures step { OnOk result (state_view self.new ≡ with_data (state_view self.old)
@@ -247,19 +251,19 @@ impl<'a> BasisDraft<'a> {
             (card_bytes card.entry))) }
     {
         let Some(section) = self.section else {
-            return Err(CardStop::Refused(DeckFaultKind::SectionOrder));
+            return Err(CardStop::Fault(DeckFaultKind::SectionOrder));
         };
         if !is_header(section) {
-            return Err(CardStop::Refused(DeckFaultKind::SectionOrder));
+            return Err(CardStop::Fault(DeckFaultKind::SectionOrder));
         }
         match read_fixed_card(card) {
             Ok(data) => self.take_read(&data),
-            Err(kind) => Err(CardStop::Refused(kind)),
+            Err(kind) => Err(CardStop::Fault(kind)),
         }
     }
 
     // Takes a card.
-    fn take_card(&mut self, card: Card<'_>) -> Result<(), CardStop>
+    fn take_card(&mut self, card: Card<'_>) -> Result<(), CardStop<DeckFaultKind>>
         ensures no_fault { OnOk result (fault_at (state_view self.old)
             (card_bytes card.entry) ≡ None) }
         ensures step { OnOk result (state_view self.new ≡ state_with (state_view self.old)
@@ -299,14 +303,11 @@ impl<'a> Draft for BasisDraft<'a> {
 
     ghost is_made_of = { λ start draft seen. state_view draft ≡ state_of start.problem.now start.lp.now seen };
 
-    fn is_ended(&self) -> bool {
-        match self.section {
-            Some(section) => is_last(section),
-            None => false,
-        }
+    fn section(&self) -> Option<Section> {
+        self.section
     }
 
-    fn take(&mut self, card: Card<'_>) -> Result<(), CardStop> {
+    fn take(&mut self, card: Card<'_>) -> Result<(), CardStop<DeckFaultKind>> {
         self.take_card(card)
     }
 }

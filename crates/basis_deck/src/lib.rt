@@ -8,7 +8,7 @@ mod names;
 mod punching;
 mod reading;
 
-pub use deck_fields::{DeckFault, DeckFaultKind, DeckStop};
+pub use deck_fields::{CardStop, DeckFault, DeckFaultKind};
 pub use installing::{InstallStop, install};
 pub use punching::punch_basis;
 pub use reading::read_basis;

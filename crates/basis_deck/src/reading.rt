@@ -8,7 +8,7 @@ ghost use Rattle.basis_deck.specs.Reading.{Refuses};
 
 use crate::draft::BasisDraft;
 use card_reader::Cards;
-use deck_fields::{DeckStop, read_cards};
+use deck_fields::{CardStop, DeckFault, read_cards};
 use lp_model::{Basis, Lp};
 use problem_file::Problem;
 use std::alloc::Global;
@@ -22,7 +22,7 @@ pub fn read_basis(
     cards: &Cards,
     first: u32,
     last: u32,
-) -> Result<Basis, DeckStop>
+) -> Result<Basis, CardStop<DeckFault>>
     requires names { HasNames problem.now lp.now }
     requires from_one { 1 ≤ first }
     requires ordered { first ≤ last }
@@ -34,7 +34,7 @@ pub fn read_basis(
         (Refuses problem.now lp.now (cards_between first last cards.now)) }
 {
     let Ok(begun) = BasisDraft::new(alloc, problem, lp) else {
-        return Err(DeckStop::NoMemory);
+        return Err(CardStop::NoMemory);
     };
     let mut draft = begun;
     read_cards(&mut draft, cards, first, last)?;

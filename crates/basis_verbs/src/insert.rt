@@ -20,7 +20,7 @@ use basis_deck::{InstallStop, install, read_basis};
 use basis_values::stands_basic;
 use card_reader::Cards;
 use control_definitions::NameCell;
-use deck_fields::DeckStop;
+use deck_fields::CardStop;
 use job_decks::{Deck, take_deck};
 use job_devices::Sink;
 use listing_definitions::VerbFault;
@@ -103,8 +103,8 @@ fn take_basis(
     };
     match read_basis(alloc, problem, lp, cards, deck.first, deck.last) {
         Ok(basis) => Ok(Given::Basis(DeckBasis { basis, deck })),
-        Err(DeckStop::Fault(fault)) => Ok(Given::Ends(End::Deck(fault))),
-        Err(DeckStop::NoMemory) => Err(Halt::NoMemory),
+        Err(CardStop::Fault(fault)) => Ok(Given::Ends(End::Deck(fault))),
+        Err(CardStop::NoMemory) => Err(Halt::NoMemory),
     }
 }
 

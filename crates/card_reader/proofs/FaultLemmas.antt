@@ -1,5 +1,5 @@
 -- The fault of a job's cards, card by card.
-use Rattle.std.proofs.Common.{◌≡◌, ℕ, ◌+◌, ◌<◌, ◌≤◌, Bool, true, false, not, List, [], ◌∷◌, ◌++◌, Option, Some, None, length, map, All, refl, sym, ◌∙◌, ap, arith, subst}
+use Rattle.std.proofs.Common.{◌≡◌, ℕ, ◌+◌, ◌<◌, ◌≤◌, Bool, true, false, not, List, [], ◌∷◌, ◌++◌, Option, Some, None, length, map, All, refl, sym, ◌∙◌, ap, arith}
 use Rattle.std.specs.Prelude.{nat_lt}
 use Rattle.std.specs.Option.{option_or}
 use Rattle.std.specs.List.{list_all}
@@ -13,10 +13,7 @@ use Rattle.card_definitions.specs.Cards.{Card, card_fault, is_printable, cards_o
 use Rattle.card_definitions.specs.declared.CardFault.{CardFault}
 use Rattle.card_definitions.specs.declared.CardFault.TheVariants.{TooLong, NotPrintable, CardTooLong}
 use Rattle.card_definitions.proofs.Numbered.{numbered_from-append}
-use Rattle.card_reader.specs.Reading.{ReportsCardFault}
 use Rattle.card_reader.specs.Spans.{IsFaultless}
-use Rattle.card_reader.specs.Stop.{stop_of}
-use Rattle.card_reader.specs.declared.stop.ReadStop.{ReadStop}
 
 -- the fault of the first card that has one
 abbrev pub fault_of_cards : List (List ℕ) → Option CardFault
@@ -59,15 +56,6 @@ job_fault-within job cards short few all =
     let count : nat_lt 200000 (length (cards_of job)) ≡ false = grind (arith, nat_tests) in
     ap (λ t. first_fault ((t ⟹ TooLong) ∷ map card_fault (numbered_cards (cards_of job)))) (or_from (nat_lt 16400000 (length job)) (nat_lt 200000 (length (cards_of job))) size count)
     ∙ ap fault_of_cards (sym all)
-
--- the answer that reports a fault
-pub tells_fault : (fault : CardFault) (stop : ReadStop) (found : Option CardFault) → stop ≡ stop_of fault → found ≡ Some fault → ReportsCardFault stop found
-tells_fault fault stop found same e = let Goal : ReadStop → Type 0 = λ s. ReportsCardFault s found in subst Goal (sym same) (each fault e)
-  where
-    each : (fault : CardFault) → found ≡ Some fault → ReportsCardFault (stop_of fault) found
-    each TooLong e = e
-    each (NotPrintable number) e = e
-    each (CardTooLong number) e = e
 
 -- a card without a fault is printable, and short enough
 faultless_card : (number : ℕ) (card : List ℕ) → card_fault (record { number = number; bytes = card }) ≡ None → IsFaultless card

@@ -10,26 +10,26 @@ use Rattle.card_definitions.specs.declared.CardFault.TheVariants as fault
 use Rattle.card_reader.proofs.FaultLemmas.{job_fault-bytes}
 use Rattle.card_reader.specs.Reading.{EndsAtStop, ReadsAtStop, ReadsJob, ReadsPrefix, read_limit}
 use Rattle.card_reader.specs.Stop.{stop_of_source}
-use Rattle.card_reader.specs.declared.stop.ReadStop.{ReadStop}
-use Rattle.card_reader.specs.declared.stop.ReadStop.TheVariants.{ReadFault, NoMemory, TooLong, CardTooLong, NotPrintable}
+use Rattle.card_reader.specs.declared.stop.CardStop.{CardStop}
+use Rattle.card_reader.specs.declared.stop.CardStop.TheVariants.{Fault, NoMemory}
+use Rattle.card_reader.specs.declared.stop.ReadingFault.{ReadingFault}
+use Rattle.card_reader.specs.declared.stop.ReadingFault.TheVariants.{Source, Card}
 
 -- a job that was read as far as the limit had a prefix read
 pub prefix_of_job : (old new : Option (List ℕ)) → ReadsJob old new → ReadsPrefix old new
 prefix_of_job old new read = prefix_of_whole read_limit old new read
 
-pub reads_at_stop : (stop : ReadStop) (old new : Option (List ℕ)) → ReadsJob old new → ReadsAtStop stop old new
-reads_at_stop ReadFault old new read = prefix_of_job old new read
+pub reads_at_stop : (stop : CardStop ReadingFault) (old new : Option (List ℕ)) → ReadsJob old new → ReadsAtStop stop old new
+reads_at_stop (Fault Source) old new read = prefix_of_job old new read
+reads_at_stop (Fault (Card found)) old new read = read
 reads_at_stop NoMemory old new read = prefix_of_job old new read
-reads_at_stop TooLong old new read = read
-reads_at_stop (CardTooLong number) old new read = read
-reads_at_stop (NotPrintable number) old new read = read
 
-pub ends_at_stop : (stop : ReadStop) (new : Option (List ℕ)) → IsAtEnd new → EndsAtStop stop new
-ends_at_stop ReadFault new end = tt
+pub ends_at_stop : (stop : CardStop ReadingFault) (new : Option (List ℕ)) → IsAtEnd new → EndsAtStop stop new
+ends_at_stop (Fault Source) new end = tt
+ends_at_stop (Fault (Card fault.TooLong)) new end = tt
+ends_at_stop (Fault (Card (fault.CardTooLong number))) new end = end
+ends_at_stop (Fault (Card (fault.NotPrintable number))) new end = end
 ends_at_stop NoMemory new end = tt
-ends_at_stop TooLong new end = tt
-ends_at_stop (CardTooLong number) new end = end
-ends_at_stop (NotPrintable number) new end = end
 
 -- how far the job was read where its source stopped, and why it did
 pub reads_at_source_stop : (stop : SourceStop) (old new : Option (List ℕ)) → ReadsPrefix old new → ReadsAtStop (stop_of_source stop) old new

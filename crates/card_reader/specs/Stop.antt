@@ -1,16 +1,16 @@
--- The answers that report a fault of the cards, and that a source stopped.
-use Rattle.card_definitions.specs.declared.CardFault.{CardFault}
-use Rattle.card_definitions.specs.declared.CardFault.TheVariants.{TooLong, NotPrintable, CardTooLong}
+-- What a stop reports, and how the reading of a job stops with its source.
 use Rattle.job_devices.specs.declared.reading.SourceStop.{SourceStop}
-use Rattle.job_devices.specs.declared.reading.SourceStop.TheVariants.{Failed, NoMemory}
-use Rattle.card_reader.specs.declared.stop.ReadStop.{ReadStop}
-use Rattle.card_reader.specs.declared.stop.ReadStop.TheVariants as stop
+use Rattle.job_devices.specs.declared.reading.SourceStop.TheVariants as source
+use Rattle.card_reader.specs.declared.stop.CardStop.{CardStop}
+use Rattle.card_reader.specs.declared.stop.CardStop.TheVariants.{Fault, NoMemory}
+use Rattle.card_reader.specs.declared.stop.ReadingFault.{ReadingFault}
+use Rattle.card_reader.specs.declared.stop.ReadingFault.TheVariants.{Source}
 
-abbrev pub stop_of : CardFault → ReadStop
-stop_of TooLong = stop.TooLong
-stop_of (NotPrintable number) = stop.NotPrintable number
-stop_of (CardTooLong number) = stop.CardTooLong number
+-- this holds of the fault, if one is reported; memory may run out at any time
+abbrev pub IfFault : {F : Type 0} → (F → Type 0) → CardStop F → Type 0
+IfFault Holds (Fault found) = Holds found
+IfFault Holds NoMemory = Unit {0}
 
-abbrev pub stop_of_source : SourceStop → ReadStop
-stop_of_source Failed = stop.ReadFault
-stop_of_source NoMemory = stop.NoMemory
+abbrev pub stop_of_source : SourceStop → CardStop ReadingFault
+stop_of_source source.Failed = Fault Source
+stop_of_source source.NoMemory = NoMemory

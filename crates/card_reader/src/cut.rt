@@ -5,8 +5,8 @@ ghost use Rattle.card_definitions.specs.Cards.{is_line_feed, is_trailing, is_pri
 ghost use Rattle.card_reader.specs.Reading.{Judges};
 ghost use Rattle.card_reader.specs.Spans.{span_bytes, cards_at, IsWithin, IsFaultless};
 
-use crate::ReadStop;
 use crate::span::Span;
+use crate::stop::{CardStop, ReadingFault};
 use card_definitions::{CARD_COLUMNS, CardFault, MAX_JOB_CARDS};
 use std::alloc::Global;
 
@@ -73,21 +73,21 @@ fn fault_of(number: u32, card: &[u8]) -> Option<CardFault>
 }
 
 /// Where the cards of the job stand.
-pub fn cut_cards(alloc: Global, bytes: &[u8]) -> Result<Vec<Span>, ReadStop>
+pub fn cut_cards(alloc: Global, bytes: &[u8]) -> Result<Vec<Span>, CardStop<ReadingFault>>
     requires { length bytes.now ≤ 16400000 }
     ensures cards { IfOk result (λ spans. cards_at bytes.now spans.items ≡ cards_of bytes.now) }
     ensures within { IfOk result (λ spans. All (IsWithin (length bytes.now)) spans.items) }
     ensures few { IfOk result (λ spans. length spans.items ≤ 200000) }
     ensures faultless { IfOk result (λ spans. All IsFaultless (cards_at bytes.now spans.items)) }
     ensures fault { Judges result (Some bytes.now) }
-    ensures no_read { IsErrOf result ReadStop.ReadFault → ⊥ }
+    ensures no_read { IsErrOf result (CardStop.Fault ReadingFault.Source) → ⊥ }
 {
     let mut spans = Vec::new(alloc);
     let mut fault = None;
     let mut start = 0;
     while start < bytes.len() {
         if spans.len() == MAX_JOB_CARDS {
-            return Err(ReadStop::TooLong);
+            return Err(CardStop::Fault(ReadingFault::Card(CardFault::TooLong)));
         }
         let (span, next) = next_span(bytes, start);
         spans.push(span)?;
@@ -96,7 +96,7 @@ pub fn cut_cards(alloc: Global, bytes: &[u8]) -> Result<Vec<Span>, ReadStop>
         start = next;
     }
     match fault {
-        Some(fault) => Err(ReadStop::from(fault)),
+        Some(fault) => Err(CardStop::Fault(ReadingFault::Card(fault))),
         None => Ok(spans),
     }
 }

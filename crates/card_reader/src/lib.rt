@@ -12,4 +12,4 @@ mod stop;
 pub use card::Card;
 pub use cards::Cards;
 pub use read::read_job;
-pub use stop::ReadStop;
+pub use stop::{CardStop, ReadingFault};

@@ -11,8 +11,8 @@ use Rattle.deck_definitions.specs.declared.Section.TheVariants.{Endata}
 use Rattle.deck_definitions.specs.Sections.{is_section_after}
 use Rattle.deck_definitions.specs.Conversion.{first_faulty, fault_by}
 use Rattle.deck_definitions.proofs.Steps.{first_faulty-append}
-use Rattle.deck_fields.specs.declared.stop.DeckStop.{DeckStop}
-use Rattle.deck_fields.specs.declared.stop.DeckStop.TheVariants.{Fault, NoMemory}
+use Rattle.card_reader.specs.declared.stop.CardStop.{CardStop}
+use Rattle.card_reader.specs.declared.stop.CardStop.TheVariants.{Fault, NoMemory}
 use Rattle.deck_fields.specs.Stops.{StopsAt, Stops}
 use Rattle.deck_fields.proofs.Between.{cards_up_to, cards_more, cards_split, last_is}
 
@@ -63,7 +63,7 @@ module _ (test : List Card → List ℕ → Option DeckFaultKind) where
         ∙ more (cards_up_to first number cards) (record { number = number; bytes = card }) none ∙ fine
 
     -- what stops at a card stops the deck
-    pub stop_at : (last : ℕ) (stop : DeckStop) → number ≤ last → StopsAt test (live (cards_up_to first number cards)) (record { number = number; bytes = card }) stop
+    pub stop_at : (last : ℕ) (stop : CardStop DeckFault) → number ≤ last → StopsAt test (live (cards_up_to first number cards)) (record { number = number; bytes = card }) stop
         → Stops test (cards_between first last cards) stop
     stop_at last NoMemory below holds = tt
     stop_at last (Fault found) below holds =

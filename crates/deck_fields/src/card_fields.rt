@@ -8,8 +8,8 @@ use crate::blanks::without_leading_blanks;
 use crate::texts::Fields;
 use card_reader::Card;
 
-// Whether a column of a card is blank.
-fn has_blank(card: &[u8], column: usize) -> bool
+/// Whether a column of a card is blank.
+pub fn has_blank(card: &[u8], column: usize) -> bool
     requires { 1 ≤ column }
     ensures { result ≡ is_blank_column card.now column }
 {

@@ -6,7 +6,6 @@
 mod blanks;
 mod card_fields;
 mod card_reading;
-mod card_stop;
 mod card_words;
 mod data_card;
 mod decimal;
@@ -16,15 +15,15 @@ mod keywords;
 mod reader;
 mod reading;
 mod sections;
-mod stop;
 mod style;
 mod texts;
 
 pub use card_definitions::NumberFault;
+pub use card_fields::has_blank;
+pub use card_reader::CardStop;
 pub use card_reading::{
     first_pair, first_part, is_card_of, name_in, read_data_card, read_fixed_card, second_pair,
 };
-pub use card_stop::CardStop;
 pub use card_words::{Word, Words, free_words, word_text};
 pub use data_card::{DataCard, PairText};
 pub use decimal::Decimal;
@@ -36,5 +35,4 @@ pub use keywords::{
 pub use reader::{Draft, read_cards};
 pub use reading::number;
 pub use sections::{SectionOrder, begins_section, is_header, is_last, next_section, rank_of};
-pub use stop::DeckStop;
 pub use style::{header_style, style_begun};

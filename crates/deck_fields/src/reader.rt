@@ -4,16 +4,15 @@ ghost use Rattle.card_definitions.specs.Cards.{Card as Numbered, live, cards_bet
 ghost use Rattle.card_reader.specs.Card.{card_bytes};
 ghost use Rattle.deck_definitions.specs.declared.DeckFaultKind.{DeckFaultKind as Kind};
 ghost use Rattle.deck_definitions.specs.declared.Section.TheVariants.{Endata};
-ghost use Rattle.deck_definitions.specs.Sections.{is_section_after};
+ghost use Rattle.deck_definitions.specs.Sections.{section_after, is_section_after};
 ghost use Rattle.deck_definitions.specs.Conversion.{fault_by, first_faulty};
 ghost use Rattle.deck_definitions.proofs.Converted.{ArePrintable};
 ghost use Rattle.deck_fields.specs.Reported.{ReportsDeckFault};
 ghost use Rattle.deck_fields.specs.Stops.{Stops, StopsAt};
 
-use crate::card_stop::CardStop;
-use crate::stop::DeckStop;
-use card_reader::{Card, Cards};
-use deck_definitions::{DeckFault, DeckFaultKind};
+use crate::sections::is_last;
+use card_reader::{Card, CardStop, Cards};
+use deck_definitions::{DeckFault, DeckFaultKind, Section};
 
 /// What is made of the cards of a deck, one after another.
 pub trait Draft {
@@ -23,13 +22,13 @@ pub trait Draft {
     /// Begun with the first draft, the second is made of these cards.
     ghost is_made_of: { Self → Self → List Numbered → Type 0 };
 
-    /// Whether the section of the ENDATA card goes on.
-    fn is_ended(&self) -> bool
+    /// The section that goes on.
+    fn section(&self) -> Option<Section>
         ensures { (start : Self) (seen : List Numbered) → is_made_of start self.now seen → result ≡
-            is_section_after Endata seen };
+            section_after seen };
 
     /// Takes one more card that isn't skipped. After an `Err` the draft is of no use.
-    fn take(&mut self, card: Card<'_>) -> Result<(), CardStop>
+    fn take(&mut self, card: Card<'_>) -> Result<(), CardStop<DeckFaultKind>>
         ensures no_fault { (start : Self) (seen : List Numbered) → is_made_of start self.old seen →
             OnOk result (test start seen (card_bytes card.entry) ≡ None) }
         ensures made { (start : Self) (seen : List Numbered) (number : ℕ) →
@@ -39,8 +38,23 @@ pub trait Draft {
             IfErr result (ReportsDeckFault (test start seen (card_bytes card.entry))) };
 }
 
+// Whether the section of the ENDATA card goes on.
+fn is_ended<D: Draft>(draft: &D) -> bool
+    ensures { (start : D) (seen : List Numbered) → D.is_made_of start draft.now seen → result ≡
+        is_section_after Endata seen }
+{
+    match draft.section() {
+        Some(section) => is_last(section),
+        None => false,
+    }
+}
+
 // Reads one more card, which may be skipped.
-fn read_card<D: Draft>(draft: &mut D, number: u32, card: Card<'_>) -> Result<(), DeckStop>
+fn read_card<D: Draft>(
+    draft: &mut D,
+    number: u32,
+    card: Card<'_>,
+) -> Result<(), CardStop<DeckFault>>
     ensures no_fault { (start : D) (seen : List Numbered) → D.is_made_of start draft.old seen →
         OnOk result (first_faulty (D.test start) seen
         (live (record { number = number; bytes = card_bytes card.entry } ∷ [])) ≡ None) }
@@ -56,8 +70,8 @@ fn read_card<D: Draft>(draft: &mut D, number: u32, card: Card<'_>) -> Result<(),
     }
     match draft.take(card) {
         Ok(()) => Ok(()),
-        Err(CardStop::Refused(kind)) => Err(DeckStop::Fault(DeckFault { card: number, kind })),
-        Err(CardStop::NoMemory) => Err(DeckStop::NoMemory),
+        Err(CardStop::Fault(kind)) => Err(CardStop::Fault(DeckFault { card: number, kind })),
+        Err(CardStop::NoMemory) => Err(CardStop::NoMemory),
     }
 }
 
@@ -68,7 +82,7 @@ pub fn read_cards<D: Draft>(
     cards: &Cards,
     first: u32,
     last: u32,
-) -> Result<(), DeckStop>
+) -> Result<(), CardStop<DeckFault>>
     requires start { D.is_made_of draft.old draft.old [] }
     requires from_one { 1 ≤ first }
     requires ordered { first ≤ last }
@@ -84,9 +98,9 @@ pub fn read_cards<D: Draft>(
     for number in first..end {
         read_card(draft, number, cards.card(number))?;
     }
-    if !draft.is_ended() {
+    if !is_ended(draft) {
         let kind = DeckFaultKind::NoEndata;
-        return Err(DeckStop::Fault(DeckFault { card: last, kind }));
+        return Err(CardStop::Fault(DeckFault { card: last, kind }));
     }
     Ok(())
 }

@@ -7,8 +7,8 @@ ghost use Rattle.deck_definitions.specs.Sections.{is_section, is_section_card, r
 ghost use Rattle.deck_definitions.specs.Conversion.{section_card_fault};
 ghost use Rattle.deck_fields.specs.Reported.{ReportsDeckFault};
 
-use crate::card_stop::CardStop;
 use crate::keywords::{first_word, section_named};
+use card_reader::CardStop;
 use deck_definitions::{DeckFaultKind, Section};
 
 /// Whether a card is a section card.
@@ -64,7 +64,7 @@ pub trait SectionOrder {
 pub fn next_section<O: SectionOrder>(
     before: Option<Section>,
     card: &[u8],
-) -> Result<Section, CardStop>
+) -> Result<Section, CardStop<DeckFaultKind>>
     ensures section { IfOk result (λ section. named section_words (section_word card.now) ≡
         Some section) }
     ensures no_fault { OnOk result (section_card_fault O.follows before card.now ≡ None) }
@@ -74,14 +74,14 @@ pub fn next_section<O: SectionOrder>(
     let Some(before) = before else {
         return match next {
             Some(Section::Header) => Ok(Section::Header),
-            _ => Err(CardStop::Refused(DeckFaultKind::SectionOrder)),
+            _ => Err(CardStop::Fault(DeckFaultKind::SectionOrder)),
         };
     };
     let Some(section) = next else {
-        return Err(CardStop::Refused(DeckFaultKind::UnknownSection));
+        return Err(CardStop::Fault(DeckFaultKind::UnknownSection));
     };
     if !O::may_follow(before, section) {
-        return Err(CardStop::Refused(DeckFaultKind::SectionOrder));
+        return Err(CardStop::Fault(DeckFaultKind::SectionOrder));
     }
     Ok(section)
 }

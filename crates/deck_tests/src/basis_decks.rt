@@ -1,5 +1,5 @@
 use crate::problems::problem_of;
-use basis_deck::{DeckFault, DeckFaultKind, DeckStop, read_basis};
+use basis_deck::{CardStop, DeckFault, DeckFaultKind, read_basis};
 use card_reader::read_job;
 use job_devices::SureSource;
 use lp_model::{Basis, Lp, Sense, Status};
@@ -73,8 +73,8 @@ fn reading(
     }
     match read_basis(alloc, &problem, &lp, &cards, 1, last) {
         Ok(basis) => Ok(Ok(letters(alloc, &basis)?)),
-        Err(DeckStop::Fault(DeckFault { card, kind })) => Ok(Err((card, kind))),
-        Err(DeckStop::NoMemory) => Err(Fail::from("memory")),
+        Err(CardStop::Fault(DeckFault { card, kind })) => Ok(Err((card, kind))),
+        Err(CardStop::NoMemory) => Err(Fail::from("memory")),
     }
 }
 

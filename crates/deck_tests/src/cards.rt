@@ -1,6 +1,6 @@
 ghost use Rattle.std.specs.Prelude.{None};
 
-use card_reader::{ReadStop, read_job};
+use card_reader::{CardStop, ReadingFault, read_job};
 use job_devices::{Failed, Source, SureSource};
 use std::test::Fail;
 
@@ -37,7 +37,7 @@ fn a_fault_between_short_reads_is_reported(rt: HostRuntime) -> Result<(), Fail> 
     };
     assert_eq!(rt;
         read_job(alloc, &mut source).err(),
-        Some(ReadStop::ReadFault)
+        Some(CardStop::Fault(ReadingFault::Source))
     );
     let cards = read_job(alloc, &mut source)?;
     assert_eq!(rt; cards.count(), 2);

@@ -1,6 +1,6 @@
 use card_reader::read_job;
 use job_devices::SureSource;
-use mps_convert::{DeckFault, DeckFaultKind, DeckStop, convert};
+use mps_convert::{CardStop, DeckFault, DeckFaultKind, convert};
 use std::alloc::Global;
 use std::test::Fail;
 
@@ -17,8 +17,8 @@ pub fn fault_of(alloc: Global, deck: &[u8]) -> Result<Option<(u32, DeckFaultKind
     }
     match convert(alloc, &cards, 1, last, None) {
         Ok(_) => Ok(None),
-        Err(DeckStop::Fault(DeckFault { card, kind })) => Ok(Some((card, kind))),
-        Err(DeckStop::NoMemory) => Err(Fail::from("memory")),
+        Err(CardStop::Fault(DeckFault { card, kind })) => Ok(Some((card, kind))),
+        Err(CardStop::NoMemory) => Err(Fail::from("memory")),
     }
 }
 

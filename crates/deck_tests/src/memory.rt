@@ -1,7 +1,7 @@
 use crate::decks::TESTPROB;
-use card_reader::{ReadStop, read_job};
+use card_reader::read_job;
 use job_devices::SureSource;
-use mps_convert::{DeckStop, convert};
+use mps_convert::{CardStop, convert};
 use problem_file::Problem;
 use std::alloc::Global;
 use std::test::Fail;
@@ -13,7 +13,7 @@ fn converted(alloc: Global) -> Result<Option<Problem>, Fail> {
     };
     let cards = match read_job(alloc, &mut source) {
         Ok(cards) => cards,
-        Err(ReadStop::NoMemory) => return Ok(None),
+        Err(CardStop::NoMemory) => return Ok(None),
         Err(_) => return Err(Fail::from("a fault of the job")),
     };
     let last = cards.count();
@@ -22,8 +22,8 @@ fn converted(alloc: Global) -> Result<Option<Problem>, Fail> {
     }
     match convert(alloc, &cards, 1, last, None) {
         Ok(problem) => Ok(Some(problem)),
-        Err(DeckStop::NoMemory) => Ok(None),
-        Err(DeckStop::Fault(_)) => Err(Fail::from("a fault of the deck")),
+        Err(CardStop::NoMemory) => Ok(None),
+        Err(CardStop::Fault(_)) => Err(Fail::from("a fault of the deck")),
     }
 }
 

@@ -4,10 +4,11 @@
 --     ArePrepared known prepared   the cards and the program are those of a job
 --     HasStopCause .. stop         why a job that is read is stopped
 use Rattle.std.specs.Prelude.{◌≡◌, ℕ, List, Option, None, Some, Err, IfSome}
-use Rattle.card_definitions.specs.declared.CardFault.TheVariants as fault
 use Rattle.card_definitions.specs.Cards.{cards_of, job_fault}
-use Rattle.card_reader.specs.declared.stop.ReadStop.{ReadStop}
-use Rattle.card_reader.specs.declared.stop.ReadStop.TheVariants as reading
+use Rattle.card_reader.specs.declared.stop.CardStop.{CardStop}
+use Rattle.card_reader.specs.declared.stop.CardStop.TheVariants as cards
+use Rattle.card_reader.specs.declared.stop.ReadingFault.{ReadingFault}
+use Rattle.card_reader.specs.declared.stop.ReadingFault.TheVariants as reading
 use Rattle.command_line.specs.declared.request.WordsStop.{WordsStop}
 use Rattle.command_line.specs.declared.request.WordsStop.TheVariants as words
 use Rattle.control_definitions.specs.Compiled.{compiled}
@@ -34,12 +35,10 @@ stop_of_words words.Refused = Words
 stop_of_words words.NoMemory = Memory
 
 -- where the job isn't read
-abbrev pub stop_of_reading : ReadStop → EarlyStop
-stop_of_reading reading.ReadFault = ReadFault
-stop_of_reading reading.TooLong = Card fault.TooLong
-stop_of_reading (reading.CardTooLong card) = Card (fault.CardTooLong card)
-stop_of_reading (reading.NotPrintable card) = Card (fault.NotPrintable card)
-stop_of_reading reading.NoMemory = Memory
+abbrev pub stop_of_reading : CardStop ReadingFault → EarlyStop
+stop_of_reading (cards.Fault reading.Source) = ReadFault
+stop_of_reading (cards.Fault (reading.Card fault)) = Card fault
+stop_of_reading cards.NoMemory = Memory
 
 -- where the program isn't compiled
 abbrev pub stop_of_compiling : CompileStop → EarlyStop

@@ -3,7 +3,7 @@ ghost use Rattle.std.specs.Prelude.{◌≡◌};
 ghost use Rattle.report_text.specs.Views.{IsEnding, ending_view};
 
 use card_definitions::CardFault;
-use card_reader::ReadStop;
+use card_reader::{CardStop, ReadingFault};
 use command_line::WordsStop;
 use control_compiler::{CompileStop, ControlFault};
 use report_text::Ending;
@@ -36,18 +36,16 @@ impl From<WordsStop> for EarlyStop {
     }
 }
 
-impl From<ReadStop> for EarlyStop {
+impl From<CardStop<ReadingFault>> for EarlyStop {
     ghost use Rattle.job_program.specs.Stops.{stop_of_reading};
 
     ghost from_gives = { λ stop given. given ≡ stop_of_reading stop };
 
-    fn from(stop: ReadStop) -> EarlyStop {
+    fn from(stop: CardStop<ReadingFault>) -> EarlyStop {
         match stop {
-            ReadStop::ReadFault => EarlyStop::ReadFault,
-            ReadStop::TooLong => EarlyStop::Card(CardFault::TooLong),
-            ReadStop::CardTooLong(card) => EarlyStop::Card(CardFault::CardTooLong(card)),
-            ReadStop::NotPrintable(card) => EarlyStop::Card(CardFault::NotPrintable(card)),
-            ReadStop::NoMemory => EarlyStop::Memory,
+            CardStop::Fault(ReadingFault::Source) => EarlyStop::ReadFault,
+            CardStop::Fault(ReadingFault::Card(fault)) => EarlyStop::Card(fault),
+            CardStop::NoMemory => EarlyStop::Memory,
         }
     }
 }

@@ -13,7 +13,7 @@ use crate::selecting::{Unselected, select_present};
 use crate::went::Went;
 use basis_deck::read_basis;
 use card_reader::Cards;
-use deck_fields::DeckStop;
+use deck_fields::CardStop;
 use job_decks::{Deck, take_deck};
 use job_devices::NoMemory;
 use listing_definitions::VerbFault;
@@ -111,9 +111,9 @@ pub fn insert<'a>(
     };
     match read_basis(alloc, problem, &lp, cards, deck.first, deck.last) {
         Ok(_basis) => Ok(Went::Finds(install_due(place, stands))),
-        Err(DeckStop::Fault(why)) => {
+        Err(CardStop::Fault(why)) => {
             follow(alloc, machine, place, &Act::Ends(End::Deck(why)), &[])
         }
-        Err(DeckStop::NoMemory) => Err(NoMemory),
+        Err(CardStop::NoMemory) => Err(NoMemory),
     }
 }

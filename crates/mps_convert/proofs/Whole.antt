@@ -13,8 +13,9 @@ use Rattle.deck_definitions.specs.Sections.{header_name}
 use Rattle.deck_definitions.specs.Described.{described}
 use Rattle.deck_definitions.specs.Conversion.{card_fault, first_faulty, fault_by, deck_fault, deck_name, conversion}
 use Rattle.deck_definitions.proofs.Converted.{ArePrintable, described-problem, printable_live}
-use Rattle.deck_fields.specs.declared.stop.DeckStop.{DeckStop}
-use Rattle.deck_fields.specs.declared.stop.DeckStop.TheVariants.{Fault, NoMemory}
+use Rattle.deck_definitions.specs.declared.DeckFault.{DeckFault}
+use Rattle.card_reader.specs.declared.stop.CardStop.{CardStop}
+use Rattle.card_reader.specs.declared.stop.CardStop.TheVariants.{Fault, NoMemory}
 use Rattle.deck_fields.specs.Stops.{Stops}
 use Rattle.deck_fields.proofs.Between.{cards_up_to, cards_more, cards_split}
 use Rattle.mps_convert.specs.State.{State, state_of}
@@ -29,7 +30,7 @@ module _ (deck : List Card) (name : Option Name) where
   by_fault = refl
 
   -- the fault of the deck is what it converts to
-  pub faulty : (stop : DeckStop) → Stops card_fault deck stop → Refuses deck name stop
+  pub faulty : (stop : CardStop DeckFault) → Stops card_fault deck stop → Refuses deck name stop
   faulty NoMemory h = tt
   faulty (Fault found) h = by_fault ∙ ap (λ o. unless o made) h
 

@@ -1,18 +1,17 @@
 // The conversion of a deck.
-ghost use Rattle.std.specs.Prelude.{◌≡◌, ◌≤◌, [], None, IfOk, IfErr, IfSome, IfNone, length, unwrap_or};
+ghost use Rattle.std.specs.Prelude.{◌≡◌, ◌≤◌, ℕ, List, [], IfOk, IfErr, IfSome, IfNone, length, unwrap_or};
 ghost use Rattle.card_definitions.specs.Cards.{live, cards_between};
 ghost use Rattle.card_reader.specs.Card.{card_bytes};
-ghost use Rattle.problem_definitions.specs.Valid.{IsName};
+ghost use Rattle.problem_definitions.specs.Numbering.{numbered};
+ghost use Rattle.problem_definitions.specs.Valid.{IsName, IsProblem};
 ghost use Rattle.deck_definitions.specs.Sections.{header_name};
-ghost use Rattle.deck_definitions.specs.Described.{described};
-ghost use Rattle.deck_definitions.specs.Conversion.{card_fault, fault_by, deck_name, conversion};
-ghost use Rattle.deck_definitions.proofs.Converted.{ArePrintable};
+ghost use Rattle.deck_definitions.specs.Conversion.{deck_name, conversion};
 ghost use Rattle.mps_convert.specs.Conversion.{Refuses};
-ghost use Rattle.mps_convert.specs.Draft_view.{problem_view};
 
 use crate::draft::DeckDraft;
+use crate::problem_draft::ProblemDraft;
 use card_reader::{Card, Cards};
-use deck_fields::{DeckStop, name_in, read_cards};
+use deck_fields::{CardStop, DeckFault, name_in, read_cards};
 use name_table::Name;
 use problem_file::Problem;
 use std::alloc::Global;
@@ -67,29 +66,27 @@ pub fn problem_name(cards: &Cards, first: u32, last: u32, name: Option<Name>) ->
     }
 }
 
-// The problem of a deck that was read without a fault.
-fn problem_of(
-    draft: &DeckDraft,
+/// The problem of a deck that was read without a fault, under this name or else the deck's own.
+pub fn problem_of<D: ProblemDraft>(
+    draft: &D,
     cards: &Cards,
     first: u32,
     last: u32,
     name: Option<Name>,
-) -> Result<Problem, DeckStop>
+) -> Result<Problem, CardStop<DeckFault>>
     requires from_one { 1 ≤ first }
     requires ordered { first ≤ last }
     requires within { last ≤ length cards.now }
-    requires described { problem_view draft.now ≡ described []
-        (live (cards_between first last cards.now)) }
-    requires no_fault { fault_by card_fault (cards_between first last cards.now) ≡ None }
-    requires printable { ArePrintable (cards_between first last cards.now) }
-    ensures problem { IfOk result (λ problem. conversion (cards_between first last cards.now) name ≡
-        Ok problem) }
-    ensures stop { IfErr result (Refuses (cards_between first last cards.now) name) }
+    requires lawful { (own : List ℕ) → IsName own → IsProblem
+        (numbered (D.problem_under own draft.now)) }
+    ensures problem { IfOk result (λ problem. problem ≡ numbered (D.problem_under
+        (unwrap_or name (deck_name (live (cards_between first last cards.now)))) draft.now)) }
+    ensures stop { IfErr result (λ stop. stop ≡ CardStop.NoMemory) }
 {
     let own = problem_name(cards, first, last, name);
     match draft.problem(own) {
         Ok(problem) => Ok(problem),
-        Err(_) => Err(DeckStop::NoMemory),
+        Err(_) => Err(CardStop::NoMemory),
     }
 }
 
@@ -102,7 +99,7 @@ pub fn convert(
     first: u32,
     last: u32,
     name: Option<Name>,
-) -> Result<Problem, DeckStop>
+) -> Result<Problem, CardStop<DeckFault>>
     requires from_one { 1 ≤ first }
     requires ordered { first ≤ last }
     requires within { last ≤ length cards.now }

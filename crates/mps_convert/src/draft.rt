@@ -1,18 +1,18 @@
 // A problem in the making, card by card.
-ghost use Rattle.std.specs.Prelude.{◌≡◌, ◌≤◌, ◌++◌, None, length, sum_by, unwrap_or, OnOk, IfErr};
-ghost use Rattle.card_reader.specs.Card.{card_bytes};
+ghost use Rattle.std.specs.Prelude.{◌≡◌, ◌≤◌, ◌++◌, None, length, sum_by, OnOk, IfErr};
 ghost use Rattle.problem_definitions.specs.Groups.{in_set};
-ghost use Rattle.deck_definitions.specs.DataCards.{style_begun, entries_of};
+ghost use Rattle.deck_definitions.specs.DataCards.{entries_of};
 ghost use Rattle.deck_definitions.specs.Tests.{columns_fault};
 ghost use Rattle.deck_fields.specs.Reported.{ReportsDeckFault};
 ghost use Rattle.named_problem.specs.Views.{columns_alone};
 ghost use Rattle.deck_fields.specs.Views.{viewed};
 
+use crate::problem_draft::ProblemDraft;
 use card_reader::Card;
 use deck_definitions::Style;
 use deck_fields::{
     CardStop, DataCard, Draft, SectionOrder, begins_section, is_blank as is_empty_text, is_header,
-    is_last, next_section, read_data_card, style_begun,
+    next_section, read_data_card, style_begun,
 };
 use name_table::Name;
 use named_problem::{
@@ -33,16 +33,6 @@ fn pair_count(card: &DataCard<'_>) -> u32
     2
 }
 
-// The style of a deck after one more card.
-fn style_after(before: Style, card: Card<'_>) -> Style
-    ensures { result ≡ unwrap_or (style_begun (card_bytes card.entry)) before }
-{
-    match style_begun(card) {
-        Some(style) => style,
-        None => before,
-    }
-}
-
 // Takes a card of COLUMNS, and counts the entries. An `Err` leaves no column.
 fn take_column(
     alloc: Global,
@@ -50,7 +40,7 @@ fn take_column(
     columns: &mut Groups,
     entries: &mut u32,
     card: &DataCard<'_>,
-) -> Result<(), CardStop>
+) -> Result<(), CardStop<DeckFaultKind>>
     requires counted { entries.old ≡ sum_by (λ column. length column.items) columns.old }
     requires few { entries.old ≤ 50000 }
     ensures counted { entries.new ≡ sum_by (λ column. length column.items) columns.new }
@@ -93,7 +83,7 @@ pub struct DeckDraft {
 }
 
 impl DeckDraft {
-    ghost use Rattle.std.specs.Prelude.{◌≡◌, [], None, Some, IfOk, OnOk, IfErr};
+    ghost use Rattle.std.specs.Prelude.{◌≡◌, [], None, Some, OnOk, IfErr};
     ghost use Rattle.card_reader.specs.Card.{card_bytes};
     ghost use Rattle.deck_definitions.specs.declared.Style.TheVariants.{FixedFields};
     ghost use Rattle.deck_definitions.specs.DataCards.{style_begun};
@@ -102,9 +92,7 @@ impl DeckDraft {
     ghost use Rattle.mps_convert.specs.State.{with_data, fault_at, state_with};
     ghost use Rattle.deck_fields.specs.Reported.{ReportsDeckFault};
     ghost use Rattle.deck_fields.specs.Views.{viewed};
-    ghost use Rattle.mps_convert.specs.Draft_view.{problem_view, problem_named, state_view};
-    ghost use Rattle.problem_definitions.specs.Numbering.{numbered};
-    ghost use Rattle.problem_definitions.specs.Valid.{IsProblem};
+    ghost use Rattle.mps_convert.specs.Draft_view.{problem_view, state_view};
 
     /// A draft after no card, which grows in this memory.
     pub fn new(alloc: Global) -> DeckDraft
@@ -133,22 +121,12 @@ impl DeckDraft {
         }
     }
 
-    /// The problem that the cards so far describe, under this name and with numbers in place of names.
-    #[tactic(auto, unfolding(problem_definitions::specs::Numbering::numbered))]
-    pub fn problem(&self, name: Name) -> Result<Problem, NoMemory>
-        requires { IsProblem (numbered (problem_named name self.now)) }
-        ensures { IfOk result (λ problem. problem ≡ numbered (problem_named name self.now)) }
-    {
-        let rows = self.rows.decls(self.alloc)?;
-        let columns = self.columns.numbered(self.alloc, &self.rows)?;
-        let rhs = self.rhs.numbered(self.alloc, &self.rows)?;
-        let ranges = self.ranges.numbered(self.alloc, &self.rows)?;
-        let bounds = self.bounds.numbered(self.alloc, &self.columns)?;
-        Ok(Problem::new(name, rows, columns, rhs, ranges, bounds))
-    }
-
     // Takes a data card of this section.
-    fn take_in(&mut self, section: Section, card: &DataCard<'_>) -> Result<(), CardStop>
+    fn take_in(
+        &mut self,
+        section: Section,
+        card: &DataCard<'_>,
+    ) -> Result<(), CardStop<DeckFaultKind>>
         ensures no_fault { OnOk result (section_fault (problem_view self.old) section
             (viewed card.now) ≡ None) }
         ensures same_section { OnOk result (self.new.section ≡ self.old.section) }
@@ -183,13 +161,13 @@ impl DeckDraft {
                 take_bound_card(self.alloc, &self.columns, &mut self.bounds, card)
             }
             Section::Header | Section::Endata => {
-                Err(CardStop::Refused(DeckFaultKind::SectionOrder))
+                Err(CardStop::Fault(DeckFaultKind::SectionOrder))
             }
         }
     }
 
     // Takes a data card.
-    fn take_data(&mut self, card: Card<'_>) -> Result<(), CardStop>
+    fn take_data(&mut self, card: Card<'_>) -> Result<(), CardStop<DeckFaultKind>>
         ensures no_fault { OnOk result (data_card_fault (problem_view self.old) self.old.style
             self.old.section (card_bytes card.entry) ≡ None) }
         ensures same_section { OnOk result (self.new.section ≡ self.old.section) }
@@ -201,19 +179,19 @@ impl DeckDraft {
             self.old.section (card_bytes card.entry))) }
     {
         let Some(section) = self.section else {
-            return Err(CardStop::Refused(DeckFaultKind::SectionOrder));
+            return Err(CardStop::Fault(DeckFaultKind::SectionOrder));
         };
         if is_header(section) {
-            return Err(CardStop::Refused(DeckFaultKind::SectionOrder));
+            return Err(CardStop::Fault(DeckFaultKind::SectionOrder));
         }
         match read_data_card(card, self.style, section, false) {
             Ok(data) => self.take_in(section, &data),
-            Err(kind) => Err(CardStop::Refused(kind)),
+            Err(kind) => Err(CardStop::Fault(kind)),
         }
     }
 
     // Takes a card.
-    fn take_card(&mut self, card: Card<'_>) -> Result<(), CardStop>
+    fn take_card(&mut self, card: Card<'_>) -> Result<(), CardStop<DeckFaultKind>>
         ensures no_fault { OnOk result (fault_at (state_view self.old)
             (card_bytes card.entry) ≡ None) }
         ensures step { OnOk result (state_view self.new ≡ state_with (state_view self.old)
@@ -224,10 +202,26 @@ impl DeckDraft {
         if begins_section(card.bytes()) {
             let section = next_section::<DeckDraft>(self.section, card.bytes())?;
             self.section = Some(section);
-            self.style = style_after(self.style, card);
+            self.style = style_begun(card).unwrap_or(self.style);
             return Ok(());
         }
         self.take_data(card)
+    }
+}
+
+impl ProblemDraft for DeckDraft {
+    ghost use Rattle.mps_convert.specs.Draft_view.{problem_named};
+
+    ghost problem_under = { problem_named };
+
+    #[tactic(auto, unfolding(problem_definitions::specs::Numbering::numbered))]
+    fn problem(&self, name: Name) -> Result<Problem, NoMemory> {
+        let rows = self.rows.decls(self.alloc)?;
+        let columns = self.columns.numbered(self.alloc, &self.rows)?;
+        let rhs = self.rhs.numbered(self.alloc, &self.rows)?;
+        let ranges = self.ranges.numbered(self.alloc, &self.rows)?;
+        let bounds = self.bounds.numbered(self.alloc, &self.columns)?;
+        Ok(Problem::new(name, rows, columns, rhs, ranges, bounds))
     }
 }
 
@@ -251,14 +245,11 @@ impl Draft for DeckDraft {
 
     ghost is_made_of = { λ _ draft seen. state_view draft ≡ state_of seen };
 
-    fn is_ended(&self) -> bool {
-        match self.section {
-            Some(section) => is_last(section),
-            None => false,
-        }
+    fn section(&self) -> Option<Section> {
+        self.section
     }
 
-    fn take(&mut self, card: Card<'_>) -> Result<(), CardStop> {
+    fn take(&mut self, card: Card<'_>) -> Result<(), CardStop<DeckFaultKind>> {
         self.take_card(card)
     }
 }

@@ -4,8 +4,10 @@
 
 mod conversion;
 mod draft;
+mod problem_draft;
 
-pub use conversion::{convert, problem_name};
-pub use deck_fields::{DeckFault, DeckFaultKind, DeckStop};
+pub use conversion::{convert, problem_name, problem_of};
+pub use deck_fields::{CardStop, DeckFault, DeckFaultKind};
 pub use draft::DeckDraft;
 pub use named_problem::Section;
+pub use problem_draft::ProblemDraft;

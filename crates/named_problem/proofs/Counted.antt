@@ -10,7 +10,7 @@ use Rattle.problem_definitions.specs.Names.{Name, same}
 use Rattle.problem_definitions.specs.Problem.{Group}
 use Rattle.problem_definitions.specs.Groups.{filled}
 use Rattle.named_problem.specs.Views.{group_at}
-use Rattle.named_problem.specs.Views.{AreShort, IsPut}
+use Rattle.named_problem.specs.Views.{AreShort, IsPut, IsCountBefore}
 
 -- the sets without items have none to count
 pub total-filled : {X : Type 0} (groups : List (Group X)) → sum_by (λ group. length group.items) (filled groups) ≡ sum_by (λ group. length group.items) groups
@@ -86,8 +86,7 @@ module _ {X : Type 0} where
       by false more = (are.0, more)
 
   -- the count and its bounds, where items are put under a name
-  pub put_kept : (name : Name) (v : List X) (es new : List (Name × List X)) (count before after : ℕ) → count ≡ total es → AreShort (map group_at es) → IsPut name v es new before after → after ≤ 18446744073709551615
-      → (count + after ≡ total new + before) × (before ≤ count) × AreShort (map group_at new)
+  pub put_kept : (name : Name) (v : List X) (es new : List (Name × List X)) (count before after : ℕ) → count ≡ total es → AreShort (map group_at es) → IsPut name v es new before after → IsCountBefore (map group_at new) count before after
   put_kept name v es new count before after counts are is few =
       let grown : total new ≡ total (insert_entry same es name v) = ap total is.0 in
       let was = is.1 in

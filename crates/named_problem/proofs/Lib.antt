@@ -11,4 +11,5 @@ pub mod NamedValues
 pub mod Counted
 pub mod Retained
 pub mod Slots
+mod Settled
 mod NamedRows

@@ -8,14 +8,14 @@ use Rattle.deck_definitions.specs.declared.Section.TheVariants.{Rows}
 use Rattle.deck_definitions.specs.DataCards.{Pair, entry_of}
 use Rattle.deck_definitions.specs.Tests.{pair_fault}
 use Rattle.deck_definitions.proofs.Pairs.{pairs_fault-cons}
-use Rattle.deck_fields.specs.declared.card_stop.CardStop.{CardStop}
-use Rattle.deck_fields.specs.declared.card_stop.CardStop.TheVariants.{Refused, NoMemory}
+use Rattle.card_reader.specs.declared.stop.CardStop.{CardStop}
+use Rattle.card_reader.specs.declared.stop.CardStop.TheVariants.{Fault, NoMemory}
 use Rattle.deck_fields.specs.Reported.{ReportsDeckFault}
 use Rattle.named_problem.specs.Views.{rows_alone, parts_fault}
 
 -- what tells the first of two faults tells both
-pub reported_first : (a b : Option DeckFaultKind) (stop : CardStop) → ReportsDeckFault a stop → ReportsDeckFault (option_or a b) stop
-reported_first a b (Refused kind) tells = ap (λ fault. option_or fault b) tells
+pub reported_first : (a b : Option DeckFaultKind) (stop : CardStop DeckFaultKind) → ReportsDeckFault a stop → ReportsDeckFault (option_or a b) stop
+reported_first a b (Fault kind) tells = ap (λ fault. option_or fault b) tells
 reported_first a b NoMemory tells = tt
 
 or_assoc : (a b c : Option DeckFaultKind) → option_or a (option_or b c) ≡ option_or (option_or a b) c

@@ -89,19 +89,23 @@ fn has_second(card: &DataCard<'_>) -> bool
 }
 
 // Takes the bound on a card into the items of its set.
-fn take_bound(items: &mut Bounds, kind: BoundKind, card: &DataCard<'_>) -> Result<(), CardStop>
+fn take_bound(
+    items: &mut Bounds,
+    kind: BoundKind,
+    card: &DataCard<'_>,
+) -> Result<(), CardStop<DeckFaultKind>>
     ensures no_fault { OnOk result (bound_rest_fault items.old (viewed card.now) kind ≡ None) }
     ensures step { OnOk result (items.new ≡ items.old ++ bound_of (viewed card.now) kind ∷ []) }
     ensures stop { IfErr result
         (ReportsDeckFault (bound_rest_fault items.old (viewed card.now) kind)) }
 {
     if items.has_met(&card.name2, kind) {
-        return Err(CardStop::Refused(DeckFaultKind::BoundTwice));
+        return Err(CardStop::Fault(DeckFaultKind::BoundTwice));
     }
     let bound = NamedBound {
         kind,
         column: card.name2,
-        value: bound_value(kind, card)?,
+        value: bound_value(kind, card).map_err(CardStop::Fault)?,
     };
     items.add(bound)?;
     Ok(())
@@ -113,7 +117,7 @@ fn take_bound_into(
     sets: &mut IndexMap<Name, Bounds>,
     kind: BoundKind,
     card: &DataCard<'_>,
-) -> Result<(), CardStop>
+) -> Result<(), CardStop<DeckFaultKind>>
     ensures no_fault { OnOk result
         (bound_rest_fault (items_of card.now.name1 (map group_at sets.old.entries)) (viewed card.now)
         kind ≡ None) }
@@ -188,7 +192,12 @@ impl BoundSets {
     }
 
     // Takes the bound on a card into the set in its field 2, which is added last if it isn't there.
-    fn take(&mut self, alloc: Global, kind: BoundKind, card: &DataCard<'_>) -> Result<(), CardStop>
+    fn take(
+        &mut self,
+        alloc: Global,
+        kind: BoundKind,
+        card: &DataCard<'_>,
+    ) -> Result<(), CardStop<DeckFaultKind>>
         ensures no_fault { OnOk result (bound_rest_fault (items_of card.now.name1 self.old)
             (viewed card.now) kind ≡ None) }
         ensures step { OnOk result (self.new ≡ in_set card.now.name1
@@ -309,7 +318,7 @@ pub fn take_bound_card(
     columns: &Groups,
     sets: &mut BoundSets,
     card: &DataCard<'_>,
-) -> Result<(), CardStop>
+) -> Result<(), CardStop<DeckFaultKind>>
     ensures no_fault { OnOk result (bounds_fault (bounds_alone columns.now sets.old)
         (viewed card.now) ≡ None) }
     ensures step { OnOk result (sets.new ≡ with_group (bound_group (viewed card.now)) sets.old) }
@@ -317,13 +326,13 @@ pub fn take_bound_card(
         (viewed card.now))) }
 {
     let Some(kind) = bound_kind(card.kind) else {
-        return Err(CardStop::Refused(DeckFaultKind::BadBoundType));
+        return Err(CardStop::Fault(DeckFaultKind::BadBoundType));
     };
     if is_blank(card.name2.bytes()) {
-        return Err(CardStop::Refused(DeckFaultKind::EmptyName));
+        return Err(CardStop::Fault(DeckFaultKind::EmptyName));
     }
     if !columns.has(&card.name2) {
-        return Err(CardStop::Refused(DeckFaultKind::UnknownColumn));
+        return Err(CardStop::Fault(DeckFaultKind::UnknownColumn));
     }
     sets.take(alloc, kind, card)
 }

@@ -110,7 +110,7 @@ impl Entries {
     }
 
     /// Adds a number at the end, or refuses a row that has one.
-    pub fn take(&mut self, row: Name, number: OnRow) -> Result<(), CardStop>
+    pub fn take(&mut self, row: Name, number: OnRow) -> Result<(), CardStop<DeckFaultKind>>
         ensures is_new { OnOk result (has_entry self.old row ≡ false) }
         ensures added { OnOk result (self.new ≡ self.old ++ record
             { row = row; value = number.value } ∷ []) }
@@ -119,7 +119,7 @@ impl Entries {
     {
         let is_new = add_new(&mut self.values, row, number)?;
         if !is_new {
-            return Err(CardStop::Refused(DeckFaultKind::DuplicateEntry));
+            return Err(CardStop::Fault(DeckFaultKind::DuplicateEntry));
         }
         Ok(())
     }

@@ -9,7 +9,7 @@ ghost use Rattle.problem_definitions.specs.Groups.{in_group, in_set, in_all, wit
 ghost use Rattle.problem_definitions.specs.Names.{same, number_in};
 ghost use Rattle.problem_definitions.specs.Numbering.{entry_by, group_by};
 ghost use Rattle.problem_definitions.specs.Problem.{has_group, has_entry, group_names};
-ghost use Rattle.named_problem.specs.Views.{AreShort, IsPut, group_at, rows_alone, column_fault, row_number, column_number};
+ghost use Rattle.named_problem.specs.Views.{AreShort, IsPut, IsCountBefore, IsSettled, group_at, rows_alone, column_fault, row_number, column_number};
 ghost use Rattle.deck_fields.specs.Reported.{ReportsDeckFault};
 ghost use Rattle.deck_fields.specs.Views.{viewed};
 ghost use Rattle.deck_definitions.specs.DataCards.{entries_of, pairs_of};
@@ -103,15 +103,40 @@ struct Lengths {
 
 // How many items stand under all names, where so many did before those under one name changed.
 fn recounted(groups: &IndexMap<Name, Entries>, count: u128, lengths: Lengths) -> u128
-    requires counted { count + lengths.after ≡ sum_by (λ group. length group.items)
-        (map group_at groups.now.entries) + lengths.before }
-    requires held { lengths.before ≤ count }
-    requires short { AreShort (map group_at groups.now.entries) }
+    requires { IsCountBefore (map group_at groups.now.entries) count lengths.before lengths.after }
     ensures count { result ≡ sum_by (λ group. length group.items) (map group_at groups.now.entries) }
     ensures distinct { IsDistinct same (keys_of groups.now.entries) }
 {
     let _names = groups.len();
     count - lengths.before as u128 + lengths.after as u128
+}
+
+// Counts the items anew after a change under one name. A change that was broken off leaves no name.
+fn settle<E>(
+    groups: &mut IndexMap<Name, Entries>,
+    count: &mut u128,
+    changed: Result<Lengths, E>,
+) -> Result<(), E>
+    requires { IfOk changed (λ lengths. IsCountBefore (map group_at groups.old.entries) count.old
+        lengths.before lengths.after) }
+    ensures same { IsSettled changed result }
+    ensures kept { OnOk result (groups.new.entries ≡ groups.old.entries) }
+    ensures distinct { IsDistinct same (keys_of groups.new.entries) }
+    ensures count { count.new ≡ sum_by (λ group. length group.items)
+        (map group_at groups.new.entries) }
+    ensures short { AreShort (map group_at groups.new.entries) }
+{
+    match changed {
+        Ok(lengths) => {
+            *count = recounted(groups, *count, lengths);
+            Ok(())
+        }
+        Err(stop) => {
+            groups.clear();
+            *count = 0;
+            Err(stop)
+        }
+    }
 }
 
 // Changes the items under the name in field 2 of a card as it says, where a name that isn't there is added last.
@@ -157,7 +182,7 @@ fn take_measured(
     items: &mut Entries,
     count: u32,
     card: &DataCard<'_>,
-) -> Result<Lengths, CardStop>
+) -> Result<Lengths, CardStop<DeckFaultKind>>
     requires { count ≤ 100000 }
     ensures no_fault { OnOk result (pairs_fault (rows_alone rows.now) section items.old count
         (pairs_of (viewed card.now)) ≡ None) }
@@ -181,7 +206,7 @@ fn take_into(
     groups: &mut IndexMap<Name, Entries>,
     count: u32,
     card: &DataCard<'_>,
-) -> Result<Lengths, CardStop>
+) -> Result<Lengths, CardStop<DeckFaultKind>>
     requires { count ≤ 100000 }
     ensures no_fault { OnOk result
         (pairs_fault (rows_alone rows.now) section (items_of card.now.name1
@@ -204,7 +229,7 @@ fn take_column_into(
     columns: &mut IndexMap<Name, Entries>,
     count: u32,
     card: &DataCard<'_>,
-) -> Result<Lengths, CardStop>
+) -> Result<Lengths, CardStop<DeckFaultKind>>
     requires { count ≤ 100000 }
     ensures no_fault { OnOk result
         (column_fault (map group_at columns.old.entries) card.now.name1
@@ -222,7 +247,7 @@ fn take_column_into(
     let entry = columns.entry(card.name1)?;
     let place = entry.index();
     if let Some(kind) = place_fault(place, before) {
-        return Err(CardStop::Refused(kind));
+        return Err(CardStop::Fault(kind));
     }
     let items = entry.or_insert(Entries::new(alloc));
     take_measured(rows, Section::Columns, items, count, card)
@@ -372,7 +397,7 @@ impl Groups {
         section: Section,
         count: u32,
         card: &DataCard<'_>,
-    ) -> Result<(), CardStop>
+    ) -> Result<(), CardStop<DeckFaultKind>>
         requires { count ≤ 100000 }
         ensures no_fault { OnOk result
             (pairs_fault (rows_alone rows.now) section (items_of card.now.name1 self.old) count
@@ -382,17 +407,8 @@ impl Groups {
         ensures stop { IfErr result (ReportsDeckFault (pairs_fault (rows_alone rows.now) section
             (items_of card.now.name1 self.old) count (pairs_of (viewed card.now)))) }
     {
-        match take_into(alloc, rows, section, &mut self.groups, count, card) {
-            Ok(lengths) => {
-                self.count = recounted(&self.groups, self.count, lengths);
-                Ok(())
-            }
-            Err(stop) => {
-                self.groups.clear();
-                self.count = 0;
-                Err(stop)
-            }
-        }
+        let taken = take_into(alloc, rows, section, &mut self.groups, count, card);
+        settle(&mut self.groups, &mut self.count, taken)
     }
 
     /// Takes the pairs of a card of COLUMNS into the column in its field 2, which is the last or is added last. An `Err` leaves none.
@@ -402,7 +418,7 @@ impl Groups {
         rows: &Rows,
         count: u32,
         card: &DataCard<'_>,
-    ) -> Result<(), CardStop>
+    ) -> Result<(), CardStop<DeckFaultKind>>
         requires { count ≤ 100000 }
         ensures no_fault { OnOk result
             (column_fault self.old card.now.name1
@@ -415,17 +431,8 @@ impl Groups {
             (pairs_fault (rows_alone rows.now) Columns (items_of card.now.name1 self.old) count
             (pairs_of (viewed card.now))))) }
     {
-        match take_column_into(alloc, rows, &mut self.groups, count, card) {
-            Ok(lengths) => {
-                self.count = recounted(&self.groups, self.count, lengths);
-                Ok(())
-            }
-            Err(stop) => {
-                self.groups.clear();
-                self.count = 0;
-                Err(stop)
-            }
-        }
+        let taken = take_column_into(alloc, rows, &mut self.groups, count, card);
+        settle(&mut self.groups, &mut self.count, taken)
     }
 
     /// Changes the items of the group in field 2 of a card as it says, or adds a group last that isn't there. An `Err` leaves none.
@@ -439,17 +446,8 @@ impl Groups {
         ensures { OnOk result (self.new ≡ in_set card.now.name1
             (entries_changed change (viewed card.now)) self.old) }
     {
-        match change_under(alloc, change, card, &mut self.groups) {
-            Ok(lengths) => {
-                self.count = recounted(&self.groups, self.count, lengths);
-                Ok(())
-            }
-            Err(stop) => {
-                self.groups.clear();
-                self.count = 0;
-                Err(stop)
-            }
-        }
+        let changed = change_under(alloc, change, card, &mut self.groups);
+        settle(&mut self.groups, &mut self.count, changed)
     }
 
     /// Changes the items of the group in field 2 of a card as it says, if the group is there.

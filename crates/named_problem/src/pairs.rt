@@ -96,7 +96,7 @@ pub fn take_pair(
     items: &mut Entries,
     count: u32,
     pair: &PairText<'_>,
-) -> Result<(), CardStop>
+) -> Result<(), CardStop<DeckFaultKind>>
     ensures no_fault { OnOk result (pair_fault (rows_alone rows.now) section items.old count
         (pair_view pair.now) ≡ None) }
     ensures step { OnOk result (items.new ≡ items.old ++ entry_of (pair_view pair.now) ∷ []) }
@@ -104,7 +104,7 @@ pub fn take_pair(
         (ReportsDeckFault (pair_fault (rows_alone rows.now) section items.old count
         (pair_view pair.now))) }
 {
-    let found = row_of(rows, section, &pair.row)?;
+    let found = row_of(rows, section, &pair.row).map_err(CardStop::Fault)?;
     match decimal_of(section, count, pair) {
         Ok(value) => {
             let place = found.place;
@@ -113,7 +113,7 @@ pub fn take_pair(
         Err(kind) => {
             let is_taken = items.has(&pair.row);
             let fault = fault_after(is_taken, DeckFaultKind::DuplicateEntry, kind);
-            Err(CardStop::Refused(fault))
+            Err(CardStop::Fault(fault))
         }
     }
 }
@@ -125,7 +125,7 @@ pub fn take_pairs(
     items: &mut Entries,
     count: u32,
     card: &DataCard<'_>,
-) -> Result<(), CardStop>
+) -> Result<(), CardStop<DeckFaultKind>>
     requires { count ≤ 100000 }
     ensures no_fault { OnOk result (pairs_fault (rows_alone rows.now) section items.old count
         (pairs_of (viewed card.now)) ≡ None) }
@@ -142,7 +142,11 @@ pub fn take_pairs(
 }
 
 // Takes a pair, where there is one, as a part of a combination of which these rows are the earlier ones.
-fn take_part(rows: &Rows, parts: &mut Entries, pair: &Option<PairText<'_>>) -> Result<(), CardStop>
+fn take_part(
+    rows: &Rows,
+    parts: &mut Entries,
+    pair: &Option<PairText<'_>>,
+) -> Result<(), CardStop<DeckFaultKind>>
     ensures no_fault { OnOk result (parts_fault rows.now parts.old
         (option_to_list (option_map pair_view pair.now)) ≡ None) }
     ensures step { OnOk result (parts.new ≡ parts.old ++ map entry_of
@@ -157,7 +161,11 @@ fn take_part(rows: &Rows, parts: &mut Entries, pair: &Option<PairText<'_>>) -> R
 }
 
 /// Takes the parts on a card of a combination, where these rows are the earlier ones.
-pub fn take_parts(rows: &Rows, parts: &mut Entries, card: &DataCard<'_>) -> Result<(), CardStop>
+pub fn take_parts(
+    rows: &Rows,
+    parts: &mut Entries,
+    card: &DataCard<'_>,
+) -> Result<(), CardStop<DeckFaultKind>>
     ensures no_fault { OnOk result (parts_fault rows.now parts.old
         (part_pairs_of (viewed card.now)) ≡ None) }
     ensures step { OnOk result (parts.new ≡ parts.old ++ parts_on (viewed card.now)) }

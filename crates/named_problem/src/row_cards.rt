@@ -30,25 +30,29 @@ pub fn has_more(card: &DataCard<'_>) -> bool
 }
 
 // Whether a row of this name may be begun, or the fault.
-fn name_new_row(rows: &Rows, name: &Name) -> Result<(), DeckFaultKind>
+fn name_new_row(rows: &Rows, name: &Name) -> Result<(), CardStop<DeckFaultKind>>
     ensures no_fault { OnOk result (new_row_fault rows.now name.now ≡ None) }
     ensures is_new { OnOk result (has_row rows.now name.now ≡ false) }
-    ensures fault { IfErr result (λ kind. new_row_fault rows.now name.now ≡ Some kind) }
+    ensures stop { IfErr result (ReportsDeckFault (new_row_fault rows.now name.now)) }
 {
     if is_blank(name.bytes()) {
-        return Err(DeckFaultKind::EmptyName);
+        return Err(CardStop::Fault(DeckFaultKind::EmptyName));
     }
     if rows.has(name) {
-        return Err(DeckFaultKind::DuplicateRow);
+        return Err(CardStop::Fault(DeckFaultKind::DuplicateRow));
     }
     if MAX_ROWS <= rows.len() {
-        return Err(DeckFaultKind::TooManyRows);
+        return Err(CardStop::Fault(DeckFaultKind::TooManyRows));
     }
     Ok(())
 }
 
 // Takes a card that begins a plain row of this type.
-fn begin_plain(rows: &mut Rows, kind: RowKind, card: &DataCard<'_>) -> Result<(), CardStop>
+fn begin_plain(
+    rows: &mut Rows,
+    kind: RowKind,
+    card: &DataCard<'_>,
+) -> Result<(), CardStop<DeckFaultKind>>
     ensures no_fault { OnOk result (begun_fault rows.old card.now.name1
         (filled_from_3 (viewed card.now)) ≡ None) }
     ensures step { OnOk result (rows.new ≡ rows.old ++ plain_row kind card.now.name1 ∷ []) }
@@ -57,7 +61,7 @@ fn begin_plain(rows: &mut Rows, kind: RowKind, card: &DataCard<'_>) -> Result<()
 {
     name_new_row(rows, &card.name1)?;
     if has_more(card) {
-        return Err(CardStop::Refused(DeckFaultKind::ExtraField));
+        return Err(CardStop::Fault(DeckFaultKind::ExtraField));
     }
     rows.add(kind, card.name1, None)?;
     Ok(())
@@ -69,7 +73,7 @@ fn begin_combination(
     rows: &mut Rows,
     kind: RowKind,
     card: &DataCard<'_>,
-) -> Result<(), CardStop>
+) -> Result<(), CardStop<DeckFaultKind>>
     ensures no_fault { OnOk result (begun_fault rows.old card.now.name1
         (parts_fault rows.old [] (part_pairs_of (viewed card.now))) ≡ None) }
     ensures step { OnOk result (rows.new ≡ rows.old ++ combination kind card.now.name1
@@ -85,7 +89,11 @@ fn begin_combination(
 }
 
 // Takes a card that begins a row.
-fn begin_row(alloc: Global, rows: &mut Rows, card: &DataCard<'_>) -> Result<(), CardStop>
+fn begin_row(
+    alloc: Global,
+    rows: &mut Rows,
+    card: &DataCard<'_>,
+) -> Result<(), CardStop<DeckFaultKind>>
     requires { goes_on_last rows.old (viewed card.now) ≡ false }
     ensures no_fault { OnOk result (row_fault (rows_alone rows.old) (viewed card.now) ≡ None) }
     ensures step { OnOk result (rows.new ≡ with_row rows.old (viewed card.now)) }
@@ -97,12 +105,17 @@ fn begin_row(alloc: Global, rows: &mut Rows, card: &DataCard<'_>) -> Result<(), 
     }
     match combination_kind(card.kind) {
         Some(kind) => begin_combination(alloc, rows, kind, card),
-        None => Err(CardStop::Refused(DeckFaultKind::BadRowType)),
+        None => Err(CardStop::Fault(DeckFaultKind::BadRowType)),
     }
 }
 
 // Takes a card that goes on with a row of this name, which was taken out as the last and is put back with the card's parts added.
-fn put_back(rows: &mut Rows, name: Name, body: RowBody, card: &DataCard<'_>) -> Result<(), CardStop>
+fn put_back(
+    rows: &mut Rows,
+    name: Name,
+    body: RowBody,
+    card: &DataCard<'_>,
+) -> Result<(), CardStop<DeckFaultKind>>
     requires goes_on { goes_on_last (rows.old ++ row_at (name, body) ∷ []) (viewed card.now) ≡ true }
     requires apart { has_row rows.old name ≡ false }
     ensures no_fault { OnOk result (row_fault (rows_alone (rows.old ++ row_at (name, body) ∷ []))
@@ -113,7 +126,7 @@ fn put_back(rows: &mut Rows, name: Name, body: RowBody, card: &DataCard<'_>) -> 
         (row_fault (rows_alone (rows.old ++ row_at (name, body) ∷ [])) (viewed card.now))) }
 {
     if is_blank(card.name1.bytes()) {
-        return Err(CardStop::Refused(DeckFaultKind::EmptyName));
+        return Err(CardStop::Fault(DeckFaultKind::EmptyName));
     }
     let RowBody { kind, parts } = body;
     let Some(mut parts) = parts else {
@@ -129,7 +142,7 @@ fn put_back(rows: &mut Rows, name: Name, body: RowBody, card: &DataCard<'_>) -> 
 }
 
 // Takes a card that goes on with the last row.
-fn go_on(rows: &mut Rows, card: &DataCard<'_>) -> Result<(), CardStop>
+fn go_on(rows: &mut Rows, card: &DataCard<'_>) -> Result<(), CardStop<DeckFaultKind>>
     requires { goes_on_last rows.old (viewed card.now) ≡ true }
     ensures no_fault { OnOk result (row_fault (rows_alone rows.old) (viewed card.now) ≡ None) }
     ensures step { OnOk result (rows.new ≡ with_row rows.old (viewed card.now)) }
@@ -143,7 +156,11 @@ fn go_on(rows: &mut Rows, card: &DataCard<'_>) -> Result<(), CardStop>
 }
 
 /// Takes a card of ROWS, which goes on with the last row or begins one. An `Err` may leave the last row out.
-pub fn take_row_card(alloc: Global, rows: &mut Rows, card: &DataCard<'_>) -> Result<(), CardStop>
+pub fn take_row_card(
+    alloc: Global,
+    rows: &mut Rows,
+    card: &DataCard<'_>,
+) -> Result<(), CardStop<DeckFaultKind>>
     ensures no_fault { OnOk result (row_fault (rows_alone rows.old) (viewed card.now) ≡ None) }
     ensures step { OnOk result (rows.new ≡ with_row rows.old (viewed card.now)) }
     ensures stop { IfErr result

@@ -30,7 +30,7 @@ pub fn take_column_card(
     columns: &mut Groups,
     count: u32,
     card: &DataCard<'_>,
-) -> Result<(), CardStop>
+) -> Result<(), CardStop<DeckFaultKind>>
     requires few { count ≤ 100000 }
     requires counted { count ≡ entry_count (columns_alone rows.now columns.old) }
     ensures no_fault { OnOk result (columns_fault (columns_alone rows.now columns.old)
@@ -41,13 +41,13 @@ pub fn take_column_card(
         (viewed card.now))) }
 {
     if !is_blank(card.kind) {
-        return Err(CardStop::Refused(DeckFaultKind::ExtraField));
+        return Err(CardStop::Fault(DeckFaultKind::ExtraField));
     }
     if is_marker(card) {
-        return Err(CardStop::Refused(DeckFaultKind::Marker));
+        return Err(CardStop::Fault(DeckFaultKind::Marker));
     }
     if is_blank(card.name1.bytes()) {
-        return Err(CardStop::Refused(DeckFaultKind::EmptyName));
+        return Err(CardStop::Fault(DeckFaultKind::EmptyName));
     }
     columns.take_column(alloc, rows, count, card)
 }
@@ -59,7 +59,7 @@ pub fn take_set_card(
     section: Section,
     sets: &mut Groups,
     card: &DataCard<'_>,
-) -> Result<(), CardStop>
+) -> Result<(), CardStop<DeckFaultKind>>
     ensures no_fault { OnOk result (set_fault (rows_alone rows.now) section sets.old
         (viewed card.now) ≡ None) }
     ensures step { OnOk result (sets.new ≡ in_set card.now.name1
@@ -68,7 +68,7 @@ pub fn take_set_card(
         (viewed card.now))) }
 {
     if !is_blank(card.kind) {
-        return Err(CardStop::Refused(DeckFaultKind::ExtraField));
+        return Err(CardStop::Fault(DeckFaultKind::ExtraField));
     }
     sets.take(alloc, rows, section, 0, card)
 }

@@ -11,8 +11,9 @@ use Rattle.problem_definitions.proofs.Lawful.{lawful-numbered}
 use Rattle.deck_definitions.specs.declared.Style.TheVariants.{FixedFields}
 use Rattle.deck_definitions.specs.Conversion.{first_faulty, fault_by, deck_name}
 use Rattle.deck_definitions.proofs.Converted.{ArePrintable, printable_live}
-use Rattle.deck_fields.specs.declared.stop.DeckStop.{DeckStop}
-use Rattle.deck_fields.specs.declared.stop.DeckStop.TheVariants.{Fault, NoMemory}
+use Rattle.deck_definitions.specs.declared.DeckFault.{DeckFault}
+use Rattle.card_reader.specs.declared.stop.CardStop.{CardStop}
+use Rattle.card_reader.specs.declared.stop.CardStop.TheVariants.{Fault, NoMemory}
 use Rattle.revise_definitions.specs.Revision.{revised, revise_card_fault, revise_fault, revision}
 use Rattle.revise_laws.proofs.ByNames.{named-lawful}
 use Rattle.revise_laws.proofs.Revisions.{revised-lawful, renamed}
@@ -30,7 +31,7 @@ module _ (old : Problem ℕ) (deck : List Card) (name : Option Name) where
   by_fault = refl
 
   -- the fault of the deck is what the revision gives
-  pub faulty : (stop : DeckStop) → Stops (revise_card_fault (by_names old)) deck stop → Refuses old deck name stop
+  pub faulty : (stop : CardStop DeckFault) → Stops (revise_card_fault (by_names old)) deck stop → Refuses old deck name stop
   faulty NoMemory h = tt
   faulty (Fault found) h = by_fault ∙ ap (λ o. unless o made) h
 

@@ -6,9 +6,10 @@ use crate::sections::{action_fault_of, action_of, anchor_of, comes_after, is_act
 use card_reader::Card;
 use deck_definitions::Style;
 use deck_fields::{
-    CardStop, DataCard, Draft, SectionOrder, begins_section, is_header, is_last, name_in,
-    next_section, read_data_card, style_begun,
+    CardStop, DataCard, Draft, SectionOrder, begins_section, is_header, name_in, next_section,
+    read_data_card, style_begun,
 };
+use mps_convert::ProblemDraft;
 use name_table::Name;
 use named_problem::{DeckFaultKind, NamedProblem, Section};
 use problem_file::{NoMemory, Problem};
@@ -30,12 +31,10 @@ pub struct ReviseDraft {
 }
 
 impl ReviseDraft {
-    ghost use Rattle.std.specs.Prelude.{◌≡◌, [], None, Some, IfOk, OnOk, IfErr, unwrap_or};
+    ghost use Rattle.std.specs.Prelude.{◌≡◌, [], None, Some, OnOk, IfErr, unwrap_or};
     ghost use Rattle.std.specs.Option.{option_or};
     ghost use Rattle.card_definitions.specs.Words.{named};
     ghost use Rattle.card_reader.specs.Card.{card_bytes};
-    ghost use Rattle.problem_definitions.specs.Numbering.{numbered};
-    ghost use Rattle.problem_definitions.specs.Valid.{IsProblem};
     ghost use Rattle.deck_definitions.specs.Sections.{section_words, section_word};
     ghost use Rattle.deck_definitions.specs.declared.Style.TheVariants.{FixedFields};
     ghost use Rattle.deck_definitions.specs.DataCards.{style_begun};
@@ -71,22 +70,13 @@ impl ReviseDraft {
         }
     }
 
-    /// The problem after the cards so far, under this name and with numbers in place of names.
-    pub fn problem(&self, name: Name) -> Result<Problem, NoMemory>
-        requires { IsProblem (numbered (record self.now.problem { name = name })) }
-        ensures { IfOk result (λ problem. problem ≡ numbered
-            (record self.now.problem { name = name })) }
-    {
-        renumbered(self.alloc, &self.problem, name)
-    }
-
     // Takes a data card of this section under this action.
     fn take_in(
         &mut self,
         section: Section,
         action: Action,
         card: &DataCard<'_>,
-    ) -> Result<(), CardStop>
+    ) -> Result<(), CardStop<DeckFaultKind>>
         ensures no_fault { OnOk result (edit_test self.old.problem section action self.old.under
             (viewed card.now) ≡ None) }
         ensures step { OnOk result (state_view self.new ≡ record (state_view self.old) {
@@ -99,7 +89,7 @@ impl ReviseDraft {
             (viewed card.now))) }
     {
         if let Some(kind) = edit_fault_of(&self.problem, section, action, &self.under, card) {
-            return Err(CardStop::Refused(kind));
+            return Err(CardStop::Fault(kind));
         }
         edit(
             self.alloc,
@@ -113,7 +103,7 @@ impl ReviseDraft {
     }
 
     // Takes a data card of this section.
-    fn take_data(&mut self, section: Section, card: Card<'_>) -> Result<(), CardStop>
+    fn take_data(&mut self, section: Section, card: Card<'_>) -> Result<(), CardStop<DeckFaultKind>>
         requires { self.old.section ≡ Some section }
         ensures no_fault { OnOk result (data_fault (state_view self.old) section
             (card_bytes card.entry) ≡ None) }
@@ -127,16 +117,20 @@ impl ReviseDraft {
             (card_bytes card.entry))) }
     {
         let Some(action) = self.action else {
-            return Err(CardStop::Refused(DeckFaultKind::UnknownAction));
+            return Err(CardStop::Fault(DeckFaultKind::UnknownAction));
         };
         match read_data_card(card, self.style, section, is_deletion(action)) {
             Ok(data) => self.take_in(section, action, &data),
-            Err(kind) => Err(CardStop::Refused(kind)),
+            Err(kind) => Err(CardStop::Fault(kind)),
         }
     }
 
     // Takes an action card of this section.
-    fn take_action(&mut self, section: Section, card: Card<'_>) -> Result<(), CardStop>
+    fn take_action(
+        &mut self,
+        section: Section,
+        card: Card<'_>,
+    ) -> Result<(), CardStop<DeckFaultKind>>
         ensures no_fault { OnOk result
             (action_fault self.old.problem section (action_on self.old.style (card_bytes card.entry))
             (anchor_on self.old.style (card_bytes card.entry)) ≡ None) }
@@ -152,7 +146,7 @@ impl ReviseDraft {
         let action = action_of(card, self.style);
         let anchor = anchor_of(card, self.style);
         if let Some(kind) = action_fault_of(&self.problem, section, action, &anchor) {
-            return Err(CardStop::Refused(kind));
+            return Err(CardStop::Fault(kind));
         }
         let name = match anchor {
             Some(name) => name,
@@ -164,7 +158,11 @@ impl ReviseDraft {
     }
 
     // Takes an action card or a data card of this section.
-    fn take_standing(&mut self, section: Section, card: Card<'_>) -> Result<(), CardStop>
+    fn take_standing(
+        &mut self,
+        section: Section,
+        card: Card<'_>,
+    ) -> Result<(), CardStop<DeckFaultKind>>
         requires { self.old.section ≡ Some section }
         ensures no_fault { OnOk result (standing_fault (state_view self.old) section
             (card_bytes card.entry) ≡ None) }
@@ -180,7 +178,7 @@ impl ReviseDraft {
     }
 
     // Takes an action card or a data card.
-    fn take_inner(&mut self, card: Card<'_>) -> Result<(), CardStop>
+    fn take_inner(&mut self, card: Card<'_>) -> Result<(), CardStop<DeckFaultKind>>
         ensures no_fault { OnOk result (inner_fault (state_view self.old)
             (card_bytes card.entry) ≡ None) }
         ensures step { OnOk result (state_view self.new ≡ inner_with (state_view self.old)
@@ -189,16 +187,16 @@ impl ReviseDraft {
             (card_bytes card.entry))) }
     {
         let Some(section) = self.section else {
-            return Err(CardStop::Refused(DeckFaultKind::SectionOrder));
+            return Err(CardStop::Fault(DeckFaultKind::SectionOrder));
         };
         if is_header(section) {
-            return Err(CardStop::Refused(DeckFaultKind::SectionOrder));
+            return Err(CardStop::Fault(DeckFaultKind::SectionOrder));
         }
         self.take_standing(section, card)
     }
 
     // Takes a section card.
-    fn take_section(&mut self, card: Card<'_>) -> Result<(), CardStop>
+    fn take_section(&mut self, card: Card<'_>) -> Result<(), CardStop<DeckFaultKind>>
         ensures no_fault { OnOk result (section_card_fault may_come_after self.old.section
             (card_bytes card.entry) ≡ None) }
         ensures step { OnOk result (state_view self.new ≡ record (state_view self.old) {
@@ -221,7 +219,7 @@ impl ReviseDraft {
     }
 
     // Takes a card.
-    fn take_card(&mut self, card: Card<'_>) -> Result<(), CardStop>
+    fn take_card(&mut self, card: Card<'_>) -> Result<(), CardStop<DeckFaultKind>>
         ensures no_fault { OnOk result (fault_at (state_view self.old)
             (card_bytes card.entry) ≡ None) }
         ensures step { OnOk result (state_view self.new ≡ state_with (state_view self.old)
@@ -233,6 +231,16 @@ impl ReviseDraft {
             return self.take_section(card);
         }
         self.take_inner(card)
+    }
+}
+
+impl ProblemDraft for ReviseDraft {
+    ghost use Rattle.revise_deck.specs.Draft_view.{problem_named};
+
+    ghost problem_under = { problem_named };
+
+    fn problem(&self, name: Name) -> Result<Problem, NoMemory> {
+        renumbered(self.alloc, &self.problem, name)
     }
 }
 
@@ -256,14 +264,11 @@ impl Draft for ReviseDraft {
 
     ghost is_made_of = { λ start draft seen. state_view draft ≡ state_of start.problem seen };
 
-    fn is_ended(&self) -> bool {
-        match self.section {
-            Some(section) => is_last(section),
-            None => false,
-        }
+    fn section(&self) -> Option<Section> {
+        self.section
     }
 
-    fn take(&mut self, card: Card<'_>) -> Result<(), CardStop> {
+    fn take(&mut self, card: Card<'_>) -> Result<(), CardStop<DeckFaultKind>> {
         self.take_card(card)
     }
 }

@@ -8,6 +8,6 @@ mod numbering;
 mod revision;
 mod sections;
 
-pub use deck_fields::{DeckFault, DeckFaultKind, DeckStop};
+pub use deck_fields::{CardStop, DeckFault, DeckFaultKind};
 pub use draft::ReviseDraft;
 pub use revision::revise;

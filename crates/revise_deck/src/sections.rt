@@ -1,7 +1,7 @@
 // The order of sections, and the cards of actions.
-ghost use Rattle.std.specs.Prelude.{◌≡◌, ◌≤◌, ◌||◌, drop};
+ghost use Rattle.std.specs.Prelude.{◌≡◌, ◌||◌, drop};
 ghost use Rattle.card_definitions.specs.Words.{named};
-ghost use Rattle.card_definitions.specs.Fields.{is_blank_column, columns};
+ghost use Rattle.card_definitions.specs.Fields.{columns};
 ghost use Rattle.deck_definitions.specs.declared.Style.TheVariants.{FixedFields, FreeFields};
 ghost use Rattle.card_reader.specs.Card.{card_bytes};
 ghost use Rattle.deck_definitions.specs.declared.Section.TheVariants.{Rows, Columns};
@@ -12,7 +12,9 @@ ghost use Rattle.revise_definitions.specs.Revision.{may_come_after};
 
 use card_reader::Card;
 use deck_definitions::Style;
-use deck_fields::{first_word, free_words, is_blank, is_word, name_in, rank_of, word_text};
+use deck_fields::{
+    first_word, free_words, has_blank, is_blank, is_word, name_in, rank_of, word_text,
+};
 use name_table::Name;
 use named_problem::{DeckFaultKind, NamedProblem, Section};
 use revise_definitions::Action;
@@ -22,17 +24,6 @@ pub fn comes_after(before: Section, section: Section) -> bool
     ensures { result ≡ may_come_after before section }
 {
     rank_of(before) < rank_of(section)
-}
-
-// Whether a column of a card is blank.
-fn has_blank(card: &[u8], column: usize) -> bool
-    requires { 1 ≤ column }
-    ensures { result ≡ is_blank_column card.now column }
-{
-    match card.get(column - 1) {
-        Some(byte) => *byte == b' ',
-        None => true,
-    }
 }
 
 // Whether a card of a fixed deck is an action card.

@@ -7,7 +7,7 @@ ghost use Rattle.revise_edits.specs.Summary.{combination_on, goes_on_from, goes_
 use deck_fields::{DataCard, combination_kind, is_blank, is_card_of};
 use indexmap::IndexSet;
 use name_table::Name;
-use named_problem::CardStop;
+use named_problem::{CardStop, DeckFaultKind};
 use problem_definitions::RowKind;
 use revise_definitions::Action;
 use std::alloc::Global;
@@ -110,7 +110,7 @@ impl UnderAction {
     }
 
     /// One more data card.
-    pub fn add(&mut self, card: &DataCard<'_>) -> Result<(), CardStop>
+    pub fn add(&mut self, card: &DataCard<'_>) -> Result<(), CardStop<DeckFaultKind>>
         ensures added { OnOk result (self.new ≡ with_card_under self.old (viewed card.now)) }
         ensures stop { IfErr result (λ stop. stop ≡ CardStop.NoMemory) }
     {

@@ -4,7 +4,7 @@ use Rattle.card_definitions.specs.Words.{is_empty, ◌⟹◌, first_fault}
 use Rattle.card_definitions.specs.Fields.{Reading}
 use Rattle.problem_definitions.specs.declared.TheConstants.{MAX_COLUMNS, MAX_ENTRIES}
 use Rattle.problem_definitions.specs.Names.{Name}
-use Rattle.problem_definitions.specs.Problem.{Row, Problem, has_row, has_group, entry_count}
+use Rattle.problem_definitions.specs.Problem.{Row, Entry, Group, Problem, has_row, has_group, entry_count}
 use Rattle.problem_definitions.specs.Parts.{rows_before}
 use Rattle.problem_definitions.specs.Groups.{items_of}
 use Rattle.deck_definitions.specs.declared.DeckFaultKind.{DeckFaultKind}
@@ -15,8 +15,8 @@ use Rattle.deck_definitions.specs.Sections.{is_section}
 use Rattle.deck_definitions.specs.DataCards.{Pair, pairs_of}
 use Rattle.deck_definitions.specs.Tests.{kind_filled, marks, pair_row_fault, value_fault, pairs_fault, rows_fault}
 use Rattle.revise_definitions.specs.declared.Action.{Action}
-use Rattle.revise_definitions.specs.declared.Action.TheVariants.{Before, After}
-use Rattle.revise_definitions.specs.Tests.{edit_fault}
+use Rattle.revise_definitions.specs.declared.Action.TheVariants.{Delete, Before, After}
+use Rattle.revise_definitions.specs.Tests.{modify_sets_fault, delete_sets_fault, edit_fault}
 use Rattle.revise_edits.specs.Summary.{Under, goes_on_from, goes_on_row_from, row_place_among}
 
 -- The tests of a pair that replaces an item or adds one, where one on its row is there already or isn't.
@@ -55,6 +55,11 @@ insert_columns_test seen goes card = first_fault (
 abbrev pub earlier_among : Action → Under → Reading → List (Row Name) → List (Row Name)
 earlier_among action under card rows =
     if goes_on_row_from under card then rows_before card.name1 rows else take (row_place_among action under rows) rows
+
+-- the tests of a card of RHS or RANGES, with these sets
+abbrev pub sets_test : Problem Name → Section → List (Group (Entry Name)) → Action → Reading → Option DeckFaultKind
+sets_test seen section sets Delete card = delete_sets_fault seen sets card
+sets_test seen section sets _ card = modify_sets_fault seen section card
 
 -- the tests of a data card under an action of its section
 abbrev pub edit_test : Problem Name → Section → Action → Under → Reading → Option DeckFaultKind

@@ -1,11 +1,12 @@
 // The fault of a data card under an action of its section.
-ghost use Rattle.std.specs.Prelude.{◌≡◌, take};
-ghost use Rattle.deck_definitions.specs.declared.Section.TheVariants.{Columns, Rhs, Ranges, Bounds};
+ghost use Rattle.std.specs.Prelude.{◌≡◌, [], take};
+ghost use Rattle.deck_definitions.specs.declared.Section.TheVariants.{Columns, Bounds};
 ghost use Rattle.deck_definitions.specs.Tests.{rows_fault};
 ghost use Rattle.deck_fields.specs.Views.{viewed};
 ghost use Rattle.named_problem.specs.Views.{rows_alone};
+ghost use Rattle.revise_definitions.specs.Tests.{edit_fault};
 ghost use Rattle.revise_edits.specs.Summary.{goes_on_row_from};
-ghost use Rattle.revise_parts.specs.EditTests.{earlier_among, edit_test};
+ghost use Rattle.revise_parts.specs.EditTests.{earlier_among, edit_test, sets_test};
 
 use crate::faults::{
     deleted_bounds_fault, deleted_column_fault, deleted_row_fault, deleted_set_fault,
@@ -13,7 +14,7 @@ use crate::faults::{
     modified_row_fault, modified_set_fault,
 };
 use deck_fields::DataCard;
-use named_problem::{DeckFaultKind, NamedProblem, Rows, Section};
+use named_problem::{DeckFaultKind, Groups, NamedProblem, Rows, Section};
 use revise_definitions::Action;
 use revise_edits::{UnderAction, next_row_place};
 
@@ -82,33 +83,19 @@ fn columns_fault_of(
     }
 }
 
-// The fault of a card of RHS.
-fn rhs_fault_of(
+// The fault of a card of RHS or RANGES, with these sets.
+fn sets_fault_of(
     seen: &NamedProblem,
+    section: Section,
+    sets: &Groups,
     action: Action,
-    under: &UnderAction,
     card: &DataCard<'_>,
 ) -> Option<DeckFaultKind>
-    ensures { result ≡ edit_test seen.now Rhs action under.now (viewed card.now) }
+    ensures { result ≡ sets_test seen.now section sets.now action (viewed card.now) }
 {
     match action {
-        Action::Delete => deleted_set_fault(seen, &seen.rhs, card),
-        _ => modified_set_fault(seen, Section::Rhs, card),
-    }
-}
-
-// The fault of a card of RANGES.
-fn ranges_fault_of(
-    seen: &NamedProblem,
-    action: Action,
-    under: &UnderAction,
-    card: &DataCard<'_>,
-) -> Option<DeckFaultKind>
-    ensures { result ≡ edit_test seen.now Ranges action under.now (viewed card.now) }
-{
-    match action {
-        Action::Delete => deleted_set_fault(seen, &seen.ranges, card),
-        _ => modified_set_fault(seen, Section::Ranges, card),
+        Action::Delete => deleted_set_fault(seen, sets, card),
+        _ => modified_set_fault(seen, section, card),
     }
 }
 
@@ -116,10 +103,9 @@ fn ranges_fault_of(
 fn bounds_fault_of(
     seen: &NamedProblem,
     action: Action,
-    under: &UnderAction,
     card: &DataCard<'_>,
 ) -> Option<DeckFaultKind>
-    ensures { result ≡ edit_test seen.now Bounds action under.now (viewed card.now) }
+    ensures { result ≡ edit_fault seen.now Bounds action [] [] (viewed card.now) }
 {
     match action {
         Action::Delete => deleted_bounds_fault(seen, card),
@@ -140,9 +126,9 @@ pub fn edit_fault_of(
     match section {
         Section::Rows => rows_fault_of(seen, action, under, card),
         Section::Columns => columns_fault_of(seen, action, under, card),
-        Section::Rhs => rhs_fault_of(seen, action, under, card),
-        Section::Ranges => ranges_fault_of(seen, action, under, card),
-        Section::Bounds => bounds_fault_of(seen, action, under, card),
+        Section::Rhs => sets_fault_of(seen, Section::Rhs, &seen.rhs, action, card),
+        Section::Ranges => sets_fault_of(seen, Section::Ranges, &seen.ranges, action, card),
+        Section::Bounds => bounds_fault_of(seen, action, card),
         Section::Header | Section::Endata => Some(DeckFaultKind::SectionOrder),
     }
 }

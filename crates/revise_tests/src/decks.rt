@@ -1,5 +1,5 @@
 use card_reader::{Cards, read_job};
-use deck_fields::{DeckFault, DeckFaultKind, DeckStop};
+use deck_fields::{CardStop, DeckFault, DeckFaultKind};
 use job_devices::SureSource;
 use mps_convert::convert;
 use problem_file::{BoundSet, DeckEntry, EntryGroup, Problem, RowDecl};
@@ -31,7 +31,7 @@ fn old_problem(alloc: Global) -> Result<Problem, Fail> {
 }
 
 // The old problem, revised by the deck of a NAME card, these cards and ENDATA.
-fn revision(alloc: Global, edits: &[u8]) -> Result<Result<Problem, DeckStop>, Fail> {
+fn revision(alloc: Global, edits: &[u8]) -> Result<Result<Problem, CardStop<DeckFault>>, Fail> {
     let old = old_problem(alloc)?;
     let mut deck = Vec::from_slice(alloc, b"NAME          REV\n")?;
     deck.extend_from_slice(edits)?;
@@ -56,8 +56,8 @@ pub fn revised(alloc: Global, edits: &[u8]) -> Result<Problem, Fail> {
 pub fn fault_of(alloc: Global, edits: &[u8]) -> Result<Option<(u32, DeckFaultKind)>, Fail> {
     match revision(alloc, edits)? {
         Ok(_) => Ok(None),
-        Err(DeckStop::Fault(DeckFault { card, kind })) => Ok(Some((card, kind))),
-        Err(DeckStop::NoMemory) => Err(Fail::from("memory")),
+        Err(CardStop::Fault(DeckFault { card, kind })) => Ok(Some((card, kind))),
+        Err(CardStop::NoMemory) => Err(Fail::from("memory")),
     }
 }
 

@@ -8,8 +8,8 @@ use Rattle.card_definitions.specs.Cards.{Card, numbered_cards}
 use Rattle.deck_definitions.specs.declared.DeckFault.{DeckFault}
 use Rattle.deck_definitions.specs.Decks.{decks_of, deck_taken}
 use Rattle.deck_definitions.specs.Conversion.{conversion}
-use Rattle.deck_fields.specs.declared.stop.DeckStop.{DeckStop}
-use Rattle.deck_fields.specs.declared.stop.DeckStop.TheVariants.{Fault, NoMemory}
+use Rattle.card_reader.specs.declared.stop.CardStop.{CardStop}
+use Rattle.card_reader.specs.declared.stop.CardStop.TheVariants.{Fault, NoMemory}
 use Rattle.mps_convert.specs.Conversion.{Refuses}
 use Rattle.problem_definitions.specs.Names.{Name, same}
 use Rattle.problem_definitions.specs.Problem.{Problem}
@@ -106,7 +106,7 @@ module _ {K : Type 0} (Shows : Filed → K → Present → Type 0) (card : ℕ) 
   unfolding verb_move
   finds_no_deck none = λ position executed state s. takes_nothing Shows card cards machine wanted same_name s (λ deck. conversion deck state.cells.xpbname) reports.Converted none
 
-  pub finds_a_deck : (given : Result (Problem ℕ) DeckStop) (deck : List Card) (last from_card : ℕ) →
+  pub finds_a_deck : (given : Result (Problem ℕ) (CardStop DeckFault)) (deck : List Card) (last from_card : ℕ) →
       deck_taken wanted (decks_from machine.decks_from cards) ≡ Some (deck, decks_of (drop last (numbered_cards cards))) →
       IfOk given (λ problem. conversion deck machine.cells.xpbname ≡ Ok problem) → IfErr given (Refuses deck machine.cells.xpbname) →
       last ≤ length cards → from_card ≡ last + 1 → Describes Shows Convert card cards machine (described_as given from_card)

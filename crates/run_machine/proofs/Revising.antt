@@ -3,8 +3,9 @@ use Rattle.std.proofs.Common.{◌≡◌, ℕ, ◌+◌, ◌≤◌, length, List, 
 use Rattle.std.specs.Prelude.{IfErr}
 use Rattle.card_definitions.specs.Cards.{Card, numbered_cards}
 use Rattle.deck_definitions.specs.Decks.{decks_of, deck_taken}
-use Rattle.deck_fields.specs.declared.stop.DeckStop.{DeckStop}
-use Rattle.deck_fields.specs.declared.stop.DeckStop.TheVariants.{Fault, NoMemory}
+use Rattle.deck_definitions.specs.declared.DeckFault.{DeckFault}
+use Rattle.card_reader.specs.declared.stop.CardStop.{CardStop}
+use Rattle.card_reader.specs.declared.stop.CardStop.TheVariants.{Fault, NoMemory}
 use Rattle.revise_definitions.specs.Revision.{revision}
 use Rattle.revise_deck.specs.Revision.{Refuses}
 use Rattle.problem_definitions.specs.Names.{Name}
@@ -43,7 +44,7 @@ module _ {K : Type 0} (Shows : Filed → K → Present → Type 0) (card : ℕ) 
     finds_no_revision none = λ position executed state s.
         gives_revised s _ (takes_nothing Shows card cards machine wanted same_name s (λ deck. revision old deck state.cells.xpbname) reports.Revised none)
 
-    pub finds_a_revision : (given : Result (Problem ℕ) DeckStop) (deck : List Card) (last from_card : ℕ) →
+    pub finds_a_revision : (given : Result (Problem ℕ) (CardStop DeckFault)) (deck : List Card) (last from_card : ℕ) →
         deck_taken wanted (decks_from machine.decks_from cards) ≡ Some (deck, decks_of (drop last (numbered_cards cards))) →
         IfOk given (λ problem. revision old deck machine.cells.xpbname ≡ Ok problem) → IfErr given (Refuses old deck machine.cells.xpbname) →
         last ≤ length cards → from_card ≡ last + 1 → Describes Shows Revise card cards machine (described_as given from_card)

@@ -2,8 +2,9 @@
 use Rattle.std.specs.Prelude.{◌≡◌, ℕ, ◌+◌, ◌-◌, ◌≤◌, List, ◌∷◌, None, Result, Ok, Err, length, drop}
 use Rattle.card_definitions.specs.Cards.{Card, numbered_cards}
 use Rattle.deck_definitions.specs.Decks.{decks_of}
-use Rattle.deck_fields.specs.declared.stop.DeckStop.{DeckStop}
-use Rattle.deck_fields.specs.declared.stop.DeckStop.TheVariants.{Fault, NoMemory}
+use Rattle.deck_definitions.specs.declared.DeckFault.{DeckFault}
+use Rattle.card_reader.specs.declared.stop.CardStop.{CardStop}
+use Rattle.card_reader.specs.declared.stop.CardStop.TheVariants.{Fault, NoMemory}
 use Rattle.problem_definitions.specs.Problem.{Problem}
 use Rattle.control_definitions.specs.Program as program
 use Rattle.listing_definitions.specs.Report as reports
@@ -42,7 +43,7 @@ abbrev pub with_problem : Problem ℕ → List (List Card) → State → State
 with_problem problem decks state = record state { file = problem ∷ state.file; decks = decks; setup = None; mark = None }
 
 -- the problem that a deck gives is to be filed, and a fault of the deck ends the run; else there is no memory
-abbrev pub described_as : Result (Problem ℕ) DeckStop → ℕ → Result Described Halt
+abbrev pub described_as : Result (Problem ℕ) (CardStop DeckFault) → ℕ → Result Described Halt
 described_as (Ok problem) from_card = Ok (Filed problem from_card)
 described_as (Err (Fault fault)) from_card = Ok (Ends (ends.Deck fault))
 described_as (Err NoMemory) from_card = Err halt.NoMemory

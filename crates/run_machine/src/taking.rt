@@ -14,7 +14,7 @@ use crate::end::End;
 use crate::kept::Kept;
 use crate::machine::Machine;
 use card_reader::Cards;
-use deck_fields::DeckStop;
+use deck_fields::{CardStop, DeckFault};
 use job_devices::Sink;
 use problem_file::Problem;
 use report_text::{FiledProblem, Report, text_of};
@@ -72,13 +72,16 @@ pub fn next_card(cards: &Cards, last: u32) -> u32
 }
 
 /// What the problem that a deck gives comes to, or its stop; the next deck begins with the card of this number or later.
-pub fn described_as(given: Result<Problem, DeckStop>, next: u32) -> Result<Described, Halt>
+pub fn described_as(
+    given: Result<Problem, CardStop<DeckFault>>,
+    next: u32,
+) -> Result<Described, Halt>
     ensures { result ≡ described_as given next }
 {
     match given {
         Ok(problem) => Ok(Described::Filed { problem, next }),
-        Err(DeckStop::Fault(fault)) => Ok(Described::Ends(End::Deck(fault))),
-        Err(DeckStop::NoMemory) => Err(Halt::NoMemory),
+        Err(CardStop::Fault(fault)) => Ok(Described::Ends(End::Deck(fault))),
+        Err(CardStop::NoMemory) => Err(Halt::NoMemory),
     }
 }
 

@@ -5,7 +5,7 @@ use Rattle.std.specs.Option.{option_or}
 use Rattle.card_definitions.specs.Cards.{cards_of}
 use Rattle.card_reader.specs.Spans.{IsWithin, cards_at, span_bytes}
 use Rattle.card_reader.proofs.CardLemmas.{cards_done, cards_left, cards_more, length-cards_at}
-use Rattle.card_reader.proofs.FaultLemmas.{fault_of_cards, fault_of_cards-append, faultless, job_fault-cards, job_fault-within, tells_fault}
+use Rattle.card_reader.proofs.FaultLemmas.{fault_of_cards, fault_of_cards-append, faultless, job_fault-cards, job_fault-within}
 use Rattle.card_reader.proofs.cut.cut_cards.Goals as goal
 
 pub returns-then-len-eq-MAX_JOB_CARDS-clause-fault : goal.returns-then-len-eq-MAX_JOB_CARDS-clause-fault
@@ -40,8 +40,7 @@ returns-in-Some-clause-fault c =
     let spans = c.loop-start.spans.items in
     let cards = cards_at bytes spans in
     let all = cards_done bytes c.loop-start.start cards c.loop-start-test.false c.loop-start.invariant.cards in
-    let found = job_fault-within bytes cards c.requires (omega (arith, length-cards_at bytes spans)) all ∙ sym c.loop-start.invariant.fault ∙ c.in-Some.is in
-    tells_fault c.in-Some.fault c.from.result _ c.from.ensures found
+    job_fault-within bytes cards c.requires (omega (arith, length-cards_at bytes spans)) all ∙ sym c.loop-start.invariant.fault ∙ c.in-Some.is
 
 pub returns-in-None-clause-cards : goal.returns-in-None-clause-cards
 returns-in-None-clause-cards c = cards_done c.args.bytes.now c.loop-start.start _ c.loop-start-test.false c.loop-start.invariant.cards
