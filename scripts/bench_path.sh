@@ -6,14 +6,14 @@
 #           path ends where it begins; and the transportation of 60 by 60 with RANGE
 #   dense   how many of fifty problems of 15 rows and 30 columns, with numbers of two decimals, end without an overflow, and the
 #           processor time of all fifty together, once
-#   wide    PRIMAL on a problem of 1,000 rows and 5,000 columns, alone and with SOLUTION; and a parametric run on it, up to 0.1 and up to
-#           0.3, which is 22 and 99 intervals
+#   wide    PRIMAL on a problem of 1,000 rows and 5,000 columns, alone and with SOLUTION, and on one whose path is short and whose numbers
+#           have few digits; and a parametric run on the first, up to 0.1 and up to 0.3, which is 22 and 99 intervals
 #   bases   where one in twenty of the right-hand sides has changed since an optimum, PRIMAL from the opening basis against PRIMAL and
 #           DUAL from the basis of that optimum, which INSERT takes
 # Usage: scripts/bench_path.sh [--instructions] [--part NAME] [PROGRAM], which is the proved mps360 where none is named; with
 # --instructions it counts the instructions of one run of each by valgrind, in place of time and memory (the part dense has none); or
-# scripts/bench_path.sh --dense N, --queens N, --transportation N, --sparse or --wide, which print a deck: the N-th of the fifty, that of
-# N queens, that of N sources and N destinations, the sparse one, and the one of the part wide.
+# scripts/bench_path.sh --dense N, --queens N, --transportation N, --sparse, --wide or --narrow, which print a deck: the N-th of the fifty,
+# that of N queens, that of N sources and N destinations, the sparse one, and the two of the part wide.
 set -eu
 case ${1:-} in -h | --help) sed -n '2,16s/^# //p' "$0"; exit 0 ;; esac
 here=$(cd "$(dirname "$0")" && pwd)
@@ -123,27 +123,30 @@ queens() {
 }
 
 # 998 rows that hold every column down, the objective and the row CHANGE, which changes it; and 5,000 columns with eight entries of 1 to 3
-# in those rows, of which every 25th has a negative cost.
+# in those rows, of which every 25th has a negative cost. The word narrow makes another: 999 rows and no CHANGE, and right-hand sides so
+# far apart that the path is short and its numbers have few digits.
 wide() {
-    awk -v seed=11 '
+    awk -v seed=11 -v narrow="${1:-}" '
         function below(n) { seed = (seed * 16807) % 2147483647; return seed % n }
         BEGIN {
-            print "NAME          WIDE\nROWS\n N  COST\n N  CHANGE"
-            for (row = 1; row <= 998; row++) printf " L  R%d\n", row
+            rows = narrow ? 999 : 998
+            print "NAME          WIDE\nROWS\n N  COST"
+            if (!narrow) print " N  CHANGE"
+            for (row = 1; row <= rows; row++) printf " L  R%d\n", row
             print "COLUMNS"
             for (column = 1; column <= 5000; column++) {
                 name = "X" column
                 printf "    %-8s  %-8s  %d\n", name, "COST", column % 25 ? 1 + below(20) : -1 - below(20)
-                printf "    %-8s  %-8s  %d\n", name, "CHANGE", below(21) - 10
+                if (!narrow) printf "    %-8s  %-8s  %d\n", name, "CHANGE", below(21) - 10
                 for (k in taken) delete taken[k]
                 for (t = 0; t < 8; t++) {
-                    do row = below(998) + 1; while (row in taken)
+                    do row = below(rows) + 1; while (row in taken)
                     taken[row] = 1
                     printf "    %-8s  R%-7d  %d\n", name, row, 1 + below(3)
                 }
             }
             print "RHS"
-            for (row = 1; row <= 998; row++) printf "    RHS       R%-7d  %d\n", row, 50 + below(50)
+            for (row = 1; row <= rows; row++) printf "    RHS       R%-7d  %d\n", row, narrow ? 100 + below(900) : 50 + below(50)
             print "ENDATA"
         }'
 }
@@ -169,6 +172,7 @@ case ${1:-} in
 --transportation) transport "$2"; exit 0 ;;
 --sparse) sparse; exit 0 ;;
 --wide) wide; exit 0 ;;
+--narrow) wide narrow; exit 0 ;;
 esac
 counting=
 parts="paths dense wide bases"
@@ -265,6 +269,7 @@ bench_dense() {
 bench_wide() {
     solved "1,000 rows and 5,000 columns" "" wide
     solved "1,000 rows and 5,000 columns" SOLUTION wide
+    solved "1,000 rows and 5,000 columns, narrow" "" wide narrow
     for most in 0.1 0.3; do
         job "MOVE(XCHROW,'CHANGE')" "MOVE(XPARMAX,$most)" SETUP PARAOBJ -- wide >"$deck"
         echo "1,000 rows and 5,000 columns, PARAOBJ up to $most, $("$program" <"$deck" | wc -l) lines: $(measured)"
