@@ -105,7 +105,8 @@ fn place_rows(column: &[Entry], j: u32, scale: Frac, out: &mut SparseWholes) -> 
     ensures places { length out.new ≡ length out.old }
 {
     for entry in column {
-        let number = whole_number(product_by_scale(entry.value, scale)?)?;
+        let value = product_by_scale(entry.value, scale)?;
+        let number = whole_number(value)?;
         out.put(entry.row, number)?;
     }
     Some(())

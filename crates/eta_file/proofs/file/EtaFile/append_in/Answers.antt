@@ -15,5 +15,7 @@ returns-in_err-column-clause-overflow c =
 
 pub append_carried-requires-clause-pivot : goal.append_carried-requires-clause-pivot
 append_carried-requires-clause-pivot c =
-    pivot_apart c.args.self.now.matrix c.args.self.now.basics c.size-size.ensures.nonsingular c.args.p c.args.q c.requires.leaves c.column.new.out
-    c.in_ok-column.ensures.direction c.requires.pivot
+    let same : c.deref.result.now ≡ c.column.new.out = search rules in
+    rw same
+    (pivot_apart c.args.self.now.matrix c.args.self.now.basics c.size-size.ensures.nonsingular c.args.p c.args.q c.requires.leaves c.column.new.out
+    c.in_ok-column.ensures.direction c.requires.pivot)
