@@ -76,7 +76,7 @@ pub fn rate_by_column(
     if file.is_basic(k) {
         return Ok(Frac::whole(0));
     }
-    file.column(k, &mut workspace.wholes, &mut workspace.direction)?;
+    file.column_to(k, workspace)?;
     Ok(workspace.direction[i as usize - 1])
 }
 

@@ -417,6 +417,20 @@ impl EtaFile {
         self.column_in(j, wholes, out)
     }
 
+    /// The same in workspace.
+    pub fn column_to(&self, j: u32, workspace: &mut ColumnWorkspace) -> Result<(), Stop>
+        requires nonbasic { IsNonbasic self.now.matrix self.now.basics j }
+        requires places { IsWorkspaceFor (size self.now.matrix) workspace.old }
+        ensures direction { OnOk result (IsDirectionOf self.now.matrix self.now.basics j
+            (value_at workspace.new.direction.items)) }
+        ensures overflow { ColumnOverflow result self.now.matrix self.now.basics (ways_of self.now)
+            (ways_of self.now) }
+        ensures never { IfErr result (λ stop. stop ≢ Stop.NoMemory) }
+        ensures places { IsWorkspaceFor (size self.now.matrix) workspace.new }
+    {
+        self.column(j, &mut workspace.wholes, &mut workspace.direction)
+    }
+
     /// Puts the direction of the nonbasic `j` in where there are no numbers.
     fn put_direction(
         &self,
@@ -541,12 +555,7 @@ impl EtaFile {
     }
 
     /// The same; `workspace` takes the direction of `q`.
-    pub fn append_in(
-        &mut self,
-        p: u32,
-        q: u32,
-        workspace: &mut ColumnWorkspace,
-    ) -> Result<(), Stop>
+    pub fn append_in(&mut self, p: u32, q: u32, workspace: &mut ColumnWorkspace) -> Result<(), Stop>
         requires leaves { IsBasic self.old.matrix self.old.basics p }
         requires enters { IsNonbasic self.old.matrix self.old.basics q }
         requires pivot { HasPivot self.old.matrix self.old.basics p q }
@@ -558,7 +567,7 @@ impl EtaFile {
         ensures places { IsWorkspaceFor (size self.old.matrix) workspace.new }
     {
         let _size = self.size();
-        self.column(q, &mut workspace.wholes, &mut workspace.direction)?;
+        self.column_to(q, workspace)?;
         self.append_carried(p, q, &workspace.direction)?;
         Ok(())
     }

@@ -1,4 +1,4 @@
-use Rattle.std.proofs.Common.{rules, ◌≡◌, ◌≤◌, ◌-◌, ◌∙◌, refl, sym, ap, length, set, subst, arith, to_z, of_z}
+use Rattle.std.proofs.Common.{rules, ◌≡◌, ◌-◌, ◌∙◌, refl, sym, ap, set, subst, to_z, of_z}
 use Rattle.std.specs.Int.{w128}
 use Rattle.std.proofs.lemmas.Int.{to_z-of_z}
 use Rattle.exact_values.specs.Rational.{ℚ, whole, zero_ℚ, neg_ℚ, ◌*ℚ◌}
