@@ -1,14 +1,17 @@
-use Rattle.std.proofs.Common.{◌≡◌, ◌∙◌, ◌-◌, arith, length}
+use Rattle.std.proofs.Common.{◌≡◌, ◌∙◌, ◌-◌, sym, arith, length}
 use Rattle.price_row.proofs.WholeRows.{begun_whole, ended_whole}
 use Rattle.price_row.proofs.whole.whole_multipliers.Goals as goal
 
-pub returns : goal.returns
-returns c =
+pub returns-clause-known : goal.returns-clause-known
+returns-clause-known c =
     let all : length c.args.file.now.etas - c.loop-back.back ≡ 0 = omega (arith, c.loop-back-test.false, c.etas-etas.ensures.all) in
     ended_whole c.args.file.now (length c.args.file.now.etas - c.loop-back.back) c.args.row c.loop-back.denominator c.loop-back.out all c.loop-back.invariant.1
 
+pub returns-clause-places : goal.returns-clause-places
+returns-clause-places c = c.loop-back.invariant.0 ∙ sym c.requires.places
+
 pub loop-back-init : goal.loop-back-init
 loop-back-init c = (
-  c.begin.auto.out ∙ c.requires.places,
-  begun_whole c.args.file.now (length c.args.file.now.etas - 0) c.args.row c.whole-denominator.result c.begin.new.out c.size-size.ensures.basics (omega arith) c.whole-denominator.ensures c.begin.ensures,
+  c.begin_whole.ensures.places ∙ c.requires.places,
+  begun_whole c.args.file.now (length c.args.file.now.etas - 0) c.args.row c.whole-denominator.result c.begin_whole.new.out c.size-size.ensures.basics (omega arith) c.whole-denominator.ensures c.in_ok-begin_whole.ensures.unit,
 )
