@@ -1,11 +1,12 @@
 //! Vectors of whole numbers over one denominator, most of which are 0. Where a number doesn't fit, the answer is None.
 
-ghost use Rattle.std.specs.Prelude.{◌≡◌, ◌≢◌, ◌≤◌, ◌-◌, ℕ, All, IfOk, IfSome, length, replicate, set};
+ghost use Rattle.std.specs.Prelude.{◌≡◌, ◌≢◌, ◌≤◌, ◌<◌, ◌-◌, ℕ, All, IfOk, IfSome, length, replicate, set};
 ghost use Rattle.exact_values.specs.Rational.{whole, zero_ℚ};
 ghost use Rattle.frac128.specs.Terms.{Fits};
 ghost use Rattle.lp_definitions.specs.LinearProgram.{value_at};
 ghost use Rattle.whole_vectors.specs.Quotients.{AreProducts, AreQuotients, IsSameOver};
 ghost use Rattle.whole_vectors.specs.Words.{wholes};
+ghost use Rattle.whole_vectors.specs.Ranks.{IsRank, AreWritten};
 
 use frac128::Frac;
 use std::alloc::{AllocError, Global};
@@ -31,6 +32,20 @@ impl Model for SparseWholes {
     ghost view = { fractions_of };
 
     ghost invariant = { IsSparse };
+}
+
+/// Makes the numbers at the listed places 0.
+fn clear_listed(numbers: &mut [i128], listed: &[usize])
+    requires within { All (λ n. n < length numbers.old) listed.now }
+    requires fit { All Fits numbers.old }
+    ensures zero { (rank : ℕ → ℕ) → IsRank rank listed.now → AreWritten rank listed.now (λ _. zero_ℚ)
+        (length listed.now) (wholes numbers.old) (wholes numbers.new) }
+    ensures fit { All Fits numbers.new }
+{
+    for rank in 0..listed.len() {
+        let place = listed[rank];
+        numbers[place] = 0;
+    }
 }
 
 impl SparseWholes {
@@ -70,9 +85,8 @@ impl SparseWholes {
         ensures zero { (k : ℕ) → value_at self.new k ≡ zero_ℚ }
         ensures places { length self.new ≡ length self.old }
     {
-        for rank in 0..self.numbers.len() {
-            self.numbers[rank] = 0;
-        }
+        clear_listed(&mut self.numbers, &self.listed);
+        self.listed.clear();
     }
 
     /// Makes each number its product with a factor.
