@@ -197,7 +197,12 @@ fn carry_to_rows(file: &EtaFile, row: u32, out: &mut [Frac]) -> Result<(), Refus
 }
 
 /// The multiplier of row `k` in the row of the basic `i`, by the direction of k where it isn't basic, which `workspace` takes.
-fn multiplier_of(file: &EtaFile, i: u32, k: u32, workspace: &mut ColumnWorkspace) -> Result<Frac, Stop>
+fn multiplier_of(
+    file: &EtaFile,
+    i: u32,
+    k: u32,
+    workspace: &mut ColumnWorkspace,
+) -> Result<Frac, Stop>
     requires basic { IsBasic file.now.matrix file.now.basics i }
     requires row { IsVariable file.now.matrix k }
     requires workspace { IsWorkspaceFor (size file.now.matrix) workspace.old }
@@ -236,7 +241,12 @@ fn multipliers_by_rows(
 }
 
 /// Fills the first places of `out` with the multipliers of the rows: carried back, or where that is refused by their directions.
-fn multipliers(file: &EtaFile, i: u32, out: &mut [Frac], workspace: &mut ColumnWorkspace) -> Result<(), Stop>
+fn multipliers(
+    file: &EtaFile,
+    i: u32,
+    out: &mut [Frac],
+    workspace: &mut ColumnWorkspace,
+) -> Result<(), Stop>
     requires basic { IsBasic file.now.matrix file.now.basics i }
     requires places { length out.old ≡ size file.now.matrix }
     requires workspace { IsWorkspaceFor (size file.now.matrix) workspace.old }
@@ -297,7 +307,12 @@ fn rate_at(
 }
 
 /// Fills in the rates, the last variable's first, so that the multipliers of the rows stand as long as they are needed.
-fn fill(file: &EtaFile, row: u32, out: &mut [Frac], workspace: &mut ColumnWorkspace) -> Result<(), Stop>
+fn fill(
+    file: &EtaFile,
+    row: u32,
+    out: &mut [Frac],
+    workspace: &mut ColumnWorkspace,
+) -> Result<(), Stop>
     requires basic { IsBasic file.now.matrix file.now.basics row }
     requires places { length out.old ≡ size file.now.matrix }
     requires workspace { IsWorkspaceFor (size file.now.matrix) workspace.old }

@@ -20,7 +20,9 @@ use crate::{Sought, is_wanted_at};
 use eta_file::{EtaEntry, EtaFile};
 use frac128::Frac;
 use lp_model::Entry;
-use whole_vectors::{SparseWholes, product, terms, whole_at, whole_number, whole_quotient, whole_sum};
+use whole_vectors::{
+    SparseWholes, product, terms, whole_at, whole_number, whole_quotient, whole_sum,
+};
 
 /// The sum of the entries, each times the number there, begun with `first`. An entry at a number of 0 adds nothing.
 #[inline(always)]
@@ -125,13 +127,7 @@ fn whole_multipliers(file: &EtaFile, row: u32, out: &mut SparseWholes) -> Option
 
 /// The rate of the row at the variable of a place, from the numbers of the multipliers of the rows.
 #[inline(always)]
-fn rate_whole(
-    file: &EtaFile,
-    place: u32,
-    row: u32,
-    denominator: Frac,
-    out: &[i128],
-) -> Option<Frac>
+fn rate_whole(file: &EtaFile, place: u32, row: u32, denominator: Frac, out: &[i128]) -> Option<Frac>
     requires within { place < size file.now.matrix }
     requires basic { IsBasic file.now.matrix file.now.basics row }
     requires places { length out.now ≡ size file.now.matrix }

@@ -13,4 +13,4 @@ returns-then-is_some-clause-rates c =
 pub returns-then-is_some-2-clause-rates : goal.returns-then-is_some-2-clause-rates
 returns-then-is_some-2-clause-rates c =
     let some : is_some c.row_by_whole.result ≡ true = search rules in
-    where_some c.row_by_whole.result (IsRowOf c.args.file.now.matrix c.args.file.now.basics c.args.i (value_at c.row_by_whole.new.out)) some c.row_by_whole.ensures
+    where_some c.row_by_whole.result (IsRowOf c.args.file.now.matrix c.args.file.now.basics c.args.i (value_at c.row_by_whole.new.out)) some c.row_by_whole.ensures.rates

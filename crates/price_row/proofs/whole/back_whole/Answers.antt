@@ -94,4 +94,4 @@ returns-clause-known c =
     (λ e same. known_reduced c.args.file.now c.args.place c.args.row c.in_ok-denominator.denominator e written c.reduce.new.self same carried) c.reduce.ensures.same
 
 pub reduce-requires : goal.reduce-requires
-reduce-requires c none = apart-mul c.requires.known.apart c.terms-number.ensures.apart (sym c.in_ok-denominator.ensures ∙ none)
+reduce-requires c = record { apart = λ none. apart-mul c.requires.known.apart c.terms-number.ensures.apart (sym c.in_ok-denominator.ensures ∙ none) }
