@@ -10,6 +10,7 @@ ghost use Rattle.eta_file.specs.Inverse.{ways_of, IsColumnStop};
 ghost use Rattle.eta_file.specs.Workspaces.{IsWorkspaceFor};
 ghost use Rattle.price_row.specs.Known.{IsKnown, HasMultipliers, IsFilledFrom, IsRateOf, IsUnit, IsMultiplierAt, IsMultiplierOf};
 
+mod numbers;
 mod sums;
 mod whole;
 mod words;
@@ -17,12 +18,11 @@ mod words;
 use eta_file::{ColumnWorkspace, EtaFile, rate_by_column};
 use frac128::{Frac, Refused};
 use lp_model::{Lp, NoMemory, Stop, Wanted};
+use numbers::{first_by_numbers, row_by_numbers};
 use std::alloc::Global;
 use std::marker::Model;
 use sums::{sum_of_column, sum_over};
-use whole::{first_by_whole, row_by_whole};
 use whole_vectors::{SparseWholes, SparseWords};
-use words::{first_by_words, row_by_words};
 
 /// What is asked of the row of the basic `row`: its first rate, or where `up` is false the opposite of one, that is wanted.
 #[derive(Clone, Copy)]
@@ -84,10 +84,10 @@ impl PriceRow {
         ensures same { self.new ≡ self.old }
     {
         let _size = file.size();
-        if row_by_words(file, i, &mut self.words, out).is_some() {
+        if row_by_numbers(file, i, &mut self.words, out).is_some() {
             return Ok(());
         }
-        if row_by_whole(file, i, &mut self.wholes, out).is_some() {
+        if row_by_numbers(file, i, &mut self.wholes, out).is_some() {
             return Ok(());
         }
         multipliers(file, i, out, &mut self.workspace)?;
@@ -118,11 +118,11 @@ impl PriceRow {
     {
         let _size = file.size();
         let sought = Sought { row: i, wanted, up };
-        let quick = first_by_words(file, &sought, &mut self.words, out);
+        let quick = first_by_numbers(file, &sought, &mut self.words, out);
         if let Some(found) = quick {
             return Ok(found);
         }
-        let quick = first_by_whole(file, &sought, &mut self.wholes, out);
+        let quick = first_by_numbers(file, &sought, &mut self.wholes, out);
         if let Some(found) = quick {
             return Ok(found);
         }
