@@ -1,4 +1,4 @@
-use Rattle.std.proofs.Common.{arith}
+use Rattle.std.proofs.Common.{arith, ◌∙◌}
 use Rattle.reinversion.proofs.Rebuilding.{rebuilt_start, no_columns, next_column, rebuilt_all}
 use Rattle.reinversion.proofs.rebuild.rebuild.Goals as goal
 
@@ -12,6 +12,7 @@ pub loop-c-preserved : goal.loop-c-preserved
 loop-c-preserved c = record {
   rebuilt = next_column c.args.old.now.matrix c.args.old.now.basics c.loop-c.c c.enter.new.new c.in_ok-enter.ensures.entered (c.in_ok-enter.ensures.keeps c.loop-c.c c.loop-c.invariant.rebuilt);
   places = c.in_ok-enter.ensures.places;
+  wholes = c.enter.ensures.wholes ∙ c.loop-c.invariant.wholes;
 }
 
 pub returns-clause-remade : goal.returns-clause-remade
