@@ -101,3 +101,9 @@ word_is x n m word is_x fits is_n = ap (λ z. to_z w64 (of_z w64 z)) is_x ∙ to
 -- a product by the parts of a fraction, with a multiple of its denominator
 pub by_multiple : (x s n d t : ℚ) → n ≡ x *ℚ d → s ≡ t *ℚ d → n *ℚ t ≡ x *ℚ s
 by_multiple x s n d t is_n is_s = ap (λ q. q *ℚ t) is_n ∙ by_ring3 x d t (λ x d t. (x ⊗ d) ⊗ t ≐ x ⊗ (t ⊗ d)) refl ∙ ap (λ q. x *ℚ q) (sym is_s)
+
+-- a sum with one product more, where both fit
+pub summed : (o : Option ℤ) (P : Type 0) (a b s x y : ℤ) (q : ℚ) → a ≡ s → b ≡ x *ℤ y → whole y ≡ q → SomeIff o P (a +ℤ b) → IfSome o (λ next. whole next ≡ whole s +ℚ whole x *ℚ q)
+summed None P a b s x y q is_a is_b is_q h = tt
+summed (Some next) P a b s x y q is_a is_b is_q h =
+    ap whole (h.1 ∙ ap₂ (λ m n. m +ℤ n) is_a is_b) ∙ whole_total s x y ∙ ap (λ t. whole s +ℚ whole x *ℚ t) is_q
