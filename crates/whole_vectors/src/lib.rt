@@ -8,6 +8,7 @@ ghost use Rattle.exact_values.specs.Rational.{zero_ℚ, ◌-ℚ◌, ◌*ℚ◌, 
 ghost use Rattle.frac128.specs.Terms.{Fits};
 ghost use Rattle.whole_vectors.specs.Quotients.{AreProducts, AreQuotients, IsSameOver};
 
+mod places;
 mod sparse_wholes;
 mod sparse_words;
 mod whole_numbers;

@@ -1,6 +1,6 @@
 //! Numbers over one denominator that are whole numbers. Where a number isn't, or is too large, the answer is None.
 
-ghost use Rattle.std.specs.Prelude.{◌≡◌, ◌≢◌, ◌≤◌, ◌+ℤ◌, ◌*ℤ◌, All, length, IfSome};
+ghost use Rattle.std.specs.Prelude.{◌≡◌, ◌≢◌, ◌≤◌, ◌+ℤ◌, ◌*ℤ◌, ◌≤ℤ◌, pos, All, length, IfSome};
 ghost use Rattle.std.specs.Option.{SomeIff};
 ghost use Rattle.exact_values.specs.Rational.{whole, zero_ℚ, ◌+ℚ◌, ◌*ℚ◌, ◌/ℚ◌};
 ghost use Rattle.frac128.specs.Terms.{Fits};
@@ -65,6 +65,25 @@ pub fn whole_product(a: i128, b: i128) -> Option<i128>
         None
     } else {
         Some(product)
+    }
+}
+
+/// How often a number has a factor, where it is a multiple of it.
+#[inline(always)]
+pub fn whole_multiple(n: i128, factor: i128) -> Option<i128>
+    requires at_least_one { pos 1 ≤ℤ factor }
+    requires fits { Fits n }
+    ensures value { IfSome result (λ times. n ≡ times *ℤ factor) }
+    ensures fits { IfSome result Fits }
+{
+    let times = match (i64::try_from(n), i64::try_from(factor)) {
+        (Ok(n), Ok(factor)) => (n / factor) as i128,
+        _ => n / factor,
+    };
+    if whole_product(times, factor)? == n {
+        Some(times)
+    } else {
+        None
     }
 }
 
