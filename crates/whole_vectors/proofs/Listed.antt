@@ -1,11 +1,13 @@
 -- Numbers that are changed at listed places, where all others are 0.
-use Rattle.std.proofs.Common.{◌≡◌, ◌≢◌, ℕ, ◌+◌, ◌<◌, List, [], length, get_or, set, map, refl, sym, ◌∙◌, ap, subst, arith, ℤ, pos}
-use Rattle.std.specs.Prelude.{◌*ℤ◌, ◌≤ℤ◌, replicate}
+use Rattle.std.proofs.Common.{◌≡◌, ◌≢◌, ℕ, ◌+◌, ◌-◌, ◌<◌, List, [], length, get_or, set, map, refl, sym, ◌∙◌, ap, subst, arith, ℤ, pos}
+use Rattle.std.specs.Prelude.{◌*ℤ◌, ◌≤ℤ◌, All, replicate}
 use Rattle.std.proofs.lemmas.Int.{ints}
 use Rattle.std.proofs.lemmas.List.{get_or_default, length-map, length-set, length-replicate, map-set}
-use Rattle.exact_values.specs.Rational.{ℚ, whole, zero_ℚ, ◌*ℚ◌, ◌/ℚ◌}
+use Rattle.exact_values.specs.Rational.{ℚ, whole, zero_ℚ, inverse_ℚ, ◌*ℚ◌, ◌/ℚ◌}
 use Rattle.exact_values.proofs.Inverse.{div_is, whole_numerator, numerator_of_zero}
-use Rattle.exact_values.proofs.Ring_laws.{whole-mul}
+use Rattle.exact_values.proofs.Ring_laws.{whole-mul, zero-mul}
+use Rattle.lp_definitions.specs.LinearProgram.{value_at}
+use Rattle.whole_vectors.specs.Quotients.{AreProducts, AreQuotients}
 use Rattle.whole_vectors.specs.Words.{wholes}
 use Rattle.whole_vectors.specs.Ranks.{IsListedAt, AreRanked, AreWritten, AreKept, AreChangedTo, AreChanged, AreListed}
 use Rattle.whole_vectors.proofs.Ranked.{none_written, written_next, as_at_first, read_whole, wholes_replicate, zeros_are, all_written, put_covered, unranked, unlisted_kept}
@@ -38,7 +40,27 @@ pub all_changed : (g : ℚ → ℚ) (ns : List ℤ) (ks ranks : List ℕ) (ys : 
 all_changed g ns ks ranks ys none h changed =
     all_written ks ranks (λ n. g (get_or (wholes ns) n zero_ℚ)) (wholes ns) ys h.ranked changed (λ n out. let nought = h.covered n out in nought ∙ sym (ap g nought ∙ none))
 
+pub changed_products : (by y : ℚ) (ns : List ℤ) (ks ranks : List ℕ) (ys : List ℚ) → y ≡ by → AreListed ns ks ranks → AreChanged (λ x. x *ℚ y) ks (wholes ns) ys → AreProducts by (wholes ns) ys
+changed_products by y ns ks ranks ys is h changed = record {
+  each = λ k. all_changed (λ x. x *ℚ y) ns ks ranks ys (zero-mul y) h changed (k - 1) ∙ ap (λ q. value_at (wholes ns) k *ℚ q) is;
+}
+
+pub changed_quotients : (by y : ℚ) (ns : List ℤ) (ks ranks : List ℕ) (ys : List ℚ) → y ≡ by → AreListed ns ks ranks → AreChanged (λ x. x /ℚ y) ks (wholes ns) ys → AreQuotients by (wholes ns) ys
+changed_quotients by y ns ks ranks ys is h changed = record {
+  each = λ k. all_changed (λ x. x /ℚ y) ns ks ranks ys (zero-mul (inverse_ℚ y)) h changed (k - 1) ∙ ap (λ q. value_at (wholes ns) k /ℚ q) is;
+}
+
 -- ---- what is listed then
+
+pub listed_within : (ns ms : List ℤ) (ks js ranks : List ℕ) → ms ≡ ns → js ≡ ks → AreListed ns ks ranks → All (λ n. n < length ms) js
+listed_within ns ms ks js ranks is_ms is_js h = subst (λ xs. All (λ n. n < length xs) js) (sym is_ms) (subst (λ is. All (λ n. n < length ns) is) (sym is_js) inside)
+  where
+    inside : All (λ n. n < length ns) ks
+    inside k d below =
+        let same = get_or_default ks k d 0 below in
+        let within = h.ranked.within k below in
+        let counted = h.counted in
+        omega (arith, same, within, counted)
 
 pub still_listed : (ns new : List ℤ) (ks ranks : List ℕ) → length new ≡ length ns → AreKept ks (wholes ns) (wholes new) → AreListed ns ks ranks → AreListed new ks ranks
 still_listed ns new ks ranks same kept h = record {
