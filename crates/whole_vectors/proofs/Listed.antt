@@ -1,5 +1,5 @@
 -- Numbers that are changed at listed places, where all others are 0.
-use Rattle.std.proofs.Common.{◌≡◌, ◌≢◌, ℕ, ◌+◌, ◌-◌, ◌<◌, List, [], length, get_or, set, map, refl, sym, ◌∙◌, ap, subst, arith, ℤ, pos}
+use Rattle.std.proofs.Common.{◌≡◌, ◌≢◌, ℕ, ◌+◌, ◌-◌, ◌<◌, List, [], length, get_or, set, refl, sym, ◌∙◌, ap, subst, arith, ℤ, pos}
 use Rattle.std.specs.Prelude.{◌*ℤ◌, ◌≤ℤ◌, All, replicate}
 use Rattle.std.proofs.lemmas.Int.{ints}
 use Rattle.std.proofs.lemmas.List.{get_or_default, length-map, length-set, length-replicate, map-set}

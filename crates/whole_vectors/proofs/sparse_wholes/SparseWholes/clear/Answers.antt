@@ -1,4 +1,4 @@
-use Rattle.std.proofs.Common.{rules, ◌-◌, ◌∙◌, ap, sym, subst, length, get_or, refl}
+use Rattle.std.proofs.Common.{rules, ◌-◌, ◌∙◌, ap, sym, subst, get_or, refl}
 use Rattle.std.specs.Prelude.{All}
 use Rattle.std.proofs.lemmas.List.{with_items_is}
 use Rattle.exact_values.specs.Rational.{zero_ℚ}

@@ -1,4 +1,4 @@
-use Rattle.std.proofs.Common.{rules, ◌-◌, ◌∙◌, ap, length, get_or, refl}
+use Rattle.std.proofs.Common.{rules, ◌-◌, ◌∙◌, ap, get_or, refl}
 use Rattle.std.proofs.lemmas.List.{with_items_is}
 use Rattle.exact_values.specs.Rational.{zero_ℚ}
 use Rattle.whole_vectors.specs.Words.{wholes}
