@@ -1,4 +1,3 @@
-pub mod Made
 pub mod Over
 pub mod Words
 pub mod Ranked

@@ -8,13 +8,15 @@ ghost use Rattle.whole_vectors.specs.Quotients.{AreProducts, AreQuotients, IsSam
 ghost use Rattle.whole_vectors.specs.Words.{wholes};
 ghost use Rattle.whole_vectors.specs.Ranks.{IsRank, AreWritten, AreChanged, AreKept};
 
-use crate::LARGE;
 use crate::places::enlist;
 use crate::whole_numbers::{whole_multiple, whole_number, whole_product, whole_quotient};
 use divisors::gcd;
 use frac128::Frac;
 use std::alloc::{AllocError, Global};
 use std::marker::Model;
+
+/// A denominator of this size or more is reduced.
+const LARGE: u128 = 1 << 50;
 
 /// A whole number for each variable, and a list of places that none is missing from whose number isn't 0: what goes over the numbers goes
 /// over that list. Each place of the list has its rank there.

@@ -22,15 +22,6 @@ pub fn whole_number(x: Frac) -> Option<i128>
     Some(x.num())
 }
 
-/// A whole number as a fraction.
-#[inline(always)]
-pub fn whole_fraction(n: i128) -> Frac
-    requires fits { Fits n }
-    ensures { result ≡ whole n }
-{
-    Frac::whole(n)
-}
-
 /// The number at the variable `k`.
 #[inline(always)]
 pub fn whole_at(numbers: &[i128], k: u32) -> i128
