@@ -91,21 +91,34 @@ module _ (es : List EtaEntry) (n : ℕ) (e : EtaEntry) (below : n < length es) (
       at (inr other) =
           written_other out e.i k v within.0 low other.1 ∙ so_far ∙ ap (λ s. u *ℚ s) (sym (sum_next_other es n e below is k other.1))
 
-module _ (c : List Entry) (n : ℕ) (e : Entry) (below : n < length c) (is : e ≡ get_or c n e) (out : List ℚ) (low : 1 ≤ e.row) (high : e.row ≤ length out) where
-  pub filled_row : (k : ℕ) → 1 ≤ k → IsDistinct nat_eq (map (λ (x : Entry). x.row) c) → value_at out k ≡ on_row (take n c) k → value_at (set out (e.row - 1) e.value) k ≡ on_row (take (n + 1) c) k
-  filled_row k some distinct so_far = at (eqb_tells e.row k)
-    where
-      next : take (n + 1) c ≡ take (suc n) c
-      next = ap (λ i. take i c) (add-one n)
+module _ (c : List Entry) (n : ℕ) (e : Entry) (below : n < length c) (is : e ≡ get_or c n e) (distinct : IsDistinct nat_eq (map (λ (x : Entry). x.row) c)) where
+  next_column : take (n + 1) c ≡ take (suc n) c
+  next_column = ap (λ i. take i c) (add-one n)
 
-      at : (((eqb e.row k ≡ true) × (e.row ≡ k)) ⊎ ((eqb e.row k ≡ false) × (e.row ≢ k))) → value_at (set out (e.row - 1) e.value) k ≡ on_row (take (n + 1) c) k
-      at (inl same) =
-          written_same out e.row k e.value low high same.1
-          ∙ ap (λ (x : Entry). x.value) is ∙ sym (on_row-take_same c n e distinct below) ∙ ap (λ (x : Entry). on_row (take (suc n) c) x.row) (sym is)
-          ∙ ap (on_row (take (suc n) c)) same.1 ∙ ap (λ xs. on_row xs k) (sym next)
-      at (inr other) =
-          written_other out e.row k e.value low some other.1 ∙ so_far
-          ∙ sym (ap (λ xs. on_row xs k) next ∙ on_row-take_other c n e k below (λ h. other.1 (ap (λ (x : Entry). x.row) is ∙ h)))
+  pub on_row_next_same : (k : ℕ) → e.row ≡ k → e.value ≡ on_row (take (n + 1) c) k
+  on_row_next_same k same =
+      ap (λ (x : Entry). x.value) is ∙ sym (on_row-take_same c n e distinct below) ∙ ap (λ (x : Entry). on_row (take (suc n) c) x.row) (sym is)
+      ∙ ap (on_row (take (suc n) c)) same ∙ ap (λ xs. on_row xs k) (sym next_column)
+
+  pub on_row_next_other : (k : ℕ) → e.row ≢ k → on_row (take (n + 1) c) k ≡ on_row (take n c) k
+  on_row_next_other k other = ap (λ xs. on_row xs k) next_column ∙ on_row-take_other c n e k below (λ h. other (ap (λ (x : Entry). x.row) is ∙ h))
+
+  module _ (out : List ℚ) (low : 1 ≤ e.row) (high : e.row ≤ length out) where
+    pub filled_row : (k : ℕ) → 1 ≤ k → value_at out k ≡ on_row (take n c) k → value_at (set out (e.row - 1) e.value) k ≡ on_row (take (n + 1) c) k
+    filled_row k some so_far = at (eqb_tells e.row k)
+      where
+        at : (((eqb e.row k ≡ true) × (e.row ≡ k)) ⊎ ((eqb e.row k ≡ false) × (e.row ≢ k))) → value_at (set out (e.row - 1) e.value) k ≡ on_row (take (n + 1) c) k
+        at (inl same) = written_same out e.row k e.value low high same.1 ∙ on_row_next_same k same.1
+        at (inr other) = written_other out e.row k e.value low some other.1 ∙ so_far ∙ sym (on_row_next_other k other.1)
+
+    -- and times a number
+    pub filled_scaled : (s v : ℚ) (k : ℕ) → 1 ≤ k → v ≡ e.value *ℚ s → value_at out k ≡ on_row (take n c) k *ℚ s
+        → value_at (set out (e.row - 1) v) k ≡ on_row (take (n + 1) c) k *ℚ s
+    filled_scaled s v k some is_v so_far = at (eqb_tells e.row k)
+      where
+        at : (((eqb e.row k ≡ true) × (e.row ≡ k)) ⊎ ((eqb e.row k ≡ false) × (e.row ≢ k))) → value_at (set out (e.row - 1) v) k ≡ on_row (take (n + 1) c) k *ℚ s
+        at (inl same) = written_same out e.row k v low high same.1 ∙ is_v ∙ ap (λ x. x *ℚ s) (on_row_next_same k same.1)
+        at (inr other) = written_other out e.row k v low some other.1 ∙ so_far ∙ ap (λ x. x *ℚ s) (sym (on_row_next_other k other.1))
 
 pub minus_nothing : (x u : ℚ) → x -ℚ u *ℚ zero_ℚ ≡ x
 minus_nothing x u = ap (λ s. x -ℚ s) (mul-zero u) ∙ sub-zero x

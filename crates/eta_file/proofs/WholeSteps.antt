@@ -1,21 +1,21 @@
 -- Columns in numbers over one denominator: what an eta makes of them.
-use Rattle.std.proofs.Common.{pos, negsuc, ◌≡◌, ◌≢◌, ℕ, ◌-◌, ◌<◌, ◌≤◌, List, [], ◌∷◌, length, map, take, get_or, set, Bool, true, false, cond, refl, sym, ◌∙◌, ap, ap₂, subst, arith, All}
+use Rattle.std.proofs.Common.{pos, negsuc, ◌≡◌, ◌≢◌, ℕ, ◌+◌, ◌-◌, ◌<◌, ◌≤◌, List, [], ◌∷◌, length, map, take, get_or, set, Bool, true, false, cond, refl, sym, ◌∙◌, ap, ap₂, subst, arith, All}
 use Rattle.std.specs.Prelude.{nat_eq}
-use Rattle.std.proofs.lemmas.List.{get_or-map, length-map, length-set, take-map}
+use Rattle.std.proofs.lemmas.List.{get_or-map, get_or_default, length-map, length-set, take-map}
 use Rattle.exact_values.specs.Rational.{ℚ, whole, zero_ℚ, one_ℚ, neg_ℚ, ◌+ℚ◌, ◌-ℚ◌, ◌*ℚ◌, ◌/ℚ◌, inverse_ℚ}
-use Rattle.exact_values.proofs.Ring.{number, by_ring1, by_ring2, by_ring3, by_ring4, ◌⊖◌, ◌⊗◌, ◌≐◌, opposite}
+use Rattle.exact_values.proofs.Ring.{number, by_ring1, by_ring2, by_ring3, by_ring4, ◌⊕◌, ◌⊖◌, ◌⊗◌, ◌≐◌, opposite}
 use Rattle.exact_values.proofs.Ring_laws.{zero-mul, one-mul, mul-one, add-mul}
 use Rattle.exact_values.proofs.Inverse.{one_apart, div_is, div-mul_cancel, apart-mul, mul-inverse}
-use Rattle.lp_definitions.specs.LinearProgram.{value_at}
+use Rattle.lp_definitions.specs.LinearProgram.{value_at, on_row}
 use Rattle.lp_definitions.specs.declared.Entry.{Entry}
 use Rattle.whole_vectors.specs.Quotients.{quotients, AreProducts, IsSameOver, Represent}
-use Rattle.whole_vectors.proofs.Over.{value_at-quotients, length-quotients, same_factor, made_over}
+use Rattle.whole_vectors.proofs.Over.{value_at-quotients, length-quotients, same_factor}
 use Rattle.eta_file.specs.declared.eta.EtaEntry.{EtaEntry}
 use Rattle.eta_file.specs.declared.eta.StoredEta.{StoredEta}
 use Rattle.eta_file.specs.declared.eta.WholeEta.{WholeEta}
 use Rattle.eta_file.specs.Entries.{sum_rate, rate_where, IsEntryWithin, AreApart, scaled, IsWholeOf}
 use Rattle.eta_file.specs.Transformations.{IsTransformed, untouched, changed, IsSubtracted, IsExchanged, IsScaled, IsLeaving, IsColumnFilled}
-use Rattle.eta_file.proofs.CarrySteps.{written_same, written_other}
+use Rattle.eta_file.proofs.CarrySteps.{subtracted_more, written_same, written_other}
 
 -- ---- entries times a number
 
@@ -115,12 +115,15 @@ module _ (eta : StoredEta) (w : WholeEta) (h : IsWholeOf eta.pivot eta.entries.i
 
 -- ---- where it begins
 
-pub begun : (c : List Entry) (j : ℕ) (d : ℚ) (filled new : List ℚ) → d ≢ zero_ℚ → IsColumnFilled c j filled → AreProducts d filled new → Represent (IsColumnFilled c j) d new
-begun c j d filled new apart h products = record {
+pub begun : (c : List Entry) (j : ℕ) (d v : ℚ) (low new : List ℚ) → d ≢ zero_ℚ → 1 ≤ j → j ≤ length low → v ≡ d → ((k : ℕ) → 1 ≤ k → value_at low k ≡ on_row c k *ℚ d)
+    → new ≡ set low (j - 1) v → Represent (IsColumnFilled c j) d new
+begun c j d v low new apart some within is_v rows is_new = record {
   apart = apart;
   holds = record {
-    own = made_over d filled new apart products j ∙ h.own;
-    rows = λ k low other. made_over d filled new apart products k ∙ h.rows k low other;
+    own = value_at-quotients d new j ∙ ap (λ x. x /ℚ d) (ap (λ xs. value_at xs j) is_new ∙ written_same low j j v some within refl ∙ is_v) ∙ mul-inverse d apart;
+    rows = λ k low_k other.
+        value_at-quotients d new k
+        ∙ div_is (value_at new k) d (on_row c k) apart (ap (λ xs. value_at xs k) is_new ∙ written_other low j k v some low_k (λ e. other (sym e)) ∙ rows k low_k);
   };
 }
 
@@ -160,6 +163,14 @@ module _ (eta : StoredEta) (w : WholeEta) (h : IsWholeOf eta.pivot eta.entries.i
   }
 
 -- ---- the numbers of an exchange
+
+pub subtracted_whole : (es : List EtaEntry) (n : ℕ) (e : EtaEntry) → n < length es → e ≡ get_or es n e → (out : List ℚ) → IsEntryWithin (length out) e
+    → (old : List ℚ) (u x m v : ℚ) (k : ℕ) → 1 ≤ k → x ≡ value_at out e.i → m ≡ neg_ℚ u → v ≡ x +ℚ m *ℚ e.rate
+    → value_at out k ≡ value_at old k -ℚ u *ℚ sum_rate (take n es) k → value_at (set out (e.i - 1) v) k ≡ value_at old k -ℚ u *ℚ sum_rate (take (n + 1) es) k
+subtracted_whole es n e below is out within old u x m v k low is_x is_m is_v so_far =
+    let inside : e.i - 1 < length out = omega (arith, within.0, within.1) in
+    subtracted_more es n e below is out within old u (value_at out e.i) v k low (get_or_default out (e.i - 1) zero_ℚ (value_at out e.i) inside)
+    (is_v ∙ ap₂ (λ x m. x +ℚ m *ℚ e.rate) is_x is_m ∙ by_ring3 (value_at out e.i) u e.rate (λ x u r. x ⊕ opposite u ⊗ r ≐ x ⊖ u ⊗ r) refl) so_far
 
 pub exchanged_by : (p q : ℕ) (c : ℚ) (w : WholeEta) (old mid : List ℚ) (u v : ℚ) → 1 ≤ p → p ≤ length old → 1 ≤ q → q ≤ length old → length mid ≡ length old
     → IsSubtracted p c w.entries.items old mid → u ≡ zero_ℚ → v ≡ neg_ℚ (c *ℚ w.scale) → IsExchanged p q c w old (set (set mid (p - 1) u) (q - 1) v)

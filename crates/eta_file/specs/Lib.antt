@@ -6,3 +6,4 @@ pub mod Inverse
 pub mod File
 pub mod Columns
 pub mod Listed
+pub mod Workspaces

@@ -6,8 +6,10 @@ ghost use Rattle.lp_definitions.specs.Basis.{IsBasic, IsNonbasic, IsDirectionOf,
 ghost use Rattle.lp_definitions.specs.Waypoints.{KeepsWaypoints, waypoint};
 ghost use Rattle.lp_model.specs.RatesCalls.{IsRowOf, HasPivot, ColumnOverflow, RowOverflow, ExchangeOverflow};
 ghost use Rattle.eta_file.specs.Inverse.{ways_of, IsAppended, IsRateAt, IsColumnStop};
+ghost use Rattle.eta_file.specs.Workspaces.{IsWorkspaceFor};
 
 use crate::file::EtaFile;
+use crate::workspace::ColumnWorkspace;
 use frac128::Frac;
 use lp_model::{Engine, Lp, NoMemory, Rates, Stop};
 use std::alloc::Global;
@@ -17,7 +19,7 @@ use std::marker::Model;
 #[derive(Drop)]
 pub struct ByColumns {
     file: EtaFile,
-    workspace: Vec<Frac>,
+    workspace: ColumnWorkspace,
 }
 
 impl Model for ByColumns {
@@ -43,7 +45,7 @@ impl ByColumns {
         let size = lp.number_of_variables();
         Ok(ByColumns {
             file: EtaFile::new(alloc, lp)?,
-            workspace: vec![in alloc; Frac::whole(0); size as usize]?,
+            workspace: ColumnWorkspace::zeros(alloc, size as usize)?,
         })
     }
 
@@ -56,20 +58,26 @@ impl ByColumns {
 }
 
 /// The rate of `i` at `k`, and 0 where `k` is basic, by the direction of `k`, which `workspace` takes. It takes no memory.
-pub fn rate_by_column(file: &EtaFile, i: u32, k: u32, workspace: &mut [Frac]) -> Result<Frac, Stop>
+pub fn rate_by_column(
+    file: &EtaFile,
+    i: u32,
+    k: u32,
+    workspace: &mut ColumnWorkspace,
+) -> Result<Frac, Stop>
     requires low { IsVariable file.now.matrix i }
     requires high { IsVariable file.now.matrix k }
-    requires places { length workspace.old ≡ size file.now.matrix }
+    requires places { IsWorkspaceFor (size file.now.matrix) workspace.old }
     ensures value { IfOk result (IsRateAt file.now i k) }
     ensures overflow { IfErr result (IsColumnStop file.now) }
     ensures never { IfErr result (λ stop. stop ≢ Stop.NoMemory) }
+    ensures places { IsWorkspaceFor (size file.now.matrix) workspace.new }
 {
     let _size = file.size();
     if file.is_basic(k) {
         return Ok(Frac::whole(0));
     }
-    file.column(k, workspace)?;
-    Ok(workspace[i as usize - 1])
+    file.column_to(k, workspace)?;
+    Ok(workspace.direction[i as usize - 1])
 }
 
 /// Fills `out` with the rates of the basic `i`, by the column of each nonbasic, which `workspace` takes. It takes no memory.
@@ -77,15 +85,16 @@ fn row_by_columns(
     file: &EtaFile,
     i: u32,
     out: &mut [Frac],
-    workspace: &mut [Frac],
+    workspace: &mut ColumnWorkspace,
 ) -> Result<(), Stop>
     requires basic { IsBasic file.now.matrix file.now.basics i }
     requires places { length out.old ≡ size file.now.matrix }
-    requires workspace { length workspace.old ≡ size file.now.matrix }
+    requires workspace { IsWorkspaceFor (size file.now.matrix) workspace.old }
     ensures rates { OnOk result (IsRowOf file.now.matrix file.now.basics i (value_at out.new)) }
     ensures overflow { RowOverflow result file.now.matrix file.now.basics (ways_of file.now)
         (ways_of file.now) }
     ensures never { IfErr result (λ stop. stop ≢ Stop.NoMemory) }
+    ensures workspace { IsWorkspaceFor (size file.now.matrix) workspace.new }
 {
     for k in 0..file.size() {
         out[k as usize] = rate_by_column(file, i, k + 1, workspace)?;
@@ -113,7 +122,8 @@ impl Rates for ByColumns {
         ensures waypoints { KeepsWaypoints self.old.matrix self.old.basics (ways_of self.old)
             self.new.basics (ways_of self.new) }
     {
-        self.file.column(j, out)
+        let _size = self.file.size();
+        self.file.column(j, &mut self.workspace.wholes, out)
     }
 
     /// Takes no memory.

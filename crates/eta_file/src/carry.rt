@@ -268,7 +268,7 @@ pub fn leave<L: Ledger>(
 }
 
 /// The direction that the column `j`, whose numbers these are, has where the rows are basic. `out` is all 0.
-pub fn place_column(column: &[Entry], j: u32, out: &mut [Frac])
+fn place_column(column: &[Entry], j: u32, out: &mut [Frac])
     requires rows { All (IsRowWithin j) column.now }
     requires low { 1 ≤ j }
     requires high { j ≤ length out.old }

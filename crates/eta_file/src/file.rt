@@ -12,6 +12,7 @@ ghost use Rattle.eta_file.specs.Transformations.{AreZero, NoneLater, LeftAt};
 ghost use Rattle.eta_file.specs.Prefixes.{Passed, entry_of, entries_to, IsLent, IsLentScaled, IsExchangeOf, basic_columns, after, entry_count};
 ghost use Rattle.eta_file.specs.declared.eta.StoredEta.{StoredEta};
 ghost use Rattle.eta_file.specs.Inverse.{ways_of, IsAppended, IsNextEta, IsDirectionAfter};
+ghost use Rattle.eta_file.specs.Workspaces.{IsWorkspaceFor};
 ghost use Rattle.whole_vectors.specs.Quotients.{Represent};
 
 use crate::basic_set::{BasicSet, place_of};
@@ -19,13 +20,14 @@ use crate::carry::{clear, fill_column, last_left, leave, transform};
 use crate::eta::{Eta, EtaEntry, ScaledEta, StoredEta};
 use crate::steps::Steps;
 use crate::whole::{begin_whole, leave_whole, transform_whole, whole_eta};
+use crate::workspace::ColumnWorkspace;
 use frac128::Frac;
 use lp_model::{Entry, Evidence, Lp, NoMemory, SparseVector, Stop};
 use std::alloc::Global;
 use std::marker::{Brand, Model};
 use std::rc::Rc;
 use std::sync::ledger::{Blank, Ledger};
-use whole_vectors::divide;
+use whole_vectors::SparseWholes;
 
 /// The most etas that a file holds.
 const MOST_ETAS: usize = 4_294_967_294;
@@ -318,14 +320,16 @@ impl EtaFile {
     }
 
     /// The same as `begin`, over the denominator that is given, where `out` is all 0. It gives up where a number doesn't fit.
-    fn begin_at(&self, first: usize, j: u32, out: &mut [Frac]) -> Option<Frac>
+    fn begin_at(&self, first: usize, j: u32, out: &mut SparseWholes) -> Option<Frac>
         requires nonbasic { IsNonbasic self.now.matrix self.now.basics j }
         requires places { length out.old ≡ size self.now.matrix }
         requires within { first ≤ length self.now.etas }
         requires none_later { NoneLater self.now.etas j first }
         requires left { LeftAt self.now.etas j first }
         requires zero { AreZero out.old }
-        ensures { IfSome result (λ d. Represent (IsDirectionAfter self.now first j) d out.new) }
+        ensures direction { IfSome result (λ d. Represent (IsDirectionAfter self.now first j)
+            d out.new) }
+        ensures places { length out.new ≡ length out.old }
     {
         if first == 0 {
             begin_whole(self.numbers(j - self.rows), j, out)
@@ -341,7 +345,7 @@ impl EtaFile {
         place: usize,
         j: u32,
         denominator: Frac,
-        out: &mut [Frac],
+        out: &mut SparseWholes,
     ) -> Option<Frac>
         requires within { place < length self.now.etas }
         requires before { IsNonbasic self.now.matrix (after (row_basics self.now.matrix)
@@ -350,33 +354,38 @@ impl EtaFile {
             (take (place + 1) self.now.etas)) j }
         requires places { length out.old ≡ size self.now.matrix }
         requires direction { Represent (IsDirectionAfter self.now place j) denominator out.old }
-        ensures { IfSome result (λ d. Represent (IsDirectionAfter self.now (place + 1) j)
+        ensures direction { IfSome result (λ d. Represent (IsDirectionAfter self.now (place + 1) j)
             d out.new) }
+        ensures places { length out.new ≡ length out.old }
     {
         let eta = &self.etas[place];
         transform_whole(eta, denominator, out)
     }
 
-    /// Fills `out`, which is all 0, with the direction of the nonbasic `j`, carried in numbers over one denominator. It gives up where
-    /// one doesn't fit.
-    fn carried_whole(&self, j: u32, out: &mut [Frac]) -> Option<()>
+    /// Fills `out`, which is all 0, with the direction of the nonbasic `j`, carried in whole numbers over one denominator. It gives up
+    /// where one doesn't fit.
+    fn carried_whole(&self, j: u32, wholes: &mut SparseWholes, out: &mut [Frac]) -> Option<()>
         requires nonbasic { IsNonbasic self.now.matrix self.now.basics j }
+        requires wholes { length wholes.old ≡ size self.now.matrix }
         requires places { length out.old ≡ size self.now.matrix }
         requires zero { AreZero out.old }
-        ensures { IfSome result (λ _. IsDirectionOf self.now.matrix self.now.basics j
+        ensures direction { IfSome result (λ _. IsDirectionOf self.now.matrix self.now.basics j
             (value_at out.new)) }
+        ensures wholes { length wholes.new ≡ length wholes.old }
     {
+        wholes.clear();
         let first = last_left(&self.etas, j);
-        let mut denominator = self.begin_at(first, j, out)?;
+        let mut denominator = self.begin_at(first, j, wholes)?;
         for place in first..self.etas.len() {
-            denominator = self.transform_whole_at(place, j, denominator, out)?;
+            denominator = self.transform_whole_at(place, j, denominator, wholes)?;
         }
-        divide(out, denominator)
+        wholes.divide_into(denominator, out)
     }
 
     /// Fills `out`, which is all 0, with the direction of the nonbasic `j`, and counts nothing.
-    fn column_in(&self, j: u32, out: &mut [Frac]) -> Result<(), Stop>
+    fn column_in(&self, j: u32, wholes: &mut SparseWholes, out: &mut [Frac]) -> Result<(), Stop>
         requires nonbasic { IsNonbasic self.now.matrix self.now.basics j }
+        requires wholes { length wholes.old ≡ size self.now.matrix }
         requires places { length out.old ≡ size self.now.matrix }
         requires zero { AreZero out.old }
         ensures direction { OnOk result (IsDirectionOf self.now.matrix self.now.basics j
@@ -384,25 +393,42 @@ impl EtaFile {
         ensures overflow { ColumnOverflow result self.now.matrix self.now.basics (ways_of self.now)
             (ways_of self.now) }
         ensures never { IfErr result (λ stop. stop ≢ Stop.NoMemory) }
+        ensures wholes { length wholes.new ≡ length wholes.old }
     {
-        if self.carried_whole(j, out).is_some() {
+        if self.carried_whole(j, wholes, out).is_some() {
             return Ok(());
         }
         self.carry_by::<Brand>(j, out, Blank::new(1))
     }
 
-    /// The same, whatever `out` has.
-    pub fn column(&self, j: u32, out: &mut [Frac]) -> Result<(), Stop>
+    /// The same, whatever `out` has. It takes no memory; the numbers are carried in `wholes`.
+    pub fn column(&self, j: u32, wholes: &mut SparseWholes, out: &mut [Frac]) -> Result<(), Stop>
         requires nonbasic { IsNonbasic self.now.matrix self.now.basics j }
+        requires wholes { length wholes.old ≡ size self.now.matrix }
         requires places { length out.old ≡ size self.now.matrix }
         ensures direction { OnOk result (IsDirectionOf self.now.matrix self.now.basics j
             (value_at out.new)) }
         ensures overflow { ColumnOverflow result self.now.matrix self.now.basics (ways_of self.now)
             (ways_of self.now) }
         ensures never { IfErr result (λ stop. stop ≢ Stop.NoMemory) }
+        ensures wholes { length wholes.new ≡ length wholes.old }
     {
         clear(out);
-        self.column_in(j, out)
+        self.column_in(j, wholes, out)
+    }
+
+    /// The same; `workspace` takes the direction.
+    pub fn column_to(&self, j: u32, workspace: &mut ColumnWorkspace) -> Result<(), Stop>
+        requires nonbasic { IsNonbasic self.now.matrix self.now.basics j }
+        requires places { IsWorkspaceFor (size self.now.matrix) workspace.old }
+        ensures direction { OnOk result (IsDirectionOf self.now.matrix self.now.basics j
+            (value_at workspace.new.direction.items)) }
+        ensures overflow { ColumnOverflow result self.now.matrix self.now.basics (ways_of self.now)
+            (ways_of self.now) }
+        ensures never { IfErr result (λ stop. stop ≢ Stop.NoMemory) }
+        ensures places { IsWorkspaceFor (size self.now.matrix) workspace.new }
+    {
+        self.column(j, &mut workspace.wholes, &mut workspace.direction)
     }
 
     /// Puts the direction of the nonbasic `j` in where there are no numbers.
@@ -425,17 +451,24 @@ impl EtaFile {
     }
 
     /// Makes `out` the direction of the nonbasic `j`, and counts nothing. It is cleared by its list; the new one is taken of the basics and `j`.
-    pub fn direction(&self, j: u32, out: &mut SparseVector) -> Result<(), Stop>
+    pub fn direction(
+        &self,
+        j: u32,
+        wholes: &mut SparseWholes,
+        out: &mut SparseVector,
+    ) -> Result<(), Stop>
         requires nonbasic { IsNonbasic self.now.matrix self.now.basics j }
+        requires wholes { length wholes.old ≡ size self.now.matrix }
         requires places { length out.old ≡ size self.now.matrix }
         ensures direction { OnOk result (IsDirectionOf self.now.matrix self.now.basics j
             (value_at out.new)) }
         ensures places { OnOk result (length out.new ≡ size self.now.matrix) }
         ensures overflow { ColumnOverflow result self.now.matrix self.now.basics (ways_of self.now)
             (ways_of self.now) }
+        ensures wholes { length wholes.new ≡ length wholes.old }
     {
         let mut values = out.take();
-        match self.column_in(j, &mut values) {
+        match self.column_in(j, wholes, &mut values) {
             Ok(()) => match self.put_direction(j, values, out) {
                 Ok(()) => Ok(()),
                 Err(_refused) => Err(Stop::NoMemory),
@@ -517,26 +550,25 @@ impl EtaFile {
             (ways_of self.old) (ways_of self.old) }
     {
         let size = self.size();
-        let mut workspace = vec![in self.alloc; Frac::whole(0); size as usize].map_err(
-            |_| Stop::NoMemory,
-        )?;
+        let mut workspace = ColumnWorkspace::zeros(self.alloc, size as usize)?;
         self.append_in(p, q, &mut workspace)
     }
 
     /// The same; `workspace` takes the direction of `q`.
-    pub fn append_in(&mut self, p: u32, q: u32, workspace: &mut [Frac]) -> Result<(), Stop>
+    pub fn append_in(&mut self, p: u32, q: u32, workspace: &mut ColumnWorkspace) -> Result<(), Stop>
         requires leaves { IsBasic self.old.matrix self.old.basics p }
         requires enters { IsNonbasic self.old.matrix self.old.basics q }
         requires pivot { HasPivot self.old.matrix self.old.basics p q }
-        requires places { length workspace.old ≡ size self.old.matrix }
+        requires places { IsWorkspaceFor (size self.old.matrix) workspace.old }
         ensures ok { OnOk result (IsAppended self.old p q self.new) }
         ensures err { OnErr result (self.new ≡ self.old) }
         ensures overflow { ExchangeOverflow result self.old.matrix self.old.basics p q
             (ways_of self.old) (ways_of self.old) }
+        ensures places { IsWorkspaceFor (size self.old.matrix) workspace.new }
     {
         let _size = self.size();
-        self.column(q, workspace)?;
-        self.append_carried(p, q, workspace)?;
+        self.column_to(q, workspace)?;
+        self.append_carried(p, q, &workspace.direction)?;
         Ok(())
     }
 

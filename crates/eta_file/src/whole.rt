@@ -1,19 +1,20 @@
-//! Columns that are carried in numbers over one denominator. Where a number doesn't fit, the answer is None, and the column has to be
-//! carried in fractions.
+//! Columns that are carried in whole numbers over one denominator. Where a number isn't whole or doesn't fit, the answer is None, and the
+//! column has to be carried in fractions.
 
-ghost use Rattle.std.specs.Prelude.{◌≡◌, ◌≢◌, ◌≤◌, length, map, All, IfOk, IfSome};
-ghost use Rattle.exact_values.specs.Rational.{zero_ℚ, one_ℚ};
+ghost use Rattle.std.specs.Prelude.{◌≡◌, ◌≢◌, ℕ, ◌≤◌, length, map, All, IfOk, IfSome};
+ghost use Rattle.exact_values.specs.Rational.{zero_ℚ, one_ℚ, ◌*ℚ◌};
+ghost use Rattle.lp_definitions.specs.LinearProgram.{value_at, on_row};
 ghost use Rattle.whole_vectors.specs.Quotients.{quotients, Represent};
 ghost use Rattle.eta_file.specs.Entries.{IsEntryWithin, AreApart, IsRowWithin, AreDistinctRows, scaled, IsWholeOf};
 ghost use Rattle.eta_file.specs.Transformations.{IsWithinPlaces, IsSubtracted, IsTransformed, IsScaled, IsLeaving, IsColumnFilled, IsExchanged, AreZero};
 
-use crate::carry::place_column;
 use crate::eta::{EtaEntry, StoredEta, WholeEta};
 use frac128::Frac;
 use lp_model::{Entry, NoMemory};
 use std::alloc::Global;
 use whole_vectors::{
-    common_multiple, less_product, multiply, product, product_by_scale, quotient, reduce, terms,
+    SparseWholes, common_multiple, product, product_by_scale, terms, whole_at, whole_number,
+    whole_quotient, whole_sum,
 };
 
 /// 1 or -1, with which the pivot is positive.
@@ -93,101 +94,146 @@ fn column_scale(column: &[Entry]) -> Option<Frac>
     Some(scale)
 }
 
+/// Puts the numbers of a column on its rows, each times a number.
+fn place_rows(column: &[Entry], j: u32, scale: Frac, out: &mut SparseWholes) -> Option<()>
+    requires rows { All (IsRowWithin j) column.now }
+    requires high { j ≤ length out.old }
+    requires distinct { AreDistinctRows column.now }
+    requires zero { AreZero out.old }
+    ensures rows { IfSome result (λ _. (k : ℕ) → 1 ≤ k →
+        value_at out.new k ≡ on_row column.now k *ℚ scale) }
+    ensures places { length out.new ≡ length out.old }
+{
+    for entry in column {
+        let value = product_by_scale(entry.value, scale)?;
+        let number = whole_number(value)?;
+        out.put(entry.row, number)?;
+    }
+    Some(())
+}
+
 /// The direction that the column `j`, whose numbers these are, has where the rows are basic, over the denominator that is given. `out` is
 /// all 0.
-pub fn begin_whole(column: &[Entry], j: u32, out: &mut [Frac]) -> Option<Frac>
+pub fn begin_whole(column: &[Entry], j: u32, out: &mut SparseWholes) -> Option<Frac>
     requires rows { All (IsRowWithin j) column.now }
     requires low { 1 ≤ j }
     requires high { j ≤ length out.old }
     requires distinct { AreDistinctRows column.now }
     requires zero { AreZero out.old }
-    ensures { IfSome result (λ d. Represent (IsColumnFilled column.now j) d out.new) }
+    ensures filled { IfSome result (λ d. Represent (IsColumnFilled column.now j) d out.new) }
+    ensures places { length out.new ≡ length out.old }
 {
     let scale = column_scale(column)?;
-    place_column(column, j, out);
-    multiply(out, scale)?;
+    place_rows(column, j, scale, out)?;
+    let own = whole_number(scale)?;
+    out.put(j, own)?;
     Some(scale)
 }
 
 /// Takes from each entry but the leaver's its part along the entering variable's direction.
-fn subtract_whole(entries: &[EtaEntry], p: u32, multiple: Frac, out: &mut [Frac]) -> Option<()>
+fn subtract_whole(
+    entries: &[EtaEntry],
+    p: u32,
+    multiple: Frac,
+    out: &mut SparseWholes,
+) -> Option<()>
     requires { All (IsEntryWithin (length out.old)) entries.now }
-    ensures { IfSome result (λ _. IsSubtracted p multiple entries.now out.old out.new) }
+    ensures subtracted { IfSome result (λ _. IsSubtracted p multiple entries.now
+        out.old out.new) }
+    ensures places { length out.new ≡ length out.old }
 {
+    let opposite = whole_number(multiple.neg())?;
     for entry in entries {
         if entry.i != p {
-            let place = entry.i as usize - 1;
-            out[place] = less_product(out[place], multiple, entry.rate)?;
+            let number = whole_at(out.numbers(), entry.i);
+            let rest = whole_sum(number, opposite, entry.rate)?;
+            out.put(entry.i, rest)?;
         }
     }
     Some(())
 }
 
 /// What the exchange of `p` for `q` makes of the numbers, where this multiple of the eta is taken from them.
-fn exchange_whole(whole: &WholeEta, p: u32, q: u32, multiple: Frac, out: &mut [Frac]) -> Option<()>
+fn exchange_whole(
+    whole: &WholeEta,
+    p: u32,
+    q: u32,
+    multiple: Frac,
+    out: &mut SparseWholes,
+) -> Option<()>
     requires p_low { 1 ≤ p }
     requires p_high { p ≤ length out.old }
     requires q_low { 1 ≤ q }
     requires q_high { q ≤ length out.old }
     requires entries { All (IsEntryWithin (length out.old)) whole.now.entries.items }
-    ensures { IfSome result (λ _. IsExchanged p q multiple whole.now out.old out.new) }
+    ensures exchanged { IfSome result (λ _. IsExchanged p q multiple whole.now out.old out.new) }
+    ensures places { length out.new ≡ length out.old }
 {
     subtract_whole(&whole.entries, p, multiple, out)?;
     let at_q = product(multiple, whole.scale)?;
-    out[p as usize - 1] = Frac::whole(0);
-    out[q as usize - 1] = at_q.neg();
-    Some(())
+    let opposite = whole_number(at_q.neg())?;
+    out.put(p, 0)?;
+    out.put(q, opposite)
 }
 
 /// Transforms the numbers of a direction by an eta, and gives their denominator after it.
-pub fn transform_whole(eta: &StoredEta, denominator: Frac, out: &mut [Frac]) -> Option<Frac>
+pub fn transform_whole(eta: &StoredEta, denominator: Frac, out: &mut SparseWholes) -> Option<Frac>
     requires places { IsWithinPlaces (length out.old) eta.now }
     requires whole { IfSome eta.now.whole (IsWholeOf eta.now.pivot eta.now.entries.items) }
     requires apart { denominator ≢ zero_ℚ }
-    ensures { IfSome result (λ d. Represent (IsTransformed eta.now (quotients denominator out.old))
-        d out.new) }
+    ensures transformed { IfSome result (λ d. Represent (IsTransformed eta.now
+        (quotients denominator out.old)) d out.new) }
+    ensures places { length out.new ≡ length out.old }
 {
-    if out[eta.p as usize - 1].is_zero() {
+    let lead = whole_at(out.numbers(), eta.p);
+    if lead == 0 {
         return Some(denominator);
     }
     let Some(whole) = &eta.whole else {
         return None;
     };
-    let denominator = reduce(out, denominator)?;
-    let ratio = quotient(out[eta.p as usize - 1], whole.pivot)?;
+    let denominator = out.reduce(denominator)?;
+    let lead = whole_at(out.numbers(), eta.p);
+    let ratio = whole_quotient(lead, whole.pivot)?;
     let (multiple, by) = terms(ratio);
-    multiply(out, by)?;
+    out.multiply(by)?;
     exchange_whole(whole, eta.p, eta.q, multiple, out)?;
     product(denominator, by)
 }
 
 /// Puts the rates of the entries but the leaver's at their places.
-fn place_entries(entries: &[EtaEntry], p: u32, out: &mut [Frac])
+fn place_entries(entries: &[EtaEntry], p: u32, out: &mut SparseWholes) -> Option<()>
     requires within { All (IsEntryWithin (length out.old)) entries.now }
     requires apart { AreApart entries.now }
     requires zero { AreZero out.old }
-    ensures { IsScaled p one_ℚ entries.now out.new }
+    ensures scaled { IfSome result (λ _. IsScaled p one_ℚ entries.now out.new) }
+    ensures places { length out.new ≡ length out.old }
 {
     for entry in entries {
         if entry.i != p {
-            out[entry.i as usize - 1] = entry.rate;
+            let number = whole_number(entry.rate)?;
+            out.put(entry.i, number)?;
         }
     }
+    Some(())
 }
 
 /// The direction that the leaver of an eta has after it, over the denominator that is given. `out` is all 0.
-pub fn leave_whole(eta: &StoredEta, out: &mut [Frac]) -> Option<Frac>
+pub fn leave_whole(eta: &StoredEta, out: &mut SparseWholes) -> Option<Frac>
     requires within { IsWithinPlaces (length out.old) eta.now }
     requires apart { AreApart eta.now.entries.items }
     requires whole { IfSome eta.now.whole (IsWholeOf eta.now.pivot eta.now.entries.items) }
     requires zero { AreZero out.old }
-    ensures { IfSome result (λ d. Represent (IsLeaving eta.now) d out.new) }
+    ensures leaving { IfSome result (λ d. Represent (IsLeaving eta.now) d out.new) }
+    ensures places { length out.new ≡ length out.old }
 {
     let Some(whole) = &eta.whole else {
         return None;
     };
-    place_entries(&whole.entries, eta.p, out);
-    out[eta.p as usize - 1] = whole.pivot;
-    out[eta.q as usize - 1] = whole.scale;
+    place_entries(&whole.entries, eta.p, out)?;
+    let at_p = whole_number(whole.pivot)?;
+    out.put(eta.p, at_p)?;
+    let at_q = whole_number(whole.scale)?;
+    out.put(eta.q, at_q)?;
     Some(whole.pivot)
 }

@@ -4,4 +4,4 @@ pub mod CarriedBack
 pub mod RowSteps
 pub mod WantedSteps
 pub mod WholeRows
-mod WordRows
+mod NumberRows

@@ -1,9 +1,13 @@
--- The workspace of a price row: so many places for a direction, and for the multipliers of the rows, in words and in fractions.
+-- The workspace of a price row: so many places for the multipliers of the rows, in words, in whole numbers and in fractions, and for a
+-- direction.
 use Rattle.std.specs.Prelude.{◌≡◌, ℕ, length}
+use Rattle.eta_file.specs.Workspaces.{IsWorkspaceFor}
 use Rattle.price_row.specs.declared.PriceRow.TheInside.{Inside}
 
 abbrev pub workspace_of : Inside → ℕ
-workspace_of a = length a.workspace.items
+workspace_of a = length a.multipliers.items
 
-abbrev pub HasWorkspace : Inside → Type 0
-HasWorkspace a = (length a.words ≡ length a.workspace.items) × (length a.multipliers.items ≡ length a.workspace.items)
+pub record HasWorkspace (a : Inside) : Type 0 where
+  pub words : length a.words ≡ workspace_of a
+  pub wholes : length a.wholes ≡ workspace_of a
+  pub directions : IsWorkspaceFor (workspace_of a) a.workspace

@@ -7,21 +7,22 @@ ghost use Rattle.lp_definitions.specs.Basis.{IsBasic};
 ghost use Rattle.lp_model.specs.RatesCalls.{IsRowOf, RowOverflow};
 ghost use Rattle.lp_model.specs.Wanted.{is_wanted, turned, wanted_at, IsFirstWanted};
 ghost use Rattle.eta_file.specs.Inverse.{ways_of, IsColumnStop};
+ghost use Rattle.eta_file.specs.Workspaces.{IsWorkspaceFor};
 ghost use Rattle.price_row.specs.Known.{IsKnown, HasMultipliers, IsFilledFrom, IsRateOf, IsUnit, IsMultiplierAt, IsMultiplierOf};
 
+mod numbers;
 mod sums;
 mod whole;
 mod words;
 
-use eta_file::{EtaFile, rate_by_column};
+use eta_file::{ColumnWorkspace, EtaFile, rate_by_column};
 use frac128::{Frac, Refused};
 use lp_model::{Lp, NoMemory, Stop, Wanted};
+use numbers::{first_by_numbers, row_by_numbers};
 use std::alloc::Global;
 use std::marker::Model;
 use sums::{sum_of_column, sum_over};
-use whole::{first_by_whole, row_by_whole};
-use whole_vectors::SparseWords;
-use words::{first_by_words, row_by_words};
+use whole_vectors::{SparseWholes, SparseWords};
 
 /// What is asked of the row of the basic `row`: its first rate, or where `up` is false the opposite of one, that is wanted.
 #[derive(Clone, Copy)]
@@ -31,13 +32,14 @@ struct Sought<'a> {
     up: bool,
 }
 
-/// Rows of an inverse that is kept as an eta file, with places for the multipliers of the rows, in words and in fractions, and for a
-/// direction.
+/// Rows of an inverse that is kept as an eta file, with places for the multipliers of the rows, in words, in whole numbers and in
+/// fractions, and for a direction.
 #[derive(Drop)]
 pub struct PriceRow {
     words: SparseWords,
+    wholes: SparseWholes,
     multipliers: Vec<Frac>,
-    workspace: Vec<Frac>,
+    workspace: ColumnWorkspace,
 }
 
 impl Model for PriceRow {
@@ -60,15 +62,16 @@ impl PriceRow {
         let size = lp.number_of_variables();
         Ok(PriceRow {
             words: SparseWords::zeros(alloc, size as usize)?,
+            wholes: SparseWholes::zeros(alloc, size as usize)?,
             multipliers: vec![in alloc; Frac::whole(0); size as usize]?,
-            workspace: vec![in alloc; Frac::whole(0); size as usize]?,
+            workspace: ColumnWorkspace::zeros(alloc, size as usize)?,
         })
     }
 
     /// Fills `out`, which has a place for each variable, with the rates of the basic `i`: its rate at each nonbasic, and 0 at each
     /// basic. The row is carried backwards through the file, and multiplied with the columns of the deck: in whole numbers of one
-    /// machine word over one denominator, or where one isn't such a number in numbers over one denominator, or where one of these
-    /// doesn't fit in fractions. Where an operation on fractions is refused on the way back, the multipliers of the rows are computed by
+    /// machine word over one denominator, or where one isn't such a number in larger whole numbers, or where one of these doesn't
+    /// fit in fractions. Where an operation on fractions is refused on the way back, the multipliers of the rows are computed by
     /// their directions; where one is refused at a column, its rate is computed by its direction. It takes no memory.
     pub fn row(&mut self, file: &EtaFile, i: u32, out: &mut [Frac]) -> Result<(), Stop>
         requires basic { IsBasic file.now.matrix file.now.basics i }
@@ -81,10 +84,10 @@ impl PriceRow {
         ensures same { self.new ≡ self.old }
     {
         let _size = file.size();
-        if row_by_words(file, i, &mut self.words, out).is_some() {
+        if row_by_numbers(file, i, &mut self.words, out).is_some() {
             return Ok(());
         }
-        if row_by_whole(file, i, &mut self.multipliers, out).is_some() {
+        if row_by_numbers(file, i, &mut self.wholes, out).is_some() {
             return Ok(());
         }
         multipliers(file, i, out, &mut self.workspace)?;
@@ -115,11 +118,11 @@ impl PriceRow {
     {
         let _size = file.size();
         let sought = Sought { row: i, wanted, up };
-        let quick = first_by_words(file, &sought, &mut self.words, out);
+        let quick = first_by_numbers(file, &sought, &mut self.words, out);
         if let Some(found) = quick {
             return Ok(found);
         }
-        let quick = first_by_whole(file, &sought, &mut self.multipliers, out);
+        let quick = first_by_numbers(file, &sought, &mut self.wholes, out);
         if let Some(found) = quick {
             return Ok(found);
         }
@@ -194,13 +197,19 @@ fn carry_to_rows(file: &EtaFile, row: u32, out: &mut [Frac]) -> Result<(), Refus
 }
 
 /// The multiplier of row `k` in the row of the basic `i`, by the direction of k where it isn't basic, which `workspace` takes.
-fn multiplier_of(file: &EtaFile, i: u32, k: u32, workspace: &mut [Frac]) -> Result<Frac, Stop>
+fn multiplier_of(
+    file: &EtaFile,
+    i: u32,
+    k: u32,
+    workspace: &mut ColumnWorkspace,
+) -> Result<Frac, Stop>
     requires basic { IsBasic file.now.matrix file.now.basics i }
     requires row { IsVariable file.now.matrix k }
-    requires places { length workspace.old ≡ size file.now.matrix }
+    requires workspace { IsWorkspaceFor (size file.now.matrix) workspace.old }
     ensures value { IfOk result (IsMultiplierOf file.now i k) }
     ensures overflow { IfErr result (IsColumnStop file.now) }
     ensures never { IfErr result (λ stop. stop ≢ Stop.NoMemory) }
+    ensures workspace { IsWorkspaceFor (size file.now.matrix) workspace.new }
 {
     if k == i {
         return Ok(Frac::whole(1));
@@ -214,14 +223,15 @@ fn multipliers_by_rows(
     file: &EtaFile,
     i: u32,
     out: &mut [Frac],
-    workspace: &mut [Frac],
+    workspace: &mut ColumnWorkspace,
 ) -> Result<(), Stop>
     requires basic { IsBasic file.now.matrix file.now.basics i }
     requires places { length out.old ≡ size file.now.matrix }
-    requires workspace { length workspace.old ≡ size file.now.matrix }
+    requires workspace { IsWorkspaceFor (size file.now.matrix) workspace.old }
     ensures known { OnOk result (IsFilledFrom file.now (size file.now.matrix) i out.new) }
     ensures overflow { IfErr result (IsColumnStop file.now) }
     ensures never { IfErr result (λ stop. stop ≢ Stop.NoMemory) }
+    ensures workspace { IsWorkspaceFor (size file.now.matrix) workspace.new }
 {
     let _size = file.size();
     for k in 0..file.rows() {
@@ -231,13 +241,19 @@ fn multipliers_by_rows(
 }
 
 /// Fills the first places of `out` with the multipliers of the rows: carried back, or where that is refused by their directions.
-fn multipliers(file: &EtaFile, i: u32, out: &mut [Frac], workspace: &mut [Frac]) -> Result<(), Stop>
+fn multipliers(
+    file: &EtaFile,
+    i: u32,
+    out: &mut [Frac],
+    workspace: &mut ColumnWorkspace,
+) -> Result<(), Stop>
     requires basic { IsBasic file.now.matrix file.now.basics i }
     requires places { length out.old ≡ size file.now.matrix }
-    requires workspace { length workspace.old ≡ size file.now.matrix }
+    requires workspace { IsWorkspaceFor (size file.now.matrix) workspace.old }
     ensures known { OnOk result (IsFilledFrom file.now (size file.now.matrix) i out.new) }
     ensures overflow { IfErr result (IsColumnStop file.now) }
     ensures never { IfErr result (λ stop. stop ≢ Stop.NoMemory) }
+    ensures workspace { IsWorkspaceFor (size file.now.matrix) workspace.new }
 {
     match carry_to_rows(file, i, out) {
         Ok(()) => Ok(()),
@@ -271,16 +287,17 @@ fn rate_at(
     place: u32,
     row: u32,
     out: &[Frac],
-    workspace: &mut [Frac],
+    workspace: &mut ColumnWorkspace,
 ) -> Result<Frac, Stop>
     requires within { place < size file.now.matrix }
     requires basic { IsBasic file.now.matrix file.now.basics row }
     requires places { length out.now ≡ size file.now.matrix }
-    requires workspace { length workspace.old ≡ size file.now.matrix }
+    requires workspace { IsWorkspaceFor (size file.now.matrix) workspace.old }
     requires known { HasMultipliers file.now (place + 1) row out.now }
     ensures rate { IfOk result (IsRateOf file.now row (place + 1)) }
     ensures overflow { IfErr result (IsColumnStop file.now) }
     ensures never { IfErr result (λ stop. stop ≢ Stop.NoMemory) }
+    ensures workspace { IsWorkspaceFor (size file.now.matrix) workspace.new }
 {
     let _size = file.size();
     match rate_by_multipliers(file, place, row, out) {
@@ -290,14 +307,20 @@ fn rate_at(
 }
 
 /// Fills in the rates, the last variable's first, so that the multipliers of the rows stand as long as they are needed.
-fn fill(file: &EtaFile, row: u32, out: &mut [Frac], workspace: &mut [Frac]) -> Result<(), Stop>
+fn fill(
+    file: &EtaFile,
+    row: u32,
+    out: &mut [Frac],
+    workspace: &mut ColumnWorkspace,
+) -> Result<(), Stop>
     requires basic { IsBasic file.now.matrix file.now.basics row }
     requires places { length out.old ≡ size file.now.matrix }
-    requires workspace { length workspace.old ≡ size file.now.matrix }
+    requires workspace { IsWorkspaceFor (size file.now.matrix) workspace.old }
     requires known { IsFilledFrom file.now (size file.now.matrix) row out.old }
     ensures rates { OnOk result (IsRowOf file.now.matrix file.now.basics row (value_at out.new)) }
     ensures overflow { IfErr result (IsColumnStop file.now) }
     ensures never { IfErr result (λ stop. stop ≢ Stop.NoMemory) }
+    ensures workspace { IsWorkspaceFor (size file.now.matrix) workspace.new }
 {
     let size = file.size();
     for back in 0..size {
@@ -322,18 +345,19 @@ fn fill_to_wanted(
     sought: &Sought<'_>,
     multipliers: &[Frac],
     out: &mut [Frac],
-    workspace: &mut [Frac],
+    workspace: &mut ColumnWorkspace,
 ) -> Result<Option<u32>, Stop>
     requires basic { IsBasic file.now.matrix file.now.basics sought.now.row }
     requires multiplier_places { length multipliers.now ≡ size file.now.matrix }
     requires wanted_places { length sought.now.wanted.now ≡ size file.now.matrix }
     requires places { length out.old ≡ size file.now.matrix }
-    requires workspace { length workspace.old ≡ size file.now.matrix }
+    requires workspace { IsWorkspaceFor (size file.now.matrix) workspace.old }
     requires known { HasMultipliers file.now (size file.now.matrix) sought.now.row multipliers.now }
     ensures found { IfOk result (IsFirstWanted file.now.matrix file.now.basics sought.now.row
         sought.now.wanted.now sought.now.up (value_at out.new)) }
     ensures overflow { IfErr result (IsColumnStop file.now) }
     ensures never { IfErr result (λ stop. stop ≢ Stop.NoMemory) }
+    ensures workspace { IsWorkspaceFor (size file.now.matrix) workspace.new }
 {
     for place in 0..file.size() {
         let rate = rate_at(file, place, sought.row, multipliers, workspace)?;

@@ -1,210 +1,96 @@
-//! Rows that are carried back in numbers over one denominator. Where a number doesn't fit, the answer is None, and the row has to be
-//! computed in fractions.
+//! Rows in whole numbers of any size that fits.
 
-ghost use Rattle.std.specs.Prelude.{◌≡◌, ◌+◌, ◌<◌, length, All, IfSome};
-ghost use Rattle.exact_values.specs.Rational.{zero_ℚ, ◌+ℚ◌, ◌*ℚ◌};
+ghost use Rattle.std.specs.Prelude.{◌≡◌, ℕ, List, length, All, IfSome};
+ghost use Rattle.exact_values.specs.Rational.{ℚ, whole, zero_ℚ};
+ghost use Rattle.frac128.specs.Terms.{Fits};
+ghost use Rattle.lp_definitions.specs.LinearProgram.{value_at};
 ghost use Rattle.lp_definitions.specs.RatesEvidence.{sum_from};
+ghost use Rattle.whole_vectors.specs.Words.{wholes};
 ghost use Rattle.eta_file.specs.Entries.{IsEntryWithin};
 ghost use Rattle.price_row.specs.Sums.{weighted, products};
 ghost use Rattle.price_row.specs.Places.{IsRowPlace};
-ghost use Rattle.lp_definitions.specs.LinearProgram.{size, value_at};
-ghost use Rattle.lp_definitions.specs.Basis.{IsBasic};
-ghost use Rattle.lp_model.specs.RatesCalls.{IsRowOf};
-ghost use Rattle.lp_model.specs.Wanted.{IsFirstWanted};
-ghost use Rattle.whole_vectors.specs.Quotients.{Represent};
-ghost use Rattle.price_row.specs.Known.{IsKnown, HasMultipliers, IsRateOf};
 
-use crate::{Sought, begin, is_wanted_at};
-use eta_file::{EtaEntry, EtaFile};
+use crate::numbers::Numbers;
+use eta_file::{EtaEntry, ScaledEta};
 use frac128::Frac;
 use lp_model::Entry;
-use whole_vectors::{less_product, multiply, product, quotient, reduce, terms};
+use whole_vectors::{SparseWholes, whole_at, whole_number, whole_quotient, whole_sum};
 
-/// The sum, with one product more. Most numbers of a row are 0, and nothing is made of these.
+/// The sum of the entries, each times the number there, begun with `first`. An entry at a number of 0 adds nothing.
 #[inline(always)]
-fn added(sum: Frac, x: Frac, y: Frac) -> Option<Frac>
-    ensures { IfSome result (λ next. next ≡ sum +ℚ x *ℚ y) }
-{
-    if x.is_zero() {
-        return Some(sum);
-    }
-    less_product(sum, x.neg(), y)
-}
-
-/// The sum of the entries but that of `p`, each times the number there, begun with `first`.
-fn sum_of_entries(entries: &[EtaEntry], p: u32, first: Frac, numbers: &[Frac]) -> Option<Frac>
-    requires { All (IsEntryWithin (length numbers.now)) entries.now }
-    ensures { IfSome result (λ sum. sum ≡ sum_from first (weighted p numbers.now entries.now)) }
+fn sum_of_entries(entries: &[EtaEntry], first: i128, numbers: &[i128]) -> Option<i128>
+    requires within { All (IsEntryWithin (length numbers.now)) entries.now }
+    requires fit { All Fits numbers.now }
+    requires first_fits { Fits first }
+    ensures value { IfSome result (λ sum. (p : ℕ) → value_at (wholes numbers.now) p ≡ zero_ℚ →
+        whole sum ≡ sum_from (whole first) (weighted p (wholes numbers.now) entries.now)) }
+    ensures fits { IfSome result Fits }
 {
     let mut sum = first;
     for entry in entries {
-        if entry.i != p {
-            sum = added(sum, numbers[entry.i as usize - 1], entry.rate)?;
-        }
+        let number = whole_at(numbers, entry.i);
+        sum = whole_sum(sum, number, entry.rate)?;
     }
     Some(sum)
 }
 
 /// The sum of the numbers of a column of the deck, each times the number at its row.
-fn sum_of_column(column: &[Entry], numbers: &[Frac]) -> Option<Frac>
-    requires { All (IsRowPlace (length numbers.now)) column.now }
-    ensures { IfSome result (λ sum. sum ≡ sum_from zero_ℚ (products numbers.now column.now)) }
+#[inline(always)]
+fn sum_of_column(column: &[Entry], numbers: &[i128]) -> Option<i128>
+    requires within { All (IsRowPlace (length numbers.now)) column.now }
+    requires fit { All Fits numbers.now }
+    ensures value { IfSome result (λ sum. whole sum ≡ sum_from zero_ℚ (products
+        (wholes numbers.now) column.now)) }
+    ensures fits { IfSome result Fits }
 {
-    let mut sum = Frac::whole(0);
+    let mut sum = 0;
     for entry in column {
-        sum = added(sum, numbers[entry.row as usize - 1], entry.value)?;
+        let number = whole_at(numbers, entry.row);
+        sum = whole_sum(sum, number, entry.value)?;
     }
     Some(sum)
 }
 
-/// Carries the numbers of the multipliers of the row back over one eta, and gives their denominator before it.
-fn back_whole(
-    file: &EtaFile,
-    place: u32,
-    row: u32,
-    denominator: Frac,
-    out: &mut [Frac],
-) -> Option<Frac>
-    requires within { place < length file.now.etas }
-    requires basic { IsBasic file.now.matrix file.now.basics row }
-    requires places { length out.old ≡ size file.now.matrix }
-    requires known { Represent (IsKnown file.now (place + 1) row) denominator out.old }
-    ensures { IfSome result (λ d. Represent (IsKnown file.now place row) d out.new) }
-{
-    let _size = file.size();
-    let _etas = file.etas();
-    let eta = file.eta(place + 1);
-    let Some(whole) = file.whole(place + 1) else {
-        return None;
-    };
-    let first = product(out[eta.q as usize - 1], whole.scale)?;
-    let sum = sum_of_entries(whole.entries, eta.p, first, out)?;
-    if sum.is_zero() {
-        out[eta.p as usize - 1] = sum;
-        return Some(denominator);
-    }
-    let ratio = quotient(sum, whole.pivot)?;
-    let (number, by) = terms(ratio);
-    multiply(out, by)?;
-    out[eta.p as usize - 1] = number.neg();
-    let denominator = product(denominator, by)?;
-    reduce(out, denominator)
-}
+impl Numbers for SparseWholes {
+    ghost values = { λ numbers. numbers };
 
-/// Fills the first places of `out` with the numbers of the multipliers of the rows, and gives their denominator.
-fn whole_multipliers(file: &EtaFile, row: u32, out: &mut [Frac]) -> Option<Frac>
-    requires basic { IsBasic file.now.matrix file.now.basics row }
-    requires places { length out.old ≡ size file.now.matrix }
-    ensures { IfSome result (λ d. Represent (HasMultipliers file.now (size file.now.matrix) row)
-        d out.new) }
-{
-    let _size = file.size();
-    begin(row, out);
-    let mut denominator = Frac::whole(1);
-    let etas = file.etas();
-    for back in 0..etas {
-        denominator = back_whole(file, etas - 1 - back, row, denominator, out)?;
+    fn begin(&mut self, i: u32) -> Option<()> {
+        self.clear();
+        self.put(i, 1)
     }
-    Some(denominator)
-}
 
-/// The rate of the row at the variable of a place, from the numbers of the multipliers of the rows.
-#[inline(always)]
-fn rate_whole(file: &EtaFile, place: u32, row: u32, denominator: Frac, out: &[Frac]) -> Option<Frac>
-    requires within { place < size file.now.matrix }
-    requires basic { IsBasic file.now.matrix file.now.basics row }
-    requires places { length out.now ≡ size file.now.matrix }
-    requires known { Represent (HasMultipliers file.now (size file.now.matrix) row)
-        denominator out.now }
-    ensures { IfSome result (IsRateOf file.now row (place + 1)) }
-{
-    let _size = file.size();
-    let rows = file.rows();
-    if file.is_basic(place + 1) {
-        return Some(Frac::whole(0));
+    #[inline(always)]
+    fn write(&mut self, k: u32, x: Frac) -> Option<()> {
+        let number = whole_number(x)?;
+        self.put(k, number)
     }
-    if place < rows {
-        let number = out[place as usize];
-        return quotient(number.neg(), denominator);
+
+    fn multiply_by(&mut self, by: Frac) -> Option<()> {
+        self.multiply(by)
     }
-    let sum = sum_of_column(file.numbers(place + 1 - rows), out)?;
-    quotient(sum, denominator)
-}
 
-/// Fills in the rates from the numbers of the multipliers of the rows, up to the first that is wanted.
-fn fill_whole(
-    file: &EtaFile,
-    sought: &Sought<'_>,
-    numbers: &[Frac],
-    denominator: Frac,
-    out: &mut [Frac],
-) -> Option<Option<u32>>
-    requires basic { IsBasic file.now.matrix file.now.basics sought.now.row }
-    requires number_places { length numbers.now ≡ size file.now.matrix }
-    requires wanted_places { length sought.now.wanted.now ≡ size file.now.matrix }
-    requires places { length out.old ≡ size file.now.matrix }
-    requires known { Represent (HasMultipliers file.now (size file.now.matrix) sought.now.row)
-        denominator numbers.now }
-    ensures { IfSome result (IsFirstWanted file.now.matrix file.now.basics sought.now.row
-        sought.now.wanted.now sought.now.up (value_at out.new)) }
-{
-    for place in 0..file.size() {
-        let rate = rate_whole(file, place, sought.row, denominator, numbers)?;
-        out[place as usize] = rate;
-        if is_wanted_at(sought.wanted, place, sought.up, rate) {
-            return Some(Some(place + 1));
-        }
+    fn reduce_over(&mut self, denominator: Frac) -> Option<Frac> {
+        self.reduce(denominator)
     }
-    Some(None)
-}
 
-/// The least-numbered variable whose rate in the row, or the opposite of it where `up` is false, is wanted there. `out` takes the row
-/// up to it, and `numbers` those of the multipliers of the rows.
-pub fn first_by_whole(
-    file: &EtaFile,
-    sought: &Sought<'_>,
-    numbers: &mut [Frac],
-    out: &mut [Frac],
-) -> Option<Option<u32>>
-    requires basic { IsBasic file.now.matrix file.now.basics sought.now.row }
-    requires number_places { length numbers.old ≡ size file.now.matrix }
-    requires wanted_places { length sought.now.wanted.now ≡ size file.now.matrix }
-    requires places { length out.old ≡ size file.now.matrix }
-    ensures { IfSome result (IsFirstWanted file.now.matrix file.now.basics sought.now.row
-        sought.now.wanted.now sought.now.up (value_at out.new)) }
-{
-    let denominator = whole_multipliers(file, sought.row, numbers)?;
-    fill_whole(file, sought, numbers, denominator, out)
-}
-
-/// Fills in the rates from the numbers of the multipliers of the rows.
-fn fill_row_whole(
-    file: &EtaFile,
-    row: u32,
-    numbers: &[Frac],
-    denominator: Frac,
-    out: &mut [Frac],
-) -> Option<()>
-    requires basic { IsBasic file.now.matrix file.now.basics row }
-    requires number_places { length numbers.now ≡ size file.now.matrix }
-    requires places { length out.old ≡ size file.now.matrix }
-    requires known { Represent (HasMultipliers file.now (size file.now.matrix) row)
-        denominator numbers.now }
-    ensures { IfSome result (λ _. IsRowOf file.now.matrix file.now.basics row (value_at out.new)) }
-{
-    for place in 0..file.size() {
-        out[place as usize] = rate_whole(file, place, row, denominator, numbers)?;
+    #[inline(always)]
+    fn ratio(&self, q: u32, whole: &ScaledEta<'_>) -> Option<Frac> {
+        let numbers = self.numbers();
+        let lead = whole_at(numbers, q);
+        let first = whole_sum(0, lead, whole.scale)?;
+        let sum = sum_of_entries(whole.entries, first, numbers)?;
+        whole_quotient(sum, whole.pivot)
     }
-    Some(())
-}
 
-/// Fills `out` with the rates of the row, and `numbers` with those of the multipliers of the rows.
-pub fn row_by_whole(file: &EtaFile, row: u32, numbers: &mut [Frac], out: &mut [Frac]) -> Option<()>
-    requires basic { IsBasic file.now.matrix file.now.basics row }
-    requires number_places { length numbers.old ≡ size file.now.matrix }
-    requires places { length out.old ≡ size file.now.matrix }
-    ensures { IfSome result (λ _. IsRowOf file.now.matrix file.now.basics row (value_at out.new)) }
-{
-    let denominator = whole_multipliers(file, row, numbers)?;
-    fill_row_whole(file, row, numbers, denominator, out)
+    #[inline(always)]
+    fn number_over(&self, k: u32, by: Frac) -> Option<Frac> {
+        let number = whole_at(self.numbers(), k);
+        whole_quotient(number, by)
+    }
+
+    #[inline(always)]
+    fn column_over(&self, column: &[Entry], by: Frac) -> Option<Frac> {
+        let sum = sum_of_column(column, self.numbers())?;
+        whole_quotient(sum, by)
+    }
 }

@@ -1,25 +1,19 @@
-//! Rows that are carried back in whole numbers of one machine word over one denominator. Where a number isn't one, the answer is None,
-//! and the row has to be computed another way.
+//! Rows in whole numbers of one machine word.
 
-ghost use Rattle.std.specs.Prelude.{◌≡◌, ℕ, ◌+◌, ◌≤◌, ◌<◌, length, All, IfSome};
-ghost use Rattle.exact_values.specs.Rational.{whole, zero_ℚ};
-ghost use Rattle.lp_definitions.specs.LinearProgram.{size, value_at};
-ghost use Rattle.lp_definitions.specs.Basis.{IsBasic};
+ghost use Rattle.std.specs.Prelude.{◌≡◌, ℕ, List, length, All, IfSome};
+ghost use Rattle.exact_values.specs.Rational.{ℚ, whole, zero_ℚ};
+ghost use Rattle.lp_definitions.specs.LinearProgram.{value_at};
 ghost use Rattle.lp_definitions.specs.RatesEvidence.{sum_from};
-ghost use Rattle.lp_model.specs.RatesCalls.{IsRowOf};
-ghost use Rattle.lp_model.specs.Wanted.{IsFirstWanted};
-ghost use Rattle.whole_vectors.specs.Quotients.{Represent};
 ghost use Rattle.whole_vectors.specs.Words.{wholes};
 ghost use Rattle.eta_file.specs.Entries.{IsEntryWithin};
 ghost use Rattle.price_row.specs.Sums.{weighted, products};
 ghost use Rattle.price_row.specs.Places.{IsRowPlace};
-ghost use Rattle.price_row.specs.Known.{IsKnown, IsUnit, HasMultipliers, IsRateOf};
 
-use crate::{Sought, is_wanted_at};
-use eta_file::{EtaEntry, EtaFile};
+use crate::numbers::Numbers;
+use eta_file::{EtaEntry, ScaledEta};
 use frac128::Frac;
 use lp_model::Entry;
-use whole_vectors::{SparseWords, number_at, product, terms, word, word_quotient, word_sum};
+use whole_vectors::{SparseWords, number_at, word, word_quotient, word_sum};
 
 /// The sum of the entries, each times the number there, begun with `first`. An entry at a number of 0 adds nothing.
 #[inline(always)]
@@ -51,181 +45,48 @@ fn sum_of_column(column: &[Entry], numbers: &[i64]) -> Option<i64>
     Some(sum)
 }
 
-/// Carries the numbers of the multipliers of the row back over one eta, and gives their denominator before it.
-fn back_words(
-    file: &EtaFile,
-    place: u32,
-    row: u32,
-    denominator: Frac,
-    out: &mut SparseWords,
-) -> Option<Frac>
-    requires within { place < length file.now.etas }
-    requires basic { IsBasic file.now.matrix file.now.basics row }
-    requires places { length out.old ≡ size file.now.matrix }
-    requires known { Represent (IsKnown file.now (place + 1) row) denominator out.old }
-    ensures known { IfSome result (λ d. Represent (IsKnown file.now place row) d out.new) }
-    ensures places { length out.new ≡ length out.old }
-{
-    let _size = file.size();
-    let _etas = file.etas();
-    let eta = file.eta(place + 1);
-    let Some(whole) = file.whole(place + 1) else {
-        return None;
-    };
-    out.put(eta.p, 0)?;
-    let lead = number_at(out.numbers(), eta.q);
-    let first = word_sum(0, lead, whole.scale)?;
-    let sum = sum_of_entries(whole.entries, first, out.numbers())?;
-    if sum == 0 {
-        return Some(denominator);
+impl Numbers for SparseWords {
+    ghost values = { λ numbers. numbers };
+
+    fn begin(&mut self, i: u32) -> Option<()> {
+        self.clear();
+        self.put(i, 1)
     }
-    let ratio = word_quotient(sum, whole.pivot)?;
-    let (number, by) = terms(ratio);
-    out.multiply(by)?;
-    let made = word(number.neg())?;
-    out.put(eta.p, made)?;
-    product(denominator, by)
-}
 
-/// The row of the basic `i` at the basics themselves: 1 at `i`, and 0 elsewhere.
-fn begin_words(i: u32, out: &mut SparseWords) -> Option<()>
-    requires low { 1 ≤ i }
-    requires high { i ≤ length out.old }
-    ensures unit { IfSome result (λ _. IsUnit i out.new) }
-    ensures places { length out.new ≡ length out.old }
-{
-    out.clear();
-    out.put(i, 1)
-}
-
-/// Fills the first places of `out` with the numbers of the multipliers of the rows, and gives their denominator.
-fn word_multipliers(file: &EtaFile, row: u32, out: &mut SparseWords) -> Option<Frac>
-    requires basic { IsBasic file.now.matrix file.now.basics row }
-    requires places { length out.old ≡ size file.now.matrix }
-    ensures known { IfSome result (λ d. Represent (HasMultipliers file.now
-        (size file.now.matrix) row) d out.new) }
-    ensures places { length out.new ≡ length out.old }
-{
-    let _size = file.size();
-    begin_words(row, out)?;
-    let mut denominator = Frac::whole(1);
-    let etas = file.etas();
-    for back in 0..etas {
-        denominator = back_words(file, etas - 1 - back, row, denominator, out)?;
+    #[inline(always)]
+    fn write(&mut self, k: u32, x: Frac) -> Option<()> {
+        let number = word(x)?;
+        self.put(k, number)
     }
-    Some(denominator)
-}
 
-/// The rate of the row at the variable of a place, from the numbers of the multipliers of the rows.
-#[inline(always)]
-fn rate_in_words(
-    file: &EtaFile,
-    place: u32,
-    row: u32,
-    denominator: Frac,
-    out: &[i64],
-) -> Option<Frac>
-    requires within { place < size file.now.matrix }
-    requires basic { IsBasic file.now.matrix file.now.basics row }
-    requires places { length out.now ≡ size file.now.matrix }
-    requires known { Represent (HasMultipliers file.now (size file.now.matrix) row)
-        denominator (wholes out.now) }
-    ensures { IfSome result (IsRateOf file.now row (place + 1)) }
-{
-    let _size = file.size();
-    let rows = file.rows();
-    if file.is_basic(place + 1) {
-        return Some(Frac::whole(0));
+    fn multiply_by(&mut self, by: Frac) -> Option<()> {
+        self.multiply(by)
     }
-    if place < rows {
-        let multiplier = word_quotient(number_at(out, place + 1), denominator)?;
-        return Some(multiplier.neg());
+
+    /// The denominator stays, since numbers of one machine word share little.
+    #[inline(always)]
+    fn reduce_over(&mut self, denominator: Frac) -> Option<Frac> {
+        Some(denominator)
     }
-    let sum = sum_of_column(file.numbers(place + 1 - rows), out)?;
-    word_quotient(sum, denominator)
-}
 
-/// Fills in the rates from the numbers of the multipliers of the rows, up to the first that is wanted.
-fn fill_by_words(
-    file: &EtaFile,
-    sought: &Sought<'_>,
-    numbers: &[i64],
-    denominator: Frac,
-    out: &mut [Frac],
-) -> Option<Option<u32>>
-    requires basic { IsBasic file.now.matrix file.now.basics sought.now.row }
-    requires number_places { length numbers.now ≡ size file.now.matrix }
-    requires wanted_places { length sought.now.wanted.now ≡ size file.now.matrix }
-    requires places { length out.old ≡ size file.now.matrix }
-    requires known { Represent (HasMultipliers file.now (size file.now.matrix) sought.now.row)
-        denominator (wholes numbers.now) }
-    ensures { IfSome result (IsFirstWanted file.now.matrix file.now.basics sought.now.row
-        sought.now.wanted.now sought.now.up (value_at out.new)) }
-{
-    for place in 0..file.size() {
-        let rate = rate_in_words(file, place, sought.row, denominator, numbers)?;
-        out[place as usize] = rate;
-        if is_wanted_at(sought.wanted, place, sought.up, rate) {
-            return Some(Some(place + 1));
-        }
+    #[inline(always)]
+    fn ratio(&self, q: u32, whole: &ScaledEta<'_>) -> Option<Frac> {
+        let numbers = self.numbers();
+        let lead = number_at(numbers, q);
+        let first = word_sum(0, lead, whole.scale)?;
+        let sum = sum_of_entries(whole.entries, first, numbers)?;
+        word_quotient(sum, whole.pivot)
     }
-    Some(None)
-}
 
-/// The least-numbered variable whose rate in the row, or the opposite of it where `up` is false, is wanted there. `out` takes the row
-/// up to it, and `numbers` those of the multipliers of the rows.
-pub fn first_by_words(
-    file: &EtaFile,
-    sought: &Sought<'_>,
-    numbers: &mut SparseWords,
-    out: &mut [Frac],
-) -> Option<Option<u32>>
-    requires basic { IsBasic file.now.matrix file.now.basics sought.now.row }
-    requires number_places { length numbers.old ≡ size file.now.matrix }
-    requires wanted_places { length sought.now.wanted.now ≡ size file.now.matrix }
-    requires places { length out.old ≡ size file.now.matrix }
-    ensures found { IfSome result (IsFirstWanted file.now.matrix file.now.basics sought.now.row
-        sought.now.wanted.now sought.now.up (value_at out.new)) }
-    ensures number_places { length numbers.new ≡ length numbers.old }
-{
-    let denominator = word_multipliers(file, sought.row, numbers)?;
-    fill_by_words(file, sought, numbers.numbers(), denominator, out)
-}
-
-/// Fills in the rates from the numbers of the multipliers of the rows.
-fn fill_row_by_words(
-    file: &EtaFile,
-    row: u32,
-    numbers: &[i64],
-    denominator: Frac,
-    out: &mut [Frac],
-) -> Option<()>
-    requires basic { IsBasic file.now.matrix file.now.basics row }
-    requires number_places { length numbers.now ≡ size file.now.matrix }
-    requires places { length out.old ≡ size file.now.matrix }
-    requires known { Represent (HasMultipliers file.now (size file.now.matrix) row)
-        denominator (wholes numbers.now) }
-    ensures { IfSome result (λ _. IsRowOf file.now.matrix file.now.basics row (value_at out.new)) }
-{
-    for place in 0..file.size() {
-        out[place as usize] = rate_in_words(file, place, row, denominator, numbers)?;
+    #[inline(always)]
+    fn number_over(&self, k: u32, by: Frac) -> Option<Frac> {
+        let number = number_at(self.numbers(), k);
+        word_quotient(number, by)
     }
-    Some(())
-}
 
-/// Fills `out` with the rates of the row, and `numbers` with those of the multipliers of the rows.
-pub fn row_by_words(
-    file: &EtaFile,
-    row: u32,
-    numbers: &mut SparseWords,
-    out: &mut [Frac],
-) -> Option<()>
-    requires basic { IsBasic file.now.matrix file.now.basics row }
-    requires number_places { length numbers.old ≡ size file.now.matrix }
-    requires places { length out.old ≡ size file.now.matrix }
-    ensures rates { IfSome result (λ _. IsRowOf file.now.matrix file.now.basics row (value_at out.new)) }
-    ensures number_places { length numbers.new ≡ length numbers.old }
-{
-    let denominator = word_multipliers(file, row, numbers)?;
-    fill_row_by_words(file, row, numbers.numbers(), denominator, out)
+    #[inline(always)]
+    fn column_over(&self, column: &[Entry], by: Frac) -> Option<Frac> {
+        let sum = sum_of_column(column, self.numbers())?;
+        word_quotient(sum, by)
+    }
 }

@@ -55,6 +55,7 @@ carried_same f g (Some j) xs same_matrix same_basics h =
 last_same : (f g : Inverse) (last : LastColumn) → g.matrix ≡ f.matrix → g.basics ≡ f.basics → IsLast f last → IsLast g last
 last_same f g last same_matrix same_basics h = record {
   places = h.places ∙ ap size (sym same_matrix);
+  wholes = h.wholes ∙ ap size (sym same_matrix);
   carried = carried_same f g last.of last.direction.items same_matrix same_basics h.carried;
 }
 

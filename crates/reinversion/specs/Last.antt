@@ -13,4 +13,5 @@ IsCarried f (Some j) xs = IsNonbasic f.matrix f.basics j × IsDirectionOf f.matr
 
 pub record IsLast (f : Inverse) (last : LastColumn) : Type 0 where
   pub places : length last.direction.items ≡ size f.matrix
+  pub wholes : length last.wholes ≡ size f.matrix
   pub carried : IsCarried f last.of last.direction.items

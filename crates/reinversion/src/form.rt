@@ -218,7 +218,7 @@ impl Rates for ProductForm {
         ensures waypoints { KeepsWaypoints self.old.file.matrix self.old.file.basics
             (ways_of self.old.file) self.new.file.basics (ways_of self.new.file) }
     {
-        self.file.direction(j, out)
+        self.file.direction(j, &mut self.last.wholes, out)
     }
 
     /// Takes no memory. The row is carried backwards through the file.

@@ -11,12 +11,15 @@ use eta_file::EtaFile;
 use frac128::Frac;
 use lp_model::{Lp, NoMemory, Stop};
 use std::alloc::Global;
+use whole_vectors::SparseWholes;
 
-/// The nonbasic whose direction at the present basics was carried last, with that direction.
+/// The nonbasic whose direction at the present basics was carried last, with that direction; and workspace for whole numbers in which a
+/// direction is carried.
 #[derive(Drop)]
 pub struct LastColumn {
     pub of: Option<u32>,
     pub direction: Vec<Frac>,
+    pub wholes: SparseWholes,
 }
 
 impl LastColumn {
@@ -24,11 +27,13 @@ impl LastColumn {
     pub fn new(alloc: Global, lp: &Lp) -> Result<LastColumn, NoMemory>
         ensures none { IfOk result (λ last. last.of ≡ None) }
         ensures places { IfOk result (λ last. length last.direction.items ≡ size lp.now.matrix) }
+        ensures wholes { IfOk result (λ last. length last.wholes ≡ size lp.now.matrix) }
     {
         let size = lp.number_of_variables();
         Ok(LastColumn {
             of: None,
             direction: vec![in alloc; Frac::whole(0); size as usize]?,
+            wholes: SparseWholes::zeros(alloc, size as usize)?,
         })
     }
 
@@ -36,6 +41,7 @@ impl LastColumn {
     pub fn forget(&mut self)
         ensures none { self.new.of ≡ None }
         ensures places { length self.new.direction.items ≡ length self.old.direction.items }
+        ensures wholes { self.new.wholes ≡ self.old.wholes }
     {
         self.of = None;
     }
@@ -54,7 +60,7 @@ impl LastColumn {
             return Ok(());
         }
         self.forget();
-        file.column(j, &mut self.direction)?;
+        file.column(j, &mut self.wholes, &mut self.direction)?;
         self.of = Some(j);
         Ok(())
     }

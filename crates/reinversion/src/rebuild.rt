@@ -10,6 +10,7 @@ use crate::order::{Entering, entering_order};
 use eta_file::EtaFile;
 use frac128::Frac;
 use lp_model::{Evidence, SparseVector, Stop};
+use whole_vectors::SparseWholes;
 
 /// The evidence, naming no set.
 fn nameless(evidence: Evidence) -> Evidence
@@ -76,9 +77,11 @@ fn enter(
     new: &mut EtaFile,
     c: u32,
     wish: u32,
+    wholes: &mut SparseWholes,
     workspace: &mut SparseVector,
 ) -> Result<(), Stop>
     requires column { IsColumn old.now.matrix c }
+    requires wholes { length wholes.old ≡ size old.now.matrix }
     requires places { length workspace.old ≡ size old.now.matrix }
     requires rebuilt { IsRebuilt old.now.matrix old.now.basics 0 new.old }
     ensures keeps { OnOk result ((n : ℕ) → IsRebuilt old.now.matrix old.now.basics n new.old →
@@ -88,6 +91,7 @@ fn enter(
     ensures places { OnOk result (length workspace.new ≡ size old.now.matrix) }
     ensures refused { IfErr result
         (λ stop. IfOverflow stop (KeptRefused old.now.matrix old.now.basics)) }
+    ensures wholes { length wholes.new ≡ length wholes.old }
 {
     let _size = old.size();
     let _new_size = new.size();
@@ -98,7 +102,7 @@ fn enter(
     if new.is_basic(k) {
         return Ok(());
     }
-    if let Err(stop) = new.direction(k, workspace) {
+    if let Err(stop) = new.direction(k, wholes, workspace) {
         return Err(kept(stop));
     }
     let p = leaver(old, new, workspace.values(), wish);
@@ -111,19 +115,22 @@ fn enter_in_order(
     old: &EtaFile,
     new: &mut EtaFile,
     order: &[Entering],
+    wholes: &mut SparseWholes,
     workspace: &mut SparseVector,
 ) -> Result<(), Stop>
+    requires wholes { length wholes.old ≡ size old.now.matrix }
     requires places { length workspace.old ≡ size old.now.matrix }
     requires rebuilt { IsRebuilt old.now.matrix old.now.basics 0 new.old }
     ensures rebuilt { OnOk result (IsRebuilt old.now.matrix old.now.basics 0 new.new) }
     ensures places { OnOk result (length workspace.new ≡ size old.now.matrix) }
     ensures refused { IfErr result
         (λ stop. IfOverflow stop (KeptRefused old.now.matrix old.now.basics)) }
+    ensures wholes { length wholes.new ≡ length wholes.old }
 {
     let cols = old.size() - old.rows();
     for entering in order {
         if entering.column >= 1 && entering.column <= cols {
-            enter(old, new, entering.column, entering.row, workspace)?;
+            enter(old, new, entering.column, entering.row, wholes, workspace)?;
         }
     }
     Ok(())
@@ -139,10 +146,12 @@ pub fn rebuild(old: &EtaFile) -> Result<EtaFile, Stop>
     let rows = old.rows();
     let mut new = old.at_rows()?;
     let order = entering_order(old)?;
+    let mut wholes =
+        SparseWholes::zeros(old.alloc(), size as usize).map_err(|_| Stop::NoMemory)?;
     let mut workspace = SparseVector::zeros(old.alloc(), size as usize)?;
-    enter_in_order(old, &mut new, &order, &mut workspace)?;
+    enter_in_order(old, &mut new, &order, &mut wholes, &mut workspace)?;
     for c in 0..size - rows {
-        enter(old, &mut new, c + 1, 0, &mut workspace)?;
+        enter(old, &mut new, c + 1, 0, &mut wholes, &mut workspace)?;
     }
     let _new_size = new.size();
     Ok(new)

@@ -1,3 +1,4 @@
 pub mod Quotients
 pub mod Words
 pub mod Ranks
+pub mod SparseWhole

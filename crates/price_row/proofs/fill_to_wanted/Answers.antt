@@ -10,6 +10,7 @@ loop-place-preserved c =
       counted = search rules;
       filled = filled_next c.args.file.now c.loop-place.place c.args.sought.now.row c.loop-place.out c.in_ok-rate.rate below c.loop-place.invariant.filled c.in_ok-rate.ensures.rate;
       none = none_next c.args.sought.now.wanted.now c.args.sought.now.up c.loop-place.place c.loop-place.out c.in_ok-rate.rate below within c.loop-place.invariant.none (sym c.is_wanted_at.ensures ∙ c.if-is_wanted_at.false);
+      workspace = c.rate_at.ensures.workspace;
     }
 
 pub returns-then-is_wanted_at-clause-found : goal.returns-then-is_wanted_at-clause-found

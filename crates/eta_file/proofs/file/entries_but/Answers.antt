@@ -1,4 +1,4 @@
-use Rattle.std.proofs.Common.{rules, ◌≡◌, ◌∙◌, ◌++◌, ◌∷◌, [], ◌+◌, ◌<◌, ◌≤◌, length, get_or, arith}
+use Rattle.std.proofs.Common.{rules, ◌≡◌, ◌∙◌, ◌++◌, ◌∷◌, [], get_or}
 use Rattle.lp_definitions.specs.LinearProgram.{value_at}
 use Rattle.lp_laws.proofs.Places.{value_at_place}
 use Rattle.eta_file.specs.declared.eta.EtaEntry.{EtaEntry}

@@ -6,4 +6,7 @@ use Rattle.eta_file.proofs.whole.place_entries.Given as goal
 
 -- the entries so far are there
 abbrev pub invariant-loop-entry : goal.invariant-loop-entry
-invariant-loop-entry l = (k : ℕ) → 1 ≤ k → k ≤ length l.fn.out → k ≢ l.p → value_at l.out k ≡ one_ℚ *ℚ sum_rate (take l.entry-index l.entries) k
+invariant-loop-entry l = record {
+  places : length l.out ≡ length l.fn.out;
+  each : (k : ℕ) → 1 ≤ k → k ≤ length l.fn.out → k ≢ l.p → value_at l.out k ≡ one_ℚ *ℚ sum_rate (take l.entry-index l.entries) k;
+}

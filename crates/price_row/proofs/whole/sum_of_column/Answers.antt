@@ -1,17 +1,19 @@
-use Rattle.std.proofs.Common.{◌∙◌, sym, ap, length, subst}
-use Rattle.exact_values.specs.Rational.{zero_ℚ, ◌+ℚ◌, ◌*ℚ◌}
-use Rattle.lp_definitions.specs.LinearProgram.{value_at}
-use Rattle.lp_definitions.specs.declared.Entry.{Entry}
-use Rattle.lp_laws.proofs.Places.{value_at_place}
-use Rattle.price_row.specs.Places.{IsRowPlace}
+use Rattle.std.proofs.Common.{rules, ◌∙◌, sym, ap, ap₂, subst}
+use Rattle.std.specs.Int.{w128}
+use Rattle.std.proofs.lemmas.Int.{to_z-of_z}
+use Rattle.exact_values.specs.Rational.{whole, zero_ℚ, ◌+ℚ◌, ◌*ℚ◌}
+use Rattle.frac128.specs.Terms.{Fits}
+use Rattle.whole_vectors.specs.Words.{wholes}
 use Rattle.price_row.proofs.SumSteps.{products_more}
 use Rattle.price_row.proofs.whole.sum_of_column.Goals as goal
 
 pub loop-entry-preserved : goal.loop-entry-preserved
 loop-entry-preserved c =
-    let within : IsRowPlace (length c.args.numbers.now) c.entry-item.result =
-    subst (λ (x : Entry). IsRowPlace (length c.args.numbers.now) x) (sym c.entry-item.is) (c.requires c.loop-entry.entry-index c.entry-item.result c.loop-entry-test.true) in
-    c.in_ok-sum.ensures
-    ∙ ap (λ x. c.loop-entry.sum +ℚ x *ℚ c.entry-item.result.value) (value_at_place c.args.numbers.now c.entry-item.result.row c.index-numbers-entry.result within.0 within.1 c.index-numbers-entry.is)
-    ∙ ap (λ s. s +ℚ value_at c.args.numbers.now c.entry-item.result.row *ℚ c.entry-item.result.value) c.loop-entry.invariant
-    ∙ sym (products_more c.args.numbers.now c.args.column.now c.loop-entry.entry-index c.entry-item.result zero_ℚ c.loop-entry-test.true c.entry-item.is)
+    let same = to_z-of_z w128 c.in_ok-sum.sum (search rules) in
+    record {
+      value =
+          ap whole same ∙ c.in_ok-sum.ensures.value
+          ∙ ap₂ (λ s x. s +ℚ x *ℚ c.entry-item.result.value) c.loop-entry.invariant.value (ap whole (to_z-of_z w128 c.whole_at-number.result (search rules)) ∙ c.whole_at-number.ensures.value)
+          ∙ sym (products_more (wholes c.args.numbers.now) c.args.column.now c.loop-entry.entry-index c.entry-item.result zero_ℚ c.loop-entry-test.true c.entry-item.is);
+      fits = subst Fits (sym same) c.in_ok-sum.ensures.fits;
+    }

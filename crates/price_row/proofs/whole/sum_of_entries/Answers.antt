@@ -1,24 +1,19 @@
-use Rattle.std.proofs.Common.{◌∙◌, sym, ap, length, subst}
-use Rattle.exact_values.specs.Rational.{◌+ℚ◌, ◌*ℚ◌}
-use Rattle.lp_definitions.specs.LinearProgram.{value_at}
-use Rattle.lp_laws.proofs.Places.{value_at_place}
-use Rattle.eta_file.specs.declared.eta.EtaEntry.{EtaEntry}
-use Rattle.eta_file.specs.Entries.{IsEntryWithin}
-use Rattle.price_row.proofs.SumSteps.{weighted_same, weighted_more}
+use Rattle.std.proofs.Common.{rules, ◌∙◌, sym, ap, ap₂, subst, to_z, of_z}
+use Rattle.std.specs.Int.{w128}
+use Rattle.std.proofs.lemmas.Int.{to_z-of_z}
+use Rattle.exact_values.specs.Rational.{whole, ◌+ℚ◌, ◌*ℚ◌}
+use Rattle.frac128.specs.Terms.{Fits}
+use Rattle.whole_vectors.specs.Words.{wholes}
+use Rattle.price_row.proofs.SumSteps.{weighted_next}
 use Rattle.price_row.proofs.whole.sum_of_entries.Goals as goal
-use Rattle.price_row.proofs.whole.sum_of_entries.Goals.{then-entry-p+in_ok-sum, else-entry-p}
 
 pub loop-entry-preserved : goal.loop-entry-preserved
 loop-entry-preserved c =
-    let within : IsEntryWithin (length c.args.numbers.now) c.entry-item.result =
-    subst (λ (x : EtaEntry). IsEntryWithin (length c.args.numbers.now) x) (sym c.entry-item.is) (c.requires c.loop-entry.entry-index c.entry-item.result c.loop-entry-test.true) in
-    elim c.if-entry-p.branch [
-      | then-entry-p+in_ok-sum w ↦
-          w.sum-is ∙ w.in_ok-sum.ensures
-          ∙ ap (λ x. c.loop-entry.sum +ℚ x *ℚ c.entry-item.result.rate) (value_at_place c.args.numbers.now c.entry-item.result.i w.index-numbers-entry.result within.0 within.1 w.index-numbers-entry.is)
-          ∙ ap (λ s. s +ℚ value_at c.args.numbers.now c.entry-item.result.i *ℚ c.entry-item.result.rate) c.loop-entry.invariant
-          ∙ sym (weighted_more c.args.p c.args.numbers.now c.args.entries.now c.loop-entry.entry-index c.entry-item.result c.args.first c.loop-entry-test.true c.entry-item.is w.if-entry-p.true)
-      | else-entry-p w ↦
-          w.sum-is ∙ c.loop-entry.invariant
-          ∙ sym (weighted_same c.args.p c.args.numbers.now c.args.entries.now c.loop-entry.entry-index c.entry-item.result c.args.first c.loop-entry-test.true c.entry-item.is w.if-entry-p.false)
-    ]
+    let same = to_z-of_z w128 c.in_ok-sum.sum (search rules) in
+    record {
+      value = λ p none.
+          ap whole same ∙ c.in_ok-sum.ensures.value
+          ∙ ap₂ (λ s x. s +ℚ x *ℚ c.entry-item.result.rate) (c.loop-entry.invariant.value p none) (ap whole (to_z-of_z w128 c.whole_at-number.result (search rules)) ∙ c.whole_at-number.ensures.value)
+          ∙ sym (weighted_next p (wholes c.args.numbers.now) c.args.entries.now c.loop-entry.entry-index c.entry-item.result (whole (to_z w128 (of_z w128 c.args.first))) c.loop-entry-test.true c.entry-item.is none);
+      fits = subst Fits (sym same) c.in_ok-sum.ensures.fits;
+    }

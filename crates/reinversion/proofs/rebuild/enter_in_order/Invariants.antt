@@ -8,4 +8,5 @@ abbrev pub invariant-loop-entering : goal.invariant-loop-entering
 invariant-loop-entering l = record {
   rebuilt : IsRebuilt l.old.matrix l.old.basics 0 l.new;
   places : length l.workspace ≡ size l.old.matrix;
+  wholes : length l.wholes ≡ size l.old.matrix;
 }

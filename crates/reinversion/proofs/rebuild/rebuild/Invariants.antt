@@ -8,4 +8,5 @@ abbrev pub invariant-loop-c : goal.invariant-loop-c
 invariant-loop-c l = record {
   rebuilt : IsRebuilt l.old.matrix l.old.basics l.c l.new;
   places : length l.workspace ≡ size l.old.matrix;
+  wholes : length l.wholes ≡ size l.old.matrix;
 }

@@ -1,5 +1,4 @@
-use Rattle.std.proofs.Common.{◌≡◌, ◌≤◌, ◌∙◌, ℕ, All, length, arith, sym, ap, subst, filter, not}
-use Rattle.std.specs.Prelude.{nat_eq}
+use Rattle.std.proofs.Common.{◌≡◌, ◌≤◌, ◌∙◌, ℕ, All, length, arith, sym, ap, subst}
 use Rattle.lp_definitions.specs.LinearProgram.{size, value_at}
 use Rattle.lp_definitions.specs.Basis.{IsBasic, IsNonbasic, IsDirectionOf}
 use Rattle.lp_laws.proofs.Places.{value_at_place}

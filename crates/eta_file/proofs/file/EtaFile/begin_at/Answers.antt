@@ -34,8 +34,8 @@ begin_whole-requires-clause-distinct c =
     let out = nonbasic_from f.matrix f.etas f.basics c.self.invariant c.args.j c.args.first (rw (← c.self.view_is) at c.requires.none_later) (rw (← c.self.view_is) at c.requires.nonbasic) 0 (omega (arith, c.if-first-eq0.true)) in
     rw (c.numbers.ensures, ← c.self.view_is) (column_distinct f.matrix f.etas f.basics c.self.invariant c.args.j out)
 
-pub returns-then-first-eq0 : goal.returns-then-first-eq0
-returns-then-first-eq0 c =
+pub returns-then-first-eq0-clause-direction : goal.returns-then-first-eq0-clause-direction
+returns-then-first-eq0-clause-direction c =
     let f = inverse_of c.self.inside in
     let out = nonbasic_from f.matrix f.etas f.basics c.self.invariant c.args.j c.args.first (rw (← c.self.view_is) at c.requires.none_later) (rw (← c.self.view_is) at c.requires.nonbasic) 0 (omega (arith, c.if-first-eq0.true)) in
     let new = c.begin_whole.new.out in
@@ -44,7 +44,7 @@ returns-then-first-eq0 c =
     (λ d h.
     stand_map (IsColumnFilled (column f.matrix (c.args.j - f.matrix.rows)) c.args.j) (IsDirectionAfter f 0 c.args.j) d new
     (filled f.matrix f.etas f.basics c.self.invariant c.args.j out (quotients d new)) h)
-    (rw (c.numbers.ensures, ← c.self.view_is) at c.begin_whole.ensures))
+    (rw (c.numbers.ensures, ← c.self.view_is) at c.begin_whole.ensures.filled))
 
 pub leave_whole-requires-clause-within : goal.leave_whole-requires-clause-within
 leave_whole-requires-clause-within c =
@@ -65,8 +65,8 @@ leave_whole-requires-clause-whole c =
     let below : c.args.first ≤ length f.etas = rw (← c.self.view_is) at c.requires.within in
     whole_is f.matrix f.etas f.basics c.self.invariant (c.args.first - 1) c.index-eta.result.now (omega (arith, below, c.if-first-eq0.false)) c.index-eta.ensures
 
-pub returns-else-first-eq0 : goal.returns-else-first-eq0
-returns-else-first-eq0 c =
+pub returns-else-first-eq0-clause-direction : goal.returns-else-first-eq0-clause-direction
+returns-else-first-eq0-clause-direction c =
     let f = inverse_of c.self.inside in
     let below : c.args.first ≤ length f.etas = rw (← c.self.view_is) at c.requires.within in
     let places : length c.args.out.now ≡ size f.matrix = rw (← c.self.view_is) at c.requires.places in
@@ -77,5 +77,5 @@ returns-else-first-eq0 c =
     (λ d h.
     stand_map (IsLeaving c.index-eta.result.now) (IsDirectionAfter f c.args.first c.args.j) d new
     (λ leaving. left f.matrix f.etas f.basics c.self.invariant (c.args.first - 1) c.index-eta.result.now (omega (arith, below, c.if-first-eq0.false)) c.index-eta.ensures
-    (quotients d new) (length-quotients d new ∙ c.leave_whole.auto.out ∙ places) leaving c.args.first c.args.j (omega (arith, c.if-first-eq0.false)) own) h)
-    c.leave_whole.ensures)
+    (quotients d new) (length-quotients d new ∙ c.leave_whole.ensures.places ∙ places) leaving c.args.first c.args.j (omega (arith, c.if-first-eq0.false)) own) h)
+    c.leave_whole.ensures.leaving)

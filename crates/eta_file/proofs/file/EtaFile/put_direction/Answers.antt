@@ -1,6 +1,5 @@
-use Rattle.std.proofs.Common.{◌≡◌, ◌∙◌, ap, drop, length, take, subst, sym}
+use Rattle.std.proofs.Common.{◌≡◌, ◌∙◌, ap, drop, take, subst, sym}
 use Rattle.std.specs.List.Sorted.{IsNonDecreasing}
-use Rattle.lp_definitions.specs.LinearProgram.{size}
 use Rattle.eta_file.specs.File.{inverse_of}
 use Rattle.eta_file.specs.Listed.{listed_of, place_in}
 use Rattle.eta_file.proofs.FileLaws.{marks_counted}

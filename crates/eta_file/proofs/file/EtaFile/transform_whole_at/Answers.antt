@@ -18,8 +18,8 @@ transform_whole-requires-clause-whole c =
     let f = inverse_of c.self.inside in
     whole_is f.matrix f.etas f.basics c.self.invariant c.args.place c.index-eta.result.now (rw (← c.self.view_is) at c.requires.within) c.index-eta.ensures
 
-pub returns : goal.returns
-returns c =
+pub returns-clause-direction : goal.returns-clause-direction
+returns-clause-direction c =
     let f = inverse_of c.self.inside in
     let direction : Represent (IsDirectionAfter f c.args.place c.args.j) c.args.denominator c.args.out.now = rw (← c.self.view_is) at c.requires.direction in
     rw (← c.self.view_is)
@@ -30,4 +30,4 @@ returns c =
     (transformed f.matrix f.etas f.basics c.self.invariant c.args.place c.index-eta.result.now (rw (← c.self.view_is) at c.requires.within) c.index-eta.ensures
     c.args.j (rw (← c.self.view_is) at c.requires.before) (rw (← c.self.view_is) at c.requires.then) (quotients c.args.denominator c.args.out.now)
     (length-quotients c.args.denominator c.args.out.now ∙ (rw (← c.self.view_is) at c.requires.places)) direction.holds (quotients d c.transform_whole.new.out)) h)
-    c.transform_whole.ensures)
+    c.transform_whole.ensures.transformed)

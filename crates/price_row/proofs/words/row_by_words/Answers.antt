@@ -1,9 +1,0 @@
-use Rattle.std.proofs.Common.{sym, subst}
-use Rattle.lp_definitions.specs.LinearProgram.{size}
-use Rattle.whole_vectors.specs.Quotients.{Represent}
-use Rattle.price_row.specs.Known.{HasMultipliers}
-use Rattle.price_row.proofs.words.row_by_words.Goals as goal
-
-pub fill_row_by_words-requires-clause-known : goal.fill_row_by_words-requires-clause-known
-fill_row_by_words-requires-clause-known c =
-    subst (λ xs. Represent (HasMultipliers c.args.file.now (size c.args.file.now.matrix) c.args.row) c.in_ok-denominator.denominator xs) (sym c.numbers.ensures.numbers) c.in_ok-denominator.ensures.known

@@ -1,9 +1,0 @@
-use Rattle.std.proofs.Common.{◌≡◌, ◌-◌, length}
-use Rattle.lp_definitions.specs.LinearProgram.{size}
-use Rattle.whole_vectors.specs.Quotients.{Represent}
-use Rattle.price_row.specs.Known.{IsKnown}
-use Rattle.price_row.proofs.words.word_multipliers.Given as goal
-
--- the multipliers are those of the set before the etas that are done
-abbrev pub invariant-loop-back : goal.invariant-loop-back
-invariant-loop-back l = (length l.out ≡ size l.file.matrix) × Represent (IsKnown l.file (length l.file.etas - l.back) l.row) l.denominator l.out
