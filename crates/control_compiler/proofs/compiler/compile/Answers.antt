@@ -5,12 +5,12 @@ use Rattle.std.proofs.lemmas.Result.{err_from_is_err_and}
 use Rattle.control_definitions.specs.declared.ControlFault.{ControlFault}
 use Rattle.control_definitions.specs.Program.{Program}
 use Rattle.control_definitions.specs.Compiled.{compiled}
-use Rattle.control_compiler.specs.declared.stop.CompileStop.{CompileStop}
+use Rattle.card_reader.specs.declared.stop.CardStop.{CardStop}
 use Rattle.control_compiler.proofs.Ends.{stopped, pend_within, ends_at, refused, whole_program, compiled_is}
 use Rattle.control_compiler.proofs.compiler.compile.Goals as goal
 
 -- a job's program is what settling gave
-program_given : (outcome : Result Program ControlFault) (program : Program) (result : Result Program CompileStop) → outcome ≡ Ok program → IfOk result (λ given. given ≡ program) → IfOk result (λ given. outcome ≡ Ok given)
+program_given : (outcome : Result Program ControlFault) (program : Program) (result : Result Program (CardStop ControlFault)) → outcome ≡ Ok program → IfOk result (λ given. given ≡ program) → IfOk result (λ given. outcome ≡ Ok given)
 program_given outcome program (Ok given) is same = is ∙ ap Ok (sym same)
 program_given outcome program (Err stop) is same = tt
 
