@@ -31,8 +31,8 @@ pub fn compile(alloc: Global, cards: &Cards) -> Result<Program, CardStop<Control
     ensures fault { IfErr result (ReportsControlFault (compiled cards.now)) }
 {
     let reading = Reading::of(alloc, cards)?;
-    let pend = pend_or_fault(reading.end, missing(&reading.draft), cards.count()).map_err(
-        CardStop::Fault,
-    )?;
-    settle(alloc, reading.draft, pend + 1)
+    match pend_or_fault(reading.end, missing(&reading.draft), cards.count()) {
+        Ok(pend) => settle(alloc, reading.draft, pend + 1),
+        Err(fault) => Err(CardStop::Fault(fault)),
+    }
 }
