@@ -13,8 +13,8 @@ use Rattle.control_definitions.specs.Compiled.{statement_on, cards_to_pend, prog
 use Rattle.control_verbs.specs.declared.verb.Statement as read
 use Rattle.control_verbs.specs.Views.{viewed, statement_view}
 use Rattle.control_compiler.specs.declared.reading.Reading.{Reading}
-use Rattle.control_compiler.specs.declared.stop.CompileStop.{CompileStop}
-use Rattle.control_compiler.specs.declared.stop.CompileStop.TheVariants.{Fault, NoMemory}
+use Rattle.card_reader.specs.declared.stop.CardStop.{CardStop}
+use Rattle.card_reader.specs.declared.stop.CardStop.TheVariants.{Fault, NoMemory}
 use Rattle.control_compiler.specs.Cards.{statement_said}
 use Rattle.control_compiler.specs.Jobs.{live_cards, first_missing}
 use Rattle.control_compiler.specs.Outcomes.{IsRead, Reads, EndsAt, ReportsControlFault}
@@ -58,7 +58,7 @@ pend_within None number last e le = cc e
 pend_within (Some other) number last e le = let same : other ≡ number = cc e in subst (λ (n : ℕ). n ≤ last) same le
 
 -- a job's fault, where it isn't read to PEND
-pub stopped : (job : List (List ℕ)) (stop : CompileStop) → Reads (Err stop) job → ReportsControlFault (compiled job) stop
+pub stopped : (job : List (List ℕ)) (stop : CardStop ControlFault) → Reads (Err stop) job → ReportsControlFault (compiled job) stop
 unfolding compiled
 stopped job (Fault fault) some = ap (λ (fault : Option ControlFault). unless fault (program_of (cards_to_pend (live_cards job)))) some
 stopped job NoMemory some = tt

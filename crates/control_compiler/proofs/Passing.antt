@@ -6,8 +6,9 @@ use Rattle.card_definitions.specs.Cards.{Card, is_skipped, last_number}
 use Rattle.control_definitions.specs.declared.TheConstants.{MAX_STATEMENTS}
 use Rattle.control_definitions.specs.Verbs.{verb_of}
 use Rattle.control_definitions.specs.Compiled.{is_pend, cards_to_pend}
-use Rattle.control_compiler.specs.declared.stop.CompileStop.{CompileStop}
-use Rattle.control_compiler.specs.declared.stop.CompileStop.TheVariants.{Fault, NoMemory}
+use Rattle.control_definitions.specs.declared.ControlFault.{ControlFault}
+use Rattle.card_reader.specs.declared.stop.CardStop.{CardStop}
+use Rattle.card_reader.specs.declared.stop.CardStop.TheVariants.{Fault, NoMemory}
 use Rattle.control_compiler.specs.declared.draft.Draft.{Draft}
 use Rattle.control_compiler.specs.After.{IsAfter, Takes}
 use Rattle.control_compiler.specs.Jobs.{live_cards, live_after}
@@ -67,7 +68,7 @@ module _ (job : List (List ℕ)) (number : ℕ) (bytes : List ℕ) (old new : Dr
       (omega (arith, more, nothing, longer, count), omega (arith, more, nothing, few))
 
   -- What becomes of a draft by a card that isn't skipped.
-  pub passed : (r : Result Bool CompileStop) → Takes r underway.before (record { number = number + 1; bytes = bytes }) new → Passes r job (number + 1) new
+  pub passed : (r : Result Bool (CardStop ControlFault)) → Takes r underway.before (record { number = number + 1; bytes = bytes }) new → Passes r job (number + 1) new
   passed (Err (Fault fault)) takes = reached_fault job underway.before card (live_after (number + 1) job) here fault takes
   passed (Err NoMemory) takes = tt
   passed (Ok false) takes = goes_on takes.1 (faultless underway.before bytes takes.0) (reached_next job underway.before card (live_after (number + 1) job) here takes.0 (sym takes.1)) takes.2

@@ -3,8 +3,9 @@ use Rattle.std.specs.Prelude.{◌≡◌, ◌++◌, ◌∷◌, [], Bool, List, So
 use Rattle.card_definitions.specs.Cards.{Card}
 use Rattle.control_definitions.specs.Compiled.{control_card_fault, is_pend, fault_at}
 use Rattle.control_verbs.specs.Views.{viewed, statement_view, IsLawful}
-use Rattle.control_compiler.specs.declared.stop.CompileStop.{CompileStop}
-use Rattle.control_compiler.specs.declared.stop.CompileStop.TheVariants.{Fault, NoMemory}
+use Rattle.control_definitions.specs.declared.ControlFault.{ControlFault}
+use Rattle.card_reader.specs.declared.stop.CardStop.{CardStop}
+use Rattle.card_reader.specs.declared.stop.CardStop.TheVariants.{Fault, NoMemory}
 use Rattle.control_compiler.specs.Cards.{HasPositions, statement_said}
 use Rattle.control_compiler.specs.declared.draft.Draft.{Draft}
 
@@ -16,7 +17,7 @@ pub record IsAfter (cards : List Card) (draft : Draft) : Type 0 where
 
 -- What becomes of a draft by one more card, of which there are as many before as it has statements and PROGRAM: the card's
 -- fault, or a draft with it. Memory may run out at any time.
-abbrev pub Takes : Result Bool CompileStop → List Card → Card → Draft → Type 0
+abbrev pub Takes : Result Bool (CardStop ControlFault) → List Card → Card → Draft → Type 0
 Takes (Err (Fault fault)) cards card draft = option_map (fault_at card.number) (control_card_fault cards card.bytes) ≡ Some fault
 Takes (Err NoMemory) cards card draft = Unit {0}
 Takes (Ok ends) cards card draft = (control_card_fault cards card.bytes ≡ None) × (ends ≡ is_pend card.bytes) × IsAfter (cards ++ card ∷ []) draft

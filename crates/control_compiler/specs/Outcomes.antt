@@ -5,8 +5,8 @@ use Rattle.control_definitions.specs.declared.ControlFault.{ControlFault}
 use Rattle.control_definitions.specs.Program.{Program}
 use Rattle.control_definitions.specs.Compiled.{control_fault, cards_to_pend}
 use Rattle.control_definitions.specs.declared.TheConstants.{MAX_STATEMENTS}
-use Rattle.control_compiler.specs.declared.stop.CompileStop.{CompileStop}
-use Rattle.control_compiler.specs.declared.stop.CompileStop.TheVariants.{Fault, NoMemory}
+use Rattle.card_reader.specs.declared.stop.CardStop.{CardStop}
+use Rattle.card_reader.specs.declared.stop.CardStop.TheVariants.{Fault, NoMemory}
 use Rattle.control_compiler.specs.declared.reading.Reading.{Reading}
 use Rattle.control_compiler.specs.After.{IsAfter}
 use Rattle.control_compiler.specs.Jobs.{live_cards, has_end, late_fault}
@@ -22,7 +22,7 @@ pub record IsRead (job : List (List ℕ)) (reading : Reading) : Type 0 where
   pub few : length reading.draft.statements.items ≤ MAX_STATEMENTS
 
 -- The job's first fault, or what was read. Memory may run out at any time.
-abbrev pub Reads : Result Reading CompileStop → List (List ℕ) → Type 0
+abbrev pub Reads : Result Reading (CardStop ControlFault) → List (List ℕ) → Type 0
 Reads (Ok reading) job = IsRead job reading
 Reads (Err (Fault fault)) job = control_fault job ≡ Some fault
 Reads (Err NoMemory) job = Unit {0}
@@ -33,6 +33,6 @@ EndsAt (Ok number) pend fault = (pend ≡ Some number) × (fault ≡ None)
 EndsAt (Err reported) pend fault = fault ≡ Some reported
 
 -- A fault is the one that the cards have, and memory may run out at any time.
-abbrev pub ReportsControlFault : Result Program ControlFault → CompileStop → Type 0
+abbrev pub ReportsControlFault : Result Program ControlFault → CardStop ControlFault → Type 0
 ReportsControlFault outcome (Fault fault) = outcome ≡ Err fault
 ReportsControlFault outcome NoMemory = Unit {0}

@@ -5,8 +5,9 @@ use Rattle.std.specs.List.{list_any}
 use Rattle.card_definitions.specs.Cards.{Card, last_number}
 use Rattle.control_definitions.specs.declared.TheConstants.{MAX_STATEMENTS}
 use Rattle.control_definitions.specs.Compiled.{is_pend, program_cards, cards_to_pend, first_control_fault, control_fault, head_fault}
-use Rattle.control_compiler.specs.declared.stop.CompileStop.{CompileStop}
-use Rattle.control_compiler.specs.declared.stop.CompileStop.TheVariants.{Fault, NoMemory}
+use Rattle.control_definitions.specs.declared.ControlFault.{ControlFault}
+use Rattle.card_reader.specs.declared.stop.CardStop.{CardStop}
+use Rattle.card_reader.specs.declared.stop.CardStop.TheVariants.{Fault, NoMemory}
 use Rattle.control_compiler.specs.declared.draft.Draft.{Draft}
 use Rattle.control_compiler.specs.After.{IsAfter}
 use Rattle.control_compiler.specs.Jobs.{live_cards, live_after, has_end, late_fault}
@@ -32,7 +33,7 @@ pub record StandsFirst (job : List (List ℕ)) (first : ℕ) (draft : Draft) : T
   pub empty : draft.statements.items ≡ []
 
 -- the draft of PROGRAM's card, or the card's fault
-abbrev pub Begins : Result Draft CompileStop → List (List ℕ) → ℕ → Type 0
+abbrev pub Begins : Result Draft (CardStop ControlFault) → List (List ℕ) → ℕ → Type 0
 Begins (Ok draft) job number = StandsFirst job number draft
 Begins (Err (Fault fault)) job number = control_fault job ≡ Some fault
 Begins (Err NoMemory) job number = Unit {0}
@@ -61,7 +62,7 @@ pub record IsThrough (job : List (List ℕ)) (number : ℕ) (draft : Draft) : Ty
   pub few : length draft.statements.items ≤ MAX_STATEMENTS
 
 -- what becomes of a draft by the card of this number, which may be skipped
-abbrev pub Passes : Result Bool CompileStop → List (List ℕ) → ℕ → Draft → Type 0
+abbrev pub Passes : Result Bool (CardStop ControlFault) → List (List ℕ) → ℕ → Draft → Type 0
 Passes (Ok false) job number draft = IsUnderway job number draft
 Passes (Ok true) job number draft = IsThrough job number draft
 Passes (Err (Fault fault)) job number draft = control_fault job ≡ Some fault

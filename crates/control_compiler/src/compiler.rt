@@ -7,8 +7,7 @@ ghost use Rattle.control_compiler.specs.Outcomes.{EndsAt, ReportsControlFault};
 use crate::program::Program;
 use crate::reading::Reading;
 use crate::settling::{missing, settle};
-use crate::stop::CompileStop;
-use card_reader::Cards;
+use card_reader::{CardStop, Cards};
 use control_definitions::{ControlFault, ControlFaultKind};
 use std::alloc::Global;
 
@@ -27,11 +26,13 @@ fn pend_or_fault(pend: Option<u32>, missing: Option<u32>, last: u32) -> Result<u
 }
 
 /// Compiles the control program at the head of a job's cards, from PROGRAM to PEND, or answers the job's first control fault.
-pub fn compile(alloc: Global, cards: &Cards) -> Result<Program, CompileStop>
+pub fn compile(alloc: Global, cards: &Cards) -> Result<Program, CardStop<ControlFault>>
     ensures program { IfOk result (λ program. compiled cards.now ≡ Ok program) }
     ensures fault { IfErr result (ReportsControlFault (compiled cards.now)) }
 {
     let reading = Reading::of(alloc, cards)?;
-    let pend = pend_or_fault(reading.end, missing(&reading.draft), cards.count())?;
-    settle(alloc, reading.draft, pend + 1)
+    match pend_or_fault(reading.end, missing(&reading.draft), cards.count()) {
+        Ok(pend) => settle(alloc, reading.draft, pend + 1),
+        Err(fault) => Err(CardStop::Fault(fault)),
+    }
 }

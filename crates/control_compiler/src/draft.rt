@@ -2,14 +2,15 @@
 ghost use Rattle.std.specs.Prelude.{◌≡◌, ◌+◌, ◌≤◌, ◌++◌, List, ℕ, All, length, map, bytes_eq, is_some, false, option_to_list, OnOk, IfErr};
 ghost use Rattle.control_verbs.specs.Views.{viewed, statement_view, IsLawful};
 ghost use Rattle.control_compiler.specs.Cards.{placed, statement_said};
-ghost use Rattle.control_compiler.specs.declared.stop.CompileStop.TheVariants.{NoMemory};
+ghost use Rattle.card_reader.specs.declared.stop.CardStop.TheVariants.{NoMemory};
 ghost use Rattle.std.specs.Option.{option_map_or};
 ghost use Rattle.std.specs.Map.{lookup};
 ghost use Rattle.card_definitions.specs.Cards.{Card};
 ghost use Rattle.control_definitions.specs.declared.TheConstants.{MAX_STATEMENTS};
 
 use crate::labels::Labels;
-use crate::stop::CompileStop;
+use card_reader::CardStop;
+use control_definitions::ControlFault;
 use control_verbs::{Statement, card_fault, is_pend, label, label_in, verb_of};
 use name_table::Name;
 
@@ -25,7 +26,7 @@ pub fn place_label(
     labels: &mut Labels,
     label: Option<Name>,
     position: u32,
-) -> Result<(), CompileStop>
+) -> Result<(), CardStop<ControlFault>>
     ensures ok { OnOk result ((other : List ℕ) → lookup (bytes_eq other) labels.new ≡ placed label
         position other (lookup (bytes_eq other) labels.old)) }
     ensures err { IfErr result (λ stop. stop ≡ NoMemory) }
@@ -41,7 +42,7 @@ fn push_statement(
     statements: &mut Vec<Statement<Name>>,
     number: u32,
     card: &[u8],
-) -> Result<(), CompileStop>
+) -> Result<(), CardStop<ControlFault>>
     ensures ok { OnOk result (map statement_view statements.new.items ≡ map statement_view
         statements.old.items ++ option_to_list (statement_said
         (record { number = number; bytes = card.now }))) }
@@ -71,7 +72,7 @@ impl Draft {
     ghost use Rattle.control_compiler.specs.After.{IsAfter, Takes};
 
     /// Takes one more card of the program, and says whether it is PEND.
-    pub fn take(&mut self, number: u32, card: &[u8]) -> Result<bool, CompileStop>
+    pub fn take(&mut self, number: u32, card: &[u8]) -> Result<bool, CardStop<ControlFault>>
         requires { length self.old.statements.items ≤ MAX_STATEMENTS }
         ensures { (cards : List Card) → IsAfter cards self.old → length cards ≡ length
             self.old.statements.items + 1 → Takes result cards
@@ -81,7 +82,7 @@ impl Draft {
         let label = label_in(label(card));
         let is_twice = is_placed(&self.labels, &label);
         if let Some(fault) = card_fault(card, is_twice, position) {
-            return Err(CompileStop::Fault(fault.on_card(number)));
+            return Err(CardStop::Fault(fault.on_card(number)));
         }
         place_label(&mut self.labels, label, position as u32)?;
         push_statement(&mut self.statements, number, card)?;

@@ -1,9 +1,10 @@
 // The labels of a program, each with its position.
 ghost use Rattle.std.specs.Prelude.{◌≡◌, List, ℕ, bytes_eq, OnOk, Some, None, if◌then◌else◌, IfErr};
 ghost use Rattle.std.specs.Map.{lookup};
-ghost use Rattle.control_compiler.specs.declared.stop.CompileStop.TheVariants.{NoMemory};
+ghost use Rattle.card_reader.specs.declared.stop.CardStop.TheVariants.{NoMemory};
 
-use crate::stop::CompileStop;
+use card_reader::CardStop;
+use control_definitions::ControlFault;
 use name_table::Name;
 use std::alloc::Global;
 use std::collections::HashMap;
@@ -41,7 +42,7 @@ impl Labels {
     }
 
     /// Gives a label its position.
-    pub fn add(&mut self, label: Name, position: u32) -> Result<(), CompileStop>
+    pub fn add(&mut self, label: Name, position: u32) -> Result<(), CardStop<ControlFault>>
         ensures ok { OnOk result ((other : List ℕ) → lookup (bytes_eq other) self.new ≡
             (if bytes_eq label other then Some position else lookup (bytes_eq other) self.old)) }
         ensures err { IfErr result (λ stop. stop ≡ NoMemory) }

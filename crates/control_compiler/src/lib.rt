@@ -7,10 +7,9 @@ mod labels;
 mod program;
 mod reading;
 mod settling;
-mod stop;
 
+pub use card_reader::CardStop;
 pub use compiler::compile;
 pub use control_definitions::{ControlFault, ControlFaultKind, Demand, NameCell, NumberCell};
 pub use control_verbs::{SetupOptions, Statement, Text, Verb};
 pub use program::Program;
-pub use stop::CompileStop;

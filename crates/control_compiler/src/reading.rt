@@ -4,9 +4,8 @@ ghost use Rattle.control_compiler.specs.Underway.{IsFirst, FindsFirst, StandsFir
 
 use crate::draft::{Draft, place_label};
 use crate::labels::Labels;
-use crate::stop::CompileStop;
-use card_reader::Cards;
-use control_definitions::ControlFaultKind;
+use card_reader::{CardStop, Cards};
+use control_definitions::{ControlFault, ControlFaultKind};
 use control_verbs::{head_fault, label, label_in};
 use std::alloc::Global;
 
@@ -32,13 +31,13 @@ fn first_live(cards: &Cards) -> Option<u32>
 }
 
 // The draft that PROGRAM's card begins, which is the first card that isn't skipped, or the card's fault.
-fn begin(alloc: Global, cards: &Cards, number: u32) -> Result<Draft, CompileStop>
+fn begin(alloc: Global, cards: &Cards, number: u32) -> Result<Draft, CardStop<ControlFault>>
     requires { IsFirst cards.now number }
     ensures { Begins result cards.now number }
 {
     let card = cards.card(number).bytes();
     if let Some(fault) = head_fault(card) {
-        return Err(CompileStop::Fault(fault.on_card(number)));
+        return Err(CardStop::Fault(fault.on_card(number)));
     }
     let mut labels = Labels::new(alloc);
     place_label(&mut labels, label_in(label(card)), 1)?;
@@ -49,7 +48,7 @@ fn begin(alloc: Global, cards: &Cards, number: u32) -> Result<Draft, CompileStop
 }
 
 // Takes the card after this number, unless it is skipped, and says whether it is PEND.
-fn pass(draft: &mut Draft, cards: &Cards, number: u32) -> Result<bool, CompileStop>
+fn pass(draft: &mut Draft, cards: &Cards, number: u32) -> Result<bool, CardStop<ControlFault>>
     requires within { number < length cards.now }
     requires room { number < 4294967295 }
     requires underway { IsUnderway cards.now number draft.old }
@@ -66,18 +65,18 @@ impl Reading {
     ghost use Rattle.control_compiler.specs.Outcomes.{Reads};
 
     /// Reads the job's cards up to PEND.
-    pub fn of(alloc: Global, cards: &Cards) -> Result<Reading, CompileStop>
+    pub fn of(alloc: Global, cards: &Cards) -> Result<Reading, CardStop<ControlFault>>
         ensures { Reads result cards.now }
     {
         let Some(number) = first_live(cards) else {
-            return Err(CompileStop::Fault(ControlFaultKind::NoProgram.on_card(cards.count())));
+            return Err(CardStop::Fault(ControlFaultKind::NoProgram.on_card(cards.count())));
         };
         let draft = begin(alloc, cards, number)?;
         Reading::after(draft, cards, number)
     }
 
     // Reads the cards after the one of this number, which is PROGRAM's.
-    fn after(mut draft: Draft, cards: &Cards, first: u32) -> Result<Reading, CompileStop>
+    fn after(mut draft: Draft, cards: &Cards, first: u32) -> Result<Reading, CardStop<ControlFault>>
         requires { StandsFirst cards.now first draft }
         ensures { Reads result cards.now }
     {

@@ -4,12 +4,13 @@ ghost use Rattle.control_definitions.specs.Program.{verb_by};
 ghost use Rattle.control_verbs.specs.Views.{viewed, statement_view};
 ghost use Rattle.control_compiler.specs.Settled.{lacks_label, place_in, settled, settled_program};
 ghost use Rattle.control_compiler.specs.Valid.{IsProgram};
-ghost use Rattle.control_compiler.specs.declared.stop.CompileStop.TheVariants.{NoMemory};
+ghost use Rattle.card_reader.specs.declared.stop.CardStop.TheVariants.{NoMemory};
 
 use crate::draft::Draft;
 use crate::labels::Labels;
 use crate::program::Program;
-use crate::stop::CompileStop;
+use card_reader::CardStop;
+use control_definitions::ControlFault;
 use control_verbs::{Statement, Verb};
 use name_table::Name;
 use std::alloc::Global;
@@ -79,7 +80,7 @@ fn settled_statements(
     alloc: Global,
     labels: &Labels,
     statements: Vec<Statement<Name>>,
-) -> Result<Vec<Statement<u32>>, CompileStop>
+) -> Result<Vec<Statement<u32>>, CardStop<ControlFault>>
     ensures ok { IfOk result (λ all. map statement_view all.items ≡ map
         (λ statement. settled labels.now (statement_view statement)) statements.items) }
     ensures err { IfErr result (λ stop. stop ≡ NoMemory) }
@@ -93,7 +94,11 @@ fn settled_statements(
 }
 
 // The program of a draft, with the first card after it.
-pub fn settle(alloc: Global, draft: Draft, decks_from: u32) -> Result<Program, CompileStop>
+pub fn settle(
+    alloc: Global,
+    draft: Draft,
+    decks_from: u32,
+) -> Result<Program, CardStop<ControlFault>>
     requires { IsProgram (settled_program draft decks_from) }
     ensures ok { IfOk result (λ program. program ≡ settled_program draft decks_from) }
     ensures err { IfErr result (λ stop. stop ≡ NoMemory) }

@@ -1,5 +1,5 @@
-use card_reader::{Cards, read_job};
-use control_compiler::{CompileStop, Demand, Program, Verb, compile};
+use card_reader::{CardStop, Cards, read_job};
+use control_compiler::{Demand, Program, Verb, compile};
 use job_devices::SureSource;
 use std::alloc::Global;
 use std::test::Fail;
@@ -14,8 +14,8 @@ fn cards_of(alloc: Global, job: &[u8]) -> Result<Cards, Fail> {
 fn fault_of(alloc: Global, job: &[u8]) -> Result<Option<(u8, u32)>, Fail> {
     match compile(alloc, &cards_of(alloc, job)?) {
         Ok(_) => Ok(None),
-        Err(CompileStop::Fault(fault)) => Ok(Some((fault.number, fault.card))),
-        Err(CompileStop::NoMemory) => Err(Fail::from("memory")),
+        Err(CardStop::Fault(fault)) => Ok(Some((fault.number, fault.card))),
+        Err(CardStop::NoMemory) => Err(Fail::from("memory")),
     }
 }
 

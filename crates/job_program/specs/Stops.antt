@@ -12,8 +12,7 @@ use Rattle.card_reader.specs.declared.stop.ReadingFault.TheVariants as reading
 use Rattle.command_line.specs.declared.request.WordsStop.{WordsStop}
 use Rattle.command_line.specs.declared.request.WordsStop.TheVariants as words
 use Rattle.control_definitions.specs.Compiled.{compiled}
-use Rattle.control_compiler.specs.declared.stop.CompileStop.{CompileStop}
-use Rattle.control_compiler.specs.declared.stop.CompileStop.TheVariants as compiling
+use Rattle.control_definitions.specs.declared.ControlFault.{ControlFault}
 use Rattle.listing_definitions.specs.Ending.{Ending}
 use Rattle.listing_definitions.specs.Ending as endings
 use Rattle.run_definitions.specs.Answer.{IsProgramOf}
@@ -41,9 +40,9 @@ stop_of_reading (cards.Fault (reading.Card fault)) = Card fault
 stop_of_reading cards.NoMemory = Memory
 
 -- where the program isn't compiled
-abbrev pub stop_of_compiling : CompileStop → EarlyStop
-stop_of_compiling (compiling.Fault fault) = Control fault
-stop_of_compiling compiling.NoMemory = Memory
+abbrev pub stop_of_compiling : CardStop ControlFault → EarlyStop
+stop_of_compiling (cards.Fault fault) = Control fault
+stop_of_compiling cards.NoMemory = Memory
 
 -- Where the job is known, the stop reports the fault of its cards, or else the fault of its program. Instead of that, the source may
 -- fail or memory run out. The words have nothing to do with the job.

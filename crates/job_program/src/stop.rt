@@ -5,7 +5,7 @@ ghost use Rattle.report_text.specs.Views.{IsEnding, ending_view};
 use card_definitions::CardFault;
 use card_reader::{CardStop, ReadingFault};
 use command_line::WordsStop;
-use control_compiler::{CompileStop, ControlFault};
+use control_compiler::ControlFault;
 use report_text::Ending;
 
 /// Why the program of a job isn't run.
@@ -50,15 +50,15 @@ impl From<CardStop<ReadingFault>> for EarlyStop {
     }
 }
 
-impl From<CompileStop> for EarlyStop {
+impl From<CardStop<ControlFault>> for EarlyStop {
     ghost use Rattle.job_program.specs.Stops.{stop_of_compiling};
 
     ghost from_gives = { λ stop given. given ≡ stop_of_compiling stop };
 
-    fn from(stop: CompileStop) -> EarlyStop {
+    fn from(stop: CardStop<ControlFault>) -> EarlyStop {
         match stop {
-            CompileStop::Fault(fault) => EarlyStop::Control(fault),
-            CompileStop::NoMemory => EarlyStop::Memory,
+            CardStop::Fault(fault) => EarlyStop::Control(fault),
+            CardStop::NoMemory => EarlyStop::Memory,
         }
     }
 }
