@@ -16,7 +16,7 @@ pub const GREAT: Listing = Listing {
     }],
 };
 
-/// A range whose sum is refused.
+/// A range whose sum is refused, in a listing as if it were selected.
 pub const RANGE_REFUSED: Listing = Listing {
     name: "a range that is refused",
     job: b"         PROGRAM\n         CONVERT\n         SETUP('RANGE','R')\n         EXIT\n         PEND\nNAME          T\nROWS\n N  COST\n L  LIM\nCOLUMNS\n    X         LIM       1\nRHS\n    B         LIM       999999999E18\nRANGES\n    R         LIM       .1E-18\nENDATA\n",
@@ -48,7 +48,7 @@ pub const RANGE_REFUSED: Listing = Listing {
     ],
 };
 
-/// The same after a verdict that no SOLUTION shows.
+/// The same after a verdict that no SOLUTION shows, as if it were selected.
 pub const RANGE_AFTER_PRIMAL: Listing = Listing {
     name: "a range that is refused after a verdict",
     job: b"         PROGRAM\n         CONVERT\n         SETUP\n         PRIMAL\n         SETUP('RANGE','R')\n         EXIT\n         PEND\nNAME          T\nROWS\n N  COST\n L  LIM\nCOLUMNS\n    X         LIM       1\nRHS\n    B         LIM       999999999E18\nRANGES\n    R         LIM       .1E-18\nENDATA\n",
