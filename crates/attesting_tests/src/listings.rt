@@ -9,8 +9,6 @@ use std::test::Fail;
 /// What is changed in a text.
 #[derive(Clone, Copy)]
 pub enum Edit {
-    /// Nothing.
-    Nothing,
     /// The first place where the one text stands gets the other.
     Text(&'static [u8], &'static [u8]),
     /// All from there on is replaced by the other.
@@ -26,11 +24,13 @@ pub struct Case {
     pub line: &'static [u8],
 }
 
-/// A job, its listing, and changes of that.
+/// A job, its listing with what is printed of it, and changes of that.
 pub struct Listing {
     pub name: &'static str,
     pub job: &'static [u8],
     pub text: &'static [u8],
+    pub status: u8,
+    pub line: &'static [u8],
     pub cases: &'static [Case],
 }
 
@@ -83,7 +83,6 @@ fn replaced(
 // The text after a change. None where what is to be changed isn't there.
 fn edited(alloc: Global, text: &[u8], edit: Edit) -> Result<Option<Vec<u8>>, Fail> {
     match edit {
-        Edit::Nothing => Ok(Some(Vec::from_slice(alloc, text)?)),
         Edit::Text(old, new) => replaced(alloc, text, old, new, true),
         Edit::From(old, new) => replaced(alloc, text, old, new, false),
     }
@@ -111,8 +110,12 @@ pub fn answer_to(alloc: Global, job: &[u8], listing: &[u8]) -> Result<Answer, Fa
     )
 }
 
-/// The first change of a listing after which another line or another status is answered, or which can't be made.
+/// The first change of a listing after which another line or another status is answered, or which can't be made. The listing as it is
+/// comes before its changes.
 pub fn first_other(alloc: Global, listing: &Listing) -> Result<Option<&'static str>, Fail> {
+    if !answer_to(alloc, listing.job, listing.text)?.is(listing.status, listing.line) {
+        return Ok(Some("as it is"));
+    }
     for case in listing.cases {
         let Some(text) = edited(alloc, listing.text, case.edit)? else {
             return Ok(Some(case.name));

@@ -6,13 +6,9 @@ pub const CONFLICT: Listing = Listing {
     name: "conflict",
     job: b"* A workshop promised more than its hours allow: no plan keeps all limits.\n* It shows a ray: the rows that conflict, with the factors by which they do.\n         PROGRAM\n         TITLE('PROMISES AND HOURS')\n         CONVERT\n         SETUP('MIN')\n         PRIMAL\n         SOLUTION\n         EXIT\n         PEND\nNAME          PROMISE\nROWS\n N  COST\n L  HOURS\n G  CHAIRS\n G  TABLES\nCOLUMNS\n    CHAIR     COST      7              HOURS     2\n    CHAIR     CHAIRS    1\n    TABLE     COST      20             HOURS     5\n    TABLE     TABLES    1\nRHS\n    WEEK      HOURS     100            CHAIRS    20\n    WEEK      TABLES    14\nENDATA\n",
     text: b"TITLE PROMISES AND HOURS\nCONVERT PROMISE  ROWS 4 COLUMNS 2 ENTRIES 6\nSETUP   PROMISE  MIN\nPRIMAL INFEASIBLE STEPS 2 RAY CHECKED\n    2 HOURS    1\n    3 CHAIRS   -2\n    4 TABLES   -5\nEND 1\n",
+    status: 0,
+    line: b"ATTESTED 4 REPORTS\n",
     cases: &[
-        Case {
-            name: "as it is",
-            edit: Edit::Nothing,
-            status: 0,
-            line: b"ATTESTED 4 REPORTS\n",
-        },
         Case {
             name: "the ray times three",
             edit: Edit::Text(
@@ -108,20 +104,14 @@ pub const INFEASIBLE: Listing = Listing {
     name: "infeasible ray",
     job: b"         PROGRAM\n         CONVERT\n         SETUP\n         PRIMAL\n         SOLUTION\n         EXIT\n         PEND\nNAME          T\nROWS\n N  COST\n G  LOW\n L  HIGH\nCOLUMNS\n    X         COST      1\n    X         LOW       1\n    X         HIGH      1\nRHS\n    B         LOW       3\n    B         HIGH      2\nENDATA\n",
     text: b"CONVERT T        ROWS 3 COLUMNS 1 ENTRIES 3\nSETUP   T        MIN\nPRIMAL INFEASIBLE STEPS 1 RAY CHECKED\n    2 LOW      -1\n    3 HIGH     1\nEND 1\n",
-    cases: &[
-        Case {
-            name: "as it is",
-            edit: Edit::Nothing,
-            status: 0,
-            line: b"ATTESTED 3 REPORTS\n",
-        },
-        Case {
-            name: "another factor",
-            edit: Edit::Text(b"HIGH     1", b"HIGH     2"),
-            status: 40,
-            line: b"WRONG LINE 3\n",
-        },
-    ],
+    status: 0,
+    line: b"ATTESTED 3 REPORTS\n",
+    cases: &[Case {
+        name: "another factor",
+        edit: Edit::Text(b"HIGH     1", b"HIGH     2"),
+        status: 40,
+        line: b"WRONG LINE 3\n",
+    }],
 };
 
 /// A profit without a bound.
@@ -129,13 +119,9 @@ pub const UNBOUNDED: Listing = Listing {
     name: "endless",
     job: b"* A row was forgotten: nothing limits what is sold, so the profit has no bound.\n* It shows a direction along which the profit grows for ever.\n         PROGRAM\n         TITLE('A ROW IS MISSING')\n         CONVERT\n         SETUP('MAX')\n         PRIMAL\n         SOLUTION\n         EXIT\n         PEND\nNAME          ENDLESS\nROWS\n N  PROFIT\n L  MILLING\nCOLUMNS\n    BUY       PROFIT    -3             MILLING   -1\n    SELL      PROFIT    5              MILLING   1\nRHS\n    DAY       MILLING   40\nENDATA\n",
     text: b"TITLE A ROW IS MISSING\nCONVERT ENDLESS  ROWS 2 COLUMNS 2 ENTRIES 4\nSETUP   ENDLESS  MAX\nPRIMAL UNBOUNDED STEPS 1 OBJECTIVE 200 CHECKED\n    1 PROFIT   200 2\n    2 MILLING  40 0\n    3 BUY      0 1\n    4 SELL     40 1\nEND 2\n",
+    status: 0,
+    line: b"ATTESTED 4 REPORTS\n",
     cases: &[
-        Case {
-            name: "as it is",
-            edit: Edit::Nothing,
-            status: 0,
-            line: b"ATTESTED 4 REPORTS\n",
-        },
         Case {
             name: "another objective",
             edit: Edit::Text(b"OBJECTIVE 200", b"OBJECTIVE 201"),
