@@ -14,7 +14,7 @@ ghost use Rattle.listing_answers.specs.Solutions.{rows_head, columns_head, AreLi
 use frac128::Frac;
 use listing_definitions::Mark;
 use listing_readers::{Cursor, Numbers, Shape, firsts, seconds, table, thirds};
-use listing_tables::Sheet;
+use listing_tables::{Sheet, mark_word};
 use lp_model::NoMemory;
 use std::alloc::Global;
 
@@ -31,17 +31,6 @@ pub struct Printed {
     pub point: Vec<Frac>,
     pub prices: Vec<Frac>,
     pub slacks: Vec<Frac>,
-}
-
-// The word of a mark.
-fn mark_word(mark: Mark) -> &'static [u8]
-    ensures { result.now ≡ mark_text mark }
-{
-    match mark {
-        Mark::Optimal => b"OPTIMAL",
-        Mark::Infeasible => b"INFEASIBLE",
-        Mark::Unbounded => b"UNBOUNDED",
-    }
 }
 
 // Takes the heads of the rows.

@@ -3,11 +3,11 @@ ghost use Rattle.std.specs.Prelude.{◌≡◌, ◌∷◌, ◌++◌, [], codes, m
 ghost use Rattle.std.specs.List.{concat, flat_map};
 ghost use Rattle.job_devices.specs.Text.{Writes};
 ghost use Rattle.listing_definitions.specs.Report.{limit_value};
-ghost use Rattle.listing_definitions.specs.Text.{at_text, number5, name8, value_text, line_text};
+ghost use Rattle.listing_definitions.specs.Text.{number5, name8, value_text, line_text};
 ghost use Rattle.listing_tables.specs.Values.{value_view, value_after_blank};
 
 use crate::buffer::TextBuffer;
-use crate::pieces::{NAME_PLACES, NUMBER_PLACES, blanks, decimal, fraction};
+use crate::pieces::{NAME_PLACES, NUMBER_PLACES, at_word, blanks, decimal, fraction};
 use frac128::Frac;
 use itoa::Buffer;
 use job_devices::{Sink, WriteStop, put_all, put_each};
@@ -35,20 +35,6 @@ impl Value {
             Some(number) => Value::Number(number),
             None => Value::Absent,
         }
-    }
-}
-
-// The word of a place.
-fn at_word(at: At) -> &'static [u8]
-    ensures { result.now ≡ at_text at }
-{
-    match at {
-        At::Basic => b"BS",
-        At::Outside => b"**",
-        At::Equal => b"EQ",
-        At::Lower => b"LL",
-        At::Upper => b"UL",
-        At::Free => b"FR",
     }
 }
 

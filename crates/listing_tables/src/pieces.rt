@@ -2,12 +2,12 @@
 ghost use Rattle.std.specs.Prelude.{◌≡◌, ◌≤◌, ◌-◌, replicate};
 ghost use Rattle.frac128.specs.Text.{fraction_text};
 ghost use Rattle.listing_definitions.specs.Numbers.{digits, rational_text};
-ghost use Rattle.listing_definitions.specs.Text.{operation_text, sense_text, solver_text};
+ghost use Rattle.listing_definitions.specs.Text.{at_text, mark_text, operation_text, sense_text, solver_text};
 
 use arrayvec::ArrayString;
 use frac128::{Frac, Op};
 use itoa::Buffer;
-use listing_definitions::Solver;
+use listing_definitions::{At, Mark, Solver};
 use lp_definitions::Sense;
 
 /// The text of a fraction: a sign, 39 digits, a slash and 39 digits at most.
@@ -57,6 +57,31 @@ pub fn blanks(places: usize, taken: usize) -> &'static [u8]
     ensures { result.now ≡ replicate (places - taken) 32 }
 {
     &BLANKS[..places.saturating_sub(taken)]
+}
+
+/// The word of where a variable stands.
+pub fn at_word(at: At) -> &'static [u8]
+    ensures { result.now ≡ at_text at }
+{
+    match at {
+        At::Basic => b"BS",
+        At::Outside => b"**",
+        At::Equal => b"EQ",
+        At::Lower => b"LL",
+        At::Upper => b"UL",
+        At::Free => b"FR",
+    }
+}
+
+/// The word of a mark.
+pub fn mark_word(mark: Mark) -> &'static [u8]
+    ensures { result.now ≡ mark_text mark }
+{
+    match mark {
+        Mark::Optimal => b"OPTIMAL",
+        Mark::Infeasible => b"INFEASIBLE",
+        Mark::Unbounded => b"UNBOUNDED",
+    }
 }
 
 /// The word of an operation.

@@ -7,6 +7,7 @@ mod parametric;
 mod plain;
 mod ranges;
 mod report;
+mod section;
 mod solution;
 mod verdict;
 
