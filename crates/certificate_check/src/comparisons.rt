@@ -10,6 +10,7 @@ use frac128::Frac;
 use lp_model::Sense;
 use std::cmp::Ordering;
 
+/// Whether two numbers are equal.
 pub fn is_equal(x: Frac, y: Frac) -> bool
     ensures { result ≡ eq_ℚ x y }
 {

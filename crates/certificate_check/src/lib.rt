@@ -21,6 +21,7 @@ mod sums;
 
 pub use check_definitions::Verdict;
 use comparisons::is_crossed_by;
+pub use comparisons::{counted_for, holds_by_sign, is_equal, stands_at};
 use direction::{direction_improves, direction_is_free};
 use frac128::Frac;
 use lp_model::Lp;
@@ -30,6 +31,7 @@ pub use parts::{
 };
 use point::{equations_hold, point_is_feasible};
 use prices::{are_reduced_costs, prices_stand};
+pub use ray::limit_met;
 use ray::{limits_contradict, vanishes};
 use stops::{Stopped, compare, verdict};
 

@@ -37,7 +37,7 @@ pub fn vanishes(lp: &Lp, ray: &[Frac]) -> Result<(), Stopped>
 }
 
 /// The limit that a multiplier of the variable meets: the upper one if it is positive, else the lower one.
-fn limit_met(lp: &Lp, multiplier: Frac, k: u32) -> Option<Frac>
+pub fn limit_met(lp: &Lp, multiplier: Frac, k: u32) -> Option<Frac>
     requires { IsVariable lp.now.matrix k }
     ensures { result ≡ (if lt_ℚ zero_ℚ multiplier then upper_of lp.now k else lower_of lp.now k) }
 {

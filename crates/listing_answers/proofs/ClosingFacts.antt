@@ -18,7 +18,7 @@ use Rattle.walk_definitions.specs.Reading.{close_in}
 use Rattle.listing_answers.specs.declared.closing.Closing as declared
 use Rattle.listing_answers.specs.declared.closing.Closing.TheVariants as closings
 use Rattle.listing_answers.specs.Words.{Found}
-use Rattle.listing_answers.specs.Closings.{end_in, row_close_in, set_close_in, close_after_in, Closes, value_of, ClosingFits, closing_test}
+use Rattle.listing_answers.specs.Closings.{end_in, close_after_in, Closes, value_of, ClosingFits, closing_test}
 use Rattle.listing_answers.proofs.Tables.{multipliers_counted}
 
 -- ---- what is read
@@ -37,8 +37,8 @@ module _ (sheet : Sheet) (second : List ℕ → Parsed ChainEnd) (old new : List
     end_then (Err none) h = h
 
 pub close_taken : (sheet : Sheet) (changing : Changing) (old left : List ℕ) → left_after (solver_text (parametric_solver changing)) old ≡ Some left → close_in sheet (parametric_solver changing) old ≡ close_after_in sheet changing left
-close_taken sheet (Row name) old left e = ap (option_and_then (row_close_in sheet)) e
-close_taken sheet (Set name) old left e = ap (option_and_then (set_close_in sheet)) e
+close_taken sheet (Row name) old left e = ap (option_and_then (close_after_in sheet (Row name))) e
+close_taken sheet (Set name) old left e = ap (option_and_then (close_after_in sheet (Set name))) e
 
 -- ---- what is tested
 

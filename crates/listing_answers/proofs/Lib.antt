@@ -10,3 +10,4 @@ mod ClosingFacts
 mod ClosingSums
 mod ParametricRunFacts
 mod PastFacts
+mod Choices

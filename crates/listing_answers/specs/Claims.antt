@@ -3,6 +3,7 @@
 --     Says, Fits                   a claim says what a verdict says, and its vectors have a value for each variable
 --     IsStated                     a claim, and whether the listing says that it was checked
 --     Tried                        what is stated was read, or the cursor stays where it is
+--     optimum_in, shown_in         the claims that a verb may make before and after that of crossed limits
 --     claim_test p, stated_test p  the test of what is stated
 --     conclusion_by, mark_by       what it comes to
 use Rattle.std.specs.Prelude.{◌≡◌, ℕ, Bool, true, false, List, [], ◌∷◌, Option, Some, None, length}
@@ -16,12 +17,14 @@ use Rattle.check_definitions.specs.Steps.{in_turn}
 use Rattle.check_definitions.specs.Checks.{crossed_check, infeasible_check, unbounded_check}
 use Rattle.listing_definitions.specs.declared.Mark.{Mark}
 use Rattle.listing_definitions.specs.declared.Mark.TheVariants as marks
+use Rattle.listing_definitions.specs.declared.Solver.{Solver}
+use Rattle.listing_definitions.specs.declared.Solver.TheVariants.{Primal, Dual}
 use Rattle.listing_definitions.specs.Report.{Line, PathVerdict, OptimalAt, CrossedAt, InfeasibleBy, UnboundedBy}
 use Rattle.question_definitions.specs.Answers.{Sheet}
 use Rattle.walk_definitions.specs.Words.{Parsed}
 use Rattle.walk_definitions.specs.Tables.{pair_slots, table_in, column_of, multipliers}
 use Rattle.walk_definitions.specs.Tests.{asked, says_checked}
-use Rattle.walk_definitions.specs.Reading.{Claim, crossed_in, infeasible_in, unbounded_in}
+use Rattle.walk_definitions.specs.Reading.{Claim, optimal_in, infeasible_in, unbounded_in}
 use Rattle.listing_answers.specs.declared.claims.Pair.{Pair}
 use Rattle.listing_answers.specs.declared.claims.Claim as declared
 use Rattle.listing_answers.specs.declared.claims.Claim.TheVariants as claims
@@ -73,14 +76,16 @@ Tried sheet claims_in old new None = (claims_in sheet old ≡ None) × (new ≡ 
 Tried sheet claims_in old new (Some stated) = IsFound (IsStated sheet) (claims_in sheet old) new stated
 
 module _ (sheet : Sheet) where
-  abbrev pub infeasible_or_unbounded_in : List ℕ → Parsed Claim
-  infeasible_or_unbounded_in rest = option_or (infeasible_in sheet rest) (unbounded_in sheet rest)
+  -- that there is a best point, where the verb may find one
+  abbrev pub optimum_in : Solver → List ℕ → Parsed Claim
+  optimum_in Primal rest = optimal_in sheet rest
+  optimum_in Dual rest = optimal_in sheet rest
+  optimum_in solver rest = None
 
-  abbrev pub not_optimal_in : List ℕ → Parsed Claim
-  not_optimal_in rest = option_or (crossed_in sheet rest) (infeasible_or_unbounded_in rest)
-
-  abbrev pub no_point_in : List ℕ → Parsed Claim
-  no_point_in rest = option_or (crossed_in sheet rest) (infeasible_in sheet rest)
+  -- that no point is feasible by a ray, or that there is no best point, where the verb may find that
+  abbrev pub shown_in : Solver → List ℕ → Parsed Claim
+  shown_in Dual rest = infeasible_in sheet rest
+  shown_in solver rest = option_or (infeasible_in sheet rest) (unbounded_in sheet rest)
 
 -- ---- the test of a claim
 

@@ -1,6 +1,6 @@
 -- What is read of how a parametric run closes, and its tests.
 --     IsValueRead, IsEndRead       a value after a text was read; the run ends at a value, or the cursor stays where it is
---     row_close_in, set_close_in   how runs of the objective and of the right-hand side close
+--     past_in, close_after_in      what ends a run of this kind before its last value; how it closes
 --     Closes                       what closes the run says what the report says
 --     closing_test, improving_test    the test of it, and a part of it
 use Rattle.std.specs.Prelude.{◌≡◌, ℕ, List, [], ◌∷◌, Option, Some, None, length, codes, option_map}
@@ -45,15 +45,13 @@ module _ (sheet : Sheet) where
   abbrev pub infeasible_in : List ℕ → Parsed ChainEnd
   infeasible_in = value_line_in (codes " INFEASIBLE PAST ") (λ t after. option_map (λ got. (InfeasiblePast t got.0, got.1)) (ray_in sheet (variables sheet.lp.matrix) after))
 
-  abbrev pub row_close_in : List ℕ → Parsed ChainEnd
-  row_close_in left = option_or (end_in left) (unbounded_in left)
-
-  abbrev pub set_close_in : List ℕ → Parsed ChainEnd
-  set_close_in left = option_or (end_in left) (infeasible_in left)
+  -- a run of the objective may go past its end unbounded, and one of the right-hand side infeasible
+  abbrev pub past_in : Changing → List ℕ → Parsed ChainEnd
+  past_in (Row name) = unbounded_in
+  past_in (Set name) = infeasible_in
 
   abbrev pub close_after_in : Changing → List ℕ → Parsed ChainEnd
-  close_after_in (Row name) = row_close_in
-  close_after_in (Set name) = set_close_in
+  close_after_in changing left = option_or (end_in left) (past_in changing left)
 
 abbrev pub Closes : Sheet → declared.Closing → ChainEnd → Type 0
 Closes sheet (closings.At t) (EndsAt printed) = t ≡ printed

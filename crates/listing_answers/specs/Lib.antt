@@ -6,3 +6,4 @@ pub mod Solutions
 pub mod Making
 pub mod Intervals
 pub mod Closings
+pub mod Asked

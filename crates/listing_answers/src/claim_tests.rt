@@ -3,8 +3,8 @@ ghost use Rattle.std.specs.Prelude.{◌≡◌};
 ghost use Rattle.listing_answers.specs.Claims.{Fits, IsPairOf, is_optimal, pair_test, claim_test, stated_test};
 
 use crate::claims::{Claim, Pair, Stated};
-use crate::judging::{asked, both, is_equal};
-use certificate_check::{Verdict, check_crossed, check_infeasible, check_unbounded};
+use crate::judging::{asked, both};
+use certificate_check::{Verdict, check_crossed, check_infeasible, check_unbounded, is_equal};
 use frac128::Frac;
 use listing_tables::objective_of;
 use lp_model::Lp;

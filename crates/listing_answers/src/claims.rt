@@ -1,12 +1,13 @@
 // What a verdict claims, as the listing has it.
 ghost use Rattle.std.specs.Prelude.{◌≡◌, ◌++◌, IfOk, codes};
+ghost use Rattle.std.specs.Option.{option_or};
 ghost use Rattle.listing_definitions.specs.Text.{solver_text};
 ghost use Rattle.listing_tables.specs.Sheets.{IsSheet};
 ghost use Rattle.walk_definitions.specs.Words.{left_after};
 ghost use Rattle.walk_definitions.specs.Reading.{optimal_in, crossed_in, infeasible_in, unbounded_in, claim_in, verdict_in};
 ghost use Rattle.listing_readers.specs.Read.{taken, sheet_view};
 ghost use Rattle.listing_answers.specs.Words.{Found, IsRayHeadRead};
-ghost use Rattle.listing_answers.specs.Claims.{IsPairRead, IsStated, Tried, infeasible_or_unbounded_in, not_optimal_in, no_point_in};
+ghost use Rattle.listing_answers.specs.Claims.{IsPairRead, IsStated, Tried, optimum_in, shown_in};
 
 use crate::words::{check_after, count_after, read_head};
 use frac128::Frac;
@@ -179,6 +180,16 @@ fn try_infeasible(
     Ok(Some(stated))
 }
 
+// That there is a best point, if it stands here and the verb may find one.
+fn try_optimum(cursor: &mut Cursor<'_>, sheet: Sheet<'_>, solver: Solver) -> Option<Stated>
+    ensures { Tried (sheet_view sheet.entry) (λ sheet. optimum_in sheet solver) cursor.old cursor.new result }
+{
+    match solver {
+        Solver::Primal | Solver::Dual => try_optimal(cursor, sheet),
+        Solver::Paraobj | Solver::Pararhs => None,
+    }
+}
+
 // That a ray shows that no point is feasible, or that there is no best point.
 fn infeasible_or_unbounded(
     alloc: Global,
@@ -186,8 +197,8 @@ fn infeasible_or_unbounded(
     sheet: Sheet<'_>,
 ) -> Result<Option<Stated>, NoMemory>
     requires { IsSheet sheet }
-    ensures { IfOk result (Found (IsStated (sheet_view sheet.entry)) (infeasible_or_unbounded_in
-        (sheet_view sheet.entry) cursor.old) cursor.new) }
+    ensures { IfOk result (Found (IsStated (sheet_view sheet.entry)) (option_or (infeasible_in (sheet_view sheet.entry) cursor.old)
+        (unbounded_in (sheet_view sheet.entry) cursor.old)) cursor.new) }
 {
     if let Some(stated) = try_infeasible(alloc, cursor, sheet)? {
         return Ok(Some(stated));
@@ -195,66 +206,22 @@ fn infeasible_or_unbounded(
     unbounded(alloc, cursor, sheet)
 }
 
-// That no point is feasible, or that there is no best point.
-fn not_optimal(
+// What shows that no point is feasible, or that there is no best point; DUAL doesn't find the second.
+fn shown(
     alloc: Global,
     cursor: &mut Cursor<'_>,
     sheet: Sheet<'_>,
+    solver: Solver,
 ) -> Result<Option<Stated>, NoMemory>
     requires { IsSheet sheet }
-    ensures { IfOk result (Found (IsStated (sheet_view sheet.entry)) (not_optimal_in (sheet_view sheet.entry) cursor.old) cursor.new) }
+    ensures { IfOk result (Found (IsStated (sheet_view sheet.entry)) (shown_in (sheet_view sheet.entry) solver cursor.old) cursor.new) }
 {
-    if let Some(stated) = try_crossed(cursor, sheet) {
-        return Ok(Some(stated));
+    match solver {
+        Solver::Dual => infeasible(alloc, cursor, sheet),
+        Solver::Primal | Solver::Paraobj | Solver::Pararhs => {
+            infeasible_or_unbounded(alloc, cursor, sheet)
+        }
     }
-    infeasible_or_unbounded(alloc, cursor, sheet)
-}
-
-// That no point is feasible.
-fn no_point(
-    alloc: Global,
-    cursor: &mut Cursor<'_>,
-    sheet: Sheet<'_>,
-) -> Result<Option<Stated>, NoMemory>
-    requires { IsSheet sheet }
-    ensures { IfOk result (Found (IsStated (sheet_view sheet.entry)) (no_point_in (sheet_view sheet.entry) cursor.old) cursor.new) }
-{
-    if let Some(stated) = try_crossed(cursor, sheet) {
-        return Ok(Some(stated));
-    }
-    infeasible(alloc, cursor, sheet)
-}
-
-// A claim of PRIMAL.
-fn primal_claim(
-    alloc: Global,
-    cursor: &mut Cursor<'_>,
-    sheet: Sheet<'_>,
-) -> Result<Option<Stated>, NoMemory>
-    requires { IsSheet sheet }
-    ensures { IfOk result (Found (IsStated (sheet_view sheet.entry)) (claim_in
-        (sheet_view sheet.entry) Solver.Primal cursor.old) cursor.new) }
-{
-    if let Some(stated) = try_optimal(cursor, sheet) {
-        return Ok(Some(stated));
-    }
-    not_optimal(alloc, cursor, sheet)
-}
-
-// A claim of DUAL.
-fn dual_claim(
-    alloc: Global,
-    cursor: &mut Cursor<'_>,
-    sheet: Sheet<'_>,
-) -> Result<Option<Stated>, NoMemory>
-    requires { IsSheet sheet }
-    ensures { IfOk result (Found (IsStated (sheet_view sheet.entry)) (claim_in
-        (sheet_view sheet.entry) Solver.Dual cursor.old) cursor.new) }
-{
-    if let Some(stated) = try_optimal(cursor, sheet) {
-        return Ok(Some(stated));
-    }
-    no_point(alloc, cursor, sheet)
 }
 
 // A claim of a solving verb.
@@ -267,11 +234,13 @@ fn read_claim(
     requires { IsSheet sheet }
     ensures { IfOk result (Found (IsStated (sheet_view sheet.entry)) (claim_in (sheet_view sheet.entry) solver cursor.old) cursor.new) }
 {
-    match solver {
-        Solver::Primal => primal_claim(alloc, cursor, sheet),
-        Solver::Dual => dual_claim(alloc, cursor, sheet),
-        Solver::Paraobj | Solver::Pararhs => not_optimal(alloc, cursor, sheet),
+    if let Some(stated) = try_optimum(cursor, sheet, solver) {
+        return Ok(Some(stated));
     }
+    if let Some(stated) = try_crossed(cursor, sheet) {
+        return Ok(Some(stated));
+    }
+    shown(alloc, cursor, sheet, solver)
 }
 
 // Takes the name of a solving verb and a blank.

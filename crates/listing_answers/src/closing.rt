@@ -1,15 +1,15 @@
 // How a parametric run closes.
-ghost use Rattle.std.specs.Prelude.{◌≡◌, None, IfOk};
-ghost use Rattle.lp_definitions.specs.LinearProgram.{IsLinearProgram};
+ghost use Rattle.std.specs.Prelude.{◌≡◌, IfOk};
 ghost use Rattle.listing_tables.specs.Sheets.{IsSheet};
 ghost use Rattle.question_definitions.specs.Answers.{parametric_solver};
-ghost use Rattle.parametric_request.specs.Asking.{Serves, changing_of};
+ghost use Rattle.parametric_request.specs.Asking.{changing_of};
 ghost use Rattle.run_definitions.specs.Verbs.{last_value};
 ghost use Rattle.walk_definitions.specs.Tests.{close_test};
 ghost use Rattle.walk_definitions.specs.Reading.{close_in, tested};
 ghost use Rattle.listing_readers.specs.Read.{sheet_view};
+ghost use Rattle.listing_answers.specs.Asked.{IsAskedOf};
 ghost use Rattle.listing_answers.specs.Words.{Found};
-ghost use Rattle.listing_answers.specs.Closings.{IsValueRead, IsEndRead, Closes, unbounded_in, infeasible_in, row_close_in, set_close_in, close_after_in, value_of};
+ghost use Rattle.listing_answers.specs.Closings.{IsValueRead, IsEndRead, Closes, unbounded_in, infeasible_in, past_in, close_after_in, value_of};
 ghost use Rattle.listing_answers.specs.Taken.{Taken};
 
 use crate::answer::Stop;
@@ -92,34 +92,21 @@ fn infeasible_past(
     Ok(Some(Closing::Infeasible(value, ray)))
 }
 
-// How a run of the objective closes, after the name of the verb.
-fn row_close(
+// What ends a run before its last value.
+fn past(
     alloc: Global,
     cursor: &mut Cursor<'_>,
     sheet: Sheet<'_>,
+    request: &ParametricRequest,
 ) -> Result<Option<Closing>, NoMemory>
     requires { IsSheet sheet }
-    ensures { IfOk result (Found (Closes (sheet_view sheet.entry)) (row_close_in (sheet_view sheet.entry) cursor.old) cursor.new) }
+    ensures { IfOk result (Found (Closes (sheet_view sheet.entry)) (past_in (sheet_view sheet.entry)
+        (changing_of request.now.name request.now.change) cursor.old) cursor.new) }
 {
-    if let Some(value) = try_end(cursor) {
-        return Ok(Some(Closing::At(value)));
+    match &request.change {
+        Change::Row(_) => unbounded_past(alloc, cursor, sheet),
+        Change::Set(_) => infeasible_past(alloc, cursor, sheet),
     }
-    unbounded_past(alloc, cursor, sheet)
-}
-
-// How a run of the right-hand side closes, after the name of the verb.
-fn set_close(
-    alloc: Global,
-    cursor: &mut Cursor<'_>,
-    sheet: Sheet<'_>,
-) -> Result<Option<Closing>, NoMemory>
-    requires { IsSheet sheet }
-    ensures { IfOk result (Found (Closes (sheet_view sheet.entry)) (set_close_in (sheet_view sheet.entry) cursor.old) cursor.new) }
-{
-    if let Some(value) = try_end(cursor) {
-        return Ok(Some(Closing::At(value)));
-    }
-    infeasible_past(alloc, cursor, sheet)
 }
 
 // How a run closes, after the name of the verb.
@@ -133,10 +120,10 @@ fn close_after(
     ensures { IfOk result (Found (Closes (sheet_view sheet.entry)) (close_after_in (sheet_view sheet.entry)
         (changing_of request.now.name request.now.change) cursor.old) cursor.new) }
 {
-    match &request.change {
-        Change::Row(_) => row_close(alloc, cursor, sheet),
-        Change::Set(_) => set_close(alloc, cursor, sheet),
+    if let Some(value) = try_end(cursor) {
+        return Ok(Some(Closing::At(value)));
     }
+    past(alloc, cursor, sheet, request)
 }
 
 // How a run closes.
@@ -165,9 +152,7 @@ pub fn read_close(
     last: Frac,
 ) -> Result<Frac, Stop>
     requires sheet { IsSheet sheet }
-    requires lawful { IsLinearProgram sheet.lp.now }
-    requires no_change { sheet.lp.now.change ≡ None }
-    requires serves { Serves sheet.problem.now sheet.lp.now request.now }
+    requires asked { IsAskedOf sheet request.now }
     ensures { let changing = changing_of request.now.name request.now.change in
         Taken (λ end close. end ≡ last_value close) (tested (close_test (sheet_view sheet.entry) changing request.now.to last) (close_in
         (sheet_view sheet.entry) (parametric_solver changing) cursor.old)) cursor.new result }

@@ -1,14 +1,15 @@
 // The tests of how a parametric run closes.
-ghost use Rattle.std.specs.Prelude.{◌≡◌, [], ◌∷◌, None, is_some, unwrap_or, length, map, if◌then◌else◌};
+ghost use Rattle.std.specs.Prelude.{◌≡◌, [], ◌∷◌, is_some, unwrap_or, length, map};
 ghost use Rattle.exact_values.specs.Rational.{ℚ, zero_ℚ, ◌+ℚ◌, ◌*ℚ◌};
-ghost use Rattle.exact_values.specs.Tests.{eq_ℚ, lt_ℚ};
-ghost use Rattle.lp_definitions.specs.LinearProgram.{IsLinearProgram, IsRow, IsVariable, size, value_at, lower_of, upper_of};
+ghost use Rattle.exact_values.specs.Tests.{eq_ℚ};
+ghost use Rattle.lp_definitions.specs.LinearProgram.{IsRow, IsVariable, size, value_at};
 ghost use Rattle.check_definitions.specs.Steps.{comparison, verdict_of, in_turn, sum_steps, sum_of};
 ghost use Rattle.check_definitions.specs.Checks.{limit_product, ray_limits, multiplied, multiplied_among};
 ghost use Rattle.question_definitions.specs.Answers.{Changing};
 ghost use Rattle.parametric_request.specs.Asking.{Serves, changing_of};
 ghost use Rattle.walk_definitions.specs.Tests.{asked, past_test, unbounded_past, infeasible_past, shift_products};
 ghost use Rattle.listing_readers.specs.Read.{sheet_view};
+ghost use Rattle.listing_answers.specs.Asked.{IsAskedOf};
 ghost use Rattle.listing_answers.specs.Passing.{Judges};
 ghost use Rattle.listing_answers.specs.Making.{Makes};
 ghost use Rattle.listing_answers.specs.Claims.{IsPairOf};
@@ -18,8 +19,11 @@ use crate::answer::Stop;
 use crate::claims::Pair;
 use crate::closing::Closing;
 use crate::families::{plus_product, program_at};
-use crate::judging::{ask, counted_for, is_at_most, is_equal, judge};
-use certificate_check::{check_combination, check_direction, check_direction_limits, check_point};
+use crate::judging::{ask, is_at_most, judge};
+use certificate_check::{
+    check_combination, check_direction, check_direction_limits, check_point, counted_for, is_equal,
+    limit_met,
+};
 use frac128::Frac;
 use listing_tables::{Sheet, objective_of};
 use lp_model::Lp;
@@ -61,18 +65,6 @@ fn check_unbounded_past(
 }
 
 // ---- past a value no point is feasible
-
-// The limit that a multiplier meets.
-fn limit_met(lp: &Lp, multiplier: Frac, k: u32) -> Option<Frac>
-    requires { IsVariable lp.now.matrix k }
-    ensures { result ≡ (if lt_ℚ zero_ℚ multiplier then upper_of lp.now k else lower_of lp.now k) }
-{
-    if Frac::whole(0).is_less(multiplier) {
-        lp.upper_limit(k)
-    } else {
-        lp.lower_limit(k)
-    }
-}
 
 // A sum, and a multiplier times the limit that it meets.
 fn plus_met(sum: Frac, multiplier: Frac, limit: Option<Frac>, k: u32) -> Result<Frac, Stop>
@@ -137,9 +129,7 @@ fn check_infeasible_past(
     value: Frac,
     ray: &[Frac],
 ) -> Result<(), Stop>
-    requires lawful { IsLinearProgram sheet.lp.now }
-    requires no_change { sheet.lp.now.change ≡ None }
-    requires serves { Serves sheet.problem.now sheet.lp.now request.now }
+    requires asked { IsAskedOf sheet request.now }
     requires shifts { length shift.now ≡ sheet.lp.now.matrix.rows }
     requires places { length ray.now ≡ size sheet.lp.now.matrix }
     ensures { Judges (infeasible_past (sheet_view sheet.entry) (changing_of request.now.name request.now.change) shift.now value
@@ -217,9 +207,7 @@ fn check_past_infeasible(
     shift: &[Frac],
     past: &PastRay<'_>,
 ) -> Result<(), Stop>
-    requires lawful { IsLinearProgram sheet.lp.now }
-    requires no_change { sheet.lp.now.change ≡ None }
-    requires serves { Serves sheet.problem.now sheet.lp.now request.now }
+    requires asked { IsAskedOf sheet request.now }
     requires shifts { length shift.now ≡ sheet.lp.now.matrix.rows }
     requires places { length past.now.ray.now ≡ size sheet.lp.now.matrix }
     ensures { Judges (past_test request.now.to last past.now.value (infeasible_past (sheet_view sheet.entry)
@@ -240,9 +228,7 @@ fn check_infeasible(
     value: Frac,
     ray: &[Frac],
 ) -> Result<(), Stop>
-    requires lawful { IsLinearProgram sheet.lp.now }
-    requires no_change { sheet.lp.now.change ≡ None }
-    requires serves { Serves sheet.problem.now sheet.lp.now request.now }
+    requires asked { IsAskedOf sheet request.now }
     requires places { length ray.now ≡ size sheet.lp.now.matrix }
     ensures { Judges (infeasible_test (sheet_view sheet.entry)
         (changing_of request.now.name request.now.change) request.now.to last value ray.now) result }
@@ -264,9 +250,7 @@ pub fn check_closing(
     last: Frac,
     closing: &Closing,
 ) -> Result<(), Stop>
-    requires lawful { IsLinearProgram sheet.lp.now }
-    requires no_change { sheet.lp.now.change ≡ None }
-    requires serves { Serves sheet.problem.now sheet.lp.now request.now }
+    requires asked { IsAskedOf sheet request.now }
     requires fits { ClosingFits sheet.lp.now closing.now }
     ensures { Judges (closing_test (sheet_view sheet.entry) (changing_of request.now.name request.now.change) request.now.to last
         closing.now) result }

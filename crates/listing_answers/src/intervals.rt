@@ -1,18 +1,18 @@
 // The intervals of a parametric run.
-ghost use Rattle.std.specs.Prelude.{◌≡◌, ◌++◌, ◌&&◌, ◌||◌, ℕ, IfOk, None, nat_eq};
+ghost use Rattle.std.specs.Prelude.{◌≡◌, ◌++◌, ◌&&◌, ◌||◌, ℕ, IfOk, nat_eq};
 ghost use Rattle.std.specs.List.{flat_map};
-ghost use Rattle.exact_values.specs.Rational.{zero_ℚ, compare_ℚ};
 ghost use Rattle.exact_values.specs.Tests.{lt_ℚ, eq_ℚ};
-ghost use Rattle.lp_definitions.specs.LinearProgram.{IsLinearProgram, IsVariable, value_at, variables, lower_of, upper_of};
+ghost use Rattle.lp_definitions.specs.LinearProgram.{IsVariable, value_at, variables, lower_of, upper_of};
 ghost use Rattle.check_definitions.specs.Steps.{verdict_of};
-ghost use Rattle.check_definitions.specs.Checks.{is_at, by_sign};
+ghost use Rattle.check_definitions.specs.Checks.{is_at};
 ghost use Rattle.listing_definitions.specs.Numbers.{digits};
 ghost use Rattle.listing_tables.specs.Sheets.{IsSheet};
-ghost use Rattle.parametric_request.specs.Asking.{Serves, changing_of};
+ghost use Rattle.parametric_request.specs.Asking.{changing_of};
 ghost use Rattle.walk_definitions.specs.Words.{left_after};
 ghost use Rattle.walk_definitions.specs.Tests.{keeps_limit, interval_test};
 ghost use Rattle.walk_definitions.specs.Reading.{interval_in, tested};
 ghost use Rattle.listing_readers.specs.Read.{taken, sheet_view};
+ghost use Rattle.listing_answers.specs.Asked.{IsAskedOf};
 ghost use Rattle.listing_answers.specs.Words.{Found};
 ghost use Rattle.listing_answers.specs.Making.{Makes};
 ghost use Rattle.listing_answers.specs.Intervals.{part_head, IsPartEnd, AreColumnsRead, Counted, IsPart, IsEnd, AreEnds, kept_steps, end_verdict, part_verdict};
@@ -21,8 +21,8 @@ ghost use Rattle.listing_answers.specs.Taken.{Taken};
 
 use crate::answer::Stop;
 use crate::families::{along, program_at};
-use crate::judging::{ask, counted_for, is_at_most, is_equal, judge, judge_at};
-use certificate_check::check_optimal;
+use crate::judging::{ask, is_at_most, judge, judge_at};
+use certificate_check::{check_optimal, counted_for, holds_by_sign, is_equal, stands_at};
 use frac128::Frac;
 use itoa::Buffer;
 use listing_readers::{Cursor, Shape, firsts, fourths, fraction_in, seconds, table, thirds};
@@ -30,7 +30,6 @@ use listing_tables::{Sheet, fraction};
 use lp_model::{Lp, NoMemory};
 use parametric_request::ParametricRequest;
 use std::alloc::Global;
-use std::cmp::Ordering;
 
 /// The lines of an interval: the values and the prices of the variables, with their rates.
 #[derive(Drop)]
@@ -193,9 +192,7 @@ fn check_end(
     theta: Frac,
     columns: &Columns,
 ) -> Result<IntervalEnd, Stop>
-    requires lawful { IsLinearProgram sheet.lp.now }
-    requires no_change { sheet.lp.now.change ≡ None }
-    requires serves { Serves sheet.problem.now sheet.lp.now request.now }
+    requires asked { IsAskedOf sheet request.now }
     requires counted { Counted sheet.lp.now columns.now }
     ensures { let changing = changing_of request.now.name request.now.change in
         Makes (IsEnd (sheet_view sheet.entry) changing theta columns.now) (end_verdict
@@ -210,27 +207,6 @@ fn check_end(
         point,
         prices,
     })
-}
-
-// The limit is there, and it is the value.
-fn stands_at(limit: Option<Frac>, value: Frac) -> bool
-    ensures { result ≡ is_at limit value }
-{
-    match limit {
-        Some(limit) => is_equal(limit, value),
-        None => false,
-    }
-}
-
-// What is asked of a negative number, and what of a positive one.
-fn holds_by_sign(x: Frac, negative: bool, positive: bool) -> bool
-    ensures { result ≡ by_sign (compare_ℚ x zero_ℚ) negative positive }
-{
-    match x.compare(Frac::whole(0)) {
-        Ordering::Less => negative,
-        Ordering::Equal => true,
-        Ordering::Greater => positive,
-    }
 }
 
 // Whether each point stands at its upper limit.
@@ -309,9 +285,7 @@ fn check_part(
     from: Frac,
     part: &Part,
 ) -> Result<(), Stop>
-    requires lawful { IsLinearProgram sheet.lp.now }
-    requires no_change { sheet.lp.now.change ≡ None }
-    requires serves { Serves sheet.problem.now sheet.lp.now request.now }
+    requires asked { IsAskedOf sheet request.now }
     requires counted { Counted sheet.lp.now part.now.columns }
     ensures { Judges (part_verdict (sheet_view sheet.entry) (changing_of request.now.name request.now.change) from part.now.to
         part.now.columns is_first request.now.to) result }
@@ -333,9 +307,7 @@ pub fn read_part(
     last: Frac,
 ) -> Result<Frac, Stop>
     requires sheet { IsSheet sheet }
-    requires lawful { IsLinearProgram sheet.lp.now }
-    requires no_change { sheet.lp.now.change ≡ None }
-    requires serves { Serves sheet.problem.now sheet.lp.now request.now }
+    requires asked { IsAskedOf sheet request.now }
     ensures { let changing = changing_of request.now.name request.now.change in
         Taken (λ to interval. to ≡ interval.to) (tested (interval_test (sheet_view sheet.entry) changing
         (nat_eq number 1) request.now.to) (interval_in (sheet_view sheet.entry) number last cursor.old)) cursor.new result }

@@ -1,7 +1,6 @@
 // What comes of verdicts.
 ghost use Rattle.std.specs.Prelude.{◌≡◌, [], ◌∷◌};
-ghost use Rattle.exact_values.specs.Tests.{eq_ℚ, le_ℚ};
-ghost use Rattle.lp_definitions.specs.LinearProgram.{for_min};
+ghost use Rattle.exact_values.specs.Tests.{le_ℚ};
 ghost use Rattle.check_definitions.specs.Steps.{comparison, verdict_of, in_turn, followed_by};
 ghost use Rattle.walk_definitions.specs.Tests.{asked};
 ghost use Rattle.listing_answers.specs.Passing.{Judges};
@@ -9,7 +8,6 @@ ghost use Rattle.listing_answers.specs.Passing.{Judges};
 use crate::answer::Stop;
 use check_definitions::Verdict;
 use frac128::Frac;
-use lp_model::Sense;
 
 /// Goes on where all is checked.
 pub fn judge(verdict: Verdict) -> Result<(), Stop>
@@ -30,23 +28,6 @@ pub fn asked(holds: bool) -> Verdict
         Verdict::Checked
     } else {
         Verdict::Failed { part: 6, number: 0 }
-    }
-}
-
-/// Whether two numbers are equal.
-pub fn is_equal(x: Frac, y: Frac) -> bool
-    ensures { result ≡ eq_ℚ x y }
-{
-    x.compare(y).is_eq()
-}
-
-/// The number as it counts where less is better.
-pub fn counted_for(sense: Sense, x: Frac) -> Frac
-    ensures { result ≡ for_min sense x }
-{
-    match sense {
-        Sense::Min => x,
-        Sense::Max => x.neg(),
     }
 }
 

@@ -1,12 +1,12 @@
 // What stands before the intervals of a parametric run, and an opening that isn't optimal.
-ghost use Rattle.std.specs.Prelude.{◌≡◌, ◌++◌, ℕ, None, codes};
-ghost use Rattle.lp_definitions.specs.LinearProgram.{IsLinearProgram};
+ghost use Rattle.std.specs.Prelude.{◌≡◌, ◌++◌, ℕ, codes};
 ghost use Rattle.listing_tables.specs.Sheets.{IsSheet};
 ghost use Rattle.question_definitions.specs.Answers.{parametric_solver};
-ghost use Rattle.parametric_request.specs.Asking.{Serves, changing_of, parametric_run_of};
+ghost use Rattle.parametric_request.specs.Asking.{changing_of, parametric_run_of};
 ghost use Rattle.walk_definitions.specs.Words.{left_after};
 ghost use Rattle.walk_definitions.specs.Reading.{parametric_run_head, opening_in};
 ghost use Rattle.listing_readers.specs.Read.{taken, sheet_view};
+ghost use Rattle.listing_answers.specs.Asked.{IsAskedOf};
 ghost use Rattle.listing_answers.specs.Claims.{mark_by};
 ghost use Rattle.listing_answers.specs.Taken.{Taken, IsOpened};
 
@@ -114,9 +114,7 @@ pub fn read_opening(
     request: &ParametricRequest,
 ) -> Result<Mark, Stop>
     requires sheet { IsSheet sheet }
-    requires lawful { IsLinearProgram sheet.lp.now }
-    requires no_change { sheet.lp.now.change ≡ None }
-    requires serves { Serves sheet.problem.now sheet.lp.now request.now }
+    requires asked { IsAskedOf sheet request.now }
     ensures { (limit : ℕ) → Taken IsOpened (opening_in (sheet_view sheet.entry)
         (parametric_run_of limit request.now) cursor.old) cursor.new result }
 {

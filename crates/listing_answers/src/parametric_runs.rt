@@ -1,12 +1,12 @@
 // The intervals of a parametric run, one after another, and how it closes.
-ghost use Rattle.std.specs.Prelude.{◌≡◌, ℕ, List, None, codes};
-ghost use Rattle.lp_definitions.specs.LinearProgram.{IsLinearProgram};
+ghost use Rattle.std.specs.Prelude.{◌≡◌, ℕ, List, codes};
 ghost use Rattle.listing_tables.specs.Sheets.{IsSheet};
-ghost use Rattle.parametric_request.specs.Asking.{Serves, parametric_run_of};
+ghost use Rattle.parametric_request.specs.Asking.{parametric_run_of};
 ghost use Rattle.walk_definitions.specs.Words.{left_after};
 ghost use Rattle.walk_definitions.specs.Reading.{run_in};
 ghost use Rattle.run_definitions.specs.Verbs.{last_value};
 ghost use Rattle.listing_readers.specs.Read.{taken, sheet_view};
+ghost use Rattle.listing_answers.specs.Asked.{IsAskedOf};
 ghost use Rattle.listing_answers.specs.Taken.{Taken};
 
 use crate::answer::Stop;
@@ -34,9 +34,7 @@ pub fn read_run(
     request: &ParametricRequest,
 ) -> Result<Frac, Stop>
     requires sheet { IsSheet sheet }
-    requires lawful { IsLinearProgram sheet.lp.now }
-    requires no_change { sheet.lp.now.change ≡ None }
-    requires serves { Serves sheet.problem.now sheet.lp.now request.now }
+    requires asked { IsAskedOf sheet request.now }
     ensures { (limit : ℕ) → Taken (λ last run. last ≡ last_value run.1) (run_in (sheet_view sheet.entry)
         (parametric_run_of limit request.now) cursor.old 1 request.now.from cursor.old) cursor.new result }
 {

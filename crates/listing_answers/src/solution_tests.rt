@@ -10,9 +10,9 @@ ghost use Rattle.listing_answers.specs.Passing.{Judges};
 ghost use Rattle.listing_answers.specs.Solutions.{Counted, printed_test};
 
 use crate::answer::Stop;
-use crate::judging::{is_equal, judge, judge_at};
+use crate::judging::{judge, judge_at};
 use crate::solution::Printed;
-use certificate_check::{Verdict, check_equations, check_optimal, check_prices};
+use certificate_check::{Verdict, check_equations, check_optimal, check_prices, is_equal};
 use frac128::Frac;
 use listing_definitions::Mark;
 use listing_tables::Sheet;

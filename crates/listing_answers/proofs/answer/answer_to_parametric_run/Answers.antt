@@ -6,6 +6,12 @@ use Rattle.listing_readers.specs.Read.{taken, sheet_view}
 use Rattle.listing_answers.proofs.ParametricRunFacts.{parametric_run_opened, parametric_run_opening_stops, parametric_ran, parametric_run_stops}
 use Rattle.listing_answers.proofs.answer.answer_to_parametric_run.Goals as goal
 
+pub read_opening-requires-clause-asked : goal.read_opening-requires-clause-asked
+read_opening-requires-clause-asked c = record { lawful = c.requires.lawful; no_change = c.requires.no_change; serves = c.requires.serves }
+
+pub read_run-requires-clause-asked : goal.read_run-requires-clause-asked
+read_run-requires-clause-asked c = record { lawful = c.requires.lawful; no_change = c.requires.no_change; serves = c.requires.serves }
+
 pub returns-in_err-mark : goal.returns-in_err-mark
 returns-in_err-mark c limit =
     let sheet = sheet_view c.args.sheet in

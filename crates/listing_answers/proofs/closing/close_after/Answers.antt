@@ -1,18 +1,13 @@
-use Rattle.std.proofs.Common.{sym, subst}
-use Rattle.std.specs.Prelude.{IfOk}
-use Rattle.parametric_request.specs.declared.request.Change.{Change}
 use Rattle.parametric_request.specs.Asking.{changing_of}
 use Rattle.listing_readers.specs.Read.{sheet_view}
-use Rattle.listing_answers.specs.Words.{Found}
-use Rattle.listing_answers.specs.Closings.{Closes, close_after_in}
+use Rattle.listing_answers.specs.Closings.{past_in}
+use Rattle.listing_answers.proofs.ClosingFacts.{end_first, end_then}
 use Rattle.listing_answers.proofs.closing.close_after.Goals as goal
 
-pub returns-in-Row : goal.returns-in-Row
-returns-in-Row c =
-    let sheet = sheet_view c.args.sheet in
-    subst (λ (change : Change). IfOk c.row_close.result (Found (Closes sheet) (close_after_in sheet (changing_of c.args.request.now.name change) c.args.cursor.now) c.row_close.new.cursor)) (sym c.in-Row.is) c.row_close.ensures
+pub returns-in-Some : goal.returns-in-Some
+returns-in-Some c =
+    end_first (sheet_view c.args.sheet) (past_in (sheet_view c.args.sheet) (changing_of c.args.request.now.name c.args.request.now.change)) c.args.cursor.now c.try_end.new.cursor c.in-Some.value c.in-Some.ensures
 
-pub returns-in-Set : goal.returns-in-Set
-returns-in-Set c =
-    let sheet = sheet_view c.args.sheet in
-    subst (λ (change : Change). IfOk c.set_close.result (Found (Closes sheet) (close_after_in sheet (changing_of c.args.request.now.name change) c.args.cursor.now) c.set_close.new.cursor)) (sym c.in-Set.is) c.set_close.ensures
+pub returns : goal.returns
+returns c =
+    end_then (sheet_view c.args.sheet) (past_in (sheet_view c.args.sheet) (changing_of c.args.request.now.name c.args.request.now.change)) c.args.cursor.now c.try_end.new.cursor c.past.new.cursor c.in_default.ensures c.past.result c.past.ensures
