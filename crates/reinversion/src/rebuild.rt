@@ -9,7 +9,7 @@ ghost use Rattle.reinversion.specs.Rebuilt.{IsRebuilt, IsRemade, KeptRefused, Is
 use crate::order::{Entering, entering_order};
 use eta_file::EtaFile;
 use frac128::Frac;
-use lp_model::{Evidence, SparseVector, Stop};
+use lp_model::{Evidence, NoMemory, SparseVector, Stop};
 use whole_vectors::SparseWholes;
 
 /// The evidence, naming no set.
@@ -136,6 +136,15 @@ fn enter_in_order(
     Ok(())
 }
 
+/// Whole numbers for the directions of a file, all 0.
+fn wholes_for(file: &EtaFile) -> Result<SparseWholes, NoMemory>
+    ensures { IfOk result (λ wholes. length wholes ≡ size file.now.matrix) }
+{
+    let size = file.size();
+    let wholes = SparseWholes::zeros(file.alloc(), size as usize)?;
+    Ok(wholes)
+}
+
 /// A new file for the basics of this one. Where the order left a column out, it enters at the end.
 pub fn rebuild(old: &EtaFile) -> Result<EtaFile, Stop>
     ensures remade { IfOk result (IsRemade old.now) }
@@ -146,8 +155,7 @@ pub fn rebuild(old: &EtaFile) -> Result<EtaFile, Stop>
     let rows = old.rows();
     let mut new = old.at_rows()?;
     let order = entering_order(old)?;
-    let mut wholes =
-        SparseWholes::zeros(old.alloc(), size as usize).map_err(|_| Stop::NoMemory)?;
+    let mut wholes = wholes_for(old)?;
     let mut workspace = SparseVector::zeros(old.alloc(), size as usize)?;
     enter_in_order(old, &mut new, &order, &mut wholes, &mut workspace)?;
     for c in 0..size - rows {
