@@ -1,4 +1,4 @@
-pub mod Made
 pub mod Over
 pub mod Words
 pub mod Ranked
+pub mod Listed

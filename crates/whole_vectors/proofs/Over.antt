@@ -1,5 +1,5 @@
 -- Numbers over one denominator: what they are after all have been multiplied or divided.
-use Rattle.std.proofs.Common.{◌≡◌, ◌≢◌, ℕ, zero, suc, ◌-◌, ◌≤◌, List, [], ◌∷◌, length, map, get_or, Bool, true, refl, sym, ◌∙◌, ap, ap₂, arith, ℤ, pos, negsuc, subst, Option, Result, Ok, Err, IfOk}
+use Rattle.std.proofs.Common.{◌≡◌, ◌≢◌, ℕ, zero, suc, ◌-◌, List, [], ◌∷◌, length, map, get_or, Bool, true, refl, sym, ◌∙◌, ap, ap₂, arith, ℤ, pos, negsuc, subst, Option, Result, Ok, Err, IfOk}
 use Rattle.std.specs.Cmp.{Equal-is}
 use Rattle.std.specs.Prelude.{IfSome, ◌≤ℤ◌, unsigned_abs}
 use Rattle.std.proofs.lemmas.Int.{ints}
@@ -13,8 +13,7 @@ use Rattle.exact_values.proofs.Ring_laws.{zero-mul, whole_ratio}
 use Rattle.exact_values.proofs.Inverse.{div_is, apart-mul, inverse_apart, same_quotients, whole_numerator, numerator_of_zero}
 use Rattle.exact_values.proofs.Compare.{parts_equal, compare_ties, same_from_compare}
 use Rattle.lp_definitions.specs.LinearProgram.{value_at}
-use Rattle.whole_vectors.specs.Quotients.{quotients, AreProducts, AreQuotients, IsSameOver, Represent}
-use Rattle.whole_vectors.proofs.Made.{IsMadeTo, all_made}
+use Rattle.whole_vectors.specs.Quotients.{quotients, AreQuotients, IsSameOver, Represent}
 
 -- the value at k, and 0 past the end
 pub value_at-quotients : (d : ℚ) (xs : List ℚ) (k : ℕ) → value_at (quotients d xs) k ≡ value_at xs k /ℚ d
@@ -40,12 +39,6 @@ reduced d e by old new apart some is h = record {
   each = λ k. ap₂ (λ x y. x /ℚ y) (h.each k) is ∙ same_divisor (value_at old k) d by apart some;
 }
 
-pub products_made : (by : ℚ) (n : ℕ) (old new : List ℚ) → length old ≤ n → IsMadeTo (λ x. x *ℚ by) n old new → AreProducts by old new
-products_made by n old new all h = record { each = all_made (λ x. x *ℚ by) n old new all (zero-mul by) h }
-
-pub quotients_made : (by : ℚ) (n : ℕ) (old new : List ℚ) → length old ≤ n → IsMadeTo (λ x. x /ℚ by) n old new → AreQuotients by old new
-quotients_made by n old new all h = record { each = all_made (λ x. x /ℚ by) n old new all (zero-mul (inverse_ℚ by)) h }
-
 -- what the test of equality tells
 pub same_reported : (x y v : ℚ) (b : Bool) → b ≡ parts_equal x v → b ≡ true → v ≡ y → x ≡ y
 same_reported x y v b is h e = same_from_compare ((Equal-is (compare_ℚ x v)).0 (sym (is ∙ compare_ties x v) ∙ h)) ∙ e
@@ -68,11 +61,7 @@ length-quotients d (x ∷ xs) = ap suc (length-quotients d xs)
 pub stand_map : (P Q : List ℚ → Type 0) (d : ℚ) (xs : List ℚ) → (P (quotients d xs) → Q (quotients d xs)) → Represent P d xs → Represent Q d xs
 stand_map P Q d xs f h = record { apart = h.apart; holds = f h.holds }
 
--- all multiplied by the denominator
-pub made_over : (d : ℚ) (old new : List ℚ) → d ≢ zero_ℚ → AreProducts d old new → (k : ℕ) → value_at (quotients d new) k ≡ value_at old k
-made_over d old new apart h k = value_at-quotients d new k ∙ div_is (value_at new k) d (value_at old k) apart (h.each k)
-
--- and divided by it
+-- all divided by the denominator
 pub made_values : (d : ℚ) (old new : List ℚ) → AreQuotients d old new → (k : ℕ) → value_at (quotients d old) k ≡ value_at new k
 made_values d old new h k = value_at-quotients d old k ∙ sym (h.each k)
 

@@ -1,9 +1,8 @@
 -- Numbers that are written at the places of a list in which each place has its rank.
-use Rattle.std.proofs.Common.{◌≡◌, ◌≢◌, ℕ, zero, suc, ◌+◌, ◌-◌, ◌<◌, ◌≤◌, List, [], ◌∷◌, length, get_or, set, map, Bool, true, false, refl, sym, ◌∙◌, ap, subst, arith, ℤ, pos, Option, None, Some}
-use Rattle.std.specs.Prelude.{IfSome, nat_eq, nat_lt, nat_le, ◌&&◌, replicate, if◌then◌else◌}
-use Rattle.std.proofs.lemmas.List.{get_or-set_same, get_or-set_other, get_or_default, length-map, map-set, set-get_or}
-use Rattle.exact_values.proofs.Ring_laws.{zero-add, zero-mul}
-use Rattle.exact_values.specs.Rational.{ℚ, whole, zero_ℚ, ◌+ℚ◌, ◌*ℚ◌, ◌/ℚ◌}
+use Rattle.std.proofs.Common.{◌≡◌, ◌≢◌, ℕ, zero, suc, ◌+◌, ◌-◌, ◌<◌, ◌≤◌, List, [], ◌∷◌, length, get_or, set, Bool, true, false, refl, sym, ◌∙◌, ap, subst, arith, ℤ, pos, Option, None, Some}
+use Rattle.std.specs.Prelude.{IfSome, nat_eq, nat_lt, ◌&&◌, replicate, if◌then◌else◌}
+use Rattle.std.proofs.lemmas.List.{get_or-set_same, get_or-set_other, get_or_default, map-set, set-get_or}
+use Rattle.exact_values.specs.Rational.{ℚ, whole, zero_ℚ, ◌/ℚ◌}
 use Rattle.lp_definitions.specs.LinearProgram.{value_at}
 use Rattle.lp_laws.proofs.Values.{clash}
 use Rattle.whole_vectors.specs.Words.{wholes}
@@ -80,29 +79,6 @@ pub zeros_are : (n k : ℕ) → get_or (replicate n zero_ℚ) k zero_ℚ ≡ zer
 zeros_are zero k = refl
 zeros_are (suc n) zero = refl
 zeros_are (suc n) (suc k) = zeros_are n k
-
--- one number more is cleared
-pub cleared_next : (ks : List ℕ) (i p : ℕ) (old new : List ℤ) → i < length ks → p ≡ get_or ks i 0 → p < length new
-    → ((rank : ℕ → ℕ) → IsRank rank ks → AreWritten rank ks (λ n. zero_ℚ) i (wholes old) (wholes new))
-    → (rank : ℕ → ℕ) → IsRank rank ks → AreWritten rank ks (λ n. zero_ℚ) (i + 1) (wholes old) (wholes (set new p (pos 0)))
-cleared_next ks i p old new below is inside so_far rank ranked =
-    subst (λ xs. AreWritten rank ks (λ n. zero_ℚ) (i + 1) (wholes old) xs) (sym (map-set whole new p (pos 0)))
-    (written_next rank ks (λ n. zero_ℚ) i below ranked p is (wholes old) (wholes new) zero_ℚ (subst (λ m. p < m) (sym (length-map new whole)) inside) refl (so_far rank ranked))
-
--- and multiplied
-pub multiplied_next : (by : ℚ) (ks : List ℕ) (i p : ℕ) (old new : List ℤ) (x v : ℤ) → i < length ks → p ≡ get_or ks i 0 → p < length new → x ≡ get_or new p x → whole v ≡ zero_ℚ +ℚ whole x *ℚ by
-    → ((rank : ℕ → ℕ) → IsRank rank ks → AreWritten rank ks (λ n. get_or (wholes old) n zero_ℚ *ℚ by) i (wholes old) (wholes new))
-    → (rank : ℕ → ℕ) → IsRank rank ks → AreWritten rank ks (λ n. get_or (wholes old) n zero_ℚ *ℚ by) (i + 1) (wholes old) (wholes (set new p v))
-multiplied_next by ks i p old new x v below is inside is_x product so_far rank ranked =
-    subst (λ xs. AreWritten rank ks f (i + 1) (wholes old) xs) (sym (map-set whole new p v))
-    (written_next rank ks f i below ranked p is (wholes old) (wholes new) (whole v) (subst (λ m. p < m) (sym (length-map new whole)) inside)
-    (product ∙ zero-add (whole x *ℚ by) ∙ ap (λ q. q *ℚ by) first) (so_far rank ranked))
-  where
-    f : ℕ → ℚ
-    f n = get_or (wholes old) n zero_ℚ *ℚ by
-
-    first : whole x ≡ get_or (wholes old) p zero_ℚ
-    first = ap whole (is_x ∙ get_or_default new p x (pos 0) inside) ∙ sym (read_whole new p) ∙ as_at_first rank ks f i below ranked p is (wholes old) (wholes new) (so_far rank ranked)
 
 -- one quotient more is put in
 pub divided_next : (by : ℚ) (ks : List ℕ) (i p : ℕ) (ns : List ℤ) (old new : List ℚ) (x : ℤ) (v : ℚ) → i < length ks → p ≡ get_or ks i 0 → p < length ns → p < length new → x ≡ get_or ns p x → v ≡ whole x /ℚ by

@@ -3,13 +3,13 @@ use Rattle.std.proofs.Common.{◌≡◌, ℕ, ◌*◌, ◌^◌, ◌≤◌, refl,
 use Rattle.std.specs.Int.{w64, w128}
 use Rattle.std.specs.Option.{SomeIff}
 use Rattle.std.specs.Prelude.{IfSome}
-use Rattle.std.specs.Prelude.{◌+ℤ◌, ◌-ℤ◌, ◌*ℤ◌, neg_ℤ, unsigned_abs}
+use Rattle.std.specs.Prelude.{◌+ℤ◌, ◌*ℤ◌, unsigned_abs}
 use Rattle.std.proofs.lemmas.Int.{ints, unsigned_abs-mul, to_z-of_z}
 use Rattle.std.proofs.lemmas.Nat.{mul-le}
-use Rattle.exact_values.specs.Rational.{ℚ, whole, ◌+ℚ◌, ◌-ℚ◌, ◌*ℚ◌, neg_ℚ}
+use Rattle.exact_values.specs.Rational.{ℚ, whole, ◌+ℚ◌, ◌*ℚ◌}
 use Rattle.exact_values.proofs.Fractions.{is_ratio, same_from_ratio}
 use Rattle.exact_values.proofs.Ring.{by_ring3, ◌⊗◌, ◌≐◌}
-use Rattle.exact_values.proofs.Ring_laws.{zero-add, mul-one, whole_ratio, whole-add, whole-mul, whole-neg}
+use Rattle.exact_values.proofs.Ring_laws.{zero-add, mul-one, whole_ratio, whole-add, whole-mul}
 use Rattle.frac128.specs.Terms.{Fits}
 use Rattle.frac128.proofs.Parts.{read, read_fitting, word_product}
 
@@ -27,27 +27,11 @@ module _ (x c e : ℤ) (x_word : FitsSigned w64 x) (c_word : FitsSigned w64 c) (
   product_is =
       (word_product c e c e (wide c c_word) (wide e e_word) (rw (word_read c c_word) c_word) (rw (word_read e e_word) e_word) (sym (word_read c c_word)) (sym (word_read e e_word))).1
 
-  pub word_rest_is : read (to_z w64 (of_z w64 x)) -ℤ read (read (to_z w64 (of_z w64 c)) *ℤ read (to_z w64 (of_z w64 e))) ≡ x -ℤ c *ℤ e
-  word_rest_is = ap₂ (λ a b. a -ℤ b) (word_twice x x_word) product_is
-
   word_abs : (z : ℤ) → FitsSigned w64 z → unsigned_abs z ≤ 2 ^ 63
   word_abs z h = omega (arith, ints)
 
-  pub word_rest_fits : Fits (x -ℤ c *ℤ e)
-  word_rest_fits =
-      let bound : unsigned_abs c * unsigned_abs e ≤ 2 ^ 63 * 2 ^ 63 = mul-le (unsigned_abs c) (unsigned_abs e) (2 ^ 63) (2 ^ 63) (word_abs c c_word) (word_abs e e_word) in
-      let product : unsigned_abs (c *ℤ e) ≤ 2 ^ 63 * 2 ^ 63 = rw (unsigned_abs-mul c e) bound in
-      let first = word_abs x x_word in
-      less x (c *ℤ e) first product
-    where
-      less : (a b : ℤ) → unsigned_abs a ≤ 2 ^ 63 → unsigned_abs b ≤ 2 ^ 63 * 2 ^ 63 → Fits (a -ℤ b)
-      less a b h k = omega (arith, ints)
-
   fitting : (z : ℤ) → Fits z → FitsSigned w128 z
   fitting z h = omega (arith, ints)
-
-  pub word_rest_wide : FitsSigned w128 (x -ℤ c *ℤ e)
-  word_rest_wide = fitting (x -ℤ c *ℤ e) word_rest_fits
 
   pub word_total_is : read (to_z w64 (of_z w64 x)) +ℤ read (read (to_z w64 (of_z w64 c)) *ℤ read (to_z w64 (of_z w64 e))) ≡ x +ℤ c *ℤ e
   word_total_is = ap₂ (λ a b. a +ℤ b) (word_twice x x_word) product_is
@@ -68,15 +52,6 @@ module _ (x c e : ℤ) (x_word : FitsSigned w64 x) (c_word : FitsSigned w64 c) (
 -- a fraction over 1 is its numerator
 pub is_whole : (x : ℚ) → x.denominator ≡ 1 → whole x.numerator ≡ x
 is_whole x one = same_from_ratio (whole_ratio x.numerator) (is_ratio x) (rw one (omega arith))
-
-pub whole_rest : (x c e : ℚ) → x.denominator ≡ 1 → c.denominator ≡ 1 → e.denominator ≡ 1 → whole (x.numerator -ℤ c.numerator *ℤ e.numerator) ≡ x -ℚ c *ℚ e
-whole_rest x c e p q r =
-    ap whole (minus x.numerator (c.numerator *ℤ e.numerator))
-    ∙ whole-add x.numerator (neg_ℤ (c.numerator *ℤ e.numerator))
-    ∙ ap₂ ◌+ℚ◌ (is_whole x p) (whole-neg (c.numerator *ℤ e.numerator) ∙ ap neg_ℚ (whole-mul c.numerator e.numerator ∙ ap₂ ◌*ℚ◌ (is_whole c q) (is_whole e r)))
-  where
-    minus : (a b : ℤ) → a -ℤ b ≡ a +ℤ neg_ℤ b
-    minus a b = omega (arith, ints)
 
 pub whole_total : (x c e : ℤ) → whole (x +ℤ c *ℤ e) ≡ whole x +ℚ whole c *ℚ whole e
 whole_total x c e = whole-add x (c *ℤ e) ∙ ap (λ q. whole x +ℚ q) (whole-mul c e)
@@ -101,3 +76,9 @@ word_is x n m word is_x fits is_n = ap (λ z. to_z w64 (of_z w64 z)) is_x ∙ to
 -- a product by the parts of a fraction, with a multiple of its denominator
 pub by_multiple : (x s n d t : ℚ) → n ≡ x *ℚ d → s ≡ t *ℚ d → n *ℚ t ≡ x *ℚ s
 by_multiple x s n d t is_n is_s = ap (λ q. q *ℚ t) is_n ∙ by_ring3 x d t (λ x d t. (x ⊗ d) ⊗ t ≐ x ⊗ (t ⊗ d)) refl ∙ ap (λ q. x *ℚ q) (sym is_s)
+
+-- a sum with one product more, where both fit
+pub summed : (o : Option ℤ) (P : Type 0) (a b s x y : ℤ) (q : ℚ) → a ≡ s → b ≡ x *ℤ y → whole y ≡ q → SomeIff o P (a +ℤ b) → IfSome o (λ next. whole next ≡ whole s +ℚ whole x *ℚ q)
+summed None P a b s x y q is_a is_b is_q h = tt
+summed (Some next) P a b s x y q is_a is_b is_q h =
+    ap whole (h.1 ∙ ap₂ (λ m n. m +ℤ n) is_a is_b) ∙ whole_total s x y ∙ ap (λ t. whole s +ℚ whole x *ℚ t) is_q

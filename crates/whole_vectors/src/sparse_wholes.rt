@@ -1,16 +1,22 @@
 //! Vectors of whole numbers over one denominator, most of which are 0. Where a number doesn't fit, the answer is None.
 
-ghost use Rattle.std.specs.Prelude.{◌≡◌, ◌≢◌, ◌≤◌, ◌<◌, ◌-◌, ℕ, All, IfOk, IfSome, length, replicate, set};
-ghost use Rattle.exact_values.specs.Rational.{whole, zero_ℚ};
+ghost use Rattle.std.specs.Prelude.{◌≡◌, ◌≢◌, ◌≤◌, ◌<◌, ◌-◌, ◌≤ℤ◌, ℕ, pos, All, IfOk, IfSome, length, replicate, slice_index_or, set};
+ghost use Rattle.exact_values.specs.Rational.{whole, zero_ℚ, ◌*ℚ◌, ◌/ℚ◌};
 ghost use Rattle.frac128.specs.Terms.{Fits};
 ghost use Rattle.lp_definitions.specs.LinearProgram.{value_at};
 ghost use Rattle.whole_vectors.specs.Quotients.{AreProducts, AreQuotients, IsSameOver};
 ghost use Rattle.whole_vectors.specs.Words.{wholes};
-ghost use Rattle.whole_vectors.specs.Ranks.{IsRank, AreWritten};
+ghost use Rattle.whole_vectors.specs.Ranks.{IsRank, AreWritten, AreChanged, AreKept};
 
+use crate::places::enlist;
+use crate::whole_numbers::{whole_multiple, whole_number, whole_product, whole_quotient};
+use divisors::gcd;
 use frac128::Frac;
 use std::alloc::{AllocError, Global};
 use std::marker::Model;
+
+/// A denominator of this size or more is reduced.
+const LARGE: u128 = 1 << 50;
 
 /// A whole number for each variable, and a list of places that none is missing from whose number isn't 0: what goes over the numbers goes
 /// over that list. Each place of the list has its rank there.
@@ -38,8 +44,7 @@ impl Model for SparseWholes {
 fn clear_listed(numbers: &mut [i128], listed: &[usize])
     requires within { All (λ n. n < length numbers.old) listed.now }
     requires fit { All Fits numbers.old }
-    ensures zero { (rank : ℕ → ℕ) → IsRank rank listed.now → AreWritten rank listed.now (λ _. zero_ℚ)
-        (length listed.now) (wholes numbers.old) (wholes numbers.new) }
+    ensures zero { AreChanged (λ _. zero_ℚ) listed.now (wholes numbers.old) (wholes numbers.new) }
     ensures fit { All Fits numbers.new }
 {
     for rank in 0..listed.len() {
@@ -48,13 +53,98 @@ fn clear_listed(numbers: &mut [i128], listed: &[usize])
     }
 }
 
+/// Makes the numbers at the listed places their products with a factor.
+fn multiply_listed(numbers: &mut [i128], listed: &[usize], by: i128) -> Option<()>
+    requires within { All (λ n. n < length numbers.old) listed.now }
+    requires fit { All Fits numbers.old }
+    requires factor { Fits by }
+    ensures products { IfSome result (λ _. AreChanged (λ x. x *ℚ whole by) listed.now
+        (wholes numbers.old) (wholes numbers.new)) }
+    ensures others { AreKept listed.now (wholes numbers.old) (wholes numbers.new) }
+    ensures fit { All Fits numbers.new }
+{
+    for rank in 0..listed.len() {
+        let place = listed[rank];
+        let number = numbers[place];
+        let made = whole_product(number, by)?;
+        numbers[place] = made;
+    }
+    Some(())
+}
+
+/// Whether a number is a multiple of a factor, by machine words where both are ones.
+#[inline(always)]
+fn has_factor(n: u128, factor: u128) -> bool {
+    match (u64::try_from(n), u64::try_from(factor)) {
+        (Ok(n), Ok(factor)) => factor != 0 && n % factor == 0,
+        _ => factor != 0 && n % factor == 0,
+    }
+}
+
+/// What a denominator and the numbers at the listed places share.
+fn shared(numbers: &[i128], listed: &[usize], denominator: u128) -> u128
+    requires within { All (λ n. n < length numbers.now) listed.now }
+{
+    let mut factor = denominator;
+    for rank in 0..listed.len() {
+        if factor == 1 {
+            return 1;
+        }
+        let number = numbers[listed[rank]].unsigned_abs();
+        if !has_factor(number, factor) {
+            factor = gcd(factor, number);
+        }
+    }
+    factor
+}
+
+/// Takes a factor out of the numbers at the listed places.
+fn take_out(numbers: &mut [i128], listed: &[usize], factor: i128) -> Option<()>
+    requires within { All (λ n. n < length numbers.old) listed.now }
+    requires fit { All Fits numbers.old }
+    requires at_least_one { pos 1 ≤ℤ factor }
+    ensures quotients { IfSome result (λ _. AreChanged (λ x. x /ℚ whole factor) listed.now
+        (wholes numbers.old) (wholes numbers.new)) }
+    ensures others { AreKept listed.now (wholes numbers.old) (wholes numbers.new) }
+    ensures fit { All Fits numbers.new }
+{
+    for rank in 0..listed.len() {
+        let place = listed[rank];
+        let number = numbers[place];
+        let made = whole_multiple(number, factor)?;
+        numbers[place] = made;
+    }
+    Some(())
+}
+
+/// Puts the quotients of the numbers at the listed places there.
+fn divide_listed(numbers: &[i128], listed: &[usize], by: Frac, out: &mut [Frac]) -> Option<()>
+    requires within { All (λ n. n < length numbers.now) listed.now }
+    requires fit { All Fits numbers.now }
+    requires places { length out.old ≡ length numbers.now }
+    requires apart { by ≢ zero_ℚ }
+    ensures { IfSome result (λ _. (rank : ℕ → ℕ) → IsRank rank listed.now → AreWritten rank
+        listed.now (λ n. slice_index_or (wholes numbers.now) n zero_ℚ /ℚ by) (length listed.now)
+        out.old out.new) }
+{
+    for rank in 0..listed.len() {
+        let place = listed[rank];
+        let number = numbers[place];
+        out[place] = whole_quotient(number, by)?;
+    }
+    Some(())
+}
+
 impl SparseWholes {
     /// So many numbers, all 0.
     pub fn zeros(alloc: Global, size: usize) -> Result<SparseWholes, AllocError>
         ensures { IfOk result (λ made. made ≡ replicate size zero_ℚ) }
     {
-        let (_alloc, _size) = (alloc, size);
-        Err(AllocError)
+        Ok(SparseWholes {
+            numbers: vec![in alloc; 0; size]?,
+            listed: Vec::with_capacity(alloc, size)?,
+            ranks: vec![in alloc; 0; size]?,
+        })
     }
 
     /// The numbers of all variables.
@@ -76,8 +166,13 @@ impl SparseWholes {
         ensures number { IfSome result (λ _. self.new ≡ set self.old (k - 1) (whole n)) }
         ensures places { length self.new ≡ length self.old }
     {
-        let (_k, _n) = (k, n);
-        None
+        let place = k as usize - 1;
+        if self.numbers[place] == n {
+            return Some(());
+        }
+        enlist(&mut self.listed, &mut self.ranks, place)?;
+        self.numbers[place] = n;
+        Some(())
     }
 
     /// Makes all numbers 0.
@@ -94,8 +189,11 @@ impl SparseWholes {
         ensures products { IfSome result (λ _. AreProducts by self.old self.new) }
         ensures places { length self.new ≡ length self.old }
     {
-        let _by = by;
-        None
+        let factor = whole_number(by)?;
+        if factor == 1 {
+            return Some(());
+        }
+        multiply_listed(&mut self.numbers, &self.listed, factor)
     }
 
     /// Takes out what a large denominator and all numbers share, and gives the denominator that is left.
@@ -104,8 +202,19 @@ impl SparseWholes {
         ensures same { IfSome result (λ left. IsSameOver denominator self.old left self.new) }
         ensures places { length self.new ≡ length self.old }
     {
-        let _denominator = denominator;
-        None
+        let size = denominator.num().unsigned_abs();
+        if size < LARGE {
+            return Some(denominator);
+        }
+        let factor = i128::try_from(shared(&self.numbers, &self.listed, size)).ok()?;
+        if factor == 1 {
+            return Some(denominator);
+        }
+        if factor < 1 {
+            return None;
+        }
+        take_out(&mut self.numbers, &self.listed, factor)?;
+        denominator.div(Frac::whole(factor)).ok()
     }
 
     /// Fills `out`, which is all 0, with the quotients of the numbers by a divisor.
@@ -115,7 +224,6 @@ impl SparseWholes {
         requires zero { (k : ℕ) → 1 ≤ k → value_at out.old k ≡ zero_ℚ }
         ensures { IfSome result (λ _. AreQuotients by self.now out.new) }
     {
-        let (_by, _out) = (by, out);
-        None
+        divide_listed(&self.numbers, &self.listed, by, out)
     }
 }

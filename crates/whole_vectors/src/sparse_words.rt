@@ -1,12 +1,13 @@
 //! Vectors of whole numbers of one machine word, most of which are 0. Where a number isn't one, the answer is None.
 
-ghost use Rattle.std.specs.Prelude.{◌≡◌, ◌≢◌, ◌≤◌, ◌<◌, ◌-◌, ℕ, All, IfOk, IfSome, OnSome, MatchBool, length, replicate, slice_index_or, set};
+ghost use Rattle.std.specs.Prelude.{◌≡◌, ◌≢◌, ◌≤◌, ◌<◌, ◌-◌, ℕ, All, IfOk, IfSome, length, replicate, slice_index_or, set};
 ghost use Rattle.exact_values.specs.Rational.{whole, zero_ℚ, ◌*ℚ◌, ◌/ℚ◌};
 ghost use Rattle.lp_definitions.specs.LinearProgram.{value_at};
 ghost use Rattle.whole_vectors.specs.Quotients.{AreProducts, AreQuotients};
 ghost use Rattle.whole_vectors.specs.Words.{wholes};
-ghost use Rattle.whole_vectors.specs.Ranks.{AreRanked, IsListedAt, IsRank, AreWritten, AreKept};
+ghost use Rattle.whole_vectors.specs.Ranks.{IsRank, AreWritten, AreChanged, AreKept};
 
+use crate::places::enlist;
 use crate::{word_quotient, word_sum};
 use frac128::Frac;
 use std::alloc::{AllocError, Global};
@@ -34,42 +35,10 @@ impl Model for SparseWords {
     ghost invariant = { IsSparse };
 }
 
-/// Whether the list has a place.
-#[inline(always)]
-fn is_listed(listed: &[usize], ranks: &[usize], place: usize) -> bool
-    requires { place < length ranks.now }
-    ensures { MatchBool result (IsListedAt listed.now ranks.now place) (IsListedAt listed.now ranks.now place → ⊥) }
-{
-    match listed.get(ranks[place]) {
-        Some(other) => *other == place,
-        None => false,
-    }
-}
-
-/// Lists a place, if it isn't listed yet.
-#[inline(always)]
-fn enlist(listed: &mut Vec<usize>, ranks: &mut [usize], place: usize) -> Option<()>
-    requires within { place < length ranks.old }
-    requires ranked { AreRanked listed.old.items ranks.old }
-    ensures ranked { AreRanked listed.new.items ranks.new }
-    ensures own { OnSome result (IsListedAt listed.new.items ranks.new place) }
-    ensures others { (n : ℕ) → IsListedAt listed.old.items ranks.old n →
-        IsListedAt listed.new.items ranks.new n }
-{
-    if is_listed(listed, ranks, place) {
-        return Some(());
-    }
-    let rank = listed.len();
-    listed.push(place).ok()?;
-    ranks[place] = rank;
-    Some(())
-}
-
 /// Makes the numbers at the listed places 0.
 fn clear_listed(numbers: &mut [i64], listed: &[usize])
     requires { All (λ n. n < length numbers.old) listed.now }
-    ensures { (rank : ℕ → ℕ) → IsRank rank listed.now → AreWritten rank listed.now (λ _. zero_ℚ)
-        (length listed.now) (wholes numbers.old) (wholes numbers.new) }
+    ensures { AreChanged (λ _. zero_ℚ) listed.now (wholes numbers.old) (wholes numbers.new) }
 {
     for rank in 0..listed.len() {
         let place = listed[rank];
@@ -80,10 +49,9 @@ fn clear_listed(numbers: &mut [i64], listed: &[usize])
 /// Makes the numbers at the listed places their products with a factor.
 fn multiply_listed(numbers: &mut [i64], listed: &[usize], by: Frac) -> Option<()>
     requires { All (λ n. n < length numbers.old) listed.now }
+    ensures products { IfSome result (λ _. AreChanged (λ x. x *ℚ by) listed.now (wholes numbers.old)
+        (wholes numbers.new)) }
     ensures others { AreKept listed.now (wholes numbers.old) (wholes numbers.new) }
-    ensures products { IfSome result (λ _. (rank : ℕ → ℕ) → IsRank rank listed.now → AreWritten rank
-        listed.now (λ n. slice_index_or (wholes numbers.old) n zero_ℚ *ℚ by) (length listed.now)
-        (wholes numbers.old) (wholes numbers.new)) }
 {
     for rank in 0..listed.len() {
         let place = listed[rank];

@@ -1,11 +1,13 @@
 //! Numbers over one denominator that are whole numbers. Where a number isn't, or is too large, the answer is None.
 
-ghost use Rattle.std.specs.Prelude.{◌≡◌, ◌≢◌, ◌≤◌, All, length, IfSome};
+ghost use Rattle.std.specs.Prelude.{◌≡◌, ◌≢◌, ◌≤◌, ◌+ℤ◌, ◌*ℤ◌, ◌≤ℤ◌, pos, All, length, IfSome};
+ghost use Rattle.std.specs.Option.{SomeIff};
 ghost use Rattle.exact_values.specs.Rational.{whole, zero_ℚ, ◌+ℚ◌, ◌*ℚ◌, ◌/ℚ◌};
 ghost use Rattle.frac128.specs.Terms.{Fits};
 ghost use Rattle.lp_definitions.specs.LinearProgram.{value_at};
 ghost use Rattle.whole_vectors.specs.Words.{wholes};
 
+use crate::{quotient, word_quotient};
 use frac128::Frac;
 
 /// The whole number that a fraction is, where it is one.
@@ -14,17 +16,10 @@ pub fn whole_number(x: Frac) -> Option<i128>
     ensures value { IfSome result (λ n. whole n ≡ x) }
     ensures fits { IfSome result Fits }
 {
-    let _x = x;
-    None
-}
-
-/// A whole number as a fraction.
-#[inline(always)]
-pub fn whole_fraction(n: i128) -> Frac
-    requires fits { Fits n }
-    ensures { result ≡ whole n }
-{
-    Frac::whole(n)
+    if x.den() != 1 {
+        return None;
+    }
+    Some(x.num())
 }
 
 /// The number at the variable `k`.
@@ -39,6 +34,50 @@ pub fn whole_at(numbers: &[i128], k: u32) -> i128
     numbers[k as usize - 1]
 }
 
+/// The sum of two whole numbers, where it fits.
+#[inline(always)]
+fn fitting_sum(a: i128, b: i128) -> Option<i128>
+    ensures { SomeIff result (Fits (a +ℤ b)) (a +ℤ b) }
+{
+    let sum = a.checked_add(b)?;
+    if sum == i128::MIN { None } else { Some(sum) }
+}
+
+/// The product of two whole numbers, where it fits.
+#[inline(always)]
+pub fn whole_product(a: i128, b: i128) -> Option<i128>
+    ensures { SomeIff result (Fits (a *ℤ b)) (a *ℤ b) }
+{
+    if let (Ok(a), Ok(b)) = (i64::try_from(a), i64::try_from(b)) {
+        return Some(a as i128 * b as i128);
+    }
+    let product = a.checked_mul(b)?;
+    if product == i128::MIN {
+        None
+    } else {
+        Some(product)
+    }
+}
+
+/// How often a number has a factor, where it is a multiple of it.
+#[inline(always)]
+pub fn whole_multiple(n: i128, factor: i128) -> Option<i128>
+    requires at_least_one { pos 1 ≤ℤ factor }
+    requires fits { Fits n }
+    ensures value { IfSome result (λ times. n ≡ times *ℤ factor) }
+    ensures fits { IfSome result Fits }
+{
+    let times = match (i64::try_from(n), i64::try_from(factor)) {
+        (Ok(n), Ok(factor)) => (n / factor) as i128,
+        _ => n / factor,
+    };
+    if whole_product(times, factor)? == n {
+        Some(times)
+    } else {
+        None
+    }
+}
+
 /// The sum, with one product more. Nothing is made of 0.
 #[inline(always)]
 pub fn whole_sum(sum: i128, x: i128, y: Frac) -> Option<i128>
@@ -46,8 +85,12 @@ pub fn whole_sum(sum: i128, x: i128, y: Frac) -> Option<i128>
     ensures value { IfSome result (λ next. whole next ≡ whole sum +ℚ whole x *ℚ y) }
     ensures fits { IfSome result Fits }
 {
-    let (_sum, _x, _y) = (sum, x, y);
-    None
+    if x == 0 {
+        return Some(sum);
+    }
+    let y = whole_number(y)?;
+    let product = whole_product(x, y)?;
+    fitting_sum(sum, product)
 }
 
 /// A number over a divisor. Nothing is made of 0, and of a divisor of 1.
@@ -57,6 +100,8 @@ pub fn whole_quotient(n: i128, by: Frac) -> Option<Frac>
     requires fits { Fits n }
     ensures { IfSome result (λ quotient. quotient ≡ whole n /ℚ by) }
 {
-    let (_n, _by) = (n, by);
-    None
+    match i64::try_from(n) {
+        Ok(n) => word_quotient(n, by),
+        Err(_) => quotient(Frac::whole(n), by),
+    }
 }

@@ -1,4 +1,4 @@
-use Rattle.std.proofs.Common.{rules, ◌≡◌, ◌-◌, ◌+◌, ◌∙◌, ap, sym, length, ℕ, get_or, arith}
+use Rattle.std.proofs.Common.{◌-◌, ◌∙◌, ap, sym, length, ℕ, get_or}
 use Rattle.exact_values.specs.Rational.{zero_ℚ, ◌/ℚ◌, inverse_ℚ}
 use Rattle.exact_values.proofs.Ring_laws.{zero-mul}
 use Rattle.whole_vectors.specs.Words.{wholes}

@@ -1,0 +1,23 @@
+use Rattle.std.proofs.Common.{◌≡◌, sym, ◌∙◌, ap, ap₂, pos, to_z, subst}
+use Rattle.std.specs.Int.{w128}
+use Rattle.std.specs.Prelude.{◌*ℤ◌}
+use Rattle.std.proofs.lemmas.Int.{to_z-of_z}
+use Rattle.exact_values.specs.Rational.{whole, ◌+ℚ◌, ◌*ℚ◌}
+use Rattle.exact_values.proofs.Ring_laws.{zero-mul, add-zero}
+use Rattle.frac128.specs.Terms.{Fits}
+use Rattle.frac128.proofs.Parts.{read_fitting}
+use Rattle.whole_vectors.proofs.Words.{summed}
+use Rattle.whole_vectors.proofs.whole_numbers.whole_sum.Goals as goal
+
+pub returns-then-x-eq0-clause-value : goal.returns-then-x-eq0-clause-value
+returns-then-x-eq0-clause-value c =
+    let none : c.args.x ≡ pos 0 = sym (to_z-of_z w128 c.args.x c.ranges.x) ∙ ap (to_z w128) c.if-x-eq0.true in
+    ap whole (read_fitting c.args.sum c.requires.fits)
+    ∙ sym (ap (λ n. whole c.args.sum +ℚ whole n *ℚ c.args.y) none ∙ ap (λ q. whole c.args.sum +ℚ q) (zero-mul c.args.y) ∙ add-zero (whole c.args.sum))
+
+pub returns-clause-value : goal.returns-clause-value
+returns-clause-value c =
+    let product : c.in_ok-product.product ≡ c.args.x *ℤ c.in_ok-y.y =
+    c.in_ok-product.ensures.1 ∙ ap₂ (λ a b. a *ℤ b) (to_z-of_z w128 c.args.x c.ranges.x) (read_fitting c.in_ok-y.y c.in_ok-y.ensures.fits) in
+    summed c.fitting_sum.result _ _ _ c.args.sum c.args.x c.in_ok-y.y c.args.y (read_fitting c.args.sum c.requires.fits)
+    (read_fitting c.in_ok-product.product (subst (λ z. Fits z) (sym c.in_ok-product.ensures.1) c.in_ok-product.ensures.0) ∙ product) c.in_ok-y.ensures.value c.fitting_sum.ensures
