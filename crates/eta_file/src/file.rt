@@ -417,7 +417,7 @@ impl EtaFile {
         self.column_in(j, wholes, out)
     }
 
-    /// The same in workspace.
+    /// The same; `workspace` takes the direction.
     pub fn column_to(&self, j: u32, workspace: &mut ColumnWorkspace) -> Result<(), Stop>
         requires nonbasic { IsNonbasic self.now.matrix self.now.basics j }
         requires places { IsWorkspaceFor (size self.now.matrix) workspace.old }

@@ -1,9 +1,15 @@
-use Rattle.std.proofs.Common.{arith, ◌∙◌}
+use Rattle.std.proofs.Common.{rules, ◌≡◌, ◌∙◌, arith, length}
+use Rattle.lp_definitions.specs.LinearProgram.{size}
 use Rattle.reinversion.proofs.Rebuilding.{rebuilt_start, no_columns, next_column, rebuilt_all}
 use Rattle.reinversion.proofs.rebuild.rebuild.Goals as goal
 
 pub enter_in_order-requires-clause-rebuilt : goal.enter_in_order-requires-clause-rebuilt
 enter_in_order-requires-clause-rebuilt c = rebuilt_start c.args.old.now.matrix c.args.old.now.basics c.in_ok-new.new c.in_ok-new.ensures.matrix c.in_ok-new.ensures.basics c.in_ok-new.ensures.no_eta
+
+pub loop-c-init : goal.loop-c-init
+loop-c-init c =
+    let counted : length c.in_ok-wholes.wholes ≡ size c.args.old.now.matrix = search rules in
+    record { rebuilt = c.in_ok-enter_in_order.ensures.rebuilt; places = c.in_ok-enter_in_order.ensures.places; wholes = c.enter_in_order.ensures.wholes ∙ counted }
 
 pub enter-requires-clause-rebuilt : goal.enter-requires-clause-rebuilt
 enter-requires-clause-rebuilt c = no_columns c.args.old.now.matrix c.args.old.now.basics c.loop-c.c c.loop-c.new c.loop-c.invariant.rebuilt
