@@ -25,26 +25,26 @@ pub trait Numbers {
     type Number: Copy;
 
     /// A number as a fraction.
-    ghost value: { Self.Number → ℚ };
+    ghost fraction: { Self.Number → ℚ };
 
     /// What holds of each number.
     ghost is_sound: { Self.Number → Type 0 };
 
     /// The numbers, as fractions.
-    ghost values: { Self → List ℚ };
+    ghost fractions: { Self → List ℚ };
 
     /// The number 0.
     fn zero() -> Self::Number
-        ensures is { value result ≡ zero_ℚ }
+        ensures value { fraction result ≡ zero_ℚ }
         ensures sound { is_sound result };
 
     /// Whether a number is 0.
     fn is_zero(n: Self::Number) -> bool
-        ensures { result ≡ true → value n ≡ zero_ℚ };
+        ensures { result ≡ true → fraction n ≡ zero_ℚ };
 
     /// The whole number that a fraction is, where it is one.
-    fn number(x: Frac) -> Option<Self::Number>
-        ensures is { IfSome result (λ n. value n ≡ x) }
+    fn whole_number(x: Frac) -> Option<Self::Number>
+        ensures value { IfSome result (λ n. fraction n ≡ x) }
         ensures sound { IfSome result is_sound };
 
     /// The number at the variable `k`.
@@ -52,55 +52,55 @@ pub trait Numbers {
         requires low { 1 ≤ k }
         requires high { k ≤ length numbers.now }
         requires sound { All is_sound numbers.now }
-        ensures is { value result ≡ value_at (map value numbers.now) k }
+        ensures value { fraction result ≡ value_at (map fraction numbers.now) k }
         ensures sound { is_sound result };
 
     /// The sum, with one product more. Nothing is made of 0.
     fn plus(sum: Self::Number, x: Self::Number, y: Frac) -> Option<Self::Number>
         requires sound { is_sound sum }
-        ensures is { IfSome result (λ next. value next ≡ value sum +ℚ value x *ℚ y) }
+        ensures value { IfSome result (λ next. fraction next ≡ fraction sum +ℚ fraction x *ℚ y) }
         ensures sound { IfSome result is_sound };
 
     /// A number over a divisor.
     fn over(n: Self::Number, by: Frac) -> Option<Frac>
         requires apart { by ≢ zero_ℚ }
         requires sound { is_sound n }
-        ensures is { IfSome result (λ quotient. quotient ≡ value n /ℚ by) };
+        ensures value { IfSome result (λ quotient. quotient ≡ fraction n /ℚ by) };
 
     /// The numbers of all variables.
     fn all(&self) -> &[Self::Number]
-        ensures numbers { map value result.now ≡ values self.now }
-        ensures places { length result.now ≡ length (values self.now) }
+        ensures numbers { map fraction result.now ≡ fractions self.now }
+        ensures places { length result.now ≡ length (fractions self.now) }
         ensures sound { All is_sound result.now };
 
     /// Makes the number of the variable `i` 1, and all others 0.
     fn begin(&mut self, i: u32) -> Option<()>
         requires low { 1 ≤ i }
-        requires high { i ≤ length (values self.old) }
-        ensures unit { IfSome result (λ _. IsUnit i (values self.new)) }
-        ensures places { length (values self.new) ≡ length (values self.old) };
+        requires high { i ≤ length (fractions self.old) }
+        ensures unit { IfSome result (λ _. IsUnit i (fractions self.new)) }
+        ensures places { length (fractions self.new) ≡ length (fractions self.old) };
 
     /// Makes `n` the number of the variable `k`.
     fn write(&mut self, k: u32, n: Self::Number) -> Option<()>
         requires low { 1 ≤ k }
-        requires high { k ≤ length (values self.old) }
+        requires high { k ≤ length (fractions self.old) }
         requires sound { is_sound n }
-        ensures number { IfSome result (λ _. values self.new ≡ set (values self.old) (k - 1)
-            (value n)) }
-        ensures places { length (values self.new) ≡ length (values self.old) };
+        ensures number { IfSome result (λ _. fractions self.new ≡ set (fractions self.old) (k - 1)
+            (fraction n)) }
+        ensures places { length (fractions self.new) ≡ length (fractions self.old) };
 
     /// Makes each number its product with a factor.
     fn multiply_by(&mut self, by: Frac) -> Option<()>
-        ensures products { IfSome result (λ _. AreProducts by (values self.old)
-            (values self.new)) }
-        ensures places { length (values self.new) ≡ length (values self.old) };
+        ensures products { IfSome result (λ _. AreProducts by (fractions self.old)
+            (fractions self.new)) }
+        ensures places { length (fractions self.new) ≡ length (fractions self.old) };
 
     /// Takes out what a large denominator and all numbers share, and gives the denominator that is left.
     fn reduce_over(&mut self, denominator: Frac) -> Option<Frac>
         requires apart { denominator ≢ zero_ℚ }
-        ensures same { IfSome result (λ left. IsSameOver denominator (values self.old) left
-            (values self.new)) }
-        ensures places { length (values self.new) ≡ length (values self.old) };
+        ensures same { IfSome result (λ left. IsSameOver denominator (fractions self.old) left
+            (fractions self.new)) }
+        ensures places { length (fractions self.new) ≡ length (fractions self.old) };
 }
 
 /// The sum of the entries, each times the number there, begun with `first`. An entry at a number of 0 adds nothing.
@@ -113,8 +113,8 @@ fn sum_of_entries<N: Numbers>(
     requires within { All (IsEntryWithin (length numbers.now)) entries.now }
     requires numbers { All N.is_sound numbers.now }
     requires first { N.is_sound first }
-    ensures is { IfSome result (λ sum. (p : ℕ) → value_at (map N.value numbers.now) p ≡ zero_ℚ →
-        N.value sum ≡ sum_from (N.value first) (weighted p (map N.value numbers.now)
+    ensures value { IfSome result (λ sum. (p : ℕ) → value_at (map N.fraction numbers.now) p ≡ zero_ℚ →
+        N.fraction sum ≡ sum_from (N.fraction first) (weighted p (map N.fraction numbers.now)
         entries.now)) }
     ensures sound { IfSome result N.is_sound }
 {
@@ -131,8 +131,8 @@ fn sum_of_entries<N: Numbers>(
 fn sum_of_column<N: Numbers>(column: &[Entry], numbers: &[N::Number]) -> Option<N::Number>
     requires within { All (IsRowPlace (length numbers.now)) column.now }
     requires numbers { All N.is_sound numbers.now }
-    ensures is { IfSome result (λ sum. N.value sum ≡ sum_from zero_ℚ (products
-        (map N.value numbers.now) column.now)) }
+    ensures value { IfSome result (λ sum. N.fraction sum ≡ sum_from zero_ℚ (products
+        (map N.fraction numbers.now) column.now)) }
     ensures sound { IfSome result N.is_sound }
 {
     let mut sum = N::zero();
@@ -154,9 +154,9 @@ fn sum_over_eta<N: Numbers>(
     requires high { q ≤ length numbers.now }
     requires numbers { All N.is_sound numbers.now }
     requires within { All (IsEntryWithin (length numbers.now)) whole.now.entries.now }
-    ensures is { IfSome result (λ sum. (p : ℕ) → value_at (map N.value numbers.now) p ≡ zero_ℚ →
-        N.value sum ≡ sum_from (value_at (map N.value numbers.now) q *ℚ whole.now.scale)
-        (weighted p (map N.value numbers.now) whole.now.entries.now)) }
+    ensures value { IfSome result (λ sum. (p : ℕ) → value_at (map N.fraction numbers.now) p ≡ zero_ℚ →
+        N.fraction sum ≡ sum_from (value_at (map N.fraction numbers.now) q *ℚ whole.now.scale)
+        (weighted p (map N.fraction numbers.now) whole.now.entries.now)) }
     ensures sound { IfSome result N.is_sound }
 {
     let lead = N::number_at(numbers, q);
@@ -174,11 +174,11 @@ fn carry_back_numbers<N: Numbers>(
 ) -> Option<Frac>
     requires within { place < length file.now.etas }
     requires basic { IsBasic file.now.matrix file.now.basics row }
-    requires places { length (N.values out.old) ≡ size file.now.matrix }
-    requires known { Represent (IsKnown file.now (place + 1) row) denominator (N.values out.old) }
+    requires places { length (N.fractions out.old) ≡ size file.now.matrix }
+    requires known { Represent (IsKnown file.now (place + 1) row) denominator (N.fractions out.old) }
     ensures known { IfSome result (λ d. Represent (IsKnown file.now place row) d
-        (N.values out.new)) }
-    ensures places { length (N.values out.new) ≡ length (N.values out.old) }
+        (N.fractions out.new)) }
+    ensures places { length (N.fractions out.new) ≡ length (N.fractions out.old) }
 {
     let _size = file.size();
     let _etas = file.etas();
@@ -194,7 +194,7 @@ fn carry_back_numbers<N: Numbers>(
     let ratio = N::over(sum, whole.pivot)?;
     let (number, by) = terms(ratio);
     out.multiply_by(by)?;
-    let made = N::number(number.neg())?;
+    let made = N::whole_number(number.neg())?;
     out.write(eta.p, made)?;
     let denominator = product(denominator, by)?;
     out.reduce_over(denominator)
@@ -203,10 +203,10 @@ fn carry_back_numbers<N: Numbers>(
 /// Fills the first places of `out` with the numbers of the multipliers of the rows, and gives their denominator.
 fn multipliers_in_numbers<N: Numbers>(file: &EtaFile, row: u32, out: &mut N) -> Option<Frac>
     requires basic { IsBasic file.now.matrix file.now.basics row }
-    requires places { length (N.values out.old) ≡ size file.now.matrix }
+    requires places { length (N.fractions out.old) ≡ size file.now.matrix }
     ensures known { IfSome result (λ d. Represent (HasMultipliers file.now
-        (size file.now.matrix) row) d (N.values out.new)) }
-    ensures places { length (N.values out.new) ≡ length (N.values out.old) }
+        (size file.now.matrix) row) d (N.fractions out.new)) }
+    ensures places { length (N.fractions out.new) ≡ length (N.fractions out.old) }
 {
     let _size = file.size();
     out.begin(row)?;
@@ -232,7 +232,7 @@ fn rate_by_numbers<N: Numbers>(
     requires places { length numbers.now ≡ size file.now.matrix }
     requires sound { All N.is_sound numbers.now }
     requires known { Represent (HasMultipliers file.now (size file.now.matrix) row)
-        denominator (map N.value numbers.now) }
+        denominator (map N.fraction numbers.now) }
     ensures { IfSome result (IsRateOf file.now row (place + 1)) }
 {
     let _size = file.size();
@@ -262,7 +262,7 @@ fn fill_to_wanted_by_numbers<N: Numbers>(
     requires places { length out.old ≡ size file.now.matrix }
     requires sound { All N.is_sound numbers.now }
     requires known { Represent (HasMultipliers file.now (size file.now.matrix) sought.now.row)
-        denominator (map N.value numbers.now) }
+        denominator (map N.fraction numbers.now) }
     ensures { IfSome result (IsFirstWanted file.now.matrix file.now.basics sought.now.row
         sought.now.wanted.now sought.now.up (value_at out.new)) }
 {
@@ -285,12 +285,12 @@ pub fn first_by_numbers<N: Numbers>(
     out: &mut [Frac],
 ) -> Option<Option<u32>>
     requires basic { IsBasic file.now.matrix file.now.basics sought.now.row }
-    requires number_places { length (N.values numbers.old) ≡ size file.now.matrix }
+    requires number_places { length (N.fractions numbers.old) ≡ size file.now.matrix }
     requires wanted_places { length sought.now.wanted.now ≡ size file.now.matrix }
     requires places { length out.old ≡ size file.now.matrix }
     ensures found { IfSome result (IsFirstWanted file.now.matrix file.now.basics sought.now.row
         sought.now.wanted.now sought.now.up (value_at out.new)) }
-    ensures number_places { length (N.values numbers.new) ≡ length (N.values numbers.old) }
+    ensures number_places { length (N.fractions numbers.new) ≡ length (N.fractions numbers.old) }
 {
     let denominator = multipliers_in_numbers(file, sought.row, numbers)?;
     fill_to_wanted_by_numbers::<N>(file, sought, numbers.all(), denominator, out)
@@ -309,7 +309,7 @@ fn fill_by_numbers<N: Numbers>(
     requires places { length out.old ≡ size file.now.matrix }
     requires sound { All N.is_sound numbers.now }
     requires known { Represent (HasMultipliers file.now (size file.now.matrix) row)
-        denominator (map N.value numbers.now) }
+        denominator (map N.fraction numbers.now) }
     ensures { IfSome result (λ _. IsRowOf file.now.matrix file.now.basics row (value_at out.new)) }
 {
     for place in 0..file.size() {
@@ -326,10 +326,10 @@ pub fn row_by_numbers<N: Numbers>(
     out: &mut [Frac],
 ) -> Option<()>
     requires basic { IsBasic file.now.matrix file.now.basics row }
-    requires number_places { length (N.values numbers.old) ≡ size file.now.matrix }
+    requires number_places { length (N.fractions numbers.old) ≡ size file.now.matrix }
     requires places { length out.old ≡ size file.now.matrix }
     ensures rates { IfSome result (λ _. IsRowOf file.now.matrix file.now.basics row (value_at out.new)) }
-    ensures number_places { length (N.values numbers.new) ≡ length (N.values numbers.old) }
+    ensures number_places { length (N.fractions numbers.new) ≡ length (N.fractions numbers.old) }
 {
     let denominator = multipliers_in_numbers(file, row, numbers)?;
     fill_by_numbers::<N>(file, row, numbers.all(), denominator, out)

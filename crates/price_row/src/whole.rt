@@ -10,11 +10,11 @@ use whole_vectors::{SparseWholes, whole_at, whole_number, whole_quotient, whole_
 impl Numbers for SparseWholes {
     type Number = i128;
 
-    ghost value = { whole };
+    ghost fraction = { whole };
 
     ghost is_sound = { Fits };
 
-    ghost values = { λ numbers. numbers };
+    ghost fractions = { λ numbers. numbers };
 
     #[inline(always)]
     fn zero() -> i128 {
@@ -27,7 +27,7 @@ impl Numbers for SparseWholes {
     }
 
     #[inline(always)]
-    fn number(x: Frac) -> Option<i128> {
+    fn whole_number(x: Frac) -> Option<i128> {
         whole_number(x)
     }
 

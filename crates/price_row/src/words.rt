@@ -9,11 +9,11 @@ use whole_vectors::{SparseWords, number_at, word, word_quotient, word_sum};
 impl Numbers for SparseWords {
     type Number = i64;
 
-    ghost value = { whole };
+    ghost fraction = { whole };
 
     ghost is_sound = { λ _. Unit {0} };
 
-    ghost values = { λ numbers. numbers };
+    ghost fractions = { λ numbers. numbers };
 
     #[inline(always)]
     fn zero() -> i64 {
@@ -26,7 +26,7 @@ impl Numbers for SparseWords {
     }
 
     #[inline(always)]
-    fn number(x: Frac) -> Option<i64> {
+    fn whole_number(x: Frac) -> Option<i64> {
         word(x)
     }
 

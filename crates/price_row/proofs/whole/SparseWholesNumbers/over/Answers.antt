@@ -7,7 +7,7 @@ use Rattle.price_row.proofs.whole.SparseWholesNumbers.over.Goals as goal
 
 pub returns : goal.returns
 returns c = record {
-  is =
+  value =
       some_map c.whole_quotient.result (λ v. v ≡ whole (to_z w128 (of_z w128 c.args.n)) /ℚ c.args.by) (λ v. v ≡ whole c.args.n /ℚ c.args.by)
       (λ v is_v. is_v ∙ ap (λ x. whole x /ℚ c.args.by) (to_z-of_z w128 c.args.n (search rules))) c.whole_quotient.ensures;
 }
