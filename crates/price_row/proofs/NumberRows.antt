@@ -1,10 +1,8 @@
 -- Rows that are carried back in whole numbers, of which that of the leaver is made 0 first.
 use Rattle.std.proofs.Common.{◌≡◌, ◌≢◌, ℕ, zero, suc, ◌+◌, ◌-◌, ◌<◌, ◌≤◌, List, [], ◌∷◌, length, set, refl, sym, ◌∙◌, ap, subst, arith}
-use Rattle.std.specs.Prelude.{pos}
 use Rattle.std.proofs.lemmas.List.{get_or-set_same, get_or-set_other, map-set}
 use Rattle.exact_values.specs.Rational.{ℚ, zero_ℚ, one_ℚ, neg_ℚ, ◌*ℚ◌, ◌/ℚ◌}
 use Rattle.exact_values.proofs.Inverse.{one_apart}
-use Rattle.exact_values.proofs.Ring.{by_ring1, ◌≐◌, opposite, number}
 use Rattle.exact_values.proofs.Ring_laws.{mul-one}
 use Rattle.lp_definitions.specs.LinearProgram.{size, IsVariable, value_at}
 use Rattle.lp_definitions.specs.Basis.{IsBasic, IsNonsingular, row_basics}
@@ -17,7 +15,7 @@ use Rattle.eta_file.specs.Prefixes.{IsLent, IsLentScaled, Passed}
 use Rattle.eta_file.specs.Inverse.{Inverse}
 use Rattle.price_row.specs.Sums.{weighted}
 use Rattle.price_row.specs.Known.{IsKnown, IsUnit}
-use Rattle.price_row.proofs.CarriedBack.{p_within, known_cleared, an_eta}
+use Rattle.price_row.proofs.CarriedBack.{p_within, known_cleared, idle_quotient, an_eta}
 use Rattle.price_row.proofs.WholeRows.{known_whole}
 
 -- 1 is put in the place of i, where all are 0
@@ -47,7 +45,7 @@ module _ (f : Inverse) (passed : Passed f.matrix (row_basics f.matrix) f.etas) (
     (s pivot : ℚ) (es : List EtaEntry) (whole : IsLentScaled f.etas (k + 1 - 1) s pivot es)
     (r : ℕ) (basic : IsBasic f.matrix f.basics r) (one : IsNonsingular f.matrix f.basics) (d : ℚ) (old : List ℚ) (counted : length old ≡ size f.matrix) (known : Represent (IsKnown f (k + 1) r) d old)
     (v : ℚ) (none : v ≡ zero_ℚ) (cleared : List ℚ) (is_written : cleared ≡ set old (p - 1) v) (as_long : length cleared ≡ length old)
-    (ratio : ℚ) (is_ratio : (i : ℕ) → value_at cleared i ≡ zero_ℚ → ratio ≡ sum_from (value_at cleared q *ℚ s) (weighted i cleared es) /ℚ pivot) where
+    (read : List ℚ) (as_read : read ≡ cleared) (sum : ℚ) (is_sum : (i : ℕ) → value_at read i ≡ zero_ℚ → sum ≡ sum_from (value_at read q *ℚ s) (weighted i read es)) where
   abbrev d0 : StoredEta
   d0 = an_eta f.etas k below
 
@@ -65,17 +63,19 @@ module _ (f : Inverse) (passed : Passed f.matrix (row_basics f.matrix) f.etas) (
   nought : value_at cleared p ≡ zero_ℚ
   nought = ap (λ xs. value_at xs p) is_cleared ∙ get_or-set_same old (p - 1) zero_ℚ zero_ℚ (omega (arith, p_in.0, p_in.1, counted))
 
-  pub known_carried : (by n e : ℚ) (low new : List ℚ) → by ≢ zero_ℚ → n ≡ ratio *ℚ by → e ≡ d *ℚ by → AreProducts by cleared low → length low ≡ length cleared
-      → new ≡ set low (p - 1) (neg_ℚ n) → Represent (IsKnown f k r) e new
-  known_carried by n e low new =
-      known_whole f passed k below p q entries lent s pivot es whole r basic one d cleared (as_long ∙ counted) still_known
-      (value_at cleared q *ℚ s) (sum_from (value_at cleared q *ℚ s) (weighted p cleared es)) ratio refl refl (is_ratio p nought) by n e low new
+  total_is : sum ≡ sum_from (value_at cleared q *ℚ s) (weighted p cleared es)
+  total_is = subst (λ xs. (i : ℕ) → value_at xs i ≡ zero_ℚ → sum ≡ sum_from (value_at xs q *ℚ s) (weighted i xs es)) as_read is_sum p nought
 
-  -- where the leaver's is 0, all stays
-  pub known_idle : ratio ≡ zero_ℚ → Represent (IsKnown f k r) d cleared
+  pub known_carried : (ratio by n e : ℚ) (low new : List ℚ) → ratio ≡ sum /ℚ pivot → by ≢ zero_ℚ → n ≡ ratio *ℚ by → e ≡ d *ℚ by → AreProducts by cleared low → length low ≡ length cleared
+      → new ≡ set low (p - 1) (neg_ℚ n) → Represent (IsKnown f k r) e new
+  known_carried ratio by n e low new is_ratio =
+      known_whole f passed k below p q entries lent s pivot es whole r basic one d cleared (as_long ∙ counted) still_known (value_at cleared q *ℚ s) sum ratio refl total_is is_ratio by n e low new
+
+  -- where the sum is 0, all stays
+  pub known_idle : sum ≡ zero_ℚ → Represent (IsKnown f k r) d cleared
   known_idle idle =
-      known_carried one_ℚ (ratio *ℚ one_ℚ) d cleared cleared one_apart refl (sym (mul-one d)) (record { each = λ i. right_once (value_at cleared i) one_ℚ refl }) refl
+      known_carried (sum /ℚ pivot) one_ℚ (sum /ℚ pivot *ℚ one_ℚ) d cleared cleared refl one_apart refl (sym (mul-one d)) (record { each = λ i. right_once (value_at cleared i) one_ℚ refl }) refl
       (is_cleared ∙ sym (set_twice old (p - 1) zero_ℚ zero_ℚ) ∙ ap (λ xs. set xs (p - 1) zero_ℚ) (sym is_cleared) ∙ ap (set cleared (p - 1)) stays)
     where
-      stays : zero_ℚ ≡ neg_ℚ (ratio *ℚ one_ℚ)
-      stays = sym (ap neg_ℚ (mul-one ratio ∙ idle) ∙ by_ring1 zero_ℚ (λ z. opposite (number (pos 0)) ≐ number (pos 0)) refl)
+      stays : zero_ℚ ≡ neg_ℚ (sum /ℚ pivot *ℚ one_ℚ)
+      stays = sym idle ∙ idle_quotient sum pivot idle ∙ ap neg_ℚ (sym (mul-one (sum /ℚ pivot)))

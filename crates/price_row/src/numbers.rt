@@ -1,8 +1,8 @@
 //! Rows that are carried back in whole numbers over one denominator. Where a number doesn't fit, the answer is None, and the row has to
 //! be computed another way.
 
-ghost use Rattle.std.specs.Prelude.{◌≡◌, ◌≢◌, ◌+◌, ◌-◌, ◌≤◌, ◌<◌, ℕ, List, length, set, All, IfSome};
-ghost use Rattle.exact_values.specs.Rational.{ℚ, zero_ℚ, ◌*ℚ◌, ◌/ℚ◌};
+ghost use Rattle.std.specs.Prelude.{◌≡◌, ◌≢◌, ◌+◌, ◌-◌, ◌≤◌, ◌<◌, ℕ, true, List, length, map, set, All, IfSome};
+ghost use Rattle.exact_values.specs.Rational.{ℚ, zero_ℚ, ◌+ℚ◌, ◌*ℚ◌, ◌/ℚ◌};
 ghost use Rattle.lp_definitions.specs.LinearProgram.{size, value_at};
 ghost use Rattle.lp_definitions.specs.Basis.{IsBasic};
 ghost use Rattle.lp_definitions.specs.RatesEvidence.{sum_from};
@@ -15,67 +15,153 @@ ghost use Rattle.price_row.specs.Places.{IsRowPlace};
 ghost use Rattle.price_row.specs.Known.{IsKnown, IsUnit, HasMultipliers, IsRateOf};
 
 use crate::{Sought, is_wanted_at};
-use eta_file::{EtaFile, ScaledEta};
+use eta_file::{EtaEntry, EtaFile, ScaledEta};
 use frac128::Frac;
 use lp_model::Entry;
 use whole_vectors::{product, terms};
 
 /// A whole number for each variable.
 pub trait Numbers {
+    type Number: Copy;
+
+    /// A number as a fraction.
+    ghost fraction: { Self.Number → ℚ };
+
+    /// What holds of each number.
+    ghost is_sound: { Self.Number → Type 0 };
+
     /// The numbers, as fractions.
-    ghost values: { Self → List ℚ };
+    ghost fractions: { Self → List ℚ };
+
+    /// The number 0.
+    fn zero() -> Self::Number
+        ensures value { fraction result ≡ zero_ℚ }
+        ensures sound { is_sound result };
+
+    /// Whether a number is 0.
+    fn is_zero(n: Self::Number) -> bool
+        ensures { result ≡ true → fraction n ≡ zero_ℚ };
+
+    /// The whole number that a fraction is, where it is one.
+    fn whole_number(x: Frac) -> Option<Self::Number>
+        ensures value { IfSome result (λ n. fraction n ≡ x) }
+        ensures sound { IfSome result is_sound };
+
+    /// The number at the variable `k`.
+    fn number_at(numbers: &[Self::Number], k: u32) -> Self::Number
+        requires low { 1 ≤ k }
+        requires high { k ≤ length numbers.now }
+        requires sound { All is_sound numbers.now }
+        ensures value { fraction result ≡ value_at (map fraction numbers.now) k }
+        ensures sound { is_sound result };
+
+    /// The sum, with one product more. Nothing is made of 0.
+    fn plus(sum: Self::Number, x: Self::Number, y: Frac) -> Option<Self::Number>
+        requires sound { is_sound sum }
+        ensures value { IfSome result (λ next. fraction next ≡ fraction sum +ℚ fraction x *ℚ y) }
+        ensures sound { IfSome result is_sound };
+
+    /// A number over a divisor.
+    fn over(n: Self::Number, by: Frac) -> Option<Frac>
+        requires apart { by ≢ zero_ℚ }
+        requires sound { is_sound n }
+        ensures value { IfSome result (λ quotient. quotient ≡ fraction n /ℚ by) };
+
+    /// The numbers of all variables.
+    fn all(&self) -> &[Self::Number]
+        ensures numbers { map fraction result.now ≡ fractions self.now }
+        ensures places { length result.now ≡ length (fractions self.now) }
+        ensures sound { All is_sound result.now };
 
     /// Makes the number of the variable `i` 1, and all others 0.
     fn begin(&mut self, i: u32) -> Option<()>
         requires low { 1 ≤ i }
-        requires high { i ≤ length (values self.old) }
-        ensures unit { IfSome result (λ _. IsUnit i (values self.new)) }
-        ensures places { length (values self.new) ≡ length (values self.old) };
+        requires high { i ≤ length (fractions self.old) }
+        ensures unit { IfSome result (λ _. IsUnit i (fractions self.new)) }
+        ensures places { length (fractions self.new) ≡ length (fractions self.old) };
 
-    /// Makes `x` the number of the variable `k`.
-    fn write(&mut self, k: u32, x: Frac) -> Option<()>
+    /// Makes `n` the number of the variable `k`.
+    fn write(&mut self, k: u32, n: Self::Number) -> Option<()>
         requires low { 1 ≤ k }
-        requires high { k ≤ length (values self.old) }
-        ensures number { IfSome result (λ _. values self.new ≡ set (values self.old) (k - 1) x) }
-        ensures places { length (values self.new) ≡ length (values self.old) };
+        requires high { k ≤ length (fractions self.old) }
+        requires sound { is_sound n }
+        ensures number { IfSome result (λ _. fractions self.new ≡ set (fractions self.old) (k - 1)
+            (fraction n)) }
+        ensures places { length (fractions self.new) ≡ length (fractions self.old) };
 
     /// Makes each number its product with a factor.
     fn multiply_by(&mut self, by: Frac) -> Option<()>
-        ensures products { IfSome result (λ _. AreProducts by (values self.old)
-            (values self.new)) }
-        ensures places { length (values self.new) ≡ length (values self.old) };
+        ensures products { IfSome result (λ _. AreProducts by (fractions self.old)
+            (fractions self.new)) }
+        ensures places { length (fractions self.new) ≡ length (fractions self.old) };
 
     /// Takes out what a large denominator and all numbers share, and gives the denominator that is left.
     fn reduce_over(&mut self, denominator: Frac) -> Option<Frac>
         requires apart { denominator ≢ zero_ℚ }
-        ensures same { IfSome result (λ left. IsSameOver denominator (values self.old) left
-            (values self.new)) }
-        ensures places { length (values self.new) ≡ length (values self.old) };
+        ensures same { IfSome result (λ left. IsSameOver denominator (fractions self.old) left
+            (fractions self.new)) }
+        ensures places { length (fractions self.new) ≡ length (fractions self.old) };
+}
 
-    /// The number of `q` times the scale, and the entries, each times the number there, in all, over the pivot. An entry at a number
-    /// of 0 adds nothing.
-    fn ratio(&self, q: u32, whole: &ScaledEta<'_>) -> Option<Frac>
-        requires low { 1 ≤ q }
-        requires high { q ≤ length (values self.now) }
-        requires within { All (IsEntryWithin (length (values self.now))) whole.now.entries.now }
-        requires apart { whole.now.pivot ≢ zero_ℚ }
-        ensures { IfSome result (λ ratio. (p : ℕ) → value_at (values self.now) p ≡ zero_ℚ →
-            ratio ≡ sum_from (value_at (values self.now) q *ℚ whole.now.scale)
-            (weighted p (values self.now) whole.now.entries.now) /ℚ whole.now.pivot) };
+/// The sum of the entries, each times the number there, begun with `first`. An entry at a number of 0 adds nothing.
+#[inline(always)]
+fn sum_of_entries<N: Numbers>(
+    entries: &[EtaEntry],
+    first: N::Number,
+    numbers: &[N::Number],
+) -> Option<N::Number>
+    requires within { All (IsEntryWithin (length numbers.now)) entries.now }
+    requires numbers { All N.is_sound numbers.now }
+    requires first { N.is_sound first }
+    ensures value { IfSome result (λ sum. (p : ℕ) → value_at (map N.fraction numbers.now) p ≡ zero_ℚ →
+        N.fraction sum ≡ sum_from (N.fraction first) (weighted p (map N.fraction numbers.now)
+        entries.now)) }
+    ensures sound { IfSome result N.is_sound }
+{
+    let mut sum = first;
+    for entry in entries {
+        let number = N::number_at(numbers, entry.i);
+        sum = N::plus(sum, number, entry.rate)?;
+    }
+    Some(sum)
+}
 
-    /// The number of the variable `k` over a divisor.
-    fn number_over(&self, k: u32, by: Frac) -> Option<Frac>
-        requires low { 1 ≤ k }
-        requires high { k ≤ length (values self.now) }
-        requires apart { by ≢ zero_ℚ }
-        ensures { IfSome result (λ quotient. quotient ≡ value_at (values self.now) k /ℚ by) };
+/// The sum of the numbers of a column of the deck, each times the number at its row.
+#[inline(always)]
+fn sum_of_column<N: Numbers>(column: &[Entry], numbers: &[N::Number]) -> Option<N::Number>
+    requires within { All (IsRowPlace (length numbers.now)) column.now }
+    requires numbers { All N.is_sound numbers.now }
+    ensures value { IfSome result (λ sum. N.fraction sum ≡ sum_from zero_ℚ (products
+        (map N.fraction numbers.now) column.now)) }
+    ensures sound { IfSome result N.is_sound }
+{
+    let mut sum = N::zero();
+    for entry in column {
+        let number = N::number_at(numbers, entry.row);
+        sum = N::plus(sum, number, entry.value)?;
+    }
+    Some(sum)
+}
 
-    /// The sum of the numbers of a column of the deck, each times the number at its row, over a divisor.
-    fn column_over(&self, column: &[Entry], by: Frac) -> Option<Frac>
-        requires within { All (IsRowPlace (length (values self.now))) column.now }
-        requires apart { by ≢ zero_ℚ }
-        ensures { IfSome result (λ quotient. quotient ≡ sum_from zero_ℚ (products (values self.now)
-            column.now) /ℚ by) };
+/// The number of `q` times the scale, and the entries, each times the number there, in all. An entry at a number of 0 adds nothing.
+#[inline(always)]
+fn sum_over_eta<N: Numbers>(
+    q: u32,
+    whole: &ScaledEta<'_>,
+    numbers: &[N::Number],
+) -> Option<N::Number>
+    requires low { 1 ≤ q }
+    requires high { q ≤ length numbers.now }
+    requires numbers { All N.is_sound numbers.now }
+    requires within { All (IsEntryWithin (length numbers.now)) whole.now.entries.now }
+    ensures value { IfSome result (λ sum. (p : ℕ) → value_at (map N.fraction numbers.now) p ≡ zero_ℚ →
+        N.fraction sum ≡ sum_from (value_at (map N.fraction numbers.now) q *ℚ whole.now.scale)
+        (weighted p (map N.fraction numbers.now) whole.now.entries.now)) }
+    ensures sound { IfSome result N.is_sound }
+{
+    let lead = N::number_at(numbers, q);
+    let first = N::plus(N::zero(), lead, whole.scale)?;
+    sum_of_entries::<N>(whole.entries, first, numbers)
 }
 
 /// Carries the numbers of the multipliers of the row back over one eta, and gives their denominator before it.
@@ -88,11 +174,11 @@ fn carry_back_numbers<N: Numbers>(
 ) -> Option<Frac>
     requires within { place < length file.now.etas }
     requires basic { IsBasic file.now.matrix file.now.basics row }
-    requires places { length (N.values out.old) ≡ size file.now.matrix }
-    requires known { Represent (IsKnown file.now (place + 1) row) denominator (N.values out.old) }
+    requires places { length (N.fractions out.old) ≡ size file.now.matrix }
+    requires known { Represent (IsKnown file.now (place + 1) row) denominator (N.fractions out.old) }
     ensures known { IfSome result (λ d. Represent (IsKnown file.now place row) d
-        (N.values out.new)) }
-    ensures places { length (N.values out.new) ≡ length (N.values out.old) }
+        (N.fractions out.new)) }
+    ensures places { length (N.fractions out.new) ≡ length (N.fractions out.old) }
 {
     let _size = file.size();
     let _etas = file.etas();
@@ -100,14 +186,16 @@ fn carry_back_numbers<N: Numbers>(
     let Some(whole) = file.whole(place + 1) else {
         return None;
     };
-    out.write(eta.p, Frac::whole(0))?;
-    let ratio = out.ratio(eta.q, &whole)?;
-    if ratio.is_zero() {
+    out.write(eta.p, N::zero())?;
+    let sum = sum_over_eta::<N>(eta.q, &whole, out.all())?;
+    if N::is_zero(sum) {
         return Some(denominator);
     }
+    let ratio = N::over(sum, whole.pivot)?;
     let (number, by) = terms(ratio);
     out.multiply_by(by)?;
-    out.write(eta.p, number.neg())?;
+    let made = N::whole_number(number.neg())?;
+    out.write(eta.p, made)?;
     let denominator = product(denominator, by)?;
     out.reduce_over(denominator)
 }
@@ -115,10 +203,10 @@ fn carry_back_numbers<N: Numbers>(
 /// Fills the first places of `out` with the numbers of the multipliers of the rows, and gives their denominator.
 fn multipliers_in_numbers<N: Numbers>(file: &EtaFile, row: u32, out: &mut N) -> Option<Frac>
     requires basic { IsBasic file.now.matrix file.now.basics row }
-    requires places { length (N.values out.old) ≡ size file.now.matrix }
+    requires places { length (N.fractions out.old) ≡ size file.now.matrix }
     ensures known { IfSome result (λ d. Represent (HasMultipliers file.now
-        (size file.now.matrix) row) d (N.values out.new)) }
-    ensures places { length (N.values out.new) ≡ length (N.values out.old) }
+        (size file.now.matrix) row) d (N.fractions out.new)) }
+    ensures places { length (N.fractions out.new) ≡ length (N.fractions out.old) }
 {
     let _size = file.size();
     out.begin(row)?;
@@ -137,13 +225,14 @@ fn rate_by_numbers<N: Numbers>(
     place: u32,
     row: u32,
     denominator: Frac,
-    numbers: &N,
+    numbers: &[N::Number],
 ) -> Option<Frac>
     requires within { place < size file.now.matrix }
     requires basic { IsBasic file.now.matrix file.now.basics row }
-    requires places { length (N.values numbers.now) ≡ size file.now.matrix }
+    requires places { length numbers.now ≡ size file.now.matrix }
+    requires sound { All N.is_sound numbers.now }
     requires known { Represent (HasMultipliers file.now (size file.now.matrix) row)
-        denominator (N.values numbers.now) }
+        denominator (map N.fraction numbers.now) }
     ensures { IfSome result (IsRateOf file.now row (place + 1)) }
 {
     let _size = file.size();
@@ -152,31 +241,33 @@ fn rate_by_numbers<N: Numbers>(
         return Some(Frac::whole(0));
     }
     if place < rows {
-        let multiplier = numbers.number_over(place + 1, denominator)?;
+        let multiplier = N::over(N::number_at(numbers, place + 1), denominator)?;
         return Some(multiplier.neg());
     }
-    numbers.column_over(file.numbers(place + 1 - rows), denominator)
+    let sum = sum_of_column::<N>(file.numbers(place + 1 - rows), numbers)?;
+    N::over(sum, denominator)
 }
 
 /// Fills in the rates from the numbers of the multipliers of the rows, up to the first that is wanted.
 fn fill_to_wanted_by_numbers<N: Numbers>(
     file: &EtaFile,
     sought: &Sought<'_>,
-    numbers: &N,
+    numbers: &[N::Number],
     denominator: Frac,
     out: &mut [Frac],
 ) -> Option<Option<u32>>
     requires basic { IsBasic file.now.matrix file.now.basics sought.now.row }
-    requires number_places { length (N.values numbers.now) ≡ size file.now.matrix }
+    requires number_places { length numbers.now ≡ size file.now.matrix }
     requires wanted_places { length sought.now.wanted.now ≡ size file.now.matrix }
     requires places { length out.old ≡ size file.now.matrix }
+    requires sound { All N.is_sound numbers.now }
     requires known { Represent (HasMultipliers file.now (size file.now.matrix) sought.now.row)
-        denominator (N.values numbers.now) }
+        denominator (map N.fraction numbers.now) }
     ensures { IfSome result (IsFirstWanted file.now.matrix file.now.basics sought.now.row
         sought.now.wanted.now sought.now.up (value_at out.new)) }
 {
     for place in 0..file.size() {
-        let rate = rate_by_numbers(file, place, sought.row, denominator, numbers)?;
+        let rate = rate_by_numbers::<N>(file, place, sought.row, denominator, numbers)?;
         out[place as usize] = rate;
         if is_wanted_at(sought.wanted, place, sought.up, rate) {
             return Some(Some(place + 1));
@@ -194,34 +285,35 @@ pub fn first_by_numbers<N: Numbers>(
     out: &mut [Frac],
 ) -> Option<Option<u32>>
     requires basic { IsBasic file.now.matrix file.now.basics sought.now.row }
-    requires number_places { length (N.values numbers.old) ≡ size file.now.matrix }
+    requires number_places { length (N.fractions numbers.old) ≡ size file.now.matrix }
     requires wanted_places { length sought.now.wanted.now ≡ size file.now.matrix }
     requires places { length out.old ≡ size file.now.matrix }
     ensures found { IfSome result (IsFirstWanted file.now.matrix file.now.basics sought.now.row
         sought.now.wanted.now sought.now.up (value_at out.new)) }
-    ensures number_places { length (N.values numbers.new) ≡ length (N.values numbers.old) }
+    ensures number_places { length (N.fractions numbers.new) ≡ length (N.fractions numbers.old) }
 {
     let denominator = multipliers_in_numbers(file, sought.row, numbers)?;
-    fill_to_wanted_by_numbers(file, sought, numbers, denominator, out)
+    fill_to_wanted_by_numbers::<N>(file, sought, numbers.all(), denominator, out)
 }
 
 /// Fills in the rates from the numbers of the multipliers of the rows.
 fn fill_by_numbers<N: Numbers>(
     file: &EtaFile,
     row: u32,
-    numbers: &N,
+    numbers: &[N::Number],
     denominator: Frac,
     out: &mut [Frac],
 ) -> Option<()>
     requires basic { IsBasic file.now.matrix file.now.basics row }
-    requires number_places { length (N.values numbers.now) ≡ size file.now.matrix }
+    requires number_places { length numbers.now ≡ size file.now.matrix }
     requires places { length out.old ≡ size file.now.matrix }
+    requires sound { All N.is_sound numbers.now }
     requires known { Represent (HasMultipliers file.now (size file.now.matrix) row)
-        denominator (N.values numbers.now) }
+        denominator (map N.fraction numbers.now) }
     ensures { IfSome result (λ _. IsRowOf file.now.matrix file.now.basics row (value_at out.new)) }
 {
     for place in 0..file.size() {
-        out[place as usize] = rate_by_numbers(file, place, row, denominator, numbers)?;
+        out[place as usize] = rate_by_numbers::<N>(file, place, row, denominator, numbers)?;
     }
     Some(())
 }
@@ -234,11 +326,11 @@ pub fn row_by_numbers<N: Numbers>(
     out: &mut [Frac],
 ) -> Option<()>
     requires basic { IsBasic file.now.matrix file.now.basics row }
-    requires number_places { length (N.values numbers.old) ≡ size file.now.matrix }
+    requires number_places { length (N.fractions numbers.old) ≡ size file.now.matrix }
     requires places { length out.old ≡ size file.now.matrix }
     ensures rates { IfSome result (λ _. IsRowOf file.now.matrix file.now.basics row (value_at out.new)) }
-    ensures number_places { length (N.values numbers.new) ≡ length (N.values numbers.old) }
+    ensures number_places { length (N.fractions numbers.new) ≡ length (N.fractions numbers.old) }
 {
     let denominator = multipliers_in_numbers(file, row, numbers)?;
-    fill_by_numbers(file, row, numbers, denominator, out)
+    fill_by_numbers::<N>(file, row, numbers.all(), denominator, out)
 }

@@ -1,58 +1,55 @@
 //! Rows in whole numbers of any size that fits.
 
-ghost use Rattle.std.specs.Prelude.{◌≡◌, ℕ, List, length, All, IfSome};
-ghost use Rattle.exact_values.specs.Rational.{ℚ, whole, zero_ℚ};
+ghost use Rattle.exact_values.specs.Rational.{whole};
 ghost use Rattle.frac128.specs.Terms.{Fits};
-ghost use Rattle.lp_definitions.specs.LinearProgram.{value_at};
-ghost use Rattle.lp_definitions.specs.RatesEvidence.{sum_from};
-ghost use Rattle.whole_vectors.specs.Words.{wholes};
-ghost use Rattle.eta_file.specs.Entries.{IsEntryWithin};
-ghost use Rattle.price_row.specs.Sums.{weighted, products};
-ghost use Rattle.price_row.specs.Places.{IsRowPlace};
 
 use crate::numbers::Numbers;
-use eta_file::{EtaEntry, ScaledEta};
 use frac128::Frac;
-use lp_model::Entry;
 use whole_vectors::{SparseWholes, whole_at, whole_number, whole_quotient, whole_sum};
 
-/// The sum of the entries, each times the number there, begun with `first`. An entry at a number of 0 adds nothing.
-#[inline(always)]
-fn sum_of_entries(entries: &[EtaEntry], first: i128, numbers: &[i128]) -> Option<i128>
-    requires within { All (IsEntryWithin (length numbers.now)) entries.now }
-    requires fit { All Fits numbers.now }
-    requires first_fits { Fits first }
-    ensures value { IfSome result (λ sum. (p : ℕ) → value_at (wholes numbers.now) p ≡ zero_ℚ →
-        whole sum ≡ sum_from (whole first) (weighted p (wholes numbers.now) entries.now)) }
-    ensures fits { IfSome result Fits }
-{
-    let mut sum = first;
-    for entry in entries {
-        let number = whole_at(numbers, entry.i);
-        sum = whole_sum(sum, number, entry.rate)?;
-    }
-    Some(sum)
-}
-
-/// The sum of the numbers of a column of the deck, each times the number at its row.
-#[inline(always)]
-fn sum_of_column(column: &[Entry], numbers: &[i128]) -> Option<i128>
-    requires within { All (IsRowPlace (length numbers.now)) column.now }
-    requires fit { All Fits numbers.now }
-    ensures value { IfSome result (λ sum. whole sum ≡ sum_from zero_ℚ (products
-        (wholes numbers.now) column.now)) }
-    ensures fits { IfSome result Fits }
-{
-    let mut sum = 0;
-    for entry in column {
-        let number = whole_at(numbers, entry.row);
-        sum = whole_sum(sum, number, entry.value)?;
-    }
-    Some(sum)
-}
-
 impl Numbers for SparseWholes {
-    ghost values = { λ numbers. numbers };
+    type Number = i128;
+
+    ghost fraction = { whole };
+
+    ghost is_sound = { Fits };
+
+    ghost fractions = { λ numbers. numbers };
+
+    #[inline(always)]
+    fn zero() -> i128 {
+        0
+    }
+
+    #[inline(always)]
+    fn is_zero(n: i128) -> bool {
+        n == 0
+    }
+
+    #[inline(always)]
+    fn whole_number(x: Frac) -> Option<i128> {
+        whole_number(x)
+    }
+
+    #[inline(always)]
+    fn number_at(numbers: &[i128], k: u32) -> i128 {
+        whole_at(numbers, k)
+    }
+
+    #[inline(always)]
+    fn plus(sum: i128, x: i128, y: Frac) -> Option<i128> {
+        whole_sum(sum, x, y)
+    }
+
+    #[inline(always)]
+    fn over(n: i128, by: Frac) -> Option<Frac> {
+        whole_quotient(n, by)
+    }
+
+    #[inline(always)]
+    fn all(&self) -> &[i128] {
+        self.numbers()
+    }
 
     fn begin(&mut self, i: u32) -> Option<()> {
         self.clear();
@@ -60,37 +57,17 @@ impl Numbers for SparseWholes {
     }
 
     #[inline(always)]
-    fn write(&mut self, k: u32, x: Frac) -> Option<()> {
-        let number = whole_number(x)?;
-        self.put(k, number)
+    fn write(&mut self, k: u32, n: i128) -> Option<()> {
+        self.put(k, n)
     }
 
+    #[inline(always)]
     fn multiply_by(&mut self, by: Frac) -> Option<()> {
         self.multiply(by)
     }
 
+    #[inline(always)]
     fn reduce_over(&mut self, denominator: Frac) -> Option<Frac> {
         self.reduce(denominator)
-    }
-
-    #[inline(always)]
-    fn ratio(&self, q: u32, whole: &ScaledEta<'_>) -> Option<Frac> {
-        let numbers = self.numbers();
-        let lead = whole_at(numbers, q);
-        let first = whole_sum(0, lead, whole.scale)?;
-        let sum = sum_of_entries(whole.entries, first, numbers)?;
-        whole_quotient(sum, whole.pivot)
-    }
-
-    #[inline(always)]
-    fn number_over(&self, k: u32, by: Frac) -> Option<Frac> {
-        let number = whole_at(self.numbers(), k);
-        whole_quotient(number, by)
-    }
-
-    #[inline(always)]
-    fn column_over(&self, column: &[Entry], by: Frac) -> Option<Frac> {
-        let sum = sum_of_column(column, self.numbers())?;
-        whole_quotient(sum, by)
     }
 }
