@@ -2,6 +2,7 @@ pub mod Gains
 pub mod Reported
 pub mod Underway
 pub mod Answering
+pub mod Clamping
 pub mod Stepping
 pub mod Ending_lines
 pub mod Sound

@@ -52,8 +52,7 @@ use Rattle.run_setup.proofs.Selected.{same_matrix}
 use Rattle.run_machine.proofs.Giving.{quietly}
 use Rattle.run_setup.proofs.Giving.{gives_fault, gives_found, gives_selected}
 use Rattle.control_run.proofs.Reporting.{reported_executes, cut_executes}
-use Rattle.control_run.specs.Shown.{IsSameSetup}
-use Rattle.control_run.proofs.Showing.{still_stands}
+use Rattle.control_run.proofs.Showing.{IsSameSetup, still_stands}
 use Rattle.run_setup.proofs.Present.{IsPresentOf, lie_up_to, one_problem, present_at, present_with}
 
 -- ---- the intervals of a basis

@@ -5,7 +5,7 @@ use Rattle.job_devices.specs.Text.{Writes}
 use Rattle.exact_values.specs.Rational.{ℚ}
 use Rattle.lp_definitions.specs.LinearProgram.{Matrix, LinearProgram}
 use Rattle.lp_definitions.specs.Basis.{Basics, basics_of, IsOptimalBasis}
-use Rattle.lp_definitions.specs.Waypoints.{waypoint}
+use Rattle.lp_definitions.specs.Waypoints.{waypoint, KeepsWaypoints}
 use Rattle.lp_definitions.specs.declared.Evidence.{Evidence}
 use Rattle.simplex_definitions.specs.Statements.{Solution as SolutionStatement}
 use Rattle.problem_definitions.specs.Problem.{Problem}
@@ -37,7 +37,6 @@ use Rattle.run_machine.specs.declared.finding.Finding.{Finding}
 use Rattle.run_machine.specs.declared.finding.Finding.TheVariants.{Overflow, Printed}
 use Rattle.run_setup.specs.Machines.{Machine}
 use Rattle.run_setup.specs.Kept.{Setup}
-use Rattle.control_run.specs.Shown.{IsSameSetup}
 use Rattle.run_machine.specs.declared.selecting.Refusal.TheVariants.{Fault}
 use Rattle.run_machine.specs.Ends.{place_view}
 use Rattle.answer_definitions.specs.Real.{linear_programming}
@@ -81,6 +80,14 @@ lines_overflow sheet s before after mark e o place is =
     overflows (λ earlier lie. subst (λ (p : endings.Place). IsEvidence (SolutionStatement sheet.lp.now) None 0 (earlier ++ s ∷ []) [] e (Some p)) (sym is) (o.shows earlier lie))
 
 -- ---- a setup
+
+-- the setup keeps all but what its engine has passed through
+pub record IsSameSetup (setup new : Setup) : Type 0 where
+  pub name : new.name ≡ setup.name
+  pub options : new.options ≡ setup.options
+  pub lp : new.lp ≡ setup.lp
+  pub basis : new.basis ≡ setup.basis
+  pub keeps : KeepsWaypoints setup.lp.matrix (basics_of setup.basis) setup.engine.waypoints (basics_of setup.basis) new.engine.waypoints
 
 pub still_selected : (cells : Cells) (file : Filed) (setup new : Setup) → IsSameSetup setup new → IsSelected file setup.name (choice_of cells setup.options) setup.lp → IsSelected file new.name (choice_of cells new.options) new.lp
 still_selected cells file setup new k h = λ problem on_file.

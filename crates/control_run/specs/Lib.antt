@@ -5,5 +5,3 @@ pub mod Finishing
 pub mod Running
 pub mod ParametricVerbs
 pub mod Ended
-pub mod Shown
-pub mod Beginning

@@ -18,7 +18,7 @@ use control_compiler::{Program, Statement, Verb};
 use job_devices::Sink;
 use lp_model::Engine;
 use parametric_request::ParametricVerb;
-use run_machine::{Act, AfterStatement, DeckVerb, Halt, Machine};
+use run_machine::{Act, AfterStatement, Halt, Machine};
 use run_setup::{Setup, set_up};
 use std::alloc::Global;
 
@@ -55,12 +55,12 @@ fn execute<E: Engine, P: Sink, U: Sink>(
         Verb::MoveLimit(limit) => Ok(machine.move_limit(*limit)),
         Verb::Mvadr(demand, position) => Ok(machine.set_demand(*demand, *position)),
         Verb::Goto(position) => Ok(machine.jump(*position)),
-        Verb::Convert => machine.make_problem(alloc, DeckVerb::Convert, cards, print, card),
+        Verb::Convert => machine.convert(alloc, cards, print, card),
         Verb::Setup(options) => set_up(alloc, machine, print, card, options),
         Verb::Primal => solve(alloc, machine, print, card, SolvingVerb::Primal),
         Verb::Dual => solve(alloc, machine, print, card, SolvingVerb::Dual),
         Verb::Solution => show_solution(alloc, machine, print, card),
-        Verb::Revise => machine.make_problem(alloc, DeckVerb::Revise, cards, print, card),
+        Verb::Revise => machine.revise(alloc, cards, print, card),
         Verb::Ranging => show_ranges(alloc, machine, print, card),
         Verb::Paraobj => show_parametric_run(alloc, machine, print, card, ParametricVerb::Paraobj),
         Verb::Pararhs => show_parametric_run(alloc, machine, print, card, ParametricVerb::Pararhs),

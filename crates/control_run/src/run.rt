@@ -1,5 +1,6 @@
 // The run of a program.
-ghost use Rattle.std.specs.Prelude.{◌≡◌, ◌≤◌, ◌+◌, length};
+ghost use Rattle.std.specs.Prelude.{◌≡◌, ◌≤◌, ◌-◌, ◌+◌, length, drop};
+ghost use Rattle.card_definitions.specs.Cards.{numbered_cards};
 ghost use Rattle.run_definitions.specs.State.{start};
 ghost use Rattle.answer_definitions.specs.Real.{linear_programming};
 ghost use Rattle.run_setup.specs.Standing.{IsSound, Represents};
@@ -11,7 +12,6 @@ use crate::finish::{finish, finish_halted};
 use crate::status::RunStatus;
 use card_reader::Cards;
 use control_compiler::Program;
-use job_decks::first_after;
 use job_devices::Sink;
 use lp_model::Engine;
 use reinversion::ProductForm;
@@ -24,6 +24,16 @@ pub type RunEngine = ProductForm;
 
 /// A run executes at most so many statements.
 const MAX_EXECUTED: u32 = 100_000;
+
+// The number of the first card after the program; where the job has none, it is one more than that of its last card.
+fn first_after(program: &Program, cards: &Cards) -> u32
+    ensures first { 1 ≤ result }
+    ensures last { result ≤ length cards.now + 1 }
+    ensures same { drop (result - 1) (numbered_cards cards.now) ≡ drop (program.now.decks_from - 1)
+        (numbered_cards cards.now) }
+{
+    program.decks_from().max(1).min(cards.count() + 1)
+}
 
 // Executes the statements of a program, from the first one until the run ends.
 fn run_statements<E: Engine, P: Sink, U: Sink>(
@@ -69,7 +79,7 @@ fn run<E: Engine, P: Sink, U: Sink>(
         punch.old punch.new
         result }
 {
-    let first = first_after(input.program.decks_from(), input.cards);
+    let first = first_after(input.program, input.cards);
     let mut machine = Machine::<Setup<E>>::new(alloc, first);
     run_statements(alloc, &mut machine, input, print, punch)
 }

@@ -2,7 +2,8 @@
 ghost use Rattle.std.specs.Prelude.{◌≡◌, ℕ, None, Some, IfSome, List};
 ghost use Rattle.problem_definitions.specs.Problem.{Problem};
 ghost use Rattle.problem_file.specs.Filed.{filed_under};
-ghost use Rattle.lp_definitions.specs.Basis.{Basics};
+ghost use Rattle.lp_definitions.specs.Basis.{Basics, basics_of};
+ghost use Rattle.lp_definitions.specs.Waypoints.{KeepsWaypoints};
 ghost use Rattle.control_definitions.specs.Program as program;
 ghost use Rattle.listing_tables.specs.Lines.{solution_lines};
 ghost use Rattle.listing_tables.specs.Sheets.{IsSheet};
@@ -14,7 +15,6 @@ ghost use Rattle.run_setup.specs.Standing.{IsReady, IsSolved, IsSound};
 ghost use Rattle.run_setup.specs.Statements.{Executes};
 ghost use Rattle.run_machine.specs.Findings.{ReportsFinding};
 ghost use Rattle.control_run.specs.Found.{LinesFound, Shows};
-ghost use Rattle.control_run.specs.Shown.{IsSameSetup};
 
 use job_devices::Sink;
 use listing_definitions::{Mark, VerbFault};
@@ -96,7 +96,12 @@ fn show_setup<E: Engine, P: Sink>(
         ReportsFinding (Shows problem setup.old mark) P.written P.stopped_at P.faults P.refusals print.old print.new
         result }
     ensures ready { IsReady file.now setup.new }
-    ensures same { IsSameSetup setup.old setup.new }
+    ensures name { setup.new.name ≡ setup.old.name }
+    ensures options { setup.new.options ≡ setup.old.options }
+    ensures lp { setup.new.lp ≡ setup.old.lp }
+    ensures basis { setup.new.basis ≡ setup.old.basis }
+    ensures waypoints { KeepsWaypoints setup.old.lp.matrix (basics_of setup.old.basis)
+        setup.old.engine.waypoints (basics_of setup.old.basis) setup.new.engine.waypoints }
 {
     // a setup's problem stays on file
     let Some(problem) = file.get(&setup.name) else {

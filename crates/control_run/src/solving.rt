@@ -1,12 +1,14 @@
 // PRIMAL and DUAL.
-ghost use Rattle.std.specs.Prelude.{◌≡◌, ℕ, List, Option, Some, IfSome, IfOk};
+ghost use Rattle.std.specs.Prelude.{◌≡◌, ℕ, List, Option, None, Some, IfSome, IfOk};
 ghost use Rattle.problem_definitions.specs.Problem.{Problem};
 ghost use Rattle.problem_file.specs.Filed.{filed_under};
+ghost use Rattle.lp_definitions.specs.LinearProgram.{IsLinearProgram};
 ghost use Rattle.lp_definitions.specs.Basis.{Basics};
 ghost use Rattle.question_definitions.specs.Answers as answers;
 ghost use Rattle.basis_values.specs.Calls.{HasRates};
 ghost use Rattle.listing_definitions.specs.declared.Solver.TheVariants as solvers;
 ghost use Rattle.listing_tables.specs.declared.sheet.Sheet as sheets;
+ghost use Rattle.listing_tables.specs.Sheets.{IsSheet};
 ghost use Rattle.report_text.specs.Verdicts.{IsOutcome, verdict_view, check_view};
 ghost use Rattle.verb_answers.specs.Reports.{sheet_view};
 ghost use Rattle.run_definitions.specs.Verbs.{mark_of};
@@ -15,7 +17,6 @@ ghost use Rattle.run_machine.specs.Standing.{AreDemands};
 ghost use Rattle.run_setup.specs.Standing.{IsReady, IsSolved, IsSound};
 ghost use Rattle.run_setup.specs.Statements.{Executes};
 ghost use Rattle.run_machine.specs.Findings.{ReportsFinding, IfEnded};
-ghost use Rattle.control_run.specs.Beginning.{BeginsAt};
 ghost use Rattle.control_run.specs.Found.{verb_of, solver_of, limit_of, PathReaches, PathFinds, Finds};
 
 use bounded_dual::DualStop;
@@ -84,7 +85,10 @@ fn follow_primal<P: Sink, R: Rates>(
     limit: Option<u32>,
     print: &mut P,
 ) -> Result<Finding, Halt>
-    requires { BeginsAt sheet (R.matrix rates.old) (R.basics rates.old) basis.old }
+    requires sheet { IsSheet sheet }
+    requires lawful { IsLinearProgram sheet.lp.now }
+    requires no_change { sheet.lp.now.change ≡ None }
+    requires rates { HasRates (R.matrix rates.old) (R.basics rates.old) sheet.lp.now basis.old }
     ensures tells { ReportsFinding (PathFinds solvers.Primal (sheet_view sheet.entry) basis.old basis.new limit
         (R.waypoints rates.old) (R.waypoints rates.new))
         P.written P.stopped_at P.faults P.refusals print.old print.new result }
@@ -110,7 +114,10 @@ fn follow_dual<P: Sink, R: Rates>(
     limit: u32,
     print: &mut P,
 ) -> Result<Finding, Halt>
-    requires { BeginsAt sheet (R.matrix rates.old) (R.basics rates.old) basis.old }
+    requires sheet { IsSheet sheet }
+    requires lawful { IsLinearProgram sheet.lp.now }
+    requires no_change { sheet.lp.now.change ≡ None }
+    requires rates { HasRates (R.matrix rates.old) (R.basics rates.old) sheet.lp.now basis.old }
     ensures tells { ReportsFinding (PathFinds solvers.Dual (sheet_view sheet.entry) basis.old basis.new (Some limit)
         (R.waypoints rates.old) (R.waypoints rates.new))
         P.written P.stopped_at P.faults P.refusals print.old print.new result }
@@ -142,7 +149,10 @@ fn follow<P: Sink, R: Rates>(
     path: PathRequest<'_>,
     print: &mut P,
 ) -> Result<Finding, Halt>
-    requires { BeginsAt sheet (R.matrix rates.old) (R.basics rates.old) basis.old }
+    requires sheet { IsSheet sheet }
+    requires lawful { IsLinearProgram sheet.lp.now }
+    requires no_change { sheet.lp.now.change ≡ None }
+    requires rates { HasRates (R.matrix rates.old) (R.basics rates.old) sheet.lp.now basis.old }
     ensures tells { ReportsFinding (PathFinds (solver_of path.entry.verb) (sheet_view sheet.entry) basis.old basis.new
         (limit_of path.entry.verb path.entry.cells.now) (R.waypoints rates.old) (R.waypoints rates.new))
         P.written P.stopped_at P.faults P.refusals print.old print.new result }

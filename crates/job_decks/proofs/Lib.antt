@@ -1,4 +1,3 @@
 pub mod Cuts
 pub mod Places
 pub mod FirstWords
-mod Clamping

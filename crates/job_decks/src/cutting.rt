@@ -63,16 +63,6 @@ fn next_deck(cards: &Cards, from: u32) -> Option<Deck>
     Some(Deck { first, last })
 }
 
-/// The number of the first card of which a deck may be taken, after a program whose last card is the one before this number: the same,
-/// but at least 1 and at most one more than that of the last card.
-pub fn first_after(decks_from: u32, cards: &Cards) -> u32
-    ensures first { 1 ≤ result }
-    ensures last { result ≤ length cards.now + 1 }
-    ensures same { cards_from result cards.now ≡ cards_from decks_from cards.now }
-{
-    decks_from.max(1).min(cards.count() + 1)
-}
-
 /// The deck to take of the cards from this number on: the first with the name asked for, and the first of all where no name is
 /// asked for. A deck begins at the first card not yet taken that isn't skipped, ends with the first ENDATA card from there or
 /// with the last card, and has the name on its first card, if that is a NAME card. The decks left are those of the cards after it.

@@ -5,5 +5,5 @@ mod cutting;
 mod deck;
 mod headings;
 
-pub use cutting::{first_after, take_deck};
+pub use cutting::take_deck;
 pub use deck::Deck;

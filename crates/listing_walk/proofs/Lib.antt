@@ -4,6 +4,7 @@ mod Stating
 mod Selected
 mod Setting_up
 mod Sound
+mod Clamping
 mod Stepping
 mod Asked
 mod Solving_walks

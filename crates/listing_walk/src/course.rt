@@ -1,5 +1,6 @@
 // The walk.
-ghost use Rattle.std.specs.Prelude.{◌≡◌, [], IfOk};
+ghost use Rattle.std.specs.Prelude.{◌≡◌, ◌-◌, ◌+◌, ◌≤◌, [], IfOk, length, drop};
+ghost use Rattle.card_definitions.specs.Cards.{numbered_cards};
 ghost use Rattle.report_text.specs.Views.{IsEnding, ending_view};
 ghost use Rattle.walk_definitions.specs.Walker as walks;
 ghost use Rattle.walk_definitions.specs.Found.{first_walker};
@@ -12,7 +13,6 @@ use crate::place::ListingPlace;
 use crate::went::Onward;
 use card_reader::Cards;
 use control_compiler::Program;
-use job_decks::first_after;
 use job_devices::NoMemory;
 use report_text::Ending;
 use run_machine::Machine;
@@ -20,6 +20,16 @@ use std::alloc::Global;
 
 /// A run executes at most so many statements.
 const MAX_EXECUTED: u32 = 100_000;
+
+// The number of the first card after the program; where the job has none, it is one more than that of its last card.
+fn first_after(program: &Program, cards: &Cards) -> u32
+    ensures first { 1 ≤ result }
+    ensures last { result ≤ length cards.now + 1 }
+    ensures same { drop (result - 1) (numbered_cards cards.now) ≡ drop (program.now.decks_from - 1)
+        (numbered_cards cards.now) }
+{
+    program.decks_from().max(1).min(cards.count() + 1)
+}
 
 /// Walks along a compiled program over the cards of its job and along a listing.
 pub fn walk<'a>(
@@ -30,7 +40,7 @@ pub fn walk<'a>(
 ) -> Result<Found<'a>, NoMemory>
     ensures { IfOk result (IsFoundBy program.now cards.now listing.now) }
 {
-    let mut machine = Machine::<Chosen>::new(alloc, first_after(program.decks_from(), cards));
+    let mut machine = Machine::<Chosen>::new(alloc, first_after(program, cards));
     let mut place = ListingPlace::new(listing);
     let mut position = 1;
     let mut executed = 0;

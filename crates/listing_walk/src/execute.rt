@@ -15,13 +15,13 @@ use crate::reporting::{punch_basis, show_ranges};
 use crate::setup::set_up;
 use crate::solution::show_solution;
 use crate::solving::{SolvingVerb, solve};
-use crate::statements::{make_problem, punch_problem, title};
+use crate::statements::{convert, punch_problem, revise, title};
 use crate::went::{Onward, Went};
 use card_reader::Cards;
 use control_compiler::{Program, Verb};
 use job_devices::NoMemory;
 use parametric_request::ParametricVerb;
-use run_machine::{DeckVerb, Machine};
+use run_machine::Machine;
 use std::alloc::Global;
 
 // Follows the statement of a verb on a card.
@@ -66,9 +66,9 @@ fn execute<'a>(
             let act = machine.jump(*position);
             follow(alloc, machine, place, &act, &[])
         }
-        Verb::Convert => make_problem(alloc, machine, DeckVerb::Convert, cards, place, card),
+        Verb::Convert => convert(alloc, machine, cards, place, card),
         Verb::Setup(options) => set_up(alloc, machine, place, card, options),
-        Verb::Revise => make_problem(alloc, machine, DeckVerb::Revise, cards, place, card),
+        Verb::Revise => revise(alloc, machine, cards, place, card),
         Verb::Bcdout => punch_problem(alloc, machine, place, card),
         Verb::Exit => {
             let act = machine.exit();

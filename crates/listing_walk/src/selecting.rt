@@ -6,10 +6,9 @@ ghost use Rattle.listing_walk.specs.Choosing.{unselected_by, IsMade, IsNotMade};
 use job_devices::NoMemory;
 use listing_definitions::VerbFault;
 use lp_model::Lp;
-use lp_setup::{SelectStop, SetupChoice, select};
+use lp_setup::{Choice, SelectStop, SetupChoice, select};
 use problem_file::Problem;
-use run_cells::Cells;
-use run_machine::{Refusal, present_choice, refusal_of};
+use run_cells::{Cells, NameCell};
 use std::alloc::Global;
 
 /// Why there is no linear program.
@@ -27,10 +26,25 @@ pub enum Unselected {
 fn unselected_by(stop: SelectStop) -> Unselected
     ensures { result ≡ unselected_by stop }
 {
-    match refusal_of(stop) {
-        Refusal::Fault(fault) => Unselected::Fault(fault),
-        Refusal::Overflow(_) => Unselected::Unchecked,
-        Refusal::NoMemory => Unselected::NoMemory,
+    match stop {
+        SelectStop::NoObjective => Unselected::Fault(VerbFault::NoObjective),
+        SelectStop::ObjectiveNotFree => Unselected::Fault(VerbFault::ObjectiveNotFree),
+        SelectStop::NoRhsSet => Unselected::Fault(VerbFault::NoRhsSet),
+        SelectStop::NoRangeSet => Unselected::Fault(VerbFault::NoRangeSet),
+        SelectStop::NoBoundSet => Unselected::Fault(VerbFault::NoBoundSet),
+        SelectStop::Overflow(_) => Unselected::Unchecked,
+        SelectStop::NoMemory => Unselected::NoMemory,
+    }
+}
+
+// What the present cells choose with these options.
+fn present_choice(cells: &Cells, options: SetupChoice) -> Choice
+    ensures { result ≡ choice_of cells.now options }
+{
+    Choice {
+        objective: cells.name(NameCell::Xobj),
+        rhs: cells.name(NameCell::Xrhs),
+        options,
     }
 }
 

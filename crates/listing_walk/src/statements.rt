@@ -1,7 +1,6 @@
 // The statements that ask nothing of linear programming.
 ghost use Rattle.std.specs.Prelude.{◌≡◌, ◌+◌, ◌≤◌, ◌<◌, ℕ, List, IfOk};
 ghost use Rattle.control_definitions.specs.Program as program;
-ghost use Rattle.run_machine.specs.Describing.{verb_of};
 ghost use Rattle.listing_walk.specs.Standing.{IsSound};
 ghost use Rattle.listing_walk.specs.Walking.{Walks};
 
@@ -12,7 +11,7 @@ use crate::went::Went;
 use card_reader::Cards;
 use control_verbs::Text;
 use job_devices::{Discard, NoMemory, SureSink};
-use run_machine::{DeckVerb, Machine};
+use run_machine::Machine;
 use std::alloc::Global;
 
 /// TITLE.
@@ -33,23 +32,43 @@ pub fn title<'a>(
     follow(alloc, machine, place, &act, printed.bytes())
 }
 
-/// CONVERT and REVISE.
-pub fn make_problem<'a>(
+/// CONVERT.
+pub fn convert<'a>(
     alloc: Global,
     machine: &mut Machine<Chosen>,
-    verb: DeckVerb,
     cards: &Cards,
     place: &mut ListingPlace<'a>,
     card: u32,
 ) -> Result<Went<'a>, NoMemory>
     requires sound { IsSound cards.now machine.old }
     requires few { place.old.reports < 4294967295 }
-    ensures walks { IfOk result (Walks (verb_of verb) card cards.now machine.old machine.new place.old place.new) }
+    ensures walks { IfOk result (Walks program.Convert card cards.now machine.old machine.new place.old place.new) }
     ensures sound { IsSound cards.now machine.new }
     ensures few { place.new.reports ≤ place.old.reports + 1 }
 {
     let mut printed = SureSink::new(alloc)?;
-    let Ok(act) = machine.make_problem(alloc, verb, cards, &mut printed, card) else {
+    let Ok(act) = machine.convert(alloc, cards, &mut printed, card) else {
+        return Err(NoMemory);
+    };
+    follow(alloc, machine, place, &act, printed.bytes())
+}
+
+/// REVISE.
+pub fn revise<'a>(
+    alloc: Global,
+    machine: &mut Machine<Chosen>,
+    cards: &Cards,
+    place: &mut ListingPlace<'a>,
+    card: u32,
+) -> Result<Went<'a>, NoMemory>
+    requires sound { IsSound cards.now machine.old }
+    requires few { place.old.reports < 4294967295 }
+    ensures walks { IfOk result (Walks program.Revise card cards.now machine.old machine.new place.old place.new) }
+    ensures sound { IsSound cards.now machine.new }
+    ensures few { place.new.reports ≤ place.old.reports + 1 }
+{
+    let mut printed = SureSink::new(alloc)?;
+    let Ok(act) = machine.revise(alloc, cards, &mut printed, card) else {
         return Err(NoMemory);
     };
     follow(alloc, machine, place, &act, printed.bytes())

@@ -1,4 +1,3 @@
 pub mod Endings
 pub mod Causes
 pub mod Asked
-pub mod Failing

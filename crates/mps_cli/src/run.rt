@@ -19,7 +19,6 @@ ghost use Rattle.control_run.specs.Devices.{counts, IsReported, IsStill};
 ghost use Rattle.control_run.specs.Finishing.{failures_in_run};
 ghost use Rattle.mps_cli.specs.Asked.{IsAsked, IsGiven};
 ghost use Rattle.mps_cli.specs.Causes.{HasCause, IsPunched};
-ghost use Rattle.mps_cli.specs.Failing.{failures_between};
 
 use crate::end::end_job;
 use command_line::{Request, request_of};
@@ -39,8 +38,12 @@ fn run_source<S: Source, P: Sink, U: Sink>(
     ensures answer { (given : Job) (bytes : List ℕ) →
         IsGiven (S.left job.old) (Rose (S.faults job.old) (S.faults job.new)) given bytes →
         IsAnswered linear_programming given
-        (failures_between (counts P.faults P.refusals U.faults U.refusals (S.faults job.old) print.old punch.old)
-        (counts P.faults P.refusals U.faults U.refusals (S.faults job.new) print.new punch.new))
+        (record {
+          read = Rose (S.faults job.old) (S.faults job.new);
+          print = Rose (P.faults print.old) (P.faults print.new);
+          punch = Rose (U.faults punch.old) (U.faults punch.new);
+          memory = Rose (P.refusals print.old) (P.refusals print.new);
+        })
         (code_of result)
         (Appends (P.written print.old) (P.written print.new))
         (Appends (U.written punch.old) (U.written punch.new)) }
@@ -119,8 +122,12 @@ fn run_request<S: Source, P: Sink, U: Sink>(
     requires { HasSize request }
     ensures headline { (asked : Job) → IsAsked (Some request) (S.left job.old) asked →
         IsTrueAnswer linear_programming asked
-        (failures_between (counts P.faults P.refusals U.faults U.refusals (S.faults job.old) print.old punch.old)
-        (counts P.faults P.refusals U.faults U.refusals (S.faults job.new) print.new punch.new))
+        (record {
+          read = Rose (S.faults job.old) (S.faults job.new);
+          print = Rose (P.faults print.old) (P.faults print.new);
+          punch = Rose (U.faults punch.old) (U.faults punch.new);
+          memory = Rose (P.refusals print.old) (P.refusals print.new);
+        })
         (code_of result)
         (Appends (P.written print.old) (P.written print.new))
         (Appends (U.written punch.old) (U.written punch.new)) }
@@ -182,8 +189,12 @@ pub fn run_job<S: Source, P: Sink, U: Sink>(
     ensures headline { (asked : Job) →
         IsAsked (requests.asked (map string_bytes words.now)) (S.left job.old) asked →
         IsTrueAnswer linear_programming asked
-        (failures_between (counts P.faults P.refusals U.faults U.refusals (S.faults job.old) print.old punch.old)
-        (counts P.faults P.refusals U.faults U.refusals (S.faults job.new) print.new punch.new))
+        (record {
+          read = Rose (S.faults job.old) (S.faults job.new);
+          print = Rose (P.faults print.old) (P.faults print.new);
+          punch = Rose (U.faults punch.old) (U.faults punch.new);
+          memory = Rose (P.refusals print.old) (P.refusals print.new);
+        })
         (code_of result)
         (Appends (P.written print.old) (P.written print.new))
         (Appends (U.written punch.old) (U.written punch.new)) }
@@ -194,8 +205,12 @@ pub fn run_job<S: Source, P: Sink, U: Sink>(
     ensures complete { (asked : Job) →
         IsAsked (requests.asked (map string_bytes words.now)) (S.left job.old) asked →
         IsComplete linear_programming asked
-        (failures_between (counts P.faults P.refusals U.faults U.refusals (S.faults job.old) print.old punch.old)
-        (counts P.faults P.refusals U.faults U.refusals (S.faults job.new) print.new punch.new))
+        (record {
+          read = Rose (S.faults job.old) (S.faults job.new);
+          print = Rose (P.faults print.old) (P.faults print.new);
+          punch = Rose (U.faults punch.old) (U.faults punch.new);
+          memory = Rose (P.refusals print.old) (P.refusals print.new);
+        })
         (code_of result)
         (Appends (P.written print.old) (P.written print.new))
         (Appends (U.written punch.old) (U.written punch.new)) }
@@ -206,8 +221,12 @@ pub fn run_job<S: Source, P: Sink, U: Sink>(
     ensures decided { (asked : Job) →
         IsAsked (requests.asked (map string_bytes words.now)) (S.left job.old) asked →
         IsDecided linear_programming asked
-        (failures_between (counts P.faults P.refusals U.faults U.refusals (S.faults job.old) print.old punch.old)
-        (counts P.faults P.refusals U.faults U.refusals (S.faults job.new) print.new punch.new))
+        (record {
+          read = Rose (S.faults job.old) (S.faults job.new);
+          print = Rose (P.faults print.old) (P.faults print.new);
+          punch = Rose (U.faults punch.old) (U.faults punch.new);
+          memory = Rose (P.refusals print.old) (P.refusals print.new);
+        })
         (code_of result)
         (Appends (P.written print.old) (P.written print.new))
         (Appends (U.written punch.old) (U.written punch.new)) }
@@ -220,8 +239,12 @@ pub fn run_job<S: Source, P: Sink, U: Sink>(
     ensures stands { (asked : Job) →
         IsAsked (requests.asked (map string_bytes words.now)) (S.left job.old) asked →
         StandsAfter linear_programming asked
-        (failures_between (counts P.faults P.refusals U.faults U.refusals (S.faults job.old) print.old punch.old)
-        (counts P.faults P.refusals U.faults U.refusals (S.faults job.new) print.new punch.new))
+        (record {
+          read = Rose (S.faults job.old) (S.faults job.new);
+          print = Rose (P.faults print.old) (P.faults print.new);
+          punch = Rose (U.faults punch.old) (U.faults punch.new);
+          memory = Rose (P.refusals print.old) (P.refusals print.new);
+        })
         (Appends (P.written print.old) (P.written print.new))
         (Appends (U.written punch.old) (U.written punch.new))
         (code_of result) }

@@ -3,4 +3,3 @@ pub mod Ranges
 pub mod Views
 pub mod Solutions
 pub mod Verdicts
-pub mod Filed

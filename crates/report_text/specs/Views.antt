@@ -18,7 +18,6 @@ use Rattle.report_text.specs.Ranges.{AreRanges}
 use Rattle.report_text.specs.Solutions.{IsSolution}
 use Rattle.report_text.specs.Verdicts.{IsFull, IsOutcome, verdict_view, check_view}
 use Rattle.report_text.specs.declared.report.Report.{Report}
-use Rattle.report_text.specs.Filed.{filed_view}
 use Rattle.report_text.specs.declared.report.Report.TheVariants.{Title, Converted, Revised, SetUp, BcdOut, BasisOut, Inserted, Solved, Solution, Ranges, Parametric, End}
 use Rattle.report_text.specs.declared.report.Ending.{Ending}
 use Rattle.report_text.specs.declared.report.Ending.TheVariants.{Code, Words, Control, Verb, Singular as SingularBasis, WrongPrices as PricesWrong, Deck, Card, Limit, Statements, Overflow, ReadFault, PunchFault, Memory}
@@ -85,8 +84,8 @@ IsReport _ = Unit {0}
 
 abbrev pub text_view : Report → List ℕ
 text_view (Title text) = report_text (reports.Titled text.now)
-text_view (Converted filed) = report_text (reports.Converted (filed_view filed))
-text_view (Revised filed) = report_text (reports.Revised (filed_view filed))
+text_view (Converted name rows columns entries) = report_text (reports.Converted (record { name = name; rows = rows; columns = columns; entries = entries }))
+text_view (Revised name rows columns entries) = report_text (reports.Revised (record { name = name; rows = rows; columns = columns; entries = entries }))
 text_view (SetUp name sense) = report_text (reports.SetUp name sense)
 text_view (BcdOut name cards) = report_text (reports.BcdOut name cards)
 text_view (BasisOut name cards) = report_text (reports.BasisOut name cards)

@@ -12,5 +12,4 @@ mod solution;
 mod verdict;
 
 pub use listing_definitions::{Mark, Solver};
-pub use plain::FiledProblem;
 pub use report::{Ending, Report, text_of};

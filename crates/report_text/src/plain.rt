@@ -5,7 +5,6 @@ ghost use Rattle.listing_definitions.specs.Numbers.{digits};
 ghost use Rattle.job_devices.specs.Text.{Writes};
 ghost use Rattle.listing_definitions.specs.Report as reports;
 ghost use Rattle.listing_definitions.specs.Text.{name8, filed_text, report_text};
-ghost use Rattle.report_text.specs.Filed.{filed_view};
 
 use itoa::Buffer;
 use job_devices::{Sink, WriteStop, put_each};
@@ -20,28 +19,28 @@ pub fn put_title<P: Sink>(print: &mut P, text: &[u8]) -> Result<(), WriteStop>
     put_each(print, &[b"TITLE ", text, b"\n"])
 }
 
-/// A problem that was filed, with its size.
-#[derive(Clone, Copy, Debug)]
-pub struct FiledProblem {
-    pub name: Name,
-    pub rows: u32,
-    pub columns: u32,
-    pub entries: u32,
-}
-
-/// The line of a problem that was filed, with the word of its verb.
-pub fn put_filed<P: Sink>(
+// The line of a problem that was filed, with the word of its verb.
+fn put_filed<P: Sink>(
     print: &mut P,
     word: &'static [u8],
-    filed: FiledProblem,
+    name: Name,
+    rows: u32,
+    columns: u32,
+    entries: u32,
 ) -> Result<(), WriteStop>
     ensures { Writes P.written P.stopped_at P.faults P.refusals print.old print.new result
-        (filed_text word.now (filed_view filed)) }
+        (filed_text word.now (record {
+          name = name;
+          rows = rows;
+          columns = columns;
+          entries =
+              entries;
+        })) }
 {
     let mut row_digits = Buffer::new();
     let mut column_digits = Buffer::new();
     let mut entry_digits = Buffer::new();
-    let letters = filed.name.bytes();
+    let letters = name.bytes();
     put_each(
         print,
         &[
@@ -50,14 +49,47 @@ pub fn put_filed<P: Sink>(
             letters,
             blanks(NAME_PLACES, letters.len()),
             b" ROWS ",
-            decimal(&mut row_digits, filed.rows).as_bytes(),
+            decimal(&mut row_digits, rows).as_bytes(),
             b" COLUMNS ",
-            decimal(&mut column_digits, filed.columns).as_bytes(),
+            decimal(&mut column_digits, columns).as_bytes(),
             b" ENTRIES ",
-            decimal(&mut entry_digits, filed.entries).as_bytes(),
+            decimal(&mut entry_digits, entries).as_bytes(),
             b"\n",
         ],
     )
+}
+
+pub fn put_converted<P: Sink>(
+    print: &mut P,
+    name: Name,
+    rows: u32,
+    columns: u32,
+    entries: u32,
+) -> Result<(), WriteStop>
+    ensures { Writes P.written P.stopped_at P.faults P.refusals print.old print.new result
+        (report_text (reports.Converted
+        (record { name = name; rows = rows; columns = columns; entries = entries }))) }
+{
+    put_filed(print, b"CONVERT", name, rows, columns, entries)
+}
+
+pub fn put_revised<P: Sink>(
+    print: &mut P,
+    name: Name,
+    rows: u32,
+    columns: u32,
+    entries: u32,
+) -> Result<(), WriteStop>
+    ensures { Writes P.written P.stopped_at P.faults P.refusals print.old print.new result
+        (report_text (reports.Revised (record {
+          name = name;
+          rows = rows;
+          columns = columns;
+          entries
+              = entries;
+        }))) }
+{
+    put_filed(print, b"REVISE ", name, rows, columns, entries)
 }
 
 pub fn put_setup<P: Sink>(print: &mut P, name: Name, sense: Sense) -> Result<(), WriteStop>

@@ -5,7 +5,7 @@ ghost use Rattle.report_text.specs.Views.{IsReport, text_view};
 use crate::ending::put_ending;
 use crate::parametric::{ParametricReport, put_parametric};
 use crate::plain::{
-    FiledProblem, put_basis_out, put_bcd_out, put_filed, put_inserted, put_setup, put_title,
+    put_basis_out, put_bcd_out, put_converted, put_inserted, put_revised, put_setup, put_title,
 };
 use crate::ranges::put_ranges;
 use crate::solution::put_solution;
@@ -26,10 +26,20 @@ pub enum Report<'a> {
     Title {
         text: &'a [u8],
     },
-    /// A problem that was converted and filed.
-    Converted(FiledProblem),
-    /// A problem that was made of another one and filed.
-    Revised(FiledProblem),
+    /// A problem that was converted and filed, with its size.
+    Converted {
+        name: Name,
+        rows: u32,
+        columns: u32,
+        entries: u32,
+    },
+    /// A problem that was made of another one and filed, with its size.
+    Revised {
+        name: Name,
+        rows: u32,
+        columns: u32,
+        entries: u32,
+    },
     /// A problem that was set up.
     SetUp {
         name: Name,
@@ -154,8 +164,18 @@ pub fn text_of<P: Sink>(report: &Report<'_>, print: &mut P) -> Result<(), WriteS
 {
     match *report {
         Report::Title { text } => put_title(print, text),
-        Report::Converted(filed) => put_filed(print, b"CONVERT", filed),
-        Report::Revised(filed) => put_filed(print, b"REVISE ", filed),
+        Report::Converted {
+            name,
+            rows,
+            columns,
+            entries,
+        } => put_converted(print, name, rows, columns, entries),
+        Report::Revised {
+            name,
+            rows,
+            columns,
+            entries,
+        } => put_revised(print, name, rows, columns, entries),
         Report::SetUp { name, sense } => put_setup(print, name, sense),
         Report::BcdOut { name, cards } => put_bcd_out(print, name, cards),
         Report::BasisOut { name, cards } => put_basis_out(print, name, cards),

@@ -48,8 +48,8 @@ impl Refusal {
     }
 }
 
-/// Why nothing is selected.
-pub fn refusal_of(stop: SelectStop) -> Refusal
+// Why nothing is selected.
+fn refusal_of(stop: SelectStop) -> Refusal
     ensures { result ≡ refusal_of stop }
 {
     match stop {

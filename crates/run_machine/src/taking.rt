@@ -17,7 +17,7 @@ use card_reader::Cards;
 use deck_fields::{CardStop, DeckFault};
 use job_devices::Sink;
 use problem_file::Problem;
-use report_text::{FiledProblem, Report, text_of};
+use report_text::{Report, text_of};
 
 /// A statement that takes a deck.
 #[derive(Clone, Copy)]
@@ -51,15 +51,23 @@ fn filed_report(verb: DeckVerb, problem: &Problem) -> Report<'static>
     ensures text { text_view result ≡ report_text (report_of verb (size_of problem.now)) }
     ensures lawful { IsReport result }
 {
-    let filed = FiledProblem {
-        name: problem.name(),
-        rows: problem.row_count(),
-        columns: problem.column_count(),
-        entries: entry_count(problem),
-    };
+    let name = problem.name();
+    let rows = problem.row_count();
+    let columns = problem.column_count();
+    let entries = entry_count(problem);
     match verb {
-        DeckVerb::Convert => Report::Converted(filed),
-        DeckVerb::Revise => Report::Revised(filed),
+        DeckVerb::Convert => Report::Converted {
+            name,
+            rows,
+            columns,
+            entries,
+        },
+        DeckVerb::Revise => Report::Revised {
+            name,
+            rows,
+            columns,
+            entries,
+        },
     }
 }
 

@@ -51,14 +51,14 @@ returns-in-Title-clause-acts g c =
 pub returns-in-Convert-clause-acts : goal.returns-in-Convert-clause-acts
 returns-in-Convert-clause-acts g c =
     rw c.in-Convert.is
-    (punches_nothing g.U.Sink.written g.U.Sink.stopped_at g.U.Sink.faults g.U.Sink.refusals c.args.punch.now IsPresent (Gives linear_programming) program.Convert c.args.statement.now.card g.P.Sink.written g.P.Sink.stopped_at g.P.Sink.faults g.P.Sink.refusals c.args.print.now c.make_problem.new.print c.args.cards.now c.args.machine.now c.make_problem.new.self c.make_problem.result
-    (settled.executes IsPresent linear_programming program.Convert c.args.statement.now.card g.P.Sink.written g.P.Sink.stopped_at g.P.Sink.faults g.P.Sink.refusals c.args.print.now c.make_problem.new.print c.args.cards.now c.args.machine.now c.make_problem.new.self c.make_problem.result (c.make_problem.ensures.acts)))
+    (punches_nothing g.U.Sink.written g.U.Sink.stopped_at g.U.Sink.faults g.U.Sink.refusals c.args.punch.now IsPresent (Gives linear_programming) program.Convert c.args.statement.now.card g.P.Sink.written g.P.Sink.stopped_at g.P.Sink.faults g.P.Sink.refusals c.args.print.now c.convert.new.print c.args.cards.now c.args.machine.now c.convert.new.self c.convert.result
+    (settled.executes IsPresent linear_programming program.Convert c.args.statement.now.card g.P.Sink.written g.P.Sink.stopped_at g.P.Sink.faults g.P.Sink.refusals c.args.print.now c.convert.new.print c.args.cards.now c.args.machine.now c.convert.new.self c.convert.result (c.convert.ensures.acts)))
 
 pub returns-in-Revise-clause-acts : goal.returns-in-Revise-clause-acts
 returns-in-Revise-clause-acts g c =
     rw c.in-Revise.is
-    (punches_nothing g.U.Sink.written g.U.Sink.stopped_at g.U.Sink.faults g.U.Sink.refusals c.args.punch.now IsPresent (Gives linear_programming) program.Revise c.args.statement.now.card g.P.Sink.written g.P.Sink.stopped_at g.P.Sink.faults g.P.Sink.refusals c.args.print.now c.make_problem-in-Revise.new.print c.args.cards.now c.args.machine.now c.make_problem-in-Revise.new.self c.make_problem-in-Revise.result
-    (settled.executes IsPresent linear_programming program.Revise c.args.statement.now.card g.P.Sink.written g.P.Sink.stopped_at g.P.Sink.faults g.P.Sink.refusals c.args.print.now c.make_problem-in-Revise.new.print c.args.cards.now c.args.machine.now c.make_problem-in-Revise.new.self c.make_problem-in-Revise.result (c.make_problem-in-Revise.ensures.acts)))
+    (punches_nothing g.U.Sink.written g.U.Sink.stopped_at g.U.Sink.faults g.U.Sink.refusals c.args.punch.now IsPresent (Gives linear_programming) program.Revise c.args.statement.now.card g.P.Sink.written g.P.Sink.stopped_at g.P.Sink.faults g.P.Sink.refusals c.args.print.now c.revise.new.print c.args.cards.now c.args.machine.now c.revise.new.self c.revise.result
+    (settled.executes IsPresent linear_programming program.Revise c.args.statement.now.card g.P.Sink.written g.P.Sink.stopped_at g.P.Sink.faults g.P.Sink.refusals c.args.print.now c.revise.new.print c.args.cards.now c.args.machine.now c.revise.new.self c.revise.result (c.revise.ensures.acts)))
 
 pub returns-in-Setup-clause-acts : goal.returns-in-Setup-clause-acts
 returns-in-Setup-clause-acts g c =

@@ -3,7 +3,7 @@ use Rattle.std.proofs.Common.{Some}
 use Rattle.std.proofs.lemmas.Result.{err_from_is_err_and}
 use Rattle.control_run.proofs.Keeping.{solved_of, sound_kept}
 use Rattle.run_setup.proofs.Present.{ready_of}
-use Rattle.control_run.proofs.Showing.{solution_no_setup, solution_not_solved, solution_found, solution_cut, still_solved}
+use Rattle.control_run.proofs.Showing.{solution_no_setup, solution_not_solved, solution_found, solution_cut, IsSameSetup, still_solved}
 use Rattle.control_run.proofs.solution.show_solution.Goals as goal
 
 pub returns-in_default-clause-acts : goal.returns-in_default-clause-acts
@@ -20,7 +20,8 @@ pub returns-in_err-finding-clause-acts : goal.returns-in_err-finding-clause-acts
 returns-in_err-finding-clause-acts g c = λ cards.
     let p = err_from_is_err_and c.from_residual.result c.from_residual.ensures.1 in
     let ready = ready_of c.args.machine.now.file c.args.machine.now.setup c.in-Some.setup c.in-Some.is c.requires.ready in
-    let same = c.show_setup.ensures.same in
+    let same : IsSameSetup c.in-Some.setup c.show_setup.new.setup =
+    record { name = c.show_setup.ensures.name; options = c.show_setup.ensures.options; lp = c.show_setup.ensures.lp; basis = c.show_setup.ensures.basis; keeps = c.show_setup.ensures.waypoints } in
     let solved = solved_of c.args.machine.now.cells c.args.machine.now.file c.args.machine.now.mark c.args.machine.now.setup c.in-Some-mark.mark c.in-Some.setup c.in-Some-mark.is c.in-Some.is c.requires.solved in
     rw (p.1, p.2)
     (solution_cut c.args.card cards c.args.machine.now c.in-Some.setup c.in-Some.is ready.problem ready.on_file g.P.Sink.written g.P.Sink.stopped_at g.P.Sink.faults g.P.Sink.refusals c.args.print.now c.show_setup.new.print c.show_setup.new.setup
@@ -29,20 +30,23 @@ returns-in_err-finding-clause-acts g c = λ cards.
 
 pub returns-in_err-finding-clause-sound : goal.returns-in_err-finding-clause-sound
 returns-in_err-finding-clause-sound g c = λ cards sound.
-    let same = c.show_setup.ensures.same in
+    let same : IsSameSetup c.in-Some.setup c.show_setup.new.setup =
+    record { name = c.show_setup.ensures.name; options = c.show_setup.ensures.options; lp = c.show_setup.ensures.lp; basis = c.show_setup.ensures.basis; keeps = c.show_setup.ensures.waypoints } in
     sound_kept cards c.args.machine.now c.in-Some.setup c.show_setup.new.setup c.show_setup.ensures.ready sound c.in-Some.is
     (λ mark. still_solved c.args.machine.now.cells c.args.machine.now.file c.in-Some.setup c.show_setup.new.setup mark same)
 
 pub returns-clause-acts : goal.returns-clause-acts
 returns-clause-acts g c = λ cards.
     let ready = ready_of c.args.machine.now.file c.args.machine.now.setup c.in-Some.setup c.in-Some.is c.requires.ready in
-    let same = c.show_setup.ensures.same in
+    let same : IsSameSetup c.in-Some.setup c.show_setup.new.setup =
+    record { name = c.show_setup.ensures.name; options = c.show_setup.ensures.options; lp = c.show_setup.ensures.lp; basis = c.show_setup.ensures.basis; keeps = c.show_setup.ensures.waypoints } in
     let solved = solved_of c.args.machine.now.cells c.args.machine.now.file c.args.machine.now.mark c.args.machine.now.setup c.in-Some-mark.mark c.in-Some.setup c.in-Some-mark.is c.in-Some.is c.requires.solved in
     solution_found c.args.card cards c.args.machine.now c.in-Some.setup c.in-Some.is ready.problem ready.on_file g.P.Sink.written g.P.Sink.stopped_at g.P.Sink.faults g.P.Sink.refusals c.args.print.now c.show_setup.new.print c.show_setup.new.setup
     c.in-Some-mark.mark c.in-Some-mark.is (solved.is_selected ready.problem ready.on_file) same c.in_ok-finding.finding c.act_of.result c.act_of.ensures (c.in_ok-finding.ensures.tells ready.problem ready.on_file)
 
 pub returns-clause-sound : goal.returns-clause-sound
 returns-clause-sound g c = λ cards sound.
-    let same = c.show_setup.ensures.same in
+    let same : IsSameSetup c.in-Some.setup c.show_setup.new.setup =
+    record { name = c.show_setup.ensures.name; options = c.show_setup.ensures.options; lp = c.show_setup.ensures.lp; basis = c.show_setup.ensures.basis; keeps = c.show_setup.ensures.waypoints } in
     sound_kept cards c.args.machine.now c.in-Some.setup c.show_setup.new.setup c.show_setup.ensures.ready sound c.in-Some.is
     (λ mark. still_solved c.args.machine.now.cells c.args.machine.now.file c.in-Some.setup c.show_setup.new.setup mark same)

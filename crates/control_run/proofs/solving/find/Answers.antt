@@ -15,20 +15,25 @@ returns-in-Err-clause-tells g c =
     (refusal_reported g.P.Sink.written g.P.Sink.stopped_at g.P.Sink.faults g.P.Sink.refusals c.args.verb c.args.cells.now c.args.file.now refl c.select_again.new.setup c.in-Some.problem.now
     (ap (λ (s : Setup). filed_under s.name c.args.file.now) (sym c.setup.view_is) ∙ sym c.in-Some.ensures) c.args.print.now c.in-Err.refusal c.in-Err.ensures.refused)
 
-pub follow-requires : goal.follow-requires
-follow-requires g c =
+pub follow-requires-clause-sheet : goal.follow-requires-clause-sheet
+follow-requires-clause-sheet g c =
     let is = now_is c.args.setup.now c.setup-2.view_is c.select_again.ensures.others c.args.file.now c.in-Some.problem.now c.args.cells.now c.in_default-select_again.ensures.selected in
     record {
-      sheet = record {
-        rows = as_many_rows c.in-Some.problem.now (choice_of c.args.cells.now c.args.setup.now.options) _ is;
-        columns = as_many_columns c.in-Some.problem.now (choice_of c.args.cells.now c.args.setup.now.options) _ is;
-      };
-      lawful = c.number_of_variables-size.ensures.lawful;
-      no_change = no_change c.in-Some.problem.now (choice_of c.args.cells.now c.args.setup.now.options) _ is;
-      rates =
-          rates_again c.args.setup.now c.setup-2.view_is c.select_again.ensures.others c.args.file.now c.in-Some.problem.now c.args.cells.now c.in_default-select_again.ensures.selected c.requires
-          (ap (λ (s : Setup). filed_under s.name c.args.file.now) (sym c.setup.view_is) ∙ sym c.in-Some.ensures);
+      rows = as_many_rows c.in-Some.problem.now (choice_of c.args.cells.now c.args.setup.now.options) _ is;
+      columns = as_many_columns c.in-Some.problem.now (choice_of c.args.cells.now c.args.setup.now.options) _ is;
     }
+
+pub follow-requires-clause-lawful : goal.follow-requires-clause-lawful
+follow-requires-clause-lawful g c = c.number_of_variables-size.ensures.lawful
+
+pub follow-requires-clause-no_change : goal.follow-requires-clause-no_change
+follow-requires-clause-no_change g c =
+    no_change c.in-Some.problem.now (choice_of c.args.cells.now c.args.setup.now.options) _ (now_is c.args.setup.now c.setup-2.view_is c.select_again.ensures.others c.args.file.now c.in-Some.problem.now c.args.cells.now c.in_default-select_again.ensures.selected)
+
+pub follow-requires-clause-rates : goal.follow-requires-clause-rates
+follow-requires-clause-rates g c =
+    rates_again c.args.setup.now c.setup-2.view_is c.select_again.ensures.others c.args.file.now c.in-Some.problem.now c.args.cells.now c.in_default-select_again.ensures.selected c.requires
+    (ap (λ (s : Setup). filed_under s.name c.args.file.now) (sym c.setup.view_is) ∙ sym c.in-Some.ensures)
 
 pub returns-clause-tells : goal.returns-clause-tells
 returns-clause-tells g c =

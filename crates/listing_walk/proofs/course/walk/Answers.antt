@@ -5,7 +5,7 @@ use Rattle.listing_walk.proofs.course.walk.Goals as goal
 
 pub loop-position-init : goal.loop-position-init
 loop-position-init c =
-    underway_first c.args.program.now c.args.cards.now c.args.listing.now c.new-machine.result c.new-place.result c.first_after.result (rw c.decks_from.ensures at c.first_after.ensures.same)
+    underway_first c.args.program.now c.args.cards.now c.args.listing.now c.new-machine.result c.new-place.result c.first_after.result c.first_after.ensures.same
     (c.new-machine.ensures.sound c.args.cards.now c.first_after.ensures.first c.first_after.ensures.last) (c.new-machine.ensures.start c.args.cards.now)
     c.new-place.ensures.rest c.new-place.ensures.pending c.new-place.ensures.reports
 

@@ -1,0 +1,65 @@
+// REVISE.
+ghost use Rattle.std.specs.Prelude.{◌≡◌, ◌≤◌, length};
+ghost use Rattle.control_definitions.specs.Program as program;
+ghost use Rattle.run_definitions.specs.Moves.{Settles};
+ghost use Rattle.run_machine.specs.Standing.{IsSound};
+ghost use Rattle.run_machine.specs.Statements.{Executes};
+ghost use Rattle.run_machine.specs.Describing.{Describes};
+ghost use Rattle.run_machine.specs.declared.taking.DeckVerb.TheVariants as deck_verb;
+
+use crate::act::{Act, Halt};
+use crate::end::End;
+use crate::kept::Kept;
+use crate::machine::Machine;
+use crate::taking::{DeckVerb, Described, described_as, next_card};
+use card_reader::Cards;
+use control_definitions::NameCell;
+use job_decks::take_deck;
+use job_devices::Sink;
+use listing_definitions::VerbFault;
+use revise_deck::revise;
+use std::alloc::Global;
+
+impl<S: Kept> Machine<S> {
+    // Takes a deck, and revises the old problem by it.
+    fn revised(&self, alloc: Global, cards: &Cards, card: u32) -> Result<Described, Halt>
+        requires { IsSound S.ready S.solved cards.now self.now }
+        ensures { Describes S.shows deck_verb.Revise card cards.now self.now result }
+    {
+        let Some(old) = self.problem_in(NameCell::Xoldname) else {
+            return Ok(Described::Ends(End::Verb {
+                fault: VerbFault::NoProblem,
+                card,
+            }));
+        };
+        let wanted = self.cells.name(NameCell::Xdata);
+        let Some(deck) = take_deck(cards, self.decks_from, wanted) else {
+            return Ok(Described::Ends(End::Verb {
+                fault: VerbFault::DeckNotFound,
+                card,
+            }));
+        };
+        let name = self.cells.name(NameCell::Xpbname);
+        let given = revise(alloc, old, cards, deck.first, deck.last, name);
+        described_as(given, next_card(cards, deck.last))
+    }
+
+    /// REVISE: takes the first deck of the name moved to XDATA, or the first of all, and files what it makes of the problem that
+    /// XOLDNAME names, or else of the one filed last, under the name moved to XPBNAME or the deck's own. The old problem stays on
+    /// file unless the new one has its name. Setup and mark are cleared.
+    pub fn revise<P: Sink>(
+        &mut self,
+        alloc: Global,
+        cards: &Cards,
+        print: &mut P,
+        card: u32,
+    ) -> Result<Act, Halt>
+        requires { IsSound S.ready S.solved cards.now self.old }
+        ensures acts { Executes S.shows Settles program.Revise card P.written P.stopped_at P.faults P.refusals
+            print.old print.new cards.now self.old self.new result }
+        ensures sound { IsSound S.ready S.solved cards.now self.new }
+    {
+        let described = self.revised(alloc, cards, card)?;
+        self.file_described(DeckVerb::Revise, described, cards, print, card)
+    }
+}
