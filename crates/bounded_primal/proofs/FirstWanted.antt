@@ -1,11 +1,11 @@
 -- What the first wanted rate of a row shows: which nonbasic brings a basic back, and which one improves the objective.
-use Rattle.std.proofs.Common.{◌≡◌, ℕ, List, Bool, sym, ap, ◌∙◌, subst, arith}
+use Rattle.std.proofs.Common.{◌≡◌, ℕ, List, Bool, refl, sym, ap, ◌∙◌, subst, arith}
 use Rattle.std.specs.Prelude.{Option, Some, None, not, option_map}
 use Rattle.exact_values.specs.Rational.{ℚ}
 use Rattle.lp_definitions.specs.LinearProgram.{LinearProgram, Vector, IsVariable, for_min}
 use Rattle.lp_definitions.specs.Basis.{basics_of, IsBasis, ArePricesOf}
 use Rattle.lp_definitions.specs.declared.Status.{Status}
-use Rattle.lp_model.specs.Wanted.{IsFirstWanted, IsUpTo}
+use Rattle.lp_model.specs.Wanted.{IsFirstWanted, IsGiven}
 use Rattle.lp_model.specs.declared.wanted.Wanted.{Wanted}
 use Rattle.simplex_definitions.specs.Moves.{signed, entering}
 use Rattle.simplex_definitions.specs.Path.{after}
@@ -21,9 +21,9 @@ use Rattle.bounded_primal.specs.declared.turns.EnteringVariable.{EnteringVariabl
 use Rattle.bounded_primal.proofs.SameChoices.{entering_same}
 use Rattle.bounded_primal.proofs.StepFacts.{step_reaches}
 
--- where nothing is found, all of the row is filled
-filled_all : (found : Option ℕ) (k : ℕ) → found ≡ None → IsUpTo found k
-filled_all found k none = subst (λ (o : Option ℕ). IsUpTo o k) (sym none) tt
+-- where nothing is found, all of the row is given
+given_all : (found : Option ℕ) (k : ℕ) → found ≡ None → IsGiven found k
+given_all found k none = subst (λ (o : Option ℕ). IsGiven o k) (sym none) tt
 
 -- vectors with the same values are both prices
 pub prices_same : (p : LinearProgram) (s : List Status) (x y : Vector) → ArePricesOf p s y → ((k : ℕ) → IsVariable p.matrix k → x k ≡ y k) → ArePricesOf p s x
@@ -35,7 +35,7 @@ module _ (p : LinearProgram) (s : List Status) (basis : IsBasis p s) (ws : List 
     rates = h.rates;
     is_row = h.is_row;
     enters = wanted_enters p s ws wants (not below) h.rates found h.least;
-    at_end = λ none k is. h.filled k is (filled_all found k none);
+    at_end = λ none k is. h.given k is (given_all found k none);
   }
 
   -- there is no change row, and min says how the objective counts
@@ -45,7 +45,7 @@ module _ (p : LinearProgram) (s : List Status) (basis : IsBasis p s) (ws : List 
 
     pub none_improves : (found : Option ℕ) → found ≡ None → IsFirstWanted p.matrix (basics_of s) p.objective ws min xs found → IsEnteringVariableFound p s xs None
     none_improves found none h =
-        let same : (k : ℕ) → IsVariable p.matrix k → xs k ≡ h.rates k = λ k is. h.filled k is (filled_all found k none) in
+        let same : (k : ℕ) → IsVariable p.matrix k → xs k ≡ h.rates k = λ k is. h.given k is (given_all found k none) in
         let enters : None ≡ entering p s (motion h.rates min) = sym none ∙ wanted_enters p s ws wants min h.rates found h.least in
         let moved : entering p s (motion h.rates min) ≡ entering p s (motion xs min) =
         entering_same p s basis (motion h.rates min) (motion xs min) (λ k out. ap (signed min) (sym (same k out.0))) in (
@@ -56,7 +56,7 @@ module _ (p : LinearProgram) (s : List Status) (basis : IsBasis p s) (ws : List 
     found_one : (q : ℕ) → IsFirstWanted p.matrix (basics_of s) p.objective ws min xs (Some q) → Improves p s (moved_by p xs q)
     found_one q h =
         let enters : Some q ≡ entering p s (motion h.rates min) = wanted_enters p s ws wants min h.rates (Some q) h.least in
-        let same : xs q ≡ h.rates q = h.filled q (h.least.low, omega (arith, h.least.high, wants.places)) (omega arith) in
+        let same : xs q ≡ h.rates q = h.given q (h.least.low, omega (arith, h.least.high, wants.places)) refl in
         let moved : moved_by p xs q ≡ moved_by p h.rates q = ap (λ (v : ℚ). moved_by p (λ k. v) q) same in
         record {
           price = h.rates;

@@ -7,3 +7,4 @@ pub mod File
 pub mod Columns
 pub mod Listed
 pub mod Workspaces
+pub mod WordColumns

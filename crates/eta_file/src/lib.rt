@@ -8,10 +8,12 @@ mod eta;
 mod file;
 mod steps;
 mod whole;
+mod words;
 mod workspace;
 
 pub use by_columns::{ByColumns, rate_by_column};
 pub use eta::{Eta, EtaEntry, ScaledEta, StoredEta, WholeEta};
 pub use file::EtaFile;
 pub use steps::Steps;
+pub use words::WordEntry;
 pub use workspace::ColumnWorkspace;

@@ -4,7 +4,9 @@
 --     wanted_at ws k               the sign that is wanted at the variable k
 --     meets ws up xs k             the rate of k, turned so, is wanted
 --     IsLeastWanted ws up xs q     q is the least-numbered variable whose rate is, or none is
---     IsFirstWanted a b i ws up xs q     the same of the row of the basic i, which xs has up to that variable
+--     IsGiven q k                  k is the variable q that was found; where none was, any
+--     IsFirstWanted a b i ws up xs q     q is the least-numbered variable whose rate in the row of the basic i is wanted, and xs has that rate; where
+--                                  there is none, xs has the row
 use Rattle.std.specs.Prelude.{◌≡◌, ℕ, ◌-◌, ◌<◌, ◌≤◌, Bool, true, false, ◌||◌, List, length, slice_index_or, Option, Some, None, if◌then◌else◌}
 use Rattle.exact_values.specs.Rational.{ℚ, zero_ℚ, neg_ℚ}
 use Rattle.exact_values.specs.Tests.{lt_ℚ}
@@ -43,13 +45,13 @@ abbrev pub IsLeastWanted : List Wanted → Bool → Vector → Option ℕ → Ty
 IsLeastWanted ws up xs None = NoneMeets ws up xs (length ws)
 IsLeastWanted ws up xs (Some q) = IsLeastMet ws up xs q
 
--- k is no greater than what was found, if anything was
-abbrev pub IsUpTo : Option ℕ → ℕ → Type 0
-IsUpTo None k = Unit {0}
-IsUpTo (Some q) k = k ≤ q
+-- k is what was found, if anything was
+abbrev pub IsGiven : Option ℕ → ℕ → Type 0
+IsGiven None k = Unit {0}
+IsGiven (Some q) k = k ≡ q
 
 pub record IsFirstWanted (a : Matrix) (b : Basics) (i : ℕ) (ws : List Wanted) (up : Bool) (xs : Vector) (found : Option ℕ) : Type 0 where
   pub rates : Vector
   pub is_row : IsRowOf a b i rates
   pub least : IsLeastWanted ws up rates found
-  pub filled : (k : ℕ) → IsVariable a k → IsUpTo found k → xs k ≡ rates k
+  pub given : (k : ℕ) → IsVariable a k → IsGiven found k → xs k ≡ rates k

@@ -17,6 +17,7 @@ pub enum Wanted {
 
 impl Wanted {
     /// Whether the rate, or its opposite where `up` is false, is wanted.
+    #[inline(always)]
     pub fn is_met(self, up: bool, rate: Frac) -> bool
         ensures { result ≡ is_wanted self (turned up rate) }
     {
@@ -30,6 +31,7 @@ impl Wanted {
 }
 
 /// The rate, or its opposite.
+#[inline(always)]
 fn turned(up: bool, rate: Frac) -> Frac
     ensures { result ≡ turned up rate }
 {
@@ -37,6 +39,7 @@ fn turned(up: bool, rate: Frac) -> Frac
 }
 
 /// Whether the rate is above 0: its opposite is below.
+#[inline(always)]
 #[tactic(auto, using(crate::proofs::Opposites::opposite_below))]
 fn is_above(rate: Frac) -> bool
     ensures { result ≡ is_wanted Wanted.Above rate }
@@ -45,6 +48,7 @@ fn is_above(rate: Frac) -> bool
 }
 
 /// Whether the rate is below or above 0.
+#[inline(always)]
 fn is_apart(rate: Frac) -> bool
     ensures { result ≡ is_wanted Wanted.Apart rate }
 {
