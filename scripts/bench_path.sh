@@ -1,6 +1,7 @@
 #!/usr/bin/env bash
 # Times whole jobs, from their bytes to their listings, in four parts. Prints where each path ends, the least processor time of five
-# runs, in seconds, the peak memory (no less than Python's own, some 14 MB), and the time of a step.
+# runs, in seconds, the peak memory (no less than Python's own, some 14 MB), and the time of a step; and the time of a step without that
+# of the same job up to its SETUP, so that of the path and its verdict alone.
 #   paths   PRIMAL on transportation problems of 10, 20 .. 60 sources and as many destinations, on the problems of 8, 10 and 12 queens, on
 #           a sparse problem of 300 rows and 350 columns, and on a problem of the greatest size, 1,000 rows and 5,000 columns, whose
 #           path ends where it begins; and the transportation of 60 by 60 with RANGE
@@ -15,7 +16,7 @@
 # scripts/bench_path.sh --dense N, --queens N, --transportation N, --sparse, --wide or --narrow, which print a deck: the N-th of the fifty,
 # that of N queens, that of N sources and N destinations, the sparse one, and the two of the part wide.
 set -eu
-case ${1:-} in -h | --help) sed -n '2,16s/^# //p' "$0"; exit 0 ;; esac
+case ${1:-} in -h | --help) sed -n '2,17s/^# //p' "$0"; exit 0 ;; esac
 here=$(cd "$(dirname "$0")" && pwd)
 deck=$(mktemp)
 counts=$(mktemp)
@@ -225,29 +226,34 @@ path_end() {
     "$program" <"$deck" | grep -o 'OPTIMAL STEPS.*OBJECTIVE [^ ]*'
 }
 
-# The path of the present deck under this name, and what it takes, all and for each step.
+# The path of the present deck under this name, and what it takes, all and for each step; where the line of the job up to its SETUP is
+# given, what each step takes without that besides.
 path() {
     local end line
     end=$(path_end)
     line=$(measured)
-    awk -v name="$1" -v end="$end" -v line="$line" 'BEGIN {
-        split(end, words, " ")
-        steps = words[3]
-        n = split(line, of, ": ")
-        number = of[n]
-        gsub(",", "", number)
-        each = ""
-        if (steps > 0) each = line ~ /instructions/ ? sprintf(", %.0f a step", number / steps) : sprintf(", %.3f ms a step", 1000 * number / steps)
-        printf "%s, %s: %s%s\n", name, end, of[n], each
-    }'
+    awk -v name="$1" -v end="$end" -v line="$line" -v opening="${2:-}" '
+        function number(text,   n, of) { n = split(text, of, ": "); gsub(",", "", of[n]); return of[n] + 0 }
+        function each(all) { return line ~ /instructions/ ? sprintf("%.0f", all / steps) : sprintf("%.3f ms", 1000 * all / steps) }
+        BEGIN {
+            split(end, words, " ")
+            steps = words[3]
+            sub(".*: ", "", line)
+            rest = ""
+            if (steps > 0) rest = sprintf(", %s a step", each(number(line)))
+            if (steps > 0 && opening) rest = rest sprintf(", %s of the path alone", each(number(line) - number(opening)))
+            printf "%s, %s: %s%s\n", name, end, line, rest
+        }'
 }
 
 # The job of PRIMAL on the deck that the words make, and perhaps one statement more, after its name.
 solved() {
-    local name=$1 more=$2
+    local name=$1 more=$2 opening
     shift 2
+    job SETUP -- "$@" >"$deck"
+    opening=$(measured)
     job SETUP PRIMAL ${more:+"$more"} -- "$@" >"$deck"
-    path "$name${more:+ with $more}"
+    path "$name${more:+ with $more}" "$opening"
 }
 
 bench_paths() {
