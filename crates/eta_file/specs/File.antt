@@ -1,7 +1,7 @@
 -- What an eta file keeps.
 --     inverse_of a                 what its fields stand for
 --     IsFileOf a etas marks        the etas are those of exchanges from the rows on, and the marks are of the set that they lead to
---     IsFile a                     the fields are those of such a file, and the words of its columns
+--     IsFile a                     the fields are those of such a file, and the words are those of its columns
 use Rattle.std.specs.Prelude.{◌≡◌, ◌<◌, List, length}
 use Rattle.lp_definitions.specs.LinearProgram.{Matrix, IsMatrix}
 use Rattle.lp_definitions.specs.Basis.{Basics, row_basics}
@@ -25,7 +25,6 @@ pub record IsFileOf (a : Matrix) (etas : List StoredEta) (marks : Basics) : Type
   pub passed : Passed a (row_basics a) etas
   pub few : length etas < 4294967295
 
--- and there is a list of words for each column, or none
 abbrev pub IsFile : Inside → Type 0
 IsFile a = let inverse = inverse_of a in
     (IsFileOf inverse.matrix inverse.etas inverse.basics) × (AreWordColumns inverse.matrix.columns a.words.value.items)

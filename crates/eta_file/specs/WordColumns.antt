@@ -1,7 +1,7 @@
 -- Columns of the deck in machine words.
 --     fraction_entry w             the number of a column that this one is
 --     AreWordsOf c ws              these are the numbers of the column c, in its order
---     AreWordColumns cs ws         there is one for each column; where it has words, they are those of the column
+--     AreWordColumns cs ws         for each column its numbers in words, or none
 use Rattle.std.specs.Prelude.{◌≡◌, ℕ, ◌<◌, List, length, map, slice_index_or, Option, IfSome, Vec}
 use Rattle.std.specs.Global.{Global}
 use Rattle.exact_values.specs.Rational.{whole}

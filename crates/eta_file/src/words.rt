@@ -15,7 +15,7 @@ pub struct WordEntry {
     pub value: i64,
 }
 
-/// The numbers of a column in machine words, where all are whole numbers of one.
+/// The numbers of a column in machine words, where all are whole numbers of one word.
 fn column_words(alloc: Global, column: &[Entry]) -> Result<Option<Vec<WordEntry>>, NoMemory>
     ensures { IfOk result (λ made. IfSome made (λ words. AreWordsOf column.now words.items)) }
 {
@@ -34,7 +34,7 @@ fn column_words(alloc: Global, column: &[Entry]) -> Result<Option<Vec<WordEntry>
     Ok(Some(words))
 }
 
-/// The same of each column.
+/// The same for each column.
 pub fn words_of_columns(
     alloc: Global,
     columns: &[Vec<Entry>],

@@ -40,9 +40,11 @@ invariant_of-self-2 c =
     let pushed : c.push.new.self.items ≡ f.etas ++ (eta ∷ []) = search rules in
     let whole : IfSome c.in_ok-whole.whole (IsWholeOf c.args.pivot c.args.entries.items) = rw c.deref.ensures.value at c.in_ok-whole.ensures in
     let workspace : length f.etas < 4294967294 = search rules in
-    rw (pushed, c.exchange.ensures)
-    (appended f.matrix f.etas f.basics c.self.invariant.0 c.args.p c.args.q next.leaves next.enters next.direction next.is_direction next.apart
-    eta refl refl next.is_pivot next.are_entries whole workspace, c.self.invariant.1)
+    rw (pushed, c.exchange.ensures) (
+      appended f.matrix f.etas f.basics c.self.invariant.0 c.args.p c.args.q next.leaves next.enters next.direction next.is_direction next.apart
+          eta refl refl next.is_pivot next.are_entries whole workspace,
+      c.self.invariant.1,
+    )
 
 pub returns-clause-ok : goal.returns-clause-ok
 returns-clause-ok c =
