@@ -21,7 +21,7 @@ use crate::carry::{clear, fill_column, last_left, leave, transform};
 use crate::eta::{Eta, EtaEntry, ScaledEta, StoredEta};
 use crate::steps::Steps;
 use crate::whole::{begin_whole, leave_whole, transform_whole, whole_eta};
-use crate::words::WordEntry;
+use crate::words::{WordEntry, words_of_columns};
 use crate::workspace::ColumnWorkspace;
 use frac128::Frac;
 use lp_model::{Entry, Evidence, Lp, NoMemory, SparseVector, Stop};
@@ -41,6 +41,7 @@ pub struct EtaFile {
     rows: u32,
     cols: u32,
     columns: Rc<Vec<Vec<Entry>>, Global>,
+    words: Rc<Vec<Option<Vec<WordEntry>>>, Global>,
     basics: BasicSet,
     etas: Vec<StoredEta>,
     alloc: Global,
@@ -131,10 +132,13 @@ impl EtaFile {
         ensures no_eta { IfOk result (λ file. file.etas ≡ []) }
     {
         let _size = lp.number_of_variables();
+        let columns = lp.copied_columns(alloc)?;
+        let words = words_of_columns(alloc, &columns)?;
         Ok(EtaFile {
             rows: lp.rows,
             cols: lp.cols,
-            columns: Rc::new(alloc, lp.copied_columns(alloc)?).map_err(|_| NoMemory)?,
+            columns: Rc::new(alloc, columns).map_err(|_| NoMemory)?,
+            words: Rc::new(alloc, words).map_err(|_| NoMemory)?,
             basics: BasicSet::new(alloc, row_marks(alloc, lp)?)?,
             etas: Vec::new(alloc),
             alloc,
@@ -177,6 +181,7 @@ impl EtaFile {
             rows: self.rows,
             cols: self.cols,
             columns: self.columns.clone()?,
+            words: self.words.clone()?,
             basics: BasicSet::new(self.alloc, marks)?,
             etas: Vec::new(self.alloc),
             alloc: self.alloc,
@@ -204,9 +209,10 @@ impl EtaFile {
         requires { IsColumn self.now.matrix j }
         ensures { IfSome result (λ words. AreWordsOf (column self.now.matrix j) words.now) }
     {
-        let _size = self.size();
-        let _column = j;
-        None
+        let Some(words) = &self.words[j as usize - 1] else {
+            return None;
+        };
+        Some(words)
     }
 
     /// The direction of the nonbasic `j` at the set after the first so many etas, where it left at the last of them, or where there

@@ -18,7 +18,7 @@ append_entries-requires c =
     let enters : IsNonbasic f.matrix f.basics c.args.q = rw (← c.self.view_is) at c.requires.enters in
     let direction : IsDirectionOf f.matrix f.basics c.args.q (value_at c.args.direction.now) = rw (← c.self.view_is) at c.requires.direction in
     let places : length c.args.direction.now ≡ size f.matrix = rw (← c.self.view_is) at c.requires.places in
-    let counted = marks_counted f.matrix f.etas f.basics c.self.invariant in
+    let counted = marks_counted f.matrix f.etas f.basics c.self.invariant.0 in
     rw (← c.self.view_is) (record {
       leaves = leaves;
       enters = enters;

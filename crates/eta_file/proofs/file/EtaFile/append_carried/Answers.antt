@@ -10,7 +10,7 @@ pub entries_at-requires : goal.entries_at-requires
 entries_at-requires c =
     let f = inverse_of c.self.inside in
     let places : length c.args.direction.now ≡ size f.matrix = rw (← c.self.view_is) at c.requires.places in
-    places ∙ sym (marks_counted f.matrix f.etas f.basics c.self.invariant)
+    places ∙ sym (marks_counted f.matrix f.etas f.basics c.self.invariant.0)
 
 pub append_entries-requires : goal.append_entries-requires
 append_entries-requires c =

@@ -10,14 +10,14 @@ pub transform_whole_at-requires-clause-before : goal.transform_whole_at-requires
 transform_whole_at-requires-clause-before c =
     let f = inverse_of c.self.inside in
     rw (← c.self.view_is)
-    (nonbasic_from f.matrix f.etas f.basics c.self.invariant c.args.j c.last_left-first.result (rw c.deref.ensures.value at c.last_left-first.ensures.none_later) (rw (← c.self.view_is) at c.requires.nonbasic)
+    (nonbasic_from f.matrix f.etas f.basics c.self.invariant.0 c.args.j c.last_left-first.result (rw c.deref.ensures.value at c.last_left-first.ensures.none_later) (rw (← c.self.view_is) at c.requires.nonbasic)
     c.loop-place.place (omega arith))
 
 pub transform_whole_at-requires-clause-then : goal.transform_whole_at-requires-clause-then
 transform_whole_at-requires-clause-then c =
     let f = inverse_of c.self.inside in
     rw (← c.self.view_is)
-    (nonbasic_from f.matrix f.etas f.basics c.self.invariant c.args.j c.last_left-first.result (rw c.deref.ensures.value at c.last_left-first.ensures.none_later) (rw (← c.self.view_is) at c.requires.nonbasic)
+    (nonbasic_from f.matrix f.etas f.basics c.self.invariant.0 c.args.j c.last_left-first.result (rw c.deref.ensures.value at c.last_left-first.ensures.none_later) (rw (← c.self.view_is) at c.requires.nonbasic)
     (c.loop-place.place + 1) (omega arith))
 
 pub returns-clause-direction : goal.returns-clause-direction
@@ -32,5 +32,5 @@ returns-clause-direction c =
     rw (← c.self.view_is)
     (some_map c.divide_into.result (λ _. AreQuotients c.loop-place.denominator c.loop-place.wholes new) (λ _. IsDirectionOf f.matrix f.basics c.args.j (value_at new))
     (λ u h.
-    divided f.matrix f.etas f.basics c.self.invariant c.args.j c.loop-place.place c.loop-place.denominator c.loop-place.wholes new all (rw (← c.self.view_is) at c.requires.nonbasic) (rw (← c.self.view_is) at c.loop-place.invariant.direction) h)
+    divided f.matrix f.etas f.basics c.self.invariant.0 c.args.j c.loop-place.place c.loop-place.denominator c.loop-place.wholes new all (rw (← c.self.view_is) at c.requires.nonbasic) (rw (← c.self.view_is) at c.loop-place.invariant.direction) h)
     c.divide_into.ensures)

@@ -5,4 +5,4 @@ use Rattle.eta_file.proofs.file.EtaFile.size.Goals as goal
 pub returns-clause-nonsingular : goal.returns-clause-nonsingular
 returns-clause-nonsingular c =
     let f = inverse_of c.self.inside in
-    rw (← c.self.view_is) (marks_nonsingular f.matrix f.etas f.basics c.self.invariant)
+    rw (← c.self.view_is) (marks_nonsingular f.matrix f.etas f.basics c.self.invariant.0)
