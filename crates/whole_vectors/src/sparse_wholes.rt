@@ -9,7 +9,7 @@ ghost use Rattle.whole_vectors.specs.Words.{wholes};
 ghost use Rattle.whole_vectors.specs.Ranks.{IsRank, AreWritten, AreChanged, AreKept};
 
 use crate::places::enlist;
-use crate::whole_numbers::{whole_multiple, whole_number, whole_product, whole_quotient};
+use crate::whole_numbers::{whole_multiple, whole_number, whole_quotient};
 use divisors::gcd;
 use frac128::Frac;
 use std::alloc::{AllocError, Global};
@@ -66,7 +66,7 @@ fn multiply_listed(numbers: &mut [i128], listed: &[usize], by: i128) -> Option<(
     for rank in 0..listed.len() {
         let place = listed[rank];
         let number = numbers[place];
-        let made = whole_product(number, by)?;
+        let made = frac128::product(number, by)?;
         numbers[place] = made;
     }
     Some(())

@@ -34,31 +34,6 @@ pub fn whole_at(numbers: &[i128], k: u32) -> i128
     numbers[k as usize - 1]
 }
 
-/// The sum of two whole numbers, where it fits.
-#[inline(always)]
-fn fitting_sum(a: i128, b: i128) -> Option<i128>
-    ensures { SomeIff result (Fits (a +ℤ b)) (a +ℤ b) }
-{
-    let sum = a.checked_add(b)?;
-    if sum == i128::MIN { None } else { Some(sum) }
-}
-
-/// The product of two whole numbers, where it fits.
-#[inline(always)]
-pub fn whole_product(a: i128, b: i128) -> Option<i128>
-    ensures { SomeIff result (Fits (a *ℤ b)) (a *ℤ b) }
-{
-    if let (Ok(a), Ok(b)) = (i64::try_from(a), i64::try_from(b)) {
-        return Some(a as i128 * b as i128);
-    }
-    let product = a.checked_mul(b)?;
-    if product == i128::MIN {
-        None
-    } else {
-        Some(product)
-    }
-}
-
 /// How often a number has a factor, where it is a multiple of it.
 #[inline(always)]
 pub fn whole_multiple(n: i128, factor: i128) -> Option<i128>
@@ -71,7 +46,7 @@ pub fn whole_multiple(n: i128, factor: i128) -> Option<i128>
         (Ok(n), Ok(factor)) => (n / factor) as i128,
         _ => n / factor,
     };
-    if whole_product(times, factor)? == n {
+    if frac128::product(times, factor)? == n {
         Some(times)
     } else {
         None
@@ -89,8 +64,8 @@ pub fn whole_sum(sum: i128, x: i128, y: Frac) -> Option<i128>
         return Some(sum);
     }
     let y = whole_number(y)?;
-    let product = whole_product(x, y)?;
-    fitting_sum(sum, product)
+    let product = frac128::product(x, y)?;
+    frac128::sum(sum, product)
 }
 
 /// A number over a divisor. Nothing is made of 0, and of a divisor of 1.
