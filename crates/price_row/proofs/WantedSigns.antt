@@ -126,18 +126,18 @@ module _ (f : Inverse) (r place : ℕ) (ws : List Wanted) (up : Bool) (within : 
 -- ---- one place after another
 
 module _ (ws : List Wanted) (up : Bool) (rates : Vector) (n : ℕ) (none : NoneMeets ws up rates n) where
-  pub none_more : false ≡ meets ws up rates (n + 1) → NoneMeets ws up rates (n + 1)
-  none_more here k low high = at (eqb_tells k (n + 1))
+  pub none_more : (met : Bool) → met ≡ meets ws up rates (n + 1) → met ≡ false → NoneMeets ws up rates (n + 1)
+  none_more met here fails k low high = at (eqb_tells k (n + 1))
     where
       at : (((eqb k (n + 1) ≡ true) × (k ≡ n + 1)) ⊎ ((eqb k (n + 1) ≡ false) × (k ≢ n + 1))) → meets ws up rates k ≡ false
-      at (inl same) = ap (meets ws up rates) same.1 ∙ sym here
+      at (inl same) = ap (meets ws up rates) same.1 ∙ sym here ∙ fails
       at (inr other) = let apart = other.1 in none k low (omega (arith, high, apart))
 
-  pub least_here : n < length ws → true ≡ meets ws up rates (n + 1) → IsLeastWanted ws up rates (Some (n + 1))
-  least_here within here = record {
+  pub least_here : (met : Bool) → met ≡ meets ws up rates (n + 1) → met ≡ true → n < length ws → IsLeastWanted ws up rates (Some (n + 1))
+  least_here met here holds within = record {
     low = omega arith;
     high = omega (arith, within);
-    met = sym here;
+    met = sym here ∙ holds;
     before = λ k low less. none k low (omega (arith, less));
   }
 

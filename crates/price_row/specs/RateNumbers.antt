@@ -1,6 +1,6 @@
 -- Rates as numbers over the denominator of the multipliers of the rows.
---     IsNumberAt f k xs n          n over the denominator is the rate at k, where k isn't basic, in each row whose multipliers are xs over it
---     up_over up d                 up, or its opposite where the denominator d is not above 0, so that the signs of numbers over it are turned
+--     IsNumberAt f k xs n          in each row whose multipliers are xs over a denominator, n over it is the rate at k, if k isn't basic
+--     up_over up d                 what up is for the signs of numbers over d: the opposite where d isn't above 0
 use Rattle.std.specs.Prelude.{◌≡◌, ℕ, Bool, false, List, not, if◌then◌else◌}
 use Rattle.exact_values.specs.Rational.{ℚ, zero_ℚ, ◌/ℚ◌}
 use Rattle.exact_values.specs.Tests.{lt_ℚ}

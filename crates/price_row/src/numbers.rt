@@ -329,31 +329,31 @@ fn is_nothing_wanted(wanted: &[Wanted], place: u32) -> bool
     wanted[place as usize] == Wanted::Nothing
 }
 
-/// Whether the rate at a place is wanted, by the sign of its number: nothing is divided.
+/// Whether the rate at a place is wanted, by the sign of its number: nothing is divided. `up` is that for numbers over the denominator.
 #[inline(always)]
 fn is_wanted_by_numbers<N: Numbers>(
     file: &EtaFile,
     place: u32,
     sought: &Sought<'_>,
+    up: bool,
     numbers: &[N::Number],
-    denominator: Frac,
 ) -> Option<bool>
     requires within { place < size file.now.matrix }
     requires basic { IsBasic file.now.matrix file.now.basics sought.now.row }
     requires number_places { length numbers.now ≡ size file.now.matrix }
     requires wanted_places { length sought.now.wanted.now ≡ size file.now.matrix }
     requires sound { All N.is_sound numbers.now }
-    requires known { Represent (HasMultipliers file.now (size file.now.matrix) sought.now.row)
-        denominator (map N.fraction numbers.now) }
-    ensures { IfSome result (λ met. (rates : Vector) → IsRowOf file.now.matrix file.now.basics
-        sought.now.row rates → met ≡ meets sought.now.wanted.now sought.now.up rates (place + 1)) }
+    ensures { IfSome result (λ met. (denominator : ℚ) → Represent (HasMultipliers file.now
+        (size file.now.matrix) sought.now.row) denominator (map N.fraction numbers.now) →
+        up ≡ up_over sought.now.up denominator → (rates : Vector) → IsRowOf file.now.matrix
+        file.now.basics sought.now.row rates → met ≡ meets sought.now.wanted.now sought.now.up rates
+        (place + 1)) }
 {
     let _size = file.size();
     if is_nothing_wanted(sought.wanted, place) || file.is_basic(place + 1) {
         return Some(false);
     }
     let number = number_of_rate::<N>(file, place, numbers)?;
-    let up = is_up_over(sought.up, denominator);
     Some(is_wanted_at(sought.wanted, place, up, N::as_fraction(number)))
 }
 
@@ -375,8 +375,9 @@ fn first_by_signs<N: Numbers>(
         rates found) }
     ensures variable { IfSome result (λ found. IfSome found (IsVariable file.now.matrix)) }
 {
+    let up = is_up_over(sought.up, denominator);
     for place in 0..file.size() {
-        let wanted = is_wanted_by_numbers::<N>(file, place, sought, numbers, denominator)?;
+        let wanted = is_wanted_by_numbers::<N>(file, place, sought, up, numbers)?;
         if wanted {
             return Some(Some(place + 1));
         }
