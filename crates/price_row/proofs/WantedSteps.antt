@@ -11,7 +11,8 @@ use Rattle.exact_values.proofs.Tests_laws.{lt_fails_from_le}
 use Rattle.lp_laws.proofs.Values.{clash}
 use Rattle.lp_definitions.specs.LinearProgram.{size, Vector, IsVariable, value_at}
 use Rattle.lp_definitions.specs.Basis.{is_in, row_basics}
-use Rattle.lp_model.specs.Wanted.{is_wanted, turned, wanted_at, meets, NoneMeets, IsLeastWanted, IsFirstWanted, IsUpTo}
+use Rattle.lp_model.specs.RatesCalls.{IsRowOf}
+use Rattle.lp_model.specs.Wanted.{is_wanted, turned, wanted_at, meets, NoneMeets, IsLeastWanted, IsGiven, IsFirstWanted}
 use Rattle.lp_model.specs.declared.wanted.Wanted.{Wanted}
 use Rattle.lp_model.specs.declared.wanted.Wanted.TheVariants.{Nothing, Below, Above, Apart}
 use Rattle.eta_file.specs.Prefixes.{Passed, after}
@@ -58,6 +59,15 @@ module _ (ws : List Wanted) (up : Bool) (n : ℕ) (xs : List ℚ) (v : ℚ) (bel
     before = λ k low less. let before : k ≤ n = omega (arith, less) in meets_before k low before ∙ h k low before;
   }
 
+-- k is at most what was found; where nothing was, any
+abbrev IsUpTo : Option ℕ → ℕ → Type 0
+IsUpTo None k = Unit {0}
+IsUpTo (Some q) k = k ≤ q
+
+up_to_given : (found : Option ℕ) (k : ℕ) → IsGiven found k → IsUpTo found k
+up_to_given None k given = tt
+up_to_given (Some q) k given = omega (arith, given)
+
 module _ (f : Inverse) (r : ℕ) (ws : List Wanted) (up : Bool) (xs : Vector) (are : f.basics ≡ after (row_basics f.matrix) f.etas) (passed : Passed f.matrix (row_basics f.matrix) f.etas) (counted : length ws ≡ size f.matrix) where
   abbrev rates : Vector
   rates k = if is_in f.basics k then zero_ℚ else (rates_are f are passed).0 r k
@@ -84,8 +94,20 @@ module _ (f : Inverse) (r : ℕ) (ws : List Wanted) (up : Bool) (xs : Vector) (a
     rates = rates;
     is_row = record { rate = (rates_are f are passed).0; are_rates = (rates_are f are passed).1; entries = λ k is. refl };
     least = least_same found filled least;
-    filled = λ k is upto. rate_here k (filled k is upto);
+    given = λ k is given. rate_here k (filled k is (up_to_given found k given));
   }
+
+  -- the least-numbered is known by the rates of the row
+  pub first_by_row : (q : ℕ) → IsVariable f.matrix q → IsRateOf f r q (xs q) → ((row : Vector) → IsRowOf f.matrix f.basics r row → IsLeastWanted ws up row (Some q)) → IsFirstWanted f.matrix f.basics r ws up xs (Some q)
+  first_by_row q var rate_is least = record {
+    rates = rates;
+    is_row = row_is;
+    least = least rates row_is;
+    given = λ k is same. ap xs same ∙ rate_here q rate_is ∙ ap rates (sym same);
+  }
+    where
+      row_is : IsRowOf f.matrix f.basics r rates
+      row_is = record { rate = (rates_are f are passed).0; are_rates = (rates_are f are passed).1; entries = λ k is. refl }
 
 -- what is filled up to a place, by variables
 pub filled_at : (f : Inverse) (n r : ℕ) (xs : List ℚ) → IsFilledTo f n r xs → (k : ℕ) → 1 ≤ k → k ≤ n → IsRateOf f r k (value_at xs k)
@@ -109,13 +131,13 @@ module _ (f : Inverse) (r : ℕ) (ws : List Wanted) (up : Bool) (are : f.basics 
 not_below : lt_ℚ zero_ℚ zero_ℚ ≡ false
 not_below = lt_fails_from_le zero_ℚ zero_ℚ (le_refl zero_ℚ)
 
-zero_unwanted : (w : Wanted) → is_wanted w zero_ℚ ≡ false
+pub zero_unwanted : (w : Wanted) → is_wanted w zero_ℚ ≡ false
 zero_unwanted Nothing = refl
 zero_unwanted Below = not_below
 zero_unwanted Above = not_below
 zero_unwanted Apart = ap₂ ◌||◌ not_below not_below
 
-turned_zero : (up : Bool) → turned up zero_ℚ ≡ zero_ℚ
+pub turned_zero : (up : Bool) → turned up zero_ℚ ≡ zero_ℚ
 turned_zero true = refl
 turned_zero false = sym (zero-add (neg_ℚ zero_ℚ)) ∙ add-neg zero_ℚ
 

@@ -2,3 +2,4 @@ pub mod Sums
 pub mod Known
 pub mod Workspace
 pub mod Places
+pub mod RateNumbers

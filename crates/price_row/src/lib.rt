@@ -95,8 +95,8 @@ impl PriceRow {
     }
 
     /// The least-numbered variable whose rate in the row of the basic `i`, or the opposite of it where `up` is false, is wanted there.
-    /// `out`, which has a place for each variable, takes the row up to that variable, and where there is none all of it: no rate
-    /// after that is worked out. Else all is as in `row`.
+    /// `out`, which has a place for each variable, takes the rate of that variable, and where there is none the row: in whole numbers
+    /// no rate but these is worked out. Else all is as in `row`.
     pub fn first_wanted(
         &mut self,
         file: &EtaFile,

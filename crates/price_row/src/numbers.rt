@@ -2,22 +2,24 @@
 //! be computed another way.
 
 ghost use Rattle.std.specs.Prelude.{◌≡◌, ◌≢◌, ◌+◌, ◌-◌, ◌≤◌, ◌<◌, ℕ, true, List, length, map, set, All, IfSome};
-ghost use Rattle.exact_values.specs.Rational.{ℚ, zero_ℚ, ◌+ℚ◌, ◌*ℚ◌, ◌/ℚ◌};
-ghost use Rattle.lp_definitions.specs.LinearProgram.{size, value_at};
+ghost use Rattle.exact_values.specs.Rational.{ℚ, whole, zero_ℚ, ◌+ℚ◌, ◌*ℚ◌, ◌/ℚ◌};
+ghost use Rattle.lp_definitions.specs.LinearProgram.{IsColumn, IsVariable, Vector, column, size, value_at};
 ghost use Rattle.lp_definitions.specs.Basis.{IsBasic};
 ghost use Rattle.lp_definitions.specs.RatesEvidence.{sum_from};
 ghost use Rattle.lp_model.specs.RatesCalls.{IsRowOf};
-ghost use Rattle.lp_model.specs.Wanted.{IsFirstWanted};
+ghost use Rattle.lp_model.specs.Wanted.{meets, wanted_at, IsLeastWanted, IsFirstWanted};
 ghost use Rattle.whole_vectors.specs.Quotients.{AreProducts, IsSameOver, Represent};
 ghost use Rattle.eta_file.specs.Entries.{IsEntryWithin};
+ghost use Rattle.eta_file.specs.WordColumns.{fraction_entry};
 ghost use Rattle.price_row.specs.Sums.{weighted, products};
-ghost use Rattle.price_row.specs.Places.{IsRowPlace};
+ghost use Rattle.price_row.specs.Places.{IsRowPlace, IsWordPlace};
 ghost use Rattle.price_row.specs.Known.{IsKnown, IsUnit, HasMultipliers, IsRateOf};
+ghost use Rattle.price_row.specs.RateNumbers.{IsNumberAt, up_over};
 
 use crate::{Sought, is_wanted_at};
-use eta_file::{EtaEntry, EtaFile, ScaledEta};
+use eta_file::{EtaEntry, EtaFile, ScaledEta, WordEntry};
 use frac128::Frac;
-use lp_model::Entry;
+use lp_model::{Entry, Wanted};
 use whole_vectors::{product, terms};
 
 /// A whole number for each variable.
@@ -47,6 +49,11 @@ pub trait Numbers {
         ensures value { IfSome result (λ n. fraction n ≡ x) }
         ensures sound { IfSome result is_sound };
 
+    /// A number as a fraction.
+    fn as_fraction(n: Self::Number) -> Frac
+        requires sound { is_sound n }
+        ensures { result ≡ fraction n };
+
     /// The number at the variable `k`.
     fn number_at(numbers: &[Self::Number], k: u32) -> Self::Number
         requires low { 1 ≤ k }
@@ -59,6 +66,12 @@ pub trait Numbers {
     fn plus(sum: Self::Number, x: Self::Number, y: Frac) -> Option<Self::Number>
         requires sound { is_sound sum }
         ensures value { IfSome result (λ next. fraction next ≡ fraction sum +ℚ fraction x *ℚ y) }
+        ensures sound { IfSome result is_sound };
+
+    /// The sum, with one product by a machine word more. Nothing is made of 0.
+    fn plus_word(sum: Self::Number, x: Self::Number, y: i64) -> Option<Self::Number>
+        requires sound { is_sound sum }
+        ensures value { IfSome result (λ next. fraction next ≡ fraction sum +ℚ fraction x *ℚ whole y) }
         ensures sound { IfSome result is_sound };
 
     /// A number over a divisor.
@@ -143,6 +156,40 @@ fn sum_of_column<N: Numbers>(column: &[Entry], numbers: &[N::Number]) -> Option<
     Some(sum)
 }
 
+/// The sum of the numbers of a column in machine words, each times the number at its row.
+#[inline(always)]
+fn sum_of_words<N: Numbers>(words: &[WordEntry], numbers: &[N::Number]) -> Option<N::Number>
+    requires within { All (IsWordPlace (length numbers.now)) words.now }
+    requires numbers { All N.is_sound numbers.now }
+    ensures value { IfSome result (λ sum. N.fraction sum ≡ sum_from zero_ℚ (products
+        (map N.fraction numbers.now) (map fraction_entry words.now))) }
+    ensures sound { IfSome result N.is_sound }
+{
+    let mut sum = N::zero();
+    for entry in words {
+        let number = N::number_at(numbers, entry.row);
+        sum = N::plus_word(sum, number, entry.value)?;
+    }
+    Some(sum)
+}
+
+/// The sum of the numbers of column `j` of the deck, each times the number at its row.
+#[inline(always)]
+fn sum_at_column<N: Numbers>(file: &EtaFile, j: u32, numbers: &[N::Number]) -> Option<N::Number>
+    requires column { IsColumn file.now.matrix j }
+    requires places { length numbers.now ≡ size file.now.matrix }
+    requires numbers { All N.is_sound numbers.now }
+    ensures value { IfSome result (λ sum. N.fraction sum ≡ sum_from zero_ℚ (products
+        (map N.fraction numbers.now) (column file.now.matrix j))) }
+    ensures sound { IfSome result N.is_sound }
+{
+    let _size = file.size();
+    match file.words(j) {
+        Some(words) => sum_of_words::<N>(words, numbers),
+        None => sum_of_column::<N>(file.numbers(j), numbers),
+    }
+}
+
 /// The number of `q` times the scale, and the entries, each times the number there, in all. An entry at a number of 0 adds nothing.
 #[inline(always)]
 fn sum_over_eta<N: Numbers>(
@@ -218,6 +265,28 @@ fn multipliers_in_numbers<N: Numbers>(file: &EtaFile, row: u32, out: &mut N) -> 
     Some(denominator)
 }
 
+/// The number of the rate at the nonbasic of a place, over the denominator of the multipliers of the rows.
+#[inline(always)]
+fn number_of_rate<N: Numbers>(
+    file: &EtaFile,
+    place: u32,
+    numbers: &[N::Number],
+) -> Option<N::Number>
+    requires within { place < size file.now.matrix }
+    requires places { length numbers.now ≡ size file.now.matrix }
+    requires sound { All N.is_sound numbers.now }
+    ensures value { IfSome result (λ n. IsNumberAt file.now (place + 1) (map N.fraction numbers.now)
+        (N.fraction n)) }
+    ensures sound { IfSome result N.is_sound }
+{
+    let _size = file.size();
+    let rows = file.rows();
+    if place < rows {
+        return N::plus_word(N::zero(), N::number_at(numbers, place + 1), -1);
+    }
+    sum_at_column::<N>(file, place + 1 - rows, numbers)
+}
+
 /// The rate of the row at the variable of a place, from the numbers of the multipliers of the rows.
 #[inline(always)]
 fn rate_by_numbers<N: Numbers>(
@@ -236,19 +305,88 @@ fn rate_by_numbers<N: Numbers>(
     ensures { IfSome result (IsRateOf file.now row (place + 1)) }
 {
     let _size = file.size();
-    let rows = file.rows();
     if file.is_basic(place + 1) {
         return Some(Frac::whole(0));
     }
-    if place < rows {
-        let multiplier = N::over(N::number_at(numbers, place + 1), denominator)?;
-        return Some(multiplier.neg());
-    }
-    let sum = sum_of_column::<N>(file.numbers(place + 1 - rows), numbers)?;
-    N::over(sum, denominator)
+    let number = number_of_rate::<N>(file, place, numbers)?;
+    N::over(number, denominator)
 }
 
-/// Fills in the rates from the numbers of the multipliers of the rows, up to the first that is wanted.
+/// What `up` is for the numbers of rates over a denominator: one below 0 turns their signs.
+#[inline(always)]
+fn is_up_over(up: bool, denominator: Frac) -> bool
+    ensures { result ≡ up_over up denominator }
+{
+    up == (denominator.sign() > 0)
+}
+
+/// Whether no rate is wanted at the variable of a place.
+#[inline(always)]
+fn is_nothing_wanted(wanted: &[Wanted], place: u32) -> bool
+    requires { place < length wanted.now }
+    ensures { result ≡ true → wanted_at wanted.now (place + 1) ≡ Wanted.Nothing }
+{
+    wanted[place as usize] == Wanted::Nothing
+}
+
+/// Whether the rate at a place is wanted, by the sign of its number: nothing is divided. `up` is that for numbers over the denominator.
+#[inline(always)]
+fn is_wanted_by_numbers<N: Numbers>(
+    file: &EtaFile,
+    place: u32,
+    sought: &Sought<'_>,
+    up: bool,
+    numbers: &[N::Number],
+) -> Option<bool>
+    requires within { place < size file.now.matrix }
+    requires basic { IsBasic file.now.matrix file.now.basics sought.now.row }
+    requires number_places { length numbers.now ≡ size file.now.matrix }
+    requires wanted_places { length sought.now.wanted.now ≡ size file.now.matrix }
+    requires sound { All N.is_sound numbers.now }
+    ensures { IfSome result (λ met. (denominator : ℚ) → Represent (HasMultipliers file.now
+        (size file.now.matrix) sought.now.row) denominator (map N.fraction numbers.now) →
+        up ≡ up_over sought.now.up denominator → (rates : Vector) → IsRowOf file.now.matrix
+        file.now.basics sought.now.row rates → met ≡ meets sought.now.wanted.now sought.now.up rates
+        (place + 1)) }
+{
+    let _size = file.size();
+    if is_nothing_wanted(sought.wanted, place) || file.is_basic(place + 1) {
+        return Some(false);
+    }
+    let number = number_of_rate::<N>(file, place, numbers)?;
+    Some(is_wanted_at(sought.wanted, place, up, N::as_fraction(number)))
+}
+
+/// The least-numbered variable whose rate is wanted, if there is one.
+fn first_by_signs<N: Numbers>(
+    file: &EtaFile,
+    sought: &Sought<'_>,
+    numbers: &[N::Number],
+    denominator: Frac,
+) -> Option<Option<u32>>
+    requires basic { IsBasic file.now.matrix file.now.basics sought.now.row }
+    requires number_places { length numbers.now ≡ size file.now.matrix }
+    requires wanted_places { length sought.now.wanted.now ≡ size file.now.matrix }
+    requires sound { All N.is_sound numbers.now }
+    requires known { Represent (HasMultipliers file.now (size file.now.matrix) sought.now.row)
+        denominator (map N.fraction numbers.now) }
+    ensures least { IfSome result (λ found. (rates : Vector) → IsRowOf file.now.matrix
+        file.now.basics sought.now.row rates → IsLeastWanted sought.now.wanted.now sought.now.up
+        rates found) }
+    ensures variable { IfSome result (λ found. IfSome found (IsVariable file.now.matrix)) }
+{
+    let up = is_up_over(sought.up, denominator);
+    for place in 0..file.size() {
+        let wanted = is_wanted_by_numbers::<N>(file, place, sought, up, numbers)?;
+        if wanted {
+            return Some(Some(place + 1));
+        }
+    }
+    Some(None)
+}
+
+/// Fills in the rate of the first variable whose rate is wanted, or where there is none all rates, from the numbers of the multipliers
+/// of the rows.
 fn fill_to_wanted_by_numbers<N: Numbers>(
     file: &EtaFile,
     sought: &Sought<'_>,
@@ -266,18 +404,23 @@ fn fill_to_wanted_by_numbers<N: Numbers>(
     ensures { IfSome result (IsFirstWanted file.now.matrix file.now.basics sought.now.row
         sought.now.wanted.now sought.now.up (value_at out.new)) }
 {
-    for place in 0..file.size() {
-        let rate = rate_by_numbers::<N>(file, place, sought.row, denominator, numbers)?;
-        out[place as usize] = rate;
-        if is_wanted_at(sought.wanted, place, sought.up, rate) {
-            return Some(Some(place + 1));
+    let _size = file.size();
+    let found = first_by_signs::<N>(file, sought, numbers, denominator)?;
+    match found {
+        Some(k) => {
+            let rate = rate_by_numbers::<N>(file, k - 1, sought.row, denominator, numbers)?;
+            out[k as usize - 1] = rate;
+            Some(Some(k))
+        }
+        None => {
+            fill_by_numbers::<N>(file, sought.row, numbers, denominator, out)?;
+            Some(None)
         }
     }
-    Some(None)
 }
 
-/// The least-numbered variable whose rate in the row, or the opposite of it where `up` is false, is wanted there. `out` takes the row
-/// up to it, and `numbers` those of the multipliers of the rows.
+/// The least-numbered variable whose rate in the row, or the opposite of it where `up` is false, is wanted there. `out` takes its rate,
+/// or where there is none the row, and `numbers` takes those of the multipliers of the rows.
 pub fn first_by_numbers<N: Numbers>(
     file: &EtaFile,
     sought: &Sought<'_>,

@@ -32,6 +32,11 @@ impl Numbers for SparseWholes {
     }
 
     #[inline(always)]
+    fn as_fraction(n: i128) -> Frac {
+        Frac::whole(n)
+    }
+
+    #[inline(always)]
     fn number_at(numbers: &[i128], k: u32) -> i128 {
         whole_at(numbers, k)
     }
@@ -39,6 +44,11 @@ impl Numbers for SparseWholes {
     #[inline(always)]
     fn plus(sum: i128, x: i128, y: Frac) -> Option<i128> {
         whole_sum(sum, x, y)
+    }
+
+    #[inline(always)]
+    fn plus_word(sum: i128, x: i128, y: i64) -> Option<i128> {
+        whole_sum(sum, x, Frac::whole(y as i128))
     }
 
     #[inline(always)]

@@ -31,6 +31,11 @@ impl Numbers for SparseWords {
     }
 
     #[inline(always)]
+    fn as_fraction(n: i64) -> Frac {
+        Frac::whole(n as i128)
+    }
+
+    #[inline(always)]
     fn number_at(numbers: &[i64], k: u32) -> i64 {
         number_at(numbers, k)
     }
@@ -38,6 +43,15 @@ impl Numbers for SparseWords {
     #[inline(always)]
     fn plus(sum: i64, x: i64, y: Frac) -> Option<i64> {
         word_sum(sum, x, y)
+    }
+
+    #[inline(always)]
+    fn plus_word(sum: i64, x: i64, y: i64) -> Option<i64> {
+        if x == 0 {
+            return Some(sum);
+        }
+        let product = x.checked_mul(y)?;
+        sum.checked_add(product)
     }
 
     #[inline(always)]
