@@ -1,10 +1,11 @@
 //! Sums of products, each made from the left.
 
-ghost use Rattle.std.specs.Prelude.{◌≡◌, ◌≤◌, [], ◌∷◌, All, length, unwrap_or};
+ghost use Rattle.std.specs.Prelude.{◌≡◌, ◌+◌, ◌≤◌, [], ◌∷◌, All, length, unwrap_or};
 ghost use Rattle.exact_values.specs.Rational.{zero_ℚ, ◌-ℚ◌};
 ghost use Rattle.lp_definitions.specs.LinearProgram.{IsRow, on_row, size, value_at, combined, objective_value};
 ghost use Rattle.check_definitions.specs.Steps.{operation};
 ghost use Rattle.check_definitions.specs.Checks.{row_products, entry_products, combined_steps};
+ghost use Rattle.certificate_check.specs.Listed.{AreListed};
 ghost use Rattle.certificate_check.specs.Results.{Gives, SumsTo};
 
 use frac128::{Frac, Op, Refused};
@@ -47,29 +48,41 @@ fn number_on(column: &[Entry], row: u32) -> Option<Frac>
 }
 
 /// The sum, and the column's number on the row times the value of the column. A product with an operand 0 is never refused, nor is adding
-/// it, so neither is made.
+/// it, so neither is made where the column has no number on the row.
 fn add_entry(sum: Frac, column: &[Entry], row: u32, value: Frac) -> Result<Frac, Refused>
     ensures { SumsTo result sum (record { left = on_row column.now row; right = value } ∷ []) }
 {
-    if value.is_zero() {
-        return Ok(sum);
-    }
     match number_on(column, row) {
         None => Ok(sum),
         Some(number) => add_product(sum, number, value),
     }
 }
 
-/// The sum of the numbers on the row, each times the value of its column.
-pub fn row_sum(lp: &Lp, values: &[Frac], row: u32) -> Result<Frac, Refused>
+/// The sum of the numbers on the row, each times the value of its column. Of the columns up to `last` those that aren't listed are left out,
+/// and of those after it the ones whose values are 0.
+pub fn row_sum(
+    lp: &Lp,
+    values: &[Frac],
+    listed: &[u32],
+    last: u32,
+    row: u32,
+) -> Result<Frac, Refused>
     requires row { IsRow lp.now.matrix row }
     requires places { length values.now ≡ size lp.now.matrix }
+    requires last { last ≤ lp.now.cols }
+    requires listed { AreListed (λ j. value_at values.now (lp.now.rows + j)) 0 listed.now last }
     ensures { SumsTo result zero_ℚ (row_products lp.now (value_at values.now) row) }
 {
     let mut sum = Frac::whole(0);
-    for j in 0..lp.cols {
+    for column in listed {
+        let value = value_of(values, lp.rows + *column);
+        sum = add_entry(sum, lp.column(*column), row, value)?;
+    }
+    for j in last..lp.cols {
         let value = value_of(values, lp.rows + j + 1);
-        sum = add_entry(sum, lp.column(j + 1), row, value)?;
+        if !value.is_zero() {
+            sum = add_entry(sum, lp.column(j + 1), row, value)?;
+        }
     }
     Ok(sum)
 }

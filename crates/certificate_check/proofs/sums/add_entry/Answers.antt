@@ -2,15 +2,8 @@ use Rattle.std.proofs.Common.{rules, ◌≡◌}
 use Rattle.exact_values.specs.Rational.{zero_ℚ}
 use Rattle.frac128.specs.Operations.{TermsFit}
 use Rattle.lp_definitions.specs.LinearProgram.{on_row}
-use Rattle.certificate_check.proofs.Left.{skipped_left, skipped_right}
+use Rattle.certificate_check.proofs.Left.{skipped_left}
 use Rattle.certificate_check.proofs.sums.add_entry.Goals as goal
-
--- a value of 0
-pub returns-then-is_zero : goal.returns-then-is_zero
-returns-then-is_zero c =
-    let none : c.args.value ≡ zero_ℚ = search rules in
-    let fits : TermsFit c.args.sum = search rules in
-    skipped_right c.args.sum (on_row c.args.column.now c.args.row) c.args.value none fits
 
 -- no number on the row
 pub returns-in-None : goal.returns-in-None
