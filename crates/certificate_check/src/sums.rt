@@ -12,6 +12,7 @@ use frac128::{Frac, Op, Refused};
 use lp_model::{Entry, Lp};
 
 /// The value of variable `k`, from 1.
+#[inline(always)]
 pub fn value_of(values: &[Frac], k: u32) -> Frac
     requires low { 1 ≤ k }
     requires high { k ≤ length values.now }
@@ -36,6 +37,7 @@ pub fn subtract(x: Frac, y: Frac) -> Result<Frac, Refused>
 }
 
 /// The number on the row, if the column has one.
+#[inline(always)]
 fn number_on(column: &[Entry], row: u32) -> Option<Frac>
     ensures { unwrap_or result zero_ℚ ≡ on_row column.now row }
 {
@@ -47,19 +49,8 @@ fn number_on(column: &[Entry], row: u32) -> Option<Frac>
     None
 }
 
-/// The sum, and the column's number on the row times the value of the column. A product with an operand 0 is never refused, nor is adding
-/// it, so neither is made where the column has no number on the row.
-fn add_entry(sum: Frac, column: &[Entry], row: u32, value: Frac) -> Result<Frac, Refused>
-    ensures { SumsTo result sum (record { left = on_row column.now row; right = value } ∷ []) }
-{
-    match number_on(column, row) {
-        None => Ok(sum),
-        Some(number) => add_product(sum, number, value),
-    }
-}
-
 /// The sum of the numbers on the row, each times the value of its column. Of the columns up to `last` those that aren't listed are left out,
-/// and of those after it the ones whose values are 0.
+/// and of those after it the ones whose values are 0: a product with an operand 0 is never refused, nor is adding it.
 pub fn row_sum(
     lp: &Lp,
     values: &[Frac],
@@ -75,13 +66,17 @@ pub fn row_sum(
 {
     let mut sum = Frac::whole(0);
     for column in listed {
-        let value = value_of(values, lp.rows + *column);
-        sum = add_entry(sum, lp.column(*column), row, value)?;
+        if let Some(number) = number_on(lp.column(*column), row) {
+            sum = add_product(sum, number, value_of(values, lp.rows + *column))?;
+        }
     }
     for j in last..lp.cols {
         let value = value_of(values, lp.rows + j + 1);
-        if !value.is_zero() {
-            sum = add_entry(sum, lp.column(j + 1), row, value)?;
+        if value.is_zero() {
+            continue;
+        }
+        if let Some(number) = number_on(lp.column(j + 1), row) {
+            sum = add_product(sum, number, value)?;
         }
     }
     Ok(sum)
