@@ -2,13 +2,14 @@
 use Rattle.std.specs.Prelude.{eqb, unwrap_or}
 use Rattle.std.proofs.Common.{rules, true, false, ◌≡◌, ◌≢◌, ℕ, zero, suc, ◌+◌, ◌-◌, ◌<◌, ◌≤◌, ◌⊎◌, inl, inr, List, [], ◌∷◌, ◌++◌, length, map, get_or, drop, take, set, sym, ap, ◌∙◌, refl, arith, subst, Ok, Err, Option, None}
 use Rattle.std.proofs.lemmas.Bool.Decides.{eqb_tells}
-use Rattle.std.proofs.lemmas.List.{take_more_set, drop_all}
+use Rattle.std.proofs.lemmas.List.{take_more_set, drop_all, get_or-take, get_or-drop}
 use Rattle.std.proofs.Math.Seq.{drop-cons}
 use Rattle.exact_values.specs.Rational.{ℚ, zero_ℚ}
 use Rattle.frac128.specs.declared.Refused.{Refused}
 use Rattle.frac128.specs.Operations.{TermsFit}
 use Rattle.lp_definitions.specs.declared.Entry.{Entry}
-use Rattle.lp_definitions.specs.LinearProgram.{LinearProgram, Vector, numbers_from, on_row, entry}
+use Rattle.lp_definitions.specs.LinearProgram.{LinearProgram, Vector, numbers_from, on_row, entry, value_at}
+use Rattle.lp_laws.proofs.Places.{value_at_place}
 use Rattle.check_definitions.specs.Steps.{Product}
 use Rattle.check_definitions.specs.Checks.{row_products}
 use Rattle.certificate_check.specs.Listed.{AreZero, AreListed}
@@ -158,3 +159,11 @@ listed_done p z i sum js k last all within so_far =
   where
     at : IsListLeft p z i sum [] last → IsLeft zero_ℚ (row_products p z i) sum (columns_left p z i last)
     at ended = passed_to p z i zero_ℚ (row_products p z i) sum ended.fits ended.first last ended.listed.0 within ended.listed.1 ended.left
+
+-- ---- the values after the list
+
+pub tail_value : (xs : List ℚ) (n place : ℕ) (x : ℚ) → n + place < length xs → x ≡ get_or (take (length xs - n) (drop n xs)) place x → x ≡ value_at xs (n + place + 1)
+tail_value xs n place x within is =
+    let same : n + place ≡ n + place + 1 - 1 = omega arith in
+    value_at_place xs (n + place + 1) x (omega arith) (omega (arith, within))
+    (is ∙ get_or-take (length xs - n) (drop n xs) place x (omega (arith, within)) ∙ get_or-drop n xs place x ∙ ap (λ (k : ℕ). get_or xs k x) same)

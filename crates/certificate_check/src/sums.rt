@@ -70,13 +70,12 @@ pub fn row_sum(
             sum = add_product(sum, number, value_of(values, lp.rows + *column))?;
         }
     }
-    for j in last..lp.cols {
-        let value = value_of(values, lp.rows + j + 1);
+    for (place, value) in values[(lp.rows + last) as usize..].iter().enumerate() {
         if value.is_zero() {
             continue;
         }
-        if let Some(number) = number_on(lp.column(j + 1), row) {
-            sum = add_product(sum, number, value)?;
+        if let Some(number) = number_on(lp.column(last + place as u32 + 1), row) {
+            sum = add_product(sum, number, *value)?;
         }
     }
     Ok(sum)
