@@ -8,7 +8,7 @@ use Rattle.frac128.specs.declared.Refused.{Refused}
 use Rattle.frac128.specs.Operations.{TermsFit, refuses}
 use Rattle.std.proofs.Math.Seq.{drop-cons}
 use Rattle.lp_definitions.specs.declared.Entry.{Entry}
-use Rattle.lp_definitions.specs.LinearProgram.{LinearProgram, Vector, numbers_from, column, on_row, entry}
+use Rattle.lp_definitions.specs.LinearProgram.{LinearProgram, Vector, numbers_from, entry}
 use Rattle.check_definitions.specs.declared.Verdict.TheVariants.{Checked, Unchecked}
 use Rattle.check_definitions.specs.Steps.{operation, Product, product_of, verdict_of, sum_steps, sum_of, followed_by}
 use Rattle.check_definitions.specs.Checks.{entry_products}
@@ -73,24 +73,22 @@ row_next : (p : LinearProgram) (z : Vector) (i j : ℕ) → j < p.cols → colum
 row_next p z i j below = ap (map (row_product p z i)) (numbers-next j p.cols below)
 
 -- the number that column j + 1 has on row i, and the value of that column
-same_product : (p : LinearProgram) (z : Vector) (i j : ℕ) (es : List Entry) (v : ℚ) → es ≡ column p.matrix (j + 1) → v ≡ z (p.rows + (j + 1))
-    → (record { left = on_row es i; right = v }) ≡ row_product p z i (j + 1)
-same_product p z i j es v is_column is_value =
-    ap (λ (c : List Entry). product (on_row c i) v) is_column ∙ ap (λ (s : ℚ). product (entry p.matrix i (j + 1)) s) is_value
+same_product : (p : LinearProgram) (z : Vector) (i j : ℕ) (x v : ℚ) → x ≡ entry p.matrix i (j + 1) → v ≡ z (p.rows + (j + 1)) → (record { left = x; right = v }) ≡ row_product p z i (j + 1)
+same_product p z i j x v is_number is_value = ap (λ (s : ℚ). product s v) is_number ∙ ap (λ (s : ℚ). product (entry p.matrix i (j + 1)) s) is_value
   where
     product : ℚ → ℚ → Product
     product x y = record { left = x; right = y }
 
-module _ (p : LinearProgram) (z : Vector) (i j : ℕ) (below : j < p.cols) (start : ℚ) (ts : List Product) (sum : ℚ) (es : List Entry) (v : ℚ)
-    (is_column : es ≡ column p.matrix (j + 1)) (is_value : v ≡ z (p.rows + (j + 1))) (left : IsLeft start ts sum (columns_left p z i j)) where
-  pub row_step : (next : ℚ) → SumsTo (Ok next) sum (record { left = on_row es i; right = v } ∷ []) → IsLeft start ts next (columns_left p z i (j + 1))
+module _ (p : LinearProgram) (z : Vector) (i j : ℕ) (below : j < p.cols) (start : ℚ) (ts : List Product) (sum x v : ℚ)
+    (is_number : x ≡ entry p.matrix i (j + 1)) (is_value : v ≡ z (p.rows + (j + 1))) (left : IsLeft start ts sum (columns_left p z i j)) where
+  pub row_step : (next : ℚ) → SumsTo (Ok next) sum (record { left = x; right = v } ∷ []) → IsLeft start ts next (columns_left p z i (j + 1))
   row_step next made =
       left_next start ts sum next (row_product p z i (j + 1)) (columns_left p z i (j + 1))
       (subst (λ (rest : List Product). IsLeft start ts sum rest) (row_next p z i j below) left)
-      (subst (λ (t : Product). SumsTo (Ok next) sum (t ∷ [])) (same_product p z i j es v is_column is_value) made)
+      (subst (λ (t : Product). SumsTo (Ok next) sum (t ∷ [])) (same_product p z i j x v is_number is_value) made)
 
-  pub row_refused : (refused : Refused) → SumsTo (Err refused) sum (record { left = on_row es i; right = v } ∷ []) → SumsTo (Err refused) start ts
+  pub row_refused : (refused : Refused) → SumsTo (Err refused) sum (record { left = x; right = v } ∷ []) → SumsTo (Err refused) start ts
   row_refused refused stopped =
       left_refused start ts sum (row_product p z i (j + 1)) (columns_left p z i (j + 1)) refused
       (subst (λ (rest : List Product). IsLeft start ts sum rest) (row_next p z i j below) left)
-      (subst (λ (t : Product). SumsTo (Err refused) sum (t ∷ [])) (same_product p z i j es v is_column is_value) stopped)
+      (subst (λ (t : Product). SumsTo (Err refused) sum (t ∷ [])) (same_product p z i j x v is_number is_value) stopped)

@@ -3,6 +3,7 @@ pub mod Products
 pub mod Meaning
 pub mod True_claims
 pub mod Left
+pub mod Skips
 pub mod Each
 pub mod Columns
 pub mod Limits

@@ -12,6 +12,7 @@ ghost use Rattle.certificate_check.specs.Results.{verdict_from, IsNotFailed};
 
 mod comparisons;
 mod direction;
+mod listed;
 mod parts;
 mod point;
 mod prices;

@@ -1,16 +1,18 @@
 //! Sums of products, each made from the left.
 
-ghost use Rattle.std.specs.Prelude.{◌≡◌, ◌≤◌, [], ◌∷◌, All, length, unwrap_or};
+ghost use Rattle.std.specs.Prelude.{◌≡◌, ◌+◌, ◌≤◌, [], ◌∷◌, All, length, unwrap_or};
 ghost use Rattle.exact_values.specs.Rational.{zero_ℚ, ◌-ℚ◌};
 ghost use Rattle.lp_definitions.specs.LinearProgram.{IsRow, on_row, size, value_at, combined, objective_value};
 ghost use Rattle.check_definitions.specs.Steps.{operation};
 ghost use Rattle.check_definitions.specs.Checks.{row_products, entry_products, combined_steps};
+ghost use Rattle.certificate_check.specs.Listed.{AreListed};
 ghost use Rattle.certificate_check.specs.Results.{Gives, SumsTo};
 
 use frac128::{Frac, Op, Refused};
 use lp_model::{Entry, Lp};
 
 /// The value of variable `k`, from 1.
+#[inline(always)]
 pub fn value_of(values: &[Frac], k: u32) -> Frac
     requires low { 1 ≤ k }
     requires high { k ≤ length values.now }
@@ -35,6 +37,7 @@ pub fn subtract(x: Frac, y: Frac) -> Result<Frac, Refused>
 }
 
 /// The number on the row, if the column has one.
+#[inline(always)]
 fn number_on(column: &[Entry], row: u32) -> Option<Frac>
     ensures { unwrap_or result zero_ℚ ≡ on_row column.now row }
 {
@@ -46,30 +49,34 @@ fn number_on(column: &[Entry], row: u32) -> Option<Frac>
     None
 }
 
-/// The sum, and the column's number on the row times the value of the column. A product with an operand 0 is never refused, nor is adding
-/// it, so neither is made.
-fn add_entry(sum: Frac, column: &[Entry], row: u32, value: Frac) -> Result<Frac, Refused>
-    ensures { SumsTo result sum (record { left = on_row column.now row; right = value } ∷ []) }
-{
-    if value.is_zero() {
-        return Ok(sum);
-    }
-    match number_on(column, row) {
-        None => Ok(sum),
-        Some(number) => add_product(sum, number, value),
-    }
-}
-
-/// The sum of the numbers on the row, each times the value of its column.
-pub fn row_sum(lp: &Lp, values: &[Frac], row: u32) -> Result<Frac, Refused>
+/// The sum of the numbers on the row, each times the value of its column. Of the columns up to `last` those that aren't listed are left out,
+/// and of those after it the ones whose values are 0: a product with an operand 0 is never refused, nor is adding it.
+pub fn row_sum(
+    lp: &Lp,
+    values: &[Frac],
+    listed: &[u32],
+    last: u32,
+    row: u32,
+) -> Result<Frac, Refused>
     requires row { IsRow lp.now.matrix row }
     requires places { length values.now ≡ size lp.now.matrix }
+    requires last { last ≤ lp.now.cols }
+    requires listed { AreListed (λ j. value_at values.now (lp.now.rows + j)) 0 listed.now last }
     ensures { SumsTo result zero_ℚ (row_products lp.now (value_at values.now) row) }
 {
     let mut sum = Frac::whole(0);
-    for j in 0..lp.cols {
-        let value = value_of(values, lp.rows + j + 1);
-        sum = add_entry(sum, lp.column(j + 1), row, value)?;
+    for column in listed {
+        if let Some(number) = number_on(lp.column(*column), row) {
+            sum = add_product(sum, number, value_of(values, lp.rows + *column))?;
+        }
+    }
+    for (place, value) in values[(lp.rows + last) as usize..].iter().enumerate() {
+        if value.is_zero() {
+            continue;
+        }
+        if let Some(number) = number_on(lp.column(last + place as u32 + 1), row) {
+            sum = add_product(sum, number, *value)?;
+        }
     }
     Ok(sum)
 }
