@@ -41,9 +41,9 @@ listed_last f first [] last listed = (
 )
 listed_last f first (j ∷ js) last listed = (listed.0, (listed.1.0, listed_last f j js last listed.1.1))
 
-pub listed_more : (f : ℕ → ℚ) (room : List ℕ) (count last : ℕ) → count < length room → AreListed f 0 (take count room) last → AreListed f 0 (take (count + 1) (set room count (last + 1))) (last + 1)
-listed_more f room count last below listed =
-    subst (λ (js : List ℕ). AreListed f 0 js (last + 1)) (sym (take_more_set room count (last + 1) below)) (listed_last f 0 (take count room) last listed)
+pub listed_more : (f : ℕ → ℚ) (list : List ℕ) (count last : ℕ) → count < length list → AreListed f 0 (take count list) last → AreListed f 0 (take (count + 1) (set list count (last + 1))) (last + 1)
+listed_more f list count last below listed =
+    subst (λ (js : List ℕ). AreListed f 0 js (last + 1)) (sym (take_more_set list count (last + 1) below)) (listed_last f 0 (take count list) last listed)
 
 up_to_last : (f : ℕ → ℚ) (first : ℕ) (js : List ℕ) (last : ℕ) → AreListed f first js last → first ≤ last
 up_to_last f first [] last listed = listed.0

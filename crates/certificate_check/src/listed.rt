@@ -8,8 +8,8 @@ use crate::sums::value_of;
 use frac128::Frac;
 use lp_model::Lp;
 
-/// Lists the columns whose values aren't 0, in order, as far as there is room. Gives how many they are, and the last column that was
-/// looked at.
+/// Lists the columns whose values aren't 0, in order, as many as the list has places. Gives how many they are, and the last column that
+/// was looked at.
 pub fn list_columns(lp: &Lp, values: &[Frac], listed: &mut [u32]) -> (usize, u32)
     requires { length values.now ≡ size lp.now.matrix }
     ensures count { result.0 ≤ length listed.new }

@@ -33,17 +33,17 @@ fn equation_holds(
     compare(is_equal(sum, value_of(values, row)), part, row)
 }
 
-/// As many columns with a value other than 0 are looked for once for all rows.
-const ROOM: usize = 1024;
+/// So many columns with a value other than 0 are looked for once for all rows.
+const MOST_LISTED: usize = 1024;
 
 /// The values keep the equations of the rows.
 pub fn equations_hold(lp: &Lp, part: u8, values: &[Frac]) -> Result<(), Stopped>
     requires { length values.now ≡ size lp.now.matrix }
     ensures { verdict_from result ≡ verdict_of (equations lp.now part (value_at values.now)) }
 {
-    let mut room = [0; ROOM];
-    let (count, last) = list_columns(lp, values, &mut room);
-    let listed = &room[..count];
+    let mut columns = [0; MOST_LISTED];
+    let (count, last) = list_columns(lp, values, &mut columns);
+    let listed = &columns[..count];
     for i in 0..lp.rows {
         equation_holds(lp, part, values, listed, last, i + 1)?;
     }
