@@ -1,7 +1,7 @@
 #!/usr/bin/env python3
 """Times whole jobs beside QSopt_ex, the exact solver of Debian's package qsopt-ex: the transportation problems of 20, 40 and 60 sources and
-as many destinations, and the problems of 8, 10 and 12 queens. Both solve the same deck, one after the other, from its bytes to the
-objective; the least processor time of the runs counts. It ends with 1 where the objectives aren't the same. QSopt_ex may choose its path.
+as many destinations, the problems of 8, 10 and 12 queens, and the two of 5,000 columns (scripts/bench_path.sh makes them). Both solve the
+same deck, one after the other; the least processor time of the runs counts. It ends with 1 where the objectives aren't the same.
 
 usage: bench_beside.py [--runs N] [--program FILE]
 
@@ -12,14 +12,16 @@ It prints a table, and ends with 64 for wrong use, 70 where there is no program 
 import argparse, fractions, pathlib, re, resource, shutil, subprocess, sys, tempfile
 import runner
 
-CASES = [("transportation", 20), ("transportation", 40), ("transportation", 60), ("queens", 8), ("queens", 10), ("queens", 12)]
-NAMES = {"transportation": "transportation of {0} by {0}", "queens": "{0} queens"}
+CASES = [("transportation", 20), ("transportation", 40), ("transportation", 60), ("queens", 8), ("queens", 10), ("queens", 12), ("narrow", None), ("wide", None)]
+NAMES = {"transportation": "transportation of {0} by {0}", "queens": "{0} queens", "narrow": "999 rows and 5,000 columns",
+         "wide": "1,000 rows and 5,000 columns"}
 PROGRAM = "".join(f"         {statement}\n" for statement in ("PROGRAM", "MOVE(XITERLIM,'NONE')", "CONVERT", "SETUP", "PRIMAL", "EXIT", "PEND"))
 
 
 def deck_of(kind, size):
     "the deck of a case, by bench_path.sh"
-    return subprocess.run([runner.HERE / "bench_path.sh", f"--{kind}", str(size)], capture_output=True, text=True, check=True).stdout
+    command = [runner.HERE / "bench_path.sh", f"--{kind}"] + ([] if size is None else [str(size)])
+    return subprocess.run(command, capture_output=True, text=True, check=True).stdout
 
 
 def spent(command, runs, **given):
