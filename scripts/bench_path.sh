@@ -1,7 +1,7 @@
 #!/usr/bin/env bash
 # Times whole jobs, from their bytes to their listings, in four parts. Prints where each path ends, the least processor time of five
 # runs, in seconds, the peak memory (no less than Python's own, some 14 MB), and the time of a step; and the time of a step without that
-# of the same job up to its SETUP, so that of the path and its verdict alone.
+# of the same job up to its SETUP, so that of the path, of its verdict and of what follows it.
 #   paths   PRIMAL on transportation problems of 10, 20 .. 60 sources and as many destinations, on the problems of 8, 10 and 12 queens, on
 #           a sparse problem of 300 rows and 350 columns, and on a problem of the greatest size, 1,000 rows and 5,000 columns, whose
 #           path ends where it begins; and the transportation of 60 by 60 with RANGE
@@ -241,7 +241,7 @@ path() {
             sub(".*: ", "", line)
             rest = ""
             if (steps > 0) rest = sprintf(", %s a step", each(number(line)))
-            if (steps > 0 && opening) rest = rest sprintf(", %s of the path alone", each(number(line) - number(opening)))
+            if (steps > 0 && opening) rest = rest sprintf(", %s after SETUP", each(number(line) - number(opening)))
             printf "%s, %s: %s%s\n", name, end, line, rest
         }'
 }
