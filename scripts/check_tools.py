@@ -75,7 +75,8 @@ BOUNDS
 ENDATA
 """
 MODULES = ("runner.py", "mps_file.py", "basis_file.py", "every_basis.py", "expected_bases.py", "expected_decks.py", "expected_postoptimal.py", "strangers_text.py", "follow_listing.py",
-           "parametric_svg.py", "readable.py", "job_rules.py", "solution_file.py", "answer_listing.py")
+           "parametric_svg.py", "readable.py", "job_rules.py", "solution_file.py", "answer_listing.py",
+           "job_decks.py", "job_following.py", "made_listing.py", "solving.py")
 DOOMED = {
     "a MARKER": ("    M1  'MARKER'  'INTORG'\n", "MARKER"),
     "a long number": ("    X  COST  0.1234567890123\n", "12 columns"),

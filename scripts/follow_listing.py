@@ -1,25 +1,17 @@
 """Follows a job along its listing: which linear program each report is about. Nothing is solved: where the control program asks for a
 verdict, or punches or inserts a basis, the listing's word is taken."""
 from fractions import Fraction
-import expected_listing
+import job_following
+from made_listing import SAME_LINE, OtherJob, each_line
 
-SAME_LINE = {
-    "title": "TITLE {text}", "convert": "CONVERT {name:<8} ROWS {rows} COLUMNS {columns} ENTRIES {entries}",
-    "revise": "REVISE  {name:<8} ROWS {rows} COLUMNS {columns} ENTRIES {entries}", "setup": "SETUP   {name:<8} {sense}",
-    "bcdout": "BCDOUT  {name:<8} CARDS {cards}", "punch": "PUNCH   {name:<8} CARDS {cards}", "insert": "INSERT  {name:<8} BASIC {basic}",
-}
-UNKNOWN = (expected_listing.Fault, LookupError, ValueError, ArithmeticError, TypeError, AttributeError)
-
-
-class OtherJob(Exception):
-    "the listing isn't one of this job"
+UNKNOWN = (job_following.Fault, LookupError, ValueError, ArithmeticError, TypeError, AttributeError)
 
 
 class ListingEnds(Exception):
     "each report was met"
 
 
-class Followed(expected_listing.Run):
+class Followed(job_following.Run):
     "a run that takes its verdicts from the reports of a listing; about has the linear program of each report that is about one"
     def __init__(self, text, reports):
         super().__init__(text)
@@ -118,12 +110,6 @@ class Followed(expected_listing.Run):
 
     def ranges(self):
         self.met(self.next_report("ranges"))
-
-
-def each_line(report):
-    for lines in report.values():
-        for line in lines if isinstance(lines, list) else ():
-            yield from line["lines"] if "lines" in line else (line,)
 
 
 def follow(text, reports):

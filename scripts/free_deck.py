@@ -10,8 +10,8 @@ What isn't read in a fixed deck is left out, and said: text behind the fields or
 Basis decks are always fixed, and stay as they are. It ends with 0, with 64 for wrong use, 65 where the file is refused, 66 where it can't be
 read."""
 import pathlib, re, sys
-import expected_decks, strangers_text
-from expected_decks import ACTIONS, BOUNDS, FIELDS, NAMES, VALUED, DeckFault, is_skipped
+import job_decks, strangers_text
+from job_decks import ACTIONS, BOUNDS, FIELDS, NAMES, VALUED, DeckFault, is_skipped
 
 MEANS = {3: "an unknown row type", 8: "a number is faulty", 10: "an unknown bound type", 20: "something stands where a fixed card is to be blank",
          25: "no card of this section has so many words", 26: "a name of more than 8 bytes", 27: "a number of more than 12 bytes"}
@@ -52,11 +52,11 @@ class Form:
 
     def read(self, card, section, deletes):
         "the fields of a data card, without the blanks around numbers"
-        text = (expected_decks.free_fields(card, section, deletes) if self.is_free else expected_decks.fixed_fields(card)).text
+        text = (job_decks.free_fields(card, section, deletes) if self.is_free else job_decks.fixed_fields(card)).text
         return {field: word if field in NAMES else word.strip() for field, word in text.items()}
 
     def action(self, card):
-        return expected_decks.action_on(card, self.is_free)
+        return job_decks.action_on(card, self.is_free)
 
     def written(self, text):
         if self.is_free:
@@ -83,7 +83,7 @@ class Turner:
         name, is_basis = self.cards[deck[0]], len(deck) > 1 and self.cards[deck[1]].startswith(" ")
         if name.split(" ")[0] != "NAME":
             raise Refused(f"card {deck[0] + 1}: a deck begins with NAME")
-        if is_basis or expected_decks.is_free(name) == self.new.is_free:
+        if is_basis or job_decks.is_free(name) == self.new.is_free:
             return
         for place in deck:
             try:

@@ -14,7 +14,7 @@ usage: listing2json.py [--csv | --table NAME] [--decimal] [--names MAP] [FILE]  
 In CSV a name that a spreadsheet could take for a formula (it begins with = + - @ or an apostrophe) has an apostrophe before it, and a control
 character stands as an escape; in JSON names are exact. It ends with 0, with 64 for wrong use, 65 where the text isn't a listing, 66 where it
 can't be read."""
-import argparse, csv, json, re, signal, sys
+import json, re, signal, sys
 from fractions import Fraction
 from readable import cell
 
@@ -185,7 +185,11 @@ def each_line(report):
 def read_names(path):
     "the table of names, the value of its constant and the number in RHS that says it, None where there is none"
     with open(path, encoding="utf-8") as source:
-        names = json.load(source)
+        return names_of(json.load(source))
+
+
+def names_of(names):
+    "the same of a table of names that was read or made"
     tables = [names.get(key, {}) for key in ("problem", "rows", "columns", "sets")] if isinstance(names, dict) else [None]
     if not all(isinstance(table, dict) and all(isinstance(name, str) for name in table.values()) for table in tables):
         raise NoNames("it isn't a table of names that mps2job.py wrote")
@@ -327,6 +331,7 @@ def table_of(listing, table):
 
 def write_csv(lines, heads, decimal, out):
     numbers = [key for key in heads if decimal and any(is_number(line, key) for line in lines)]
+    import csv
     writer = csv.DictWriter(out, [*heads, *(key + "_decimal" for key in numbers)], restval="", lineterminator="\n", extrasaction="ignore")
     writer.writeheader()
     for line in lines:
@@ -352,6 +357,7 @@ def main():
         print(__doc__)
         return 0
     signal.signal(signal.SIGPIPE, signal.SIG_DFL)
+    import argparse
     parser = argparse.ArgumentParser(add_help=False)
     parser.error = lambda message: (print(f"listing2json.py: {message}", file=sys.stderr), sys.exit(64))
     kind = parser.add_mutually_exclusive_group()

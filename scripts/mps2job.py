@@ -62,15 +62,15 @@ def parsed_options(words, refuse=wrong_use):
     return parser.parse_args(words)
 
 
-def reading_of(options):
+def reading_of(options, refuse=wrong_use):
     infinity = mps_file.INFINITY
     if options.infinity is not None:
         try:
             infinity = mps_file.number(options.infinity)
         except mps_file.Refused as cause:
-            wrong_use(f"--infinity: {cause}")
+            refuse(f"--infinity: {cause}")
         if infinity <= 0:
-            wrong_use("--infinity is more than 0")
+            refuse("--infinity is more than 0")
     return mps_file.Reading(form=options.form or "either", numbers="round" if options.round else "job", relax=options.relax,
                             marker_upper=options.marker_upper, negative_up=options.negative_up, blank_set=options.blank_set,
                             constant=options.constant or "minus", infinity=infinity, sense=options.sense, objective=options.objective,

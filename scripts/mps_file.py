@@ -18,7 +18,7 @@ A Model holds all of the file, by the file's names, with Fractions for numbers a
 A Job has text; rows, columns and sets {name: name in the job}; problem, the problem's name in it; name_map(), a table for JSON by which
 listing2json.py puts the file's names back: the names that were changed by those in the job, the objective, the sense, the sets taken, the
 constants, the rounded numbers, the relaxed columns, and all that was said."""
-import codecs, gzip, io, re, sys, textwrap, zlib
+import codecs, re, sys
 from dataclasses import dataclass, field, replace
 from fractions import Fraction
 from functools import lru_cache
@@ -44,6 +44,9 @@ NUMBER = re.compile(r"([+-]?)(?:([0-9]+)(?:\.([0-9]*))?|\.([0-9]+))(?:[EeDd]([+-
 # the NAME line of a free deck of a job; the name stands in columns 15 to 22
 FREE_DECK = re.compile(r"NAME.{18}  FREE")
 INFINITE = re.compile(r"[+-]?inf(inity)?", re.I)
+WORDS = re.compile(r"[^ \t]+")
+# a line of fixed fields, which is filled up with blanks to its last column
+BY_COLUMNS = re.compile(r" ([^\t]{2}) ([^\t]{8})  ([^\t]{8})  ([^\t]{12})   ([^\t]{8})  ([^\t]{12})[^\t]*")
 
 
 class Refused(Exception):
@@ -146,6 +149,7 @@ class Model:
         return self.constant_of(self.rhs_set, self.objective)
 
 
+@lru_cache(maxsize=65536)
 def number(word):
     "the exact value of a word; plus or minus infinity, as a float, where it says so"
     if INFINITE.fullmatch(word):
@@ -190,6 +194,13 @@ def form_of(bare, point, power):
     whole = bare[:max(point, 0)] + "0" * max(0, point - len(bare))
     rest = "0" * -point + bare if point < 0 else bare[point:]
     return whole + ("." + rest if rest else "") + (f"E{power}" if power else "")
+
+
+@lru_cache(maxsize=65536)
+def has_text(word):
+    "whether 12 columns hold the number of a word"
+    value = number(word)
+    return isinstance(value, float) or text_of(value) is not None
 
 
 @lru_cache(maxsize=65536)
@@ -245,11 +256,16 @@ class Line:
         if fixed:
             self.check_gaps()
             text = self.text
-            self.spans = [(a, max(a + 1, min(b, len(text)))) for a, b in FIELDS]
             self.words = [text[a:b].strip(" ") if k in (0, 3, 5) else text[a:b].rstrip(" ") for k, (a, b) in enumerate(FIELDS)]
         else:
-            self.spans = [found.span() for found in re.finditer(r"[^ \t]+", text)]
-            self.words = [text[a:b] for a, b in self.spans]
+            self.words = WORDS.findall(text)
+
+    @property
+    def spans(self):
+        "where the words or the fields stand"
+        if self.fixed:
+            return [(a, max(a + 1, min(b, len(self.text)))) for a, b in FIELDS]
+        return [found.span() for found in WORDS.finditer(self.text)]
 
     def check_gaps(self):
         if "\t" in self.text:
@@ -275,19 +291,20 @@ class Line:
             if self.remark is not None and self.marked in known:
                 raise Refused(f"{self.marked} is a name, and where it stands a $ begins a remark")
             return
+        if "$" not in self.text:
+            return
         for place in range(FIRST_REMARK[section], len(self.words)):
             if self.words[place].startswith("$"):
                 if self.words[place] in known:
                     raise Refused(f"{self.words[place][:30]} is a name, and where it stands a $ begins a remark", place)
                 self.text = self.text[:self.spans[place][0]].rstrip(" \t")
-                del self.words[place:], self.spans[place:]
+                del self.words[place:]
                 return
 
     def by_columns(self):
         "the parts of the line by the columns of fields, or None where something stands between these"
-        if "\t" in self.text or any(self.text[a:b].strip(" ") for a, b in GAPS):
-            return None
-        return [self.text[a:b].strip(" ") for a, b in FIELDS]
+        found = BY_COLUMNS.fullmatch(self.text.ljust(LAST_COLUMN))
+        return found and [part.strip(" ") for part in found.groups()]
 
     def span_of(self, word):
         "where a part stands: a place among the words, a word, or columns"
@@ -313,6 +330,7 @@ class Reader:
         self.last_set, self.whole, self.marked, self.lines = {}, {}, {}, {}
         self.named = self.between_markers = False
         self.exact = reading.numbers == "exact"
+        self.takes = {"ROWS": self.take_row, "COLUMNS": self.take_column, "RHS": self.take_value, "RANGES": self.take_value, "BOUNDS": self.take_bound}
 
     def note(self, kind):
         self.lines.setdefault(kind, []).append(self.line)
@@ -359,8 +377,7 @@ class Reader:
                     self.note("past")
                 known = self.model.columns if self.section == "BOUNDS" else self.model.rows
                 line.cut_remark(self.section, known)
-                {"ROWS": self.take_row, "COLUMNS": self.take_column, "RHS": self.take_value, "RANGES": self.take_value,
-                 "BOUNDS": self.take_bound}[self.section](line)
+                self.takes[self.section](line)
             else:
                 line = Line(text, False)
                 self.take_word(line)
@@ -422,8 +439,7 @@ class Reader:
         except Refused as cause:
             cause.word = place
             raise
-        infinite = abs(value) >= self.reading.infinity and self.section not in ("ROWS", "COLUMNS")
-        if self.exact or infinite or isinstance(value, float) or text_of(value) is not None:
+        if self.exact or has_text(word) or self.section not in ("ROWS", "COLUMNS") and abs(value) >= self.reading.infinity:
             return value
         if self.section == "RHS" and self.model.rows[line.words[place - 1]] == "N":
             return value
@@ -764,6 +780,7 @@ def read_text(text, reading=Reading()):
 
 def read_bytes(data, reading=Reading()):
     if data[:2] == b"\x1f\x8b":
+        import gzip, io, zlib
         try:
             with gzip.open(io.BytesIO(data)) as source:
                 data = source.read(MOST_TEXT + 1)
@@ -933,6 +950,8 @@ def deck_cards(job):
 
 def remark_cards(said):
     "all that was said, as cards that mean nothing to the job"
+    if said:
+        import textwrap
     for sentence in said:
         text = "".join(letter if " " <= letter <= "~" else "?" for letter in sentence)
         yield from textwrap.wrap(text, 72, initial_indent="* ", subsequent_indent="*   ")

@@ -72,7 +72,7 @@ def made(options, solution):
         raise Ended(65, f"{options.file}: {cause}") from None
     try:
         answer = solution_file.read_file(solution, model)
-        return job, answer_listing.listing_of(job.text, in_job_names(answer, job))
+        return job, answer_listing.listing_of(job, in_job_names(answer, job))
     except OSError as cause:
         raise Ended(66, f"can't read {solution}: {cause.strerror}") from None
     except (solution_file.NoSolution, answer_listing.Refused) as cause:

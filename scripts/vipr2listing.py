@@ -144,7 +144,7 @@ def made(path):
     try:
         program = Program(found)
         job = mps_file.job_of(program.model, False, os.path.basename(path))
-        return job, answer_listing.listing_of(job.text, solution2listing.in_job_names(answer_of(found, program), job))
+        return job, answer_listing.listing_of(job, solution2listing.in_job_names(answer_of(found, program), job))
     except (mps_file.Refused, answer_listing.Refused, Ended) as cause:
         raise Ended(65, f"{path}: {cause}") from None
 
