@@ -22,9 +22,9 @@ from mps360.cli import mps2job
 from mps360.cli import prove
 from mps360.cli import solution2listing
 from mps360.jobs.write import job_of
-from mps360.listings import write as answer_listing
+from mps360.listings.write import Answer, listing_of
 from mps360 import programs
-from oracle import attesting as expected_attesting
+from oracle.attesting import ATTESTED, UNCHECKED, attest
 
 HERE = pathlib.Path(__file__).resolve().parent
 ENDS = ("attested", "unchecked", "doesn't fit", "no end")
@@ -53,9 +53,9 @@ def end_of(asked, text, folder, seconds):
             return "doesn't fit"
         raise
     status, line = asked(job.text.encode("latin-1"), listing.encode("latin-1"))
-    if status not in (expected_attesting.ATTESTED, expected_attesting.UNCHECKED):
+    if status not in (ATTESTED, UNCHECKED):
         raise SystemExit(f"bench_attesting.py: of esolver's answer to {path.read_text().split()[1]} the checker says {line}")
-    return "attested" if status == expected_attesting.ATTESTED else "unchecked"
+    return "attested" if status == ATTESTED else "unchecked"
 
 
 def counts(asked, options):
@@ -87,7 +87,7 @@ def times(program):
     wide = programs.TOP / "examples/wide.job"
     print("| What | Bytes of the listing | Answer, processor time, memory |\n|---|---|---|")
     for what, job, listing in (("examples/wide", wide.read_text(), wide.with_suffix(".listing").read_text()),
-                               ("1,000 rows, 5,000 columns and 50,000 entries, with one SOLUTION", greatest.text, answer_listing.listing_of(greatest, answer_listing.Answer("optimal")))):
+                               ("1,000 rows, 5,000 columns and 50,000 entries, with one SOLUTION", greatest.text, listing_of(greatest, Answer("optimal")))):
         with tempfile.TemporaryDirectory() as folder:
             for name, text in (("JOB", job), ("LISTING", listing)):
                 pathlib.Path(folder, name).write_text(text)
@@ -125,7 +125,7 @@ def main(words):
     if options.times:
         times(program)
         return 0
-    counts((lambda job, listing: programs.attested_by(program, job, listing)) if program else expected_attesting.attest, options)
+    counts((lambda job, listing: programs.attested_by(program, job, listing)) if program else attest, options)
     return 0
 
 

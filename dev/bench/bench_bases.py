@@ -19,7 +19,7 @@ many the objective itself, which has but one value, doesn't fit in a fraction of
 import argparse, os, pathlib, random, re, resource, subprocess, sys, tempfile
 from fractions import Fraction
 sys.path.insert(0, str(pathlib.Path(__file__).resolve().parents[2] / "python"))
-from mps360 import bases as basis_file
+from mps360.bases import BASIC, with_insert
 from mps360.cli import prove
 from mps360.jobs.write import job_of
 from mps360.model import Model
@@ -117,7 +117,7 @@ def counts(options):
                 if basis is None:
                     ends["no basis"] += 1
                 else:
-                    status, listing, _ = run(options.program, basis_file.with_insert(job, basis), options.seconds)
+                    status, listing, _ = run(options.program, with_insert(job, basis), options.seconds)
                     end = end_of(status, listing)
                     ends[end] += 1
                     idle += end == "printed" and steps_of(listing) == 0
@@ -143,11 +143,11 @@ def times(options):
         basis, _ = prove.ask(options.solver, model, options)
         if basis is None:
             continue
-        inserted = basis_file.with_insert(job, basis)
+        inserted = with_insert(job, basis)
         alone, begun = job.text.replace("         PRIMAL\n", ""), inserted.replace("         PRIMAL\n", "")
         parts = [least(options.program, text, options.seconds) for text in (alone, begun, inserted, job.text)]
         shown = [f"{seconds:.3f}" if status == 0 else f"status {status}" for status, _, seconds in parts]
-        basic = sum(status == basis_file.BASIC for status in basis.columns.values())
+        basic = sum(status == BASIC for status in basis.columns.values())
         cells = [words, basic, *shown[:3], steps_of(parts[2][1]), shown[3], steps_of(parts[3][1])]
         print("| " + " | ".join(str(cell) for cell in cells) + " |", flush=True)
 

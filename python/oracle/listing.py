@@ -12,8 +12,8 @@ from fractions import Fraction
 import re
 import sys
 
-from oracle import bases as expected_bases
-from oracle import postoptimal as expected_postoptimal
+from oracle import bases
+from oracle import postoptimal
 from oracle.decks import NUMBER, DeckFault, Problem, deck_name, fields, is_skipped, number
 from oracle.rules import Refused, add, multiply, subtract
 
@@ -373,7 +373,7 @@ class Run:
     def dual(self):
         self.select()
         self.table.take(self.lp)
-        end, steps = expected_bases.dual_path(self.table, self.limit())
+        end, steps = bases.dual_path(self.table, self.limit())
         if end[0] == "WRONG":
             raise VerbFault(16, f" VARIABLE {end[1] + 1}")
         if end[0] != "LIMIT":
@@ -410,11 +410,11 @@ class Run:
             raise VerbFault(9 if "XPARMAX" in cells else 8)
         self.mark = None
         if verb == "PARAOBJ":
-            changes = expected_postoptimal.OfObjective(self.lp, list(problem.rows).index(change))
+            changes = postoptimal.OfObjective(self.lp, list(problem.rows).index(change))
         else:
             values = problem.sets["RHS"][change]
-            changes = expected_postoptimal.OfLimits(self.lp, [values.get(name, Fraction(0)) for name in problem.rows] + [Fraction(0)] * self.lp.n)
-        run = expected_postoptimal.ParametricRun(self.table, changes, self.limit())
+            changes = postoptimal.OfLimits(self.lp, [values.get(name, Fraction(0)) for name in problem.rows] + [Fraction(0)] * self.lp.n)
+        run = postoptimal.ParametricRun(self.table, changes, self.limit())
         opening, steps = run.opening(cells["XPARAM"])
         if opening[0] != "OPTIMAL":
             if opening[0] != "LIMIT":
@@ -437,7 +437,7 @@ class Run:
 
     def ranges(self):
         self.lines += ["RANGE"]
-        for title, lines in expected_postoptimal.ranges(self.table):
+        for title, lines in postoptimal.ranges(self.table):
             self.lines += [title, *(self.table_line(k, line) for k, line in lines)]
 
     def solution(self):
@@ -490,7 +490,7 @@ class Run:
         self.select()
         problem = self.setup[0]
         self.table.take(self.lp)
-        cards = list(expected_bases.deck(problem.name, self.table, Table(self.lp).at))
+        cards = list(bases.deck(problem.name, self.table, Table(self.lp).at))
         self.punched += cards
         self.lines.append(f"PUNCH   {problem.name:<8} CARDS {len(cards)}")
 
@@ -498,7 +498,7 @@ class Run:
         "the deck that INSERT takes, and where each variable stands by it"
         self.select()
         cards, opening = self.deck(), Table(self.lp).at
-        return cards, self.read_deck(lambda cards: expected_bases.stands_for(cards, self.lp, opening, is_skipped, fields), cards)
+        return cards, self.read_deck(lambda cards: bases.stands_for(cards, self.lp, opening, is_skipped, fields), cards)
 
     def inserted(self, cards, at):
         self.mark = None
@@ -508,8 +508,8 @@ class Run:
         cards, at = self.basis_taken()
         table = Table(self.lp)
         try:
-            expected_bases.take(table, at)
-        except expected_bases.Singular as cause:
+            bases.take(table, at)
+        except bases.Singular as cause:
             raise VerbFault(15, "", self.factors(cause.vector)) from None
         self.table = table
         self.inserted(cards, at)

@@ -15,7 +15,7 @@ from mps360.cli import solution2listing
 from mps360.cli import vipr2listing
 from oracle import attesting as expected_attesting
 from oracle import listing as expected_listing
-from oracle import vipr as check_vipr
+from oracle import vipr
 
 SCRIPTS, EXAMPLES, KNOWN = places.SCRIPTS, places.EXAMPLES, places.DATA
 GREATEST = 2 ** 127 - 1
@@ -504,12 +504,12 @@ def try_certificates(folder):
     path, job, listing, names = (folder / name for name in ("c.vipr", "c.job", "c.listing", "c.names"))
     for text, said, answer in ((CERTIFICATE, "optimal, the objective is 36", "ATTESTED 5 REPORTS"), (NO_PLAN, "infeasible", "ATTESTED 4 REPORTS")):
         path.write_text(text)
-        check(f"check_vipr.py: {said}", called(check_vipr, path)[:2] == (0, said + "\n"))
+        check(f"check_vipr.py: {said}", called(vipr, path)[:2] == (0, said + "\n"))
         status, _, told = called(vipr2listing, "-o", job, "--listing", listing, "--names", names, path)
         check(f"vipr2listing.py: {told}", status == 0 and expected_attesting.attest(job.read_bytes(), listing.read_bytes())[1] == answer)
     for text, status, wanted in NOT_SO:
         path.write_text(text)
-        found = called(check_vipr, path)
+        found = called(vipr, path)
         check(f"check_vipr.py: {wanted}: {found}", found[0] == status and wanted in found[2])
         found = called(vipr2listing, "-o", job, "--names", names, path)
         check(f"vipr2listing.py: {wanted}: {found}", found[0] == 65)
@@ -530,7 +530,7 @@ def try_listings(folder):
         if status:
             continue
         written += 1
-        check(f"listing2vipr.py: {given.name}", called(check_vipr, path)[0] == 0)
+        check(f"listing2vipr.py: {given.name}", called(vipr, path)[0] == 0)
         status, _, told = called(vipr2listing, "-o", job, "--listing", listing, "--names", names, path)
         answer = expected_attesting.attest(job.read_bytes(), listing.read_bytes()) if status == 0 else told
         check(f"vipr2listing.py: {given.name}: {answer}", answer[0] == 0)

@@ -13,12 +13,12 @@ from the program. It ends with 1 where a result is another, with 64 for wrong us
 import collections, os, pathlib, random, re, shutil, subprocess, sys, tempfile
 from fractions import Fraction
 import places
-from mps360 import bases as basis_file
+from mps360.bases import deck_of, read_text
 from mps360 import errors
 from mps360 import mps
 from mps360 import programs
 from mps360.jobs.write import job_of
-from oracle import bases as expected_bases
+from oracle import bases
 from oracle import listing as expected_listing
 
 SCRIPTS = programs.TOP / "scripts"
@@ -136,8 +136,8 @@ def point_of(job, deck):
     lp, table = run.lp, expected_listing.Table(run.lp)
     cards = deck.rstrip("\n").split("\n")
     opening = ["BS"] * lp.m + ["LL" if lp.lower[k] is not None else "UL" if lp.upper[k] is not None else "FR" for k in range(lp.m, lp.m + lp.n)]
-    at = expected_bases.stands_for(cards, lp, opening, expected_listing.is_skipped, expected_listing.fields)
-    expected_bases.take(table, at)
+    at = bases.stands_for(cards, lp, opening, expected_listing.is_skipped, expected_listing.fields)
+    bases.take(table, at)
     return dict(zip([("row", name) for name in lp.names[:lp.m]] + [("column", name) for name in lp.names[lp.m:]], table.value())), at
 
 
@@ -149,10 +149,10 @@ def kind_of(model, row):
 def check_basis(what, solver, model, basis, solution, tally, writer=None):
     "the deck of a basis has the solver's plan for its point"
     try:
-        job, found = job_of(model), basis_file.read_text(basis, model, writer)
-        point, at = point_of(job, basis_file.deck_of(found, job))
+        job, found = job_of(model), read_text(basis, model, writer)
+        point, at = point_of(job, deck_of(found, job))
         plan = plan_printed(solver, basis, solution, model)
-    except (errors.Refused, expected_bases.DeckFault, expected_bases.Singular, LookupError, TypeError) as cause:
+    except (errors.Refused, bases.DeckFault, bases.Singular, LookupError, TypeError) as cause:
         return check(f"{what}: {cause!r}\n{basis}", False)
     check(f"{what}: the file tells {found.writer}", found.writer == solver)
     values = {name: point["column" if name in model.columns else "row", (job.columns if name in model.columns else job.rows)[name]] for name in plan}
@@ -210,7 +210,7 @@ def check_kept():
 def check_cut_names(what, basis, model):
     "lp_solve cuts names at 8 characters: what may be several names is refused"
     try:
-        basis_file.read_text(basis, model)
+        read_text(basis, model)
         check(f"{what}: names that lp_solve has cut are taken", False)
     except errors.Refused as cause:
         check(f"{what}: {cause}", "cuts names" in str(cause) and cause.line == 2)
@@ -283,7 +283,7 @@ def check_hand():
     model = model_of(HAND)
     job = job_of(model)
     for cards, writer, expected in DECKS:
-        deck = basis_file.deck_of(basis_file.read_text(CARDS.format("HAND", cards), model, writer), job)
+        deck = deck_of(read_text(CARDS.format("HAND", cards), model, writer), job)
         check(f"{cards!r} of {writer}: {deck!r}", deck == CARDS.format("         HAND", expected).replace("\n\n", "\n"))
     for cards, line, words in REFUSED:
         check_refused(CARDS.format("HAND", cards), line, words, model)
@@ -292,17 +292,17 @@ def check_hand():
                               ("s bas 4 5 f f 0\ni 1 q 0 0\n", 2, "b, l, u, f or s"), ("s bas 4 5 f f 0\ni 1 b 0 0\ne o f\n", 3, "are missing"),
                               ("s bas 4 5 f f 0\ni 5 b 0 0\n", 2, "b, l, u, f or s"), ("s bas 4 5 f f 0\ni 1 b 0 0\ni 1 b 0 0\n", 3, "an earlier line")):
         check_refused(text, line, words, model)
-    said = basis_file.read_text(CARDS.format("HAND", " UL B"), model).said
+    said = read_text(CARDS.format("HAND", " UL B"), model).said
     check(f"a limit that isn't there is said: {said}", said == ["line 2: column B has no upper limit; it stands at its lower one"])
     text = "NAME\nROWS\n N  COST\n L  A B\n L  B\nCOLUMNS\n    X         COST      1              A B       1\n    X A       B         1\nRHS\nENDATA\n"
     blanks = mps.read_text(text, mps.Reading(form="fixed"))
-    check("names with blanks", basis_file.read_text("NAME\n XU X A       B\nENDATA\n", blanks).columns == {"X": "LL", "X A": "BS"})
+    check("names with blanks", read_text("NAME\n XU X A       B\nENDATA\n", blanks).columns == {"X": "LL", "X A": "BS"})
     check_refused("NAME\n XU X A B\nENDATA\n", 2, "in two ways", blanks)
 
 
 def check_refused(text, line, words, model):
     try:
-        basis_file.read_text(text, model)
+        read_text(text, model)
         check(f"{text!r} is taken", False)
     except errors.Refused as cause:
         check(f"{text!r}: {cause}", cause.line == line and words in str(cause))

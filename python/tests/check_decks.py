@@ -8,7 +8,7 @@ import subprocess, sys
 import places
 from mps360 import programs
 from mps360.cli import free_deck
-from oracle import listing as expected_listing
+from oracle import listing
 
 SCRIPT = programs.TOP / "scripts/free_deck.py"
 wrong = 0
@@ -168,7 +168,7 @@ def revision_cases():
 
 
 def listing_of(text):
-    run = expected_listing.Run(text)
+    run = listing.Run(text)
     run.run()
     return ("\n".join(run.lines) + "\n").encode(), "".join(card + "\n" for card in run.punched).encode() or None
 

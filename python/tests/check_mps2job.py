@@ -19,7 +19,7 @@ from mps360 import mps
 from mps360 import programs
 from mps360.cli import mps2job
 from mps360.jobs.write import job_of
-from mps360.listings import read as listing2json
+from mps360.listings.read import name_back, parse, read_names
 from oracle import listing as expected_listing
 
 SCRIPTS = programs.TOP / "scripts"
@@ -71,10 +71,10 @@ class House:
 
     def solved(self, job):
         "the reports of the job's listing, with the file's names"
-        listing = listing2json.parse(self.listing(job))
+        listing = parse(self.listing(job))
         self.end = (listing["end"] or {}).get("text", "")
         with contextlib.redirect_stderr(io.StringIO()) as said:
-            listing2json.name_back(listing, listing2json.read_names(self.folder / "model.names"))
+            name_back(listing, read_names(self.folder / "model.names"))
         check(f"listing2json.py says {said.getvalue()!r} of\n{job}", not said.getvalue())
         return listing["reports"]
 

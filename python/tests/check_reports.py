@@ -10,8 +10,9 @@ from fractions import Fraction
 import places
 import check_tools
 from mps360 import programs
-from mps360.listings import read as listing2json
-from mps360.pages import html as listing2html
+from mps360.listings import tables
+from mps360.listings.read import each_line, parse
+from mps360.pages.html import page as page_of
 
 SCRIPTS, EXAMPLES = programs.TOP / "scripts", programs.TOP / "examples"
 SCHEMA = json.loads((programs.TOP / "docs/listing.schema.json").read_text())
@@ -138,9 +139,9 @@ def try_schema():
               f"PRIMAL OPTIMAL STEPS 0 OBJECTIVE {10**400} CHECKED\nEND 0\n"]
     documents = []
     for text in texts:
-        documents.append(listing2json.document(listing2json.parse(text)))
+        documents.append(tables.document(parse(text)))
         documents.append(json.loads(json.dumps(documents[-1])))
-        listing2json.add_decimals(documents[-1])
+        tables.add_decimals(documents[-1])
     first = documents[2 * [path.stem for path in listings].index("first")]
     for name, is_lawful in validators():
         check(f"schema: a listing isn't lawful by {name}", all(is_lawful(document) for document in documents))
@@ -197,7 +198,7 @@ def try_pages(folder):
     for job in sorted([*EXAMPLES.glob("*.job"), *places.DATA.glob("*.job")]):
         told = call(SCRIPTS / "listing2html.py", job, job.with_suffix(".listing")) if job.stem in SAID else None
         if told is None:
-            page = listing2html.page(job.read_text(), job.with_suffix(".listing").read_text())
+            page = page_of(job.read_text(), job.with_suffix(".listing").read_text())
         else:
             check(f"listing2html.py {job.name}: {told.stderr.decode()}", told.returncode == 0)
             page = told.stdout.decode()
@@ -338,7 +339,7 @@ def try_solve(folder, program):
 
 
 def try_glass(document, folder, program, path):
-    lines = {line["name"]: line for report in document["reports"] for _, line in listing2json.each_line(report) if report["report"] == "ranges"}
+    lines = {line["name"]: line for report in document["reports"] for _, line in each_line(report) if report["report"] == "ranges"}
     ends = {name: (line.get("cost_low", line.get("limit_low")), line.get("cost_high", line.get("limit_high")))
             for name, line in lines.items() if name in GLASS}
     check(f"RANGE of the glass products: {ends}", ends == GLASS)

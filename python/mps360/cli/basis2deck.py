@@ -17,9 +17,9 @@ shortened for the job are shortened here. What is placed otherwise than the file
 a basis is a place to begin, and none makes another problem. It ends with 0, with 64 for wrong use, 65 where a file is refused, 66 where it
 can't be read, 73 where DECK can't be written."""
 import argparse, os, sys
-from mps360 import bases as basis_file
+from mps360.bases import WRITERS, deck_of, read_file
 from mps360.cli import mps2job
-from mps360.listings import read as listing2json
+from mps360.listings.read import NoNames, read_names
 from mps360 import errors
 from mps360 import mps
 from mps360.jobs.write import job_of
@@ -48,10 +48,10 @@ def read_job(path, words):
 def check_names(path, job):
     "the table of names is to be the one of this job"
     try:
-        names, *_ = listing2json.read_names(path)
+        names, *_ = read_names(path)
     except (OSError, ValueError) as cause:
         raise Ended(66, f"can't read {path}: {getattr(cause, 'strerror', None) or cause}")
-    except listing2json.NoNames as cause:
+    except NoNames as cause:
         raise Ended(65, f"{path}: {cause}")
     here = job.name_map()
     if any(names.get(key, {}) != here[key] for key in ("rows", "columns")):
@@ -60,7 +60,7 @@ def check_names(path, job):
 
 def read_basis(path, model, writer):
     try:
-        return basis_file.read_file(path, model, writer)
+        return read_file(path, model, writer)
     except OSError as cause:
         raise Ended(66, f"can't read {path}: {cause.strerror}")
     except errors.Refused as cause:
@@ -80,7 +80,7 @@ def main(words):
     parser.error = lambda message: (say(message), sys.exit(64))
     parser.add_argument("-o", dest="deck")
     parser.add_argument("--names")
-    parser.add_argument("--from", dest="writer", choices=basis_file.WRITERS)
+    parser.add_argument("--from", dest="writer", choices=WRITERS)
     parser.add_argument("model")
     parser.add_argument("basis")
     options, passed = parser.parse_known_args(words)
@@ -95,7 +95,7 @@ def main(words):
         basis = read_basis(options.basis, job.model, options.writer)
         for sentence in basis.said:
             say(sentence)
-        deck = basis_file.deck_of(basis, job)
+        deck = deck_of(basis, job)
         if options.deck:
             mps2job.write(options.deck, deck)
         else:

@@ -22,9 +22,9 @@ nothing to run in it; 70 where no program can be had; 73 where OUT can't be writ
 import argparse, collections, csv, hashlib, json, os, pathlib, re, shlex, shutil, signal, subprocess, sys, tempfile, threading, time
 from concurrent.futures import FIRST_COMPLETED, ThreadPoolExecutor, wait
 from fractions import Fraction
-from mps360.listings import read as listing2json
+from mps360.listings.read import NUMBER, read_names
 from mps360 import programs
-from mps360 import text as strangers_text
+from mps360.text import as_text, guard
 from mps360 import unproved
 
 ENDINGS = (".job", ".mps", ".mps.gz")
@@ -108,7 +108,7 @@ def files_of(options):
 
 def for_a_sheet(text):
     "text that no spreadsheet takes for a formula"
-    text = strangers_text.as_text(str(text))
+    text = as_text(str(text))
     return "'" + text if text[:1] in tuple("=+-@") else text
 
 
@@ -150,7 +150,7 @@ class Summary:
         "both files whole, in the order of the names; summary.json says too what isn't done"
         self.write_csv()
         states = collections.Counter(record["state"] for record in self.records.values())
-        jobs = [{key: strangers_text.as_text(value) if isinstance(value, str) else value for key, value in record.items()}
+        jobs = [{key: as_text(value) if isinstance(value, str) else value for key, value in record.items()}
                 for _, record in sorted(self.records.items())]
         whole = {"files": len(files), "states": dict(sorted(states.items())), "not done": len(files) - len(self.records), "jobs": jobs}
         self.replace(self.json, lambda file: file.write(json.dumps(whole, indent=1) + "\n"))
@@ -278,13 +278,13 @@ class Runs:
         os.replace(part, listing)
         text = listing.read_text(encoding="latin-1")
         record |= {"state": "ended" if status in (0, 1, 2) else "stopped", "status": status, "end": how_it_ended(text)}
-        found = re.findall(rf"^(?:PRIMAL|DUAL) OPTIMAL STEPS \d+ OBJECTIVE ({listing2json.NUMBER}) ", text, re.M)
+        found = re.findall(rf"^(?:PRIMAL|DUAL) OPTIMAL STEPS \d+ OBJECTIVE ({NUMBER}) ", text, re.M)
         if found:
             record["objective"] = self.with_constant(name, found[-1])
 
     def with_constant(self, name, objective):
         names = self.out / f"{name}.names"
-        constant = listing2json.read_names(names)[1] if names.exists() else None
+        constant = read_names(names)[1] if names.exists() else None
         return objective if constant is None else str(Fraction(objective) + constant)
 
 
@@ -393,7 +393,7 @@ def positive(kind):
 
 
 def main(words):
-    strangers_text.guard()
+    guard()
     if any(word in ("-h", "--help") for word in words):
         print(__doc__)
         return 0

@@ -10,14 +10,14 @@ Nothing is solved here: verdicts, rays and directions are the listing's, and are
 It ends with 0, with 64 for wrong use, 66 where a file can't be read, 65 where the listing isn't one, 70 where the job can't be run."""
 import difflib, os, pathlib, re, subprocess, sys, tempfile
 from fractions import Fraction
-from mps360.jobs import decks as job_decks
-from mps360.jobs import selection as job_following
-from mps360.listings import follow as follow_listing
-from mps360.listings import read as listing2json
+from mps360.jobs import decks
+from mps360.jobs.selection import VerbFault
+from mps360.listings.follow import Followed, ListingEnds, OtherJob, UNKNOWN
+from mps360.listings.read import NoListing, parse
 from mps360.numbers import nearest, text_of
-from mps360.pages import parametric as plot_parametric
+from mps360.pages.parametric import value_at
 from mps360 import programs
-from mps360 import text as strangers_text
+from mps360.text import guard
 
 IS_INSTALLED = (programs.COMMANDS / "program").exists()
 DOCUMENTS = programs.TOP.parents[1] / "share/doc/mps360" if IS_INSTALLED else "docs"
@@ -70,14 +70,14 @@ def entry_of(stop):
 def revises(cards):
     "whether the deck that begins with these cards, of which the first is its NAME card, revises another"
     end = next((place for place, card in enumerate(cards) if card.split(" ")[0] == "ENDATA"), len(cards))
-    is_free, data = job_decks.is_free(cards[0]), [card for card in cards[1:end] if card.startswith(" ")]
-    return any(job_decks.action_on(card, is_free) for card in (data[:1] if is_free else data))
+    is_free, data = decks.is_free(cards[0]), [card for card in cards[1:end] if card.startswith(" ")]
+    return any(decks.action_on(card, is_free) for card in (data[:1] if is_free else data))
 
 
 def word_fields(card, section, deletes):
     "the fields that the words of a free card are, in order; None where its section takes no card of so many words"
-    words = job_decks.words_of(card)
-    given = job_decks.word_fields(section, deletes, words[0][1])
+    words = decks.words_of(card)
+    given = decks.word_fields(section, deletes, words[0][1])
     return next((fields for fields in given if len(fields) == len(words)), None)
 
 
@@ -92,7 +92,7 @@ class DataCard:
             first, last = FIELDS[number - 1]
             return self.card[first - 1:last].rstrip()
         fields = word_fields(self.card, self.section, self.deletes) or ()
-        return next((word for field, (_, word) in zip(fields, job_decks.words_of(self.card)) if field == number), "")
+        return next((word for field, (_, word) in zip(fields, decks.words_of(self.card)) if field == number), "")
 
 
 def data_cards(cards):
@@ -106,10 +106,10 @@ def data_cards(cards):
         if card[0] != " ":
             section, action = card.split(" ")[0], None
             if section == "NAME":
-                is_free, is_revision = job_decks.is_free(card), revises(cards[place:])
+                is_free, is_revision = decks.is_free(card), revises(cards[place:])
                 begins = begins if is_revision else place
         elif section in HOLDS:
-            found = job_decks.action_on(card, is_free) if is_revision else None
+            found = decks.action_on(card, is_free) if is_revision else None
             action = found[0] if found else action
             yield DataCard(place, card, section, is_free, action, found is not None, begins)
 
@@ -134,8 +134,8 @@ def earlier_rows(cards, data):
             continue
         deck, begins = cards[begins:place + 1], place + 1
         try:
-            problem = problem.revised(deck) if problem else job_decks.Problem(deck)
-        except job_decks.DeckFault as fault:
+            problem = problem.revised(deck) if problem else decks.Problem(deck)
+        except decks.DeckFault as fault:
             if place == data.place:
                 return fault.known
     return None
@@ -206,7 +206,7 @@ def ruler():
 
 
 def is_combination(card):
-    return card[1:3].strip() in job_decks.COMBINATIONS
+    return card[1:3].strip() in decks.COMBINATIONS
 
 
 def to_be_blank(card, section, deletes):
@@ -231,7 +231,7 @@ def to_be_blank(card, section, deletes):
 
 def show_words(data):
     "the field of each word of a free card below it, and what it is read as; nothing where its section takes no card of so many words"
-    words, fields = job_decks.words_of(data.card), word_fields(data.card, data.section, data.deletes)
+    words, fields = decks.words_of(data.card), word_fields(data.card, data.section, data.deletes)
     if data.is_action:
         read = zip(("action", "name"), words)
     elif fields:
@@ -247,13 +247,13 @@ def show_words(data):
 
 def of_word(data, fault):
     "the column of the word of a free card that has fault 25, 26 or 27, and what is wrong with it"
-    words, section = job_decks.words_of(data.card), data.section
-    given = job_decks.word_fields(section, data.deletes, words[0][1])
+    words, section = decks.words_of(data.card), data.section
+    given = decks.word_fields(section, data.deletes, words[0][1])
     if fault == 25:
         wanted = [f"{len(fields)} ({', '.join(HOLDS[section][field] for field in fields)})" for fields in sorted(given, key=len)]
         kind = f"a card of {section}" + (" under DELETE" if data.deletes else f" with {words[0][1]}" if section in ("ROWS", "BOUNDS") else "")
         return None, f"the card has {len(words)} words, and {kind} has {' or '.join(wanted)}"
-    fields, most = (job_decks.NAMES, job_decks.NAME_LENGTH) if fault == 26 else (job_decks.NUMBERS, job_decks.NUMBER_LENGTH)
+    fields, most = (decks.NAMES, decks.NAME_LENGTH) if fault == 26 else (decks.NUMBERS, decks.NUMBER_LENGTH)
     long = [word for field, word in zip(word_fields(data.card, section, data.deletes) or (), words) if field in fields and len(word[1]) > most]
     if not long:
         return None, None
@@ -263,17 +263,17 @@ def of_word(data, fault):
 
 def shorter(word):
     "the same number in fewer characters, where there is one"
-    if not job_decks.NUMBER.match(word) or len(word) <= job_decks.NUMBER_LENGTH:
+    if not decks.NUMBER.match(word) or len(word) <= decks.NUMBER_LENGTH:
         return ""
-    short = text_of(job_decks.number(word))
-    return f": {short} is the same number" if short else f": {text_of(nearest(job_decks.number(word)))} is near to it"
+    short = text_of(decks.number(word))
+    return f": {short} is the same number" if short else f": {text_of(nearest(decks.number(word)))} is near to it"
 
 
 def where_free(cards, place):
     "what is said where the NAME card has the word FREE, and begins a fixed deck all the same"
     name = next((card for card in reversed(cards[:place]) if card.split(" ")[0] == "NAME"), "")
     found = re.search(r"\bFREE\b", name[4:])
-    if job_decks.is_free(name) or not found:
+    if decks.is_free(name) or not found:
         return []
     column = found.start() + 5
     why = "something else stands behind the name" if column == 25 else f"it stands in {column} to {column + 3}"
@@ -287,13 +287,13 @@ def misplaced(card, section):
         if any(start <= first and last <= end for start, end in FIELDS):
             continue
         has_numbers = section in ("COLUMNS", "RHS", "RANGES", "BOUNDS") or section == "ROWS" and is_combination(card)
-        if has_numbers and job_decks.NUMBER.match(found[0]):
+        if has_numbers and decks.NUMBER.match(found[0]):
             number = min((4, 6), key=lambda number: abs(FIELDS[number - 1][0] - first))
             start, end = FIELDS[number - 1]
             if len(found[0]) > end - start + 1:
                 return f"the number {found[0]} has {len(found[0])} characters, and field {number} has {end - start + 1} columns: shorten it"
             return f"move the number {found[0]}, which stands in columns {first} to {last}, into field {number}, columns {start} to {end}"
-        if len(found[0]) > 8 and not job_decks.NUMBER.match(found[0]):
+        if len(found[0]) > 8 and not decks.NUMBER.match(found[0]):
             return f"{found[0]} runs over its field, and a name has 8 characters at most; {MPS2JOB} shortens longer ones"
     return None
 
@@ -458,7 +458,7 @@ class Setup:
         return self.objective, self.rhs
 
 
-class Replayed(follow_listing.Followed):
+class Replayed(Followed):
     "keeps, beside what each report is about, each SETUP, and what a verb after it chose otherwise"
     def __init__(self, text, reports):
         super().__init__(text, reports)
@@ -466,7 +466,7 @@ class Replayed(follow_listing.Followed):
 
     def select(self):
         if self.setup is None:
-            raise job_following.VerbFault(3)
+            raise VerbFault(3)
         problem, options = self.setup
         key = id(problem), self.cells.get("XOBJ"), self.cells.get("XRHS"), *options.values()
         if key not in self.programs:
@@ -490,12 +490,12 @@ def replay(text, parsed):
         run.run()
         if len(run.about) < len(run.reports):
             why = "the listing has more reports than the job"
-    except follow_listing.ListingEnds:
+    except ListingEnds:
         if parsed["end"] and parsed["end"]["text"].startswith("END"):
             why = "the listing ends before the job does"
-    except follow_listing.OtherJob as cause:
+    except OtherJob as cause:
         why = str(cause)
-    except follow_listing.UNKNOWN:
+    except UNKNOWN:
         pass
     return (None, why) if why else (run, None)
 
@@ -656,7 +656,7 @@ def explain_change(before, now):
 
 def explain_interval(interval, before):
     lines, first, last = interval["lines"], *(Fraction(interval[end]) for end in ("from", "to"))
-    constant, there = (plot_parametric.value_at(lines, Fraction(theta)) for theta in (0, 1))
+    constant, there = (value_at(lines, Fraction(theta)) for theta in (0, 1))
     rate = there - constant
     if first == last:
         print(f"At theta = {first} alone: the objective is {constant + rate * first}.")
@@ -757,7 +757,7 @@ def explain(text, parsed):
 
 
 def answered(words):
-    strangers_text.guard()
+    guard()
     if words and words[0] in ("-h", "--help"):
         print(__doc__)
         return 0
@@ -773,11 +773,11 @@ def answered(words):
     if listing is None:
         return 70
     try:
-        parsed = listing2json.parse(listing)
+        parsed = parse(listing)
         if not parsed["reports"] and not parsed["end"] and listing.strip():
-            raise listing2json.NoListing("it has no report")
+            raise NoListing("it has no report")
         explain(text, parsed)
-    except listing2json.NoListing as cause:
+    except NoListing as cause:
         print(f"explain: not a listing: {cause}", file=sys.stderr)
         return 65
     except (TypeError, ValueError, ZeroDivisionError):

@@ -9,8 +9,8 @@ What isn't read in a fixed deck is left out, and said: text behind the fields or
 Basis decks are always fixed, and stay as they are. It ends with 0, with 64 for wrong use, 65 where the file is refused, 66 where it can't be
 read."""
 import pathlib, re, sys
-from mps360.jobs import decks as job_decks
-from mps360 import text as strangers_text
+from mps360.jobs import decks
+from mps360.text import guard
 from mps360.jobs.decks import ACTIONS, BOUNDS, FIELDS, NAMES, VALUED, DeckFault, is_skipped
 
 MEANS = {3: "an unknown row type", 8: "a number is faulty", 10: "an unknown bound type", 20: "something stands where a fixed card is to be blank",
@@ -33,7 +33,7 @@ def program_end(cards):
     return end
 
 
-def decks(cards, begun):
+def each_deck(cards, begun):
     "the places of the cards of each deck that are to be read"
     deck = []
     for place in range(begun, len(cards)):
@@ -52,11 +52,11 @@ class Form:
 
     def read(self, card, section, deletes):
         "the fields of a data card, without the blanks around numbers"
-        text = (job_decks.free_fields(card, section, deletes) if self.is_free else job_decks.fixed_fields(card)).text
+        text = (decks.free_fields(card, section, deletes) if self.is_free else decks.fixed_fields(card)).text
         return {field: word if field in NAMES else word.strip() for field, word in text.items()}
 
     def action(self, card):
-        return job_decks.action_on(card, self.is_free)
+        return decks.action_on(card, self.is_free)
 
     def written(self, text):
         if self.is_free:
@@ -83,7 +83,7 @@ class Turner:
         name, is_basis = self.cards[deck[0]], len(deck) > 1 and self.cards[deck[1]].startswith(" ")
         if name.split(" ")[0] != "NAME":
             raise Refused(f"card {deck[0] + 1}: a deck begins with NAME")
-        if is_basis or job_decks.is_free(name) == self.new.is_free:
+        if is_basis or decks.is_free(name) == self.new.is_free:
             return
         for place in deck:
             try:
@@ -174,13 +174,13 @@ def turned(data, is_free, say):
         if len(card) > 80 or re.search(r"[^ -~]", card):
             raise Refused(f"card {number}: it has more than 80 bytes, or one that isn't printable")
     changed = list(cards)
-    for deck in decks(cards, program_end(cards)):
+    for deck in each_deck(cards, program_end(cards)):
         Turner(is_free, changed, say).turn(deck)
     return "\n".join(line if new == old else new + line[len(line.rstrip("\r")):] for line, old, new in zip(lines, cards, changed))
 
 
 def main(words):
-    strangers_text.guard()
+    guard()
     if words and words[0] in ("-h", "--help"):
         print(__doc__)
         return 0

@@ -12,7 +12,7 @@ where the page can't be written."""
 import argparse, signal, sys
 from mps360.listings.made import OtherJob
 from mps360.listings.read import NO_NAMES, NoListing, NoNames, read_names
-from mps360.pages.html import page
+from mps360.pages.html import Page
 
 
 def main(words):
@@ -37,10 +37,13 @@ def main(words):
         print(f"listing2html.py: {options.names}: {cause}", file=sys.stderr)
         return 65
     try:
-        text = page(job, listing, names)
+        page = Page(job, listing, names)
+        text = page.whole()
     except (NoListing, OtherJob, ZeroDivisionError, TypeError, ValueError) as cause:
         print(f"listing2html.py: no page of this: {cause}", file=sys.stderr)
         return 65
+    if not page.has_constant:
+        print("listing2html.py: the objective or its right-hand side isn't that of the table of names; no constant is added", file=sys.stderr)
     try:
         if options.page:
             with open(options.page, "w", encoding="utf-8") as out:

@@ -14,7 +14,10 @@ In CSV a name that a spreadsheet could take for a formula (it begins with = + - 
 character stands as an escape; in JSON names are exact. It ends with 0, with 64 for wrong use, 65 where the text isn't a listing, 66 where it
 can't be read."""
 import argparse, signal, sys
-from mps360.listings.read import NoListing, NoNames, TABLES, add_decimals, document, json_text, name_back, parse, read_names, write_solution, write_table
+from mps360.listings.read import NoListing, NoNames, name_back, parse, read_names
+from mps360.listings.tables import TABLES, add_decimals, document, json_text, write_solution, write_table
+
+OTHER_OBJECTIVE = "listing2json.py: the objective or its right-hand side isn't that of the table of names; no constant is added"
 
 
 def main(words):
@@ -45,8 +48,8 @@ def main(words):
         listing = parse(text)
         if not listing["reports"] and not listing["end"]:
             raise NoListing("it is empty")
-        if names:
-            name_back(listing, names)
+        if names and not name_back(listing, names):
+            print(OTHER_OBJECTIVE, file=sys.stderr)
         if options.csv:
             write_solution(listing, options.decimal, sys.stdout)
         elif options.table:

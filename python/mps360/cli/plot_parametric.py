@@ -10,8 +10,8 @@ The value at each parameter is the sum of price times activity over rows and col
 parameter's share of the change row, in a run of PARAOBJ). It ends with 0, with 64 for wrong use, 65 where the text isn't a listing, or has
 no such run, 66 where a file can't be read or written."""
 import argparse, sys
-from mps360 import text as strangers_text
-from mps360.listings import read as listing2json
+from mps360.text import guard
+from mps360.listings.read import NoListing, parse
 from mps360.pages.parametric import NoRun, in_letters, in_svg, points_of
 
 
@@ -19,7 +19,7 @@ def main(words):
     if any(word in ("-h", "--help") for word in words):
         print(__doc__)
         return 0
-    strangers_text.guard()
+    guard()
     parser = argparse.ArgumentParser(add_help=False)
     parser.error = lambda message: (print(f"plot_parametric.py: {message}", file=sys.stderr), sys.exit(64))
     parser.add_argument("--svg", action="store_true")
@@ -29,7 +29,7 @@ def main(words):
     options = parser.parse_args(words)
     try:
         text = open(options.file, encoding="latin-1").read() if options.file else sys.stdin.read()
-        runs = [report for report in listing2json.parse(text)["reports"] if report["report"] == "parametric" and report["intervals"]]
+        runs = [report for report in parse(text)["reports"] if report["report"] == "parametric" and report["intervals"]]
         number = len(runs) if options.run is None else options.run
         if not 1 <= number <= len(runs):
             raise NoRun(f"it has {len(runs)} parametric runs")
@@ -43,7 +43,7 @@ def main(words):
     except OSError as cause:
         print(f"plot_parametric.py: {cause.filename}: {cause.strerror}", file=sys.stderr)
         return 66
-    except (listing2json.NoListing, NoRun) as cause:
+    except (NoListing, NoRun) as cause:
         print(f"plot_parametric.py: can't be drawn: {cause}", file=sys.stderr)
         return 65
     return 0

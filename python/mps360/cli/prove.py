@@ -21,7 +21,7 @@ It ends with the status of the run whose listing is printed: 0, 1 no plan, 2 no 
 written, 124 where a run was ended after S seconds, 130 after Ctrl-C or a TERM signal."""
 import argparse, contextlib, json, os, pathlib, re, shutil, signal, sys, tempfile, threading
 from fractions import Fraction
-from mps360 import bases as basis_file
+from mps360.bases import BASIC, Basis, WRITERS, read_text, with_insert
 from mps360.cli import basis2deck
 from mps360.cli import solve
 from mps360 import errors
@@ -133,7 +133,7 @@ def ask(solver, model, options):
     try:
         if run.late or not text:
             raise errors.Refused(f"no end in {options.seconds:g} seconds" if run.late else "it wrote no basis")
-        return of_model(basis_file.read_text(text, plain, solver), model), text
+        return of_model(read_text(text, plain, solver), model), text
     except errors.Refused as cause:
         say(f"no basis of {solver}: {cause}")
         return None, text
@@ -144,7 +144,7 @@ def of_model(basis, model):
     rows = (row for row, kind in model.rows.items() if kind != "N")
     at = dict(zip(rows, (status for row, status in basis.rows.items() if row != "COST"), strict=True))
     said = [re.sub(r"\bC(\d+)\b", lambda found: list(model.columns)[int(found[1]) - 1], sentence) for sentence in basis.said]
-    return basis_file.Basis({row: at.get(row, basis_file.BASIC) for row in model.rows},
+    return Basis({row: at.get(row, BASIC) for row in model.rows},
                             dict(zip(model.columns, basis.columns.values(), strict=True)), basis.writer, said)
 
 
@@ -206,7 +206,7 @@ def last_line(route, failed, model, program):
 def inserted(basis, words, job, written=("", "")):
     for sentence in basis.said:
         say(sentence)
-    return Route(f"INSERT of {words} and PRIMAL", basis_file.with_insert(job, basis), written)
+    return Route(f"INSERT of {words} and PRIMAL", with_insert(job, basis), written)
 
 
 def routes_of(options, job):
@@ -277,7 +277,7 @@ def options_of(words):
     begin = parser.add_mutually_exclusive_group()
     begin.add_argument("--basis")
     begin.add_argument("--with", dest="solvers", type=solvers_of, default=[])
-    parser.add_argument("--from", dest="writer", choices=basis_file.WRITERS)
+    parser.add_argument("--from", dest="writer", choices=WRITERS)
     for word in ("--keep", "--program"):
         parser.add_argument(word)
     parser.add_argument("--seconds", type=positive)

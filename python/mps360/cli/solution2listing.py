@@ -17,11 +17,11 @@ Prices that aren't there, a name that the model hasn't, a decimal number, a numb
 with 64 for wrong use, 65 where a file is refused, 66 where it can't be read, 73 where one can't be written."""
 import dataclasses, json, os, sys
 from mps360.cli import mps2job
-from mps360.listings import write as answer_listing
+from mps360.listings.write import Refused, listing_of
 from mps360 import errors
 from mps360 import mps
 from mps360.jobs.write import job_of
-from mps360 import solutions as solution_file
+from mps360.solutions import NoSolution, TABLES, read_file
 from mps360.cli.mps2job import say
 
 NAME = "solution2listing.py"
@@ -61,7 +61,7 @@ def in_job_names(answer, job):
     def named(table, names):
         return None if table is None else {names[name]: value for name, value in table.items()}
     crossed = answer.crossed and (answer.crossed[0], (job.rows if answer.crossed[0] == "row" else job.columns)[answer.crossed[1]])
-    tables = {key: named(getattr(answer, key), getattr(job, kind)) for key, kind in solution_file.TABLES.items()}
+    tables = {key: named(getattr(answer, key), getattr(job, kind)) for key, kind in TABLES.items()}
     return dataclasses.replace(answer, crossed=crossed, **tables)
 
 
@@ -75,11 +75,11 @@ def made(options, solution):
     except errors.Refused as cause:
         raise Ended(65, f"{options.file}: {cause}") from None
     try:
-        answer = solution_file.read_file(solution, model)
-        return job, answer_listing.listing_of(job, in_job_names(answer, job))
+        answer = read_file(solution, model)
+        return job, listing_of(job, in_job_names(answer, job))
     except OSError as cause:
         raise Ended(66, f"can't read {solution}: {cause.strerror}") from None
-    except (solution_file.NoSolution, answer_listing.Refused) as cause:
+    except (NoSolution, Refused) as cause:
         raise Ended(65, f"{solution}: {cause}") from None
 
 

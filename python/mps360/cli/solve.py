@@ -22,11 +22,12 @@ where it can't be read, 70 where there is no program, 73 where a file can't be w
 what stands is said. A deck that is punched goes to the file PUNCH of this folder."""
 import argparse, contextlib, io, json, os, pathlib, re, signal, subprocess, sys, threading, time
 from mps360.cli import mps2job
-from mps360.listings import read as listing2json
+from mps360.listings.read import NO_NAMES, NoListing, NoNames, each_line, name_back, names_of, parse, read_names
+from mps360.listings.tables import add_decimals, document, json_text, result_of, write_solution, write_table
 from mps360 import errors
 from mps360 import mps
 from mps360.jobs.write import job_of
-from mps360.listings import made as made_listing
+from mps360.listings.made import OtherJob, check_made
 from mps360.text import marked_decimal
 from mps360.text import as_text
 
@@ -61,7 +62,7 @@ def is_job(content):
 class Model:
     "a model, as the job that is run and the table of its names"
     def __init__(self, options, passed):
-        self.path, self.notes, self.names, self.table, self.converted = options.model, [], listing2json.NO_NAMES, b"", None
+        self.path, self.notes, self.names, self.table, self.converted = options.model, [], NO_NAMES, b"", None
         self.has_basis = bool(options.basis)
         try:
             content = sys.stdin.buffer.read() if options.model == "-" else pathlib.Path(options.model).read_bytes()
@@ -70,7 +71,7 @@ class Model:
         except (OSError, ValueError) as cause:
             what = options.model if isinstance(cause, OSError) and cause.filename != options.names else options.names
             raise Ended(66, f"can't read {what}: {getattr(cause, 'strerror', None) or cause}")
-        except listing2json.NoNames as cause:
+        except NoNames as cause:
             raise Ended(65, f"{options.names}: {cause}")
         if is_job(content):
             if options.basis:
@@ -84,7 +85,7 @@ class Model:
             self.convert(content, options, passed)
 
     def take_names(self, path):
-        self.names, self.table = listing2json.read_names(path), pathlib.Path(path).read_bytes()
+        self.names, self.table = read_names(path), pathlib.Path(path).read_bytes()
 
     def convert(self, content, options, passed):
         words = mps2job.parsed_options([*passed, "--", self.path], wrong_use)
@@ -98,10 +99,10 @@ class Model:
         if options.basis:
             self.take_basis(options, job)
         table = job.name_map()
-        self.names, self.table = listing2json.names_of(table), (json.dumps(table, indent=1) + "\n").encode()
+        self.names, self.table = names_of(table), (json.dumps(table, indent=1) + "\n").encode()
 
     def take_basis(self, options, job):
-        from mps360 import bases as basis_file
+        from mps360.bases import with_insert
         from mps360.cli import basis2deck
         try:
             basis = basis2deck.read_basis(options.basis, job.model, options.writer)
@@ -109,7 +110,7 @@ class Model:
             status, words = ended.args
             raise Ended(status, *words.split("\n"))
         self.notes += basis.said
-        self.job = basis_file.with_insert(job, basis).encode("ascii")
+        self.job = with_insert(job, basis).encode("ascii")
 
 
 # ---- the run
@@ -216,21 +217,22 @@ class Answer:
         self.run, self.program, self.model = run, program, model
         self.text = "".join(line + "\n" for line in run.lines()) if run.interrupted else run.listing.decode("latin-1")
         try:
-            self.listing = listing2json.parse(self.text)
+            self.listing = parse(self.text)
             self.objective = as_text(self.objective_of(self.listing["reports"]))
-        except (listing2json.NoListing, made_listing.OtherJob) as cause:
+        except (NoListing, OtherJob) as cause:
             raise Ended(70, f"what the program printed isn't the listing of this job: {cause}")
-        listing2json.name_back(self.listing, model.names)
-        self.result = listing2json.result_of(self.listing)
+        if not name_back(self.listing, model.names):
+            say("the objective or its right-hand side isn't that of the table of names; no constant is added")
+        self.result = result_of(self.listing)
 
     def objective_of(self, reports):
         "the name of the objective; the reports are compared with the job"
         job = self.model.converted
         if job:
-            made_listing.check_made(job, reports, self.model.has_basis, self.model.ranging)
+            check_made(job, reports, self.model.has_basis, self.model.ranging)
             return job.model.objective
-        from mps360.listings import follow as follow_listing
-        about, _ = follow_listing.follow(self.model.job.decode("latin-1"), reports)
+        from mps360.listings.follow import follow
+        about, _ = follow(self.model.job.decode("latin-1"), reports)
         programs = [program for program, report in zip(about, reports) if program and report["report"] == "verdict"]
         name = programs[-1].names[programs[-1].objective] if programs else "the objective"
         return self.model.names[0].get("rows", {}).get(name, name) if programs else name
@@ -245,18 +247,18 @@ class Answer:
     def json(self):
         run = {"model": self.model.path, "program": self.program, "seconds": round(self.run.seconds, 3), "interrupted": self.run.interrupted,
                "notes": self.model.notes}
-        whole = listing2json.document(self.listing, run)
-        listing2json.add_decimals(whole)
-        return listing2json.json_text(whole)
+        whole = document(self.listing, run)
+        add_decimals(whole)
+        return json_text(whole)
 
     def csv(self):
         out = io.StringIO()
         if self.last("solution") and self.result["verdict"] == "optimal":
-            listing2json.write_solution(self.listing, True, out)
+            write_solution(self.listing, True, out)
         elif any(report["report"] == "parametric" for report in self.listing["reports"]):
-            listing2json.write_table(self.listing, "intervals", True, out)
+            write_table(self.listing, "intervals", True, out)
         else:
-            listing2json.write_table(self.listing, "rays" if self.result["verdict"] else "verdicts", True, out)
+            write_table(self.listing, "rays" if self.result["verdict"] else "verdicts", True, out)
         return out.getvalue()
 
     # ---- as a text
@@ -299,7 +301,7 @@ class Answer:
             return
         solution = self.last("solution")
         if verdict["verdict"] == "optimal" and solution:
-            near = {line["number"]: line for _, line in listing2json.each_line(self.last("ranges") or {})}
+            near = {line["number"]: line for _, line in each_line(self.last("ranges") or {})}
             yield from self.solution_table("Column", "reduced", solution.get("columns", []), near, "activity",
                                            ("cost_low", "cost_high", "same plan while the cost is"))
             yield from self.solution_table("Row", "dual", solution.get("rows", []), near, "dual",
@@ -368,8 +370,8 @@ def write_outputs(options, model, answer):
     if options.keep:
         kept(pathlib.Path(options.keep), f"{stem_of(options)}.listing", answer.text.encode("latin-1"))
     if options.html:
-        from mps360.pages import html as listing2html
-        page = listing2html.page(model.job.decode("latin-1"), answer.text, model.names, answer.printed_by())
+        from mps360.pages.html import page as page_of
+        page = page_of(model.job.decode("latin-1"), answer.text, model.names, answer.printed_by())
         path = pathlib.Path(options.html)
         kept(path.parent, path.name, page.encode("utf-8"))
     signal.signal(signal.SIGPIPE, signal.SIG_DFL)

@@ -109,6 +109,17 @@ class LinearProgram:
         "1 where the objective is to rise, -1 where it is to fall"
         return 1 if self.sense == "MAX" else -1
 
+    def cost(self, column):
+        "the cost of a column, whose numbers these are: its number on the objective, and the parameter's share of the change row"
+        own = column.get(self.objective, Fraction(0))
+        return own + self.change[1] * column.get(self.change[0], Fraction(0)) if self.change else own
+
+    def with_change(self, row, theta):
+        "the same with theta times this row added to the objective"
+        changed = copy.copy(self)
+        changed.change = row, theta
+        return changed
+
     def with_limits(self, shift, theta):
         "the same with theta times its shift added to each limit"
         changed = copy.copy(self)

@@ -1,17 +1,17 @@
 """Follows a job along its listing: which linear program each report is about. Nothing is solved: where the control program asks for a
 verdict, or punches or inserts a basis, the listing's word is taken."""
 from fractions import Fraction
-from mps360.jobs import selection as job_following
+from mps360.jobs.selection import Fault, Run
 from mps360.listings.made import SAME_LINE, OtherJob, each_line
 
-UNKNOWN = (job_following.Fault, LookupError, ValueError, ArithmeticError, TypeError, AttributeError)
+UNKNOWN = (Fault, LookupError, ValueError, ArithmeticError, TypeError, AttributeError)
 
 
 class ListingEnds(Exception):
     "each report was met"
 
 
-class Followed(job_following.Run):
+class Followed(Run):
     "a run that takes its verdicts from the reports of a listing; about has the linear program of each report that is about one"
     def __init__(self, text, reports):
         super().__init__(text)
@@ -89,9 +89,9 @@ class Followed(job_following.Run):
         return ("OPTIMAL",)
 
     def at_opening(self, verb):
-        "the linear program at XPARAM, whose limits PARARHS has moved"
+        "the linear program at XPARAM, whose limits PARARHS has moved, or whose objective PARAOBJ has"
         if verb == "PARAOBJ":
-            return self.lp
+            return self.lp.with_change(self.lp.names.index(self.cells["XCHROW"]), self.cells["XPARAM"])
         values = self.setup[0].sets["RHS"].get(self.cells.get("XCHCOL"), {})
         shift = [values.get(name, Fraction(0)) for name in self.lp.names[:self.lp.m]] + [Fraction(0)] * self.lp.n
         return self.lp.with_limits(shift, self.cells["XPARAM"])
