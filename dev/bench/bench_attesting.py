@@ -14,7 +14,13 @@ usage: bench_attesting.py [--itself | --program FILE] [--models N] [--rows N,N..
 esolver of QSopt_ex solves each model in exact fractions, and solution2listing.py makes a job and a listing of what it wrote. A number of the
 answer may not fit a fraction of 127 bits: then there is no listing, since none could have these numbers. It ends with 64 for wrong use, 70
 where there is no checker or no esolver."""
-import argparse, collections, pathlib, shutil, subprocess, sys, tempfile
+import argparse
+import collections
+import pathlib
+import shutil
+import subprocess
+import sys
+import tempfile
 sys.path.insert(0, str(pathlib.Path(__file__).resolve().parents[2] / "python"))
 import bench_bases
 from mps360 import mps

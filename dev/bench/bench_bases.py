@@ -16,7 +16,15 @@ Each model has a third of its rows as limits on all its columns, so that it has 
 whole numbers. There are 7 columns for 6 rows, each with an entry above 0 in one of the first rows and with two of either sign in others; an
 entry is a number from 1 to 9, or of .1 to 9.9, or of .01 to 9.99. Of the runs that stopped since a number doesn't fit it is counted in how
 many the objective itself, which has but one value, doesn't fit in a fraction of 127 bits: esolver of qsopt-ex has it exactly."""
-import argparse, os, pathlib, random, re, resource, subprocess, sys, tempfile
+import argparse
+import os
+import pathlib
+import random
+import re
+import resource
+import subprocess
+import sys
+import tempfile
 from fractions import Fraction
 sys.path.insert(0, str(pathlib.Path(__file__).resolve().parents[2] / "python"))
 from mps360.bases import BASIC, with_insert

@@ -12,7 +12,8 @@ and at 0. Programs that write XU, XL, UL and LL mean the same by basic, but not 
     lp_solve turns L rows, and E rows with a range below 0: what it calls lower is their upper limit
     glpsol has no such cards: its -w writes one line for each row that isn't N, and each column, by their numbers
 So where a row has one limit, or two that are equal, the code is of no use, and where it has two that differ it goes by the writer."""
-import gzip, re
+import gzip
+import re
 from dataclasses import dataclass, field
 from mps360.errors import Refused
 from mps360.text import some_of

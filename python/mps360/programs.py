@@ -1,6 +1,10 @@
 """Runs jobs, and attests listings, for the other scripts: by the proved program where it is fresh, else all jobs unproved, built once
 (`rt try --cases`)."""
-import pathlib, re, shutil, subprocess, tempfile
+import pathlib
+import re
+import shutil
+import subprocess
+import tempfile
 from mps360 import unproved
 
 # the repository, or the folder where the commands are installed

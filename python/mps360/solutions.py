@@ -5,7 +5,11 @@
 
 Two forms are read, gzipped too: what `esolver -O` of QSopt_ex writes, which leaves out what is 0; and JSON, which the page on models of other
 solvers describes. Numbers are whole, or fractions such as -7/3: a decimal number is refused, since most programs round it."""
-import gzip, io, json, re, zlib
+import gzip
+import io
+import json
+import re
+import zlib
 from fractions import Fraction
 
 from mps360.listings.write import Answer

@@ -1,6 +1,7 @@
 """Texts for people. Text of strangers (names and titles of their files), shown as text on a terminal: no byte of it moves the cursor or hides
 a line; in the cells of a spreadsheet no formula. Decimals beside fractions, and words of sentences."""
-import re, sys
+import re
+import sys
 from decimal import Decimal, localcontext
 from fractions import Fraction
 

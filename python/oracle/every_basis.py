@@ -5,7 +5,9 @@ INSERT is about by the rows' equations solved anew, the activity of a combinatio
 
 Where a linear program has a feasible point, it has one at which each nonbasic variable stands at a limit, or at 0 where it has none; and
 where it has a best one, one of these is best. It has none where some direction that keeps all limits improves the objective."""
-import copy, itertools, math
+import copy
+import itertools
+import math
 from fractions import Fraction
 from oracle.bases import stands_for
 from oracle.listing import Problem, Run, Table, VerbFault, fields, is_skipped

@@ -28,7 +28,7 @@ from oracle import attesting
 from oracle import listing as expected_listing
 from oracle import rules
 from oracle import vipr
-from oracle.attesting import ATTESTED, OPEN, UNCHECKED
+from oracle.claims import ATTESTED, OPEN, UNCHECKED
 
 ALTERATIONS = 10
 PRINTABLE = "".join(map(chr, range(32, 127)))

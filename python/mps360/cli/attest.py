@@ -13,7 +13,13 @@ solution2listing.py takes: what `esolver -O` of QSopt_ex writes, or JSON.
 It ends with 0 where the answer is attested; with 40 where its numbers don't prove it, 42 where an operation of a test doesn't fit 127 bits, 43
 where the listing is too long, other statuses of the checker as they are; with 64 for wrong use, 65 where a file is refused, 66 where it can't be
 read, 70 where there is no checker, 73 where a file can't be written."""
-import json, os, pathlib, re, subprocess, sys, tempfile
+import json
+import os
+import pathlib
+import re
+import subprocess
+import sys
+import tempfile
 from fractions import Fraction
 from mps360.cli import mps2job
 from mps360.cli import solution2listing
@@ -114,7 +120,8 @@ def run(words):
     return status
 
 
-def main(words):
+def main(words=None):
+    words = sys.argv[1:] if words is None else words
     if any(word in ("-h", "--help") for word in words):
         print(__doc__)
         return 0

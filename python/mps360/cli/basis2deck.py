@@ -16,7 +16,9 @@ A column that no line names stands where SETUP puts it: at its lower limit, or e
 shortened for the job are shortened here. What is placed otherwise than the file says, since a limit isn't there, is said on standard error:
 a basis is a place to begin, and none makes another problem. It ends with 0, with 64 for wrong use, 65 where a file is refused, 66 where it
 can't be read, 73 where DECK can't be written."""
-import argparse, os, sys
+import argparse
+import os
+import sys
 from mps360.bases import WRITERS, deck_of, read_file
 from mps360.cli import mps2job
 from mps360.listings.read import NoNames, read_names
@@ -72,7 +74,8 @@ def same_file(path, other):
     return other is not None and os.path.isfile(other) and os.path.realpath(path) == os.path.realpath(other)
 
 
-def main(words):
+def main(words=None):
+    words = sys.argv[1:] if words is None else words
     if any(word in ("-h", "--help") for word in words):
         print(__doc__)
         return 0

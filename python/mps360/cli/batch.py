@@ -19,7 +19,22 @@ The proved program is used where it is built; else all run UNPROVED, compiled on
 
 Ends with 0 where each ended with an END line; 1 where one didn't; 64 for wrong use; 66 where there is no such folder or file, or
 nothing to run in it; 70 where no program can be had; 73 where OUT can't be written; 130 and 143 where it was interrupted."""
-import argparse, collections, csv, hashlib, json, os, pathlib, re, shlex, shutil, signal, subprocess, sys, tempfile, threading, time
+import argparse
+import collections
+import csv
+import hashlib
+import json
+import os
+import pathlib
+import re
+import shlex
+import shutil
+import signal
+import subprocess
+import sys
+import tempfile
+import threading
+import time
 from concurrent.futures import FIRST_COMPLETED, ThreadPoolExecutor, wait
 from fractions import Fraction
 from mps360.listings.read import NUMBER, read_names
@@ -392,7 +407,8 @@ def positive(kind):
     return read
 
 
-def main(words):
+def main(words=None):
+    words = sys.argv[1:] if words is None else words
     guard()
     if any(word in ("-h", "--help") for word in words):
         print(__doc__)

@@ -8,7 +8,9 @@ to be deleted, one of the words MODIFY, DELETE, BEFORE and AFTER where it would 
 What isn't read in a fixed deck is left out, and said: text behind the fields or the name, a number on a bound that takes none.
 Basis decks are always fixed, and stay as they are. It ends with 0, with 64 for wrong use, 65 where the file is refused, 66 where it can't be
 read."""
-import pathlib, re, sys
+import pathlib
+import re
+import sys
 from mps360.jobs import decks
 from mps360.text import guard
 from mps360.jobs.decks import ACTIONS, BOUNDS, FIELDS, NAMES, VALUED, DeckFault, is_skipped
@@ -179,7 +181,8 @@ def turned(data, is_free, say):
     return "\n".join(line if new == old else new + line[len(line.rstrip("\r")):] for line, old, new in zip(lines, cards, changed))
 
 
-def main(words):
+def main(words=None):
+    words = sys.argv[1:] if words is None else words
     guard()
     if words and words[0] in ("-h", "--help"):
         print(__doc__)

@@ -9,13 +9,16 @@ The page has each verdict in a sentence, the plan and the rows as tables with de
 RANGE beside them, a ray as the rows that conflict, a direction as what grows, and parametric runs as plots; the listing stands at its end.
 It ends with 0, with 64 for wrong use, 65 where the text isn't a listing, or is one of another job, 66 where a file can't be read, 73
 where the page can't be written."""
-import argparse, signal, sys
+import argparse
+import signal
+import sys
 from mps360.listings.made import OtherJob
 from mps360.listings.read import NO_NAMES, NoListing, NoNames, read_names
 from mps360.pages.html import Page
 
 
-def main(words):
+def main(words=None):
+    words = sys.argv[1:] if words is None else words
     if any(word in ("-h", "--help") for word in words):
         print(__doc__)
         return 0

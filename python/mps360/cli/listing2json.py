@@ -13,14 +13,17 @@ usage: listing2json.py [--csv | --table NAME] [--decimal] [--names MAP] [FILE]  
 In CSV a name that a spreadsheet could take for a formula (it begins with = + - @ or an apostrophe) has an apostrophe before it, and a control
 character stands as an escape; in JSON names are exact. It ends with 0, with 64 for wrong use, 65 where the text isn't a listing, 66 where it
 can't be read."""
-import argparse, signal, sys
+import argparse
+import signal
+import sys
 from mps360.listings.read import NoListing, NoNames, name_back, parse, read_names
 from mps360.listings.tables import TABLES, add_decimals, document, json_text, write_solution, write_table
 
 OTHER_OBJECTIVE = "listing2json.py: the objective or its right-hand side isn't that of the table of names; no constant is added"
 
 
-def main(words):
+def main(words=None):
+    words = sys.argv[1:] if words is None else words
     if any(word in ("-h", "--help") for word in words):
         print(__doc__)
         return 0

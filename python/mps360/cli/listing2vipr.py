@@ -10,7 +10,10 @@ usage: listing2vipr.py [--line N] [--names MAP] [-o CERTIFICATE] JOB LISTING
 Each verdict and each SOLUTION up to that one is tested on the way, so a listing whose numbers don't prove what it says is refused, with the
 line. RANGE, PUNCH, INSERT and the intervals of parametric runs are passed over. It ends with 0, with 64 for wrong use, 65 where the listing is
 refused or has no such answer, 66 where a file can't be read, 73 where one can't be written."""
-import argparse, json, pathlib, sys
+import argparse
+import json
+import pathlib
+import sys
 
 from mps360.listings.made import OtherJob
 from mps360.listings.read import NoListing
@@ -50,7 +53,8 @@ def say(message):
     print("".join(letter if " " <= letter <= "~" else "?" for letter in f"{NAME}: {message}"), file=sys.stderr)
 
 
-def main(words):
+def main(words=None):
+    words = sys.argv[1:] if words is None else words
     if any(word in ("-h", "--help") for word in words):
         print(__doc__)
         return 0

@@ -25,7 +25,10 @@ Two have a usual meaning, and other options for other programs:
 Rows of type DN, DL, DG and DE, which are sums of multiples of rows before them, are taken with their parts. Numbers without an exact form of
 12 columns, sections that jobs don't know and problems past the limits are refused. It ends with 0, with 64 for wrong use, 65 where the file
 is refused, 66 where it can't be read, 73 where JOB or MAP can't be written."""
-import argparse, json, os, sys
+import argparse
+import json
+import os
+import sys
 from mps360 import errors
 from mps360 import mps
 from mps360.jobs.write import job_of
@@ -92,7 +95,8 @@ def write(path, text):
         out.write(text)
 
 
-def main(words):
+def main(words=None):
+    words = sys.argv[1:] if words is None else words
     if any(word in ("-h", "--help") for word in words):
         print(__doc__)
         return 0

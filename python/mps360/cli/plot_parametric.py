@@ -9,13 +9,15 @@ usage: plot_parametric.py [--svg] [--run K] [-o FILE] [LISTING]      without LIS
 The value at each parameter is the sum of price times activity over rows and columns, which for a best plan is its objective (with the
 parameter's share of the change row, in a run of PARAOBJ). It ends with 0, with 64 for wrong use, 65 where the text isn't a listing, or has
 no such run, 66 where a file can't be read or written."""
-import argparse, sys
+import argparse
+import sys
 from mps360.text import guard
 from mps360.listings.read import NoListing, parse
 from mps360.pages.parametric import NoRun, in_letters, in_svg, points_of
 
 
-def main(words):
+def main(words=None):
+    words = sys.argv[1:] if words is None else words
     if any(word in ("-h", "--help") for word in words):
         print(__doc__)
         return 0

@@ -19,7 +19,17 @@ PRIMAL begins at the opening basis instead, in the end; without a basis it alway
 It ends with the status of the run whose listing is printed: 0, 1 no plan, 2 no bound, 20 a number doesn't fit, more in docs/FAULTS.md; or with
 64 for wrong use, 65 where a file is refused, 66 where it can't be read, 70 where there is no program or no solver, 73 where a file can't be
 written, 124 where a run was ended after S seconds, 130 after Ctrl-C or a TERM signal."""
-import argparse, contextlib, json, os, pathlib, re, shutil, signal, sys, tempfile, threading
+import argparse
+import contextlib
+import json
+import os
+import pathlib
+import re
+import shutil
+import signal
+import sys
+import tempfile
+import threading
 from fractions import Fraction
 from mps360.bases import BASIC, Basis, WRITERS, read_text, with_insert
 from mps360.cli import basis2deck
@@ -291,7 +301,8 @@ def options_of(words):
     return options, passed
 
 
-def main(words):
+def main(words=None):
+    words = sys.argv[1:] if words is None else words
     if any(word in ("-h", "--help") for word in words):
         print(__doc__)
         return 0

@@ -15,7 +15,10 @@ Each other option is one of mps2job.py, which reads the file: what it changes, l
 
 Prices that aren't there, a name that the model hasn't, a decimal number, a number past 128 bits are refused, with the place. It ends with 0,
 with 64 for wrong use, 65 where a file is refused, 66 where it can't be read, 73 where one can't be written."""
-import dataclasses, json, os, sys
+import dataclasses
+import json
+import os
+import sys
 from mps360.cli import mps2job
 from mps360.listings.write import Refused, listing_of
 from mps360 import errors
@@ -124,7 +127,8 @@ def run(words):
     return 0
 
 
-def main(words):
+def main(words=None):
+    words = sys.argv[1:] if words is None else words
     if any(word in ("-h", "--help") for word in words):
         print(__doc__)
         return 0

@@ -20,7 +20,18 @@ far each number may move; every other word that begins with - is handed to mps2j
 It ends with the status of the run: 0, 1 no plan, 2 no bound, more in docs/FAULTS.md; or with 64 for wrong use, 65 where MODEL is refused, 66
 where it can't be read, 70 where there is no program, 73 where a file can't be written, 130 after Ctrl-C or a TERM signal: then
 what stands is said. A deck that is punched goes to the file PUNCH of this folder."""
-import argparse, contextlib, io, json, os, pathlib, re, signal, subprocess, sys, threading, time
+import argparse
+import contextlib
+import io
+import json
+import os
+import pathlib
+import re
+import signal
+import subprocess
+import sys
+import threading
+import time
 from mps360.cli import mps2job
 from mps360.listings.read import NO_NAMES, NoListing, NoNames, each_line, name_back, names_of, parse, read_names
 from mps360.listings.tables import add_decimals, document, json_text, result_of, write_solution, write_table
@@ -418,7 +429,8 @@ def interrupt(*_):
     raise KeyboardInterrupt
 
 
-def main(words):
+def main(words=None):
+    words = sys.argv[1:] if words is None else words
     if any(word in ("-h", "--help") for word in words):
         print(__doc__)
         return 0

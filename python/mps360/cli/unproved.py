@@ -9,7 +9,14 @@ The parts of the first time, as measured of mps360 on one free processor: rt rea
 (15 seconds, optimised 50). The program NAME that comes of it is kept in crates/NAME/out/unproved under the checksum of the sources,
 and later runs begin at once. rt try would compile with a sanitizer besides, and stop after a minute; it has the last word only where
 its module can't be had, and of mps360 alone, since it doesn't show a program the files of the present folder."""
-import os, re, shutil, signal, subprocess, sys, tempfile, time
+import os
+import re
+import shutil
+import signal
+import subprocess
+import sys
+import tempfile
+import time
 
 from mps360.unproved import ATTESTS, PROVES, RUNS, Answered, NoAnswer, crate_of, kept, make, say
 
@@ -64,7 +71,8 @@ def answer(name, words):
             return run(name, program, words, given)
 
 
-def main(words):
+def main(words=None):
+    words = sys.argv[1:] if words is None else words
     signal.signal(signal.SIGTERM, lambda *_: sys.exit(143))
     if words and words[0] in ("-h", "--help"):
         print(__doc__)

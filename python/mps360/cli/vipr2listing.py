@@ -11,7 +11,11 @@ The certificate is checked first, and refused where it doesn't hold. A constrain
 it can't be, and said, a row. Refused: derivations other than lin, variables of whole numbers, bounds that don't meet, a number without an exact
 form of 12 columns. It ends with 0, with 64 for wrong use, 65 where the certificate is refused, 66 where it can't be read, 73 where a file can't
 be written."""
-import argparse, gzip, os, sys, zlib
+import argparse
+import gzip
+import os
+import sys
+import zlib
 
 from mps360 import errors
 from mps360.cli import solution2listing
@@ -71,7 +75,8 @@ def run(words):
     return 0
 
 
-def main(words):
+def main(words=None):
+    words = sys.argv[1:] if words is None else words
     if any(word in ("-h", "--help") for word in words):
         print(__doc__)
         return 0

@@ -1,5 +1,8 @@
 """Decks of problems and of revisions, read by the rules of docs/DECKS.md: the problem that a deck, fixed or free, describes, or its first fault."""
-import collections, copy, functools, re
+import collections
+import copy
+import functools
+import re
 from fractions import Fraction
 
 SECTIONS = ("NAME", "ROWS", "COLUMNS", "RHS", "RANGES", "BOUNDS", "ENDATA")

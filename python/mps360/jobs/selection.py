@@ -1,6 +1,8 @@
 """A job as its control program and its decks say it: which problem is on file, which linear program is selected, what each report of a listing is
 to be about. Nothing is solved here; follow_listing.py goes along a listing with it. Work is linear in the cards, and in the sums of combinations."""
-import copy, functools, re
+import copy
+import functools
+import re
 from fractions import Fraction
 from math import lcm
 

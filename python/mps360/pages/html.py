@@ -15,6 +15,7 @@ STOPS = {"4": "the program was called with words that it doesn't know", "8": "th
 MOST_SHOWN_BYTES, MOST_FORMULAS, LONG, MOST_NAMED = 1_000_000, 20_000, 24, 6
 PRICES = ("A shadow price is by how much the objective rises for each unit by which the limit rises at which the row stands, and a reduced cost the "
           "same for a column's limit. ")
+UNKNOWN_PROGRAM = "This page can't see which program printed the listing."
 HOLD = "Each holds while that limit alone moves in its interval."
 NO_RANGE = "How far it may move RANGE says, which this listing hasn't beside this plan (solve --ranging, or mps2job.py --ranging, asks for it)."
 STYLE = """
@@ -145,7 +146,7 @@ def row_heads(solution, near):
 
 
 class Page:
-    def __init__(self, job, listing, names, printed_by):
+    def __init__(self, job, listing, names=NO_NAMES, printed_by=UNKNOWN_PROGRAM):
         self.job, self.listing, self.printed_by = job, listing, printed_by
         self.parsed = parse(listing)
         self.reports = self.parsed["reports"]
@@ -404,6 +405,6 @@ def affine(constant, rate):
     return joined([number(str(constant)), " − " if rate < 0 else " + ", factor, "θ"])
 
 
-def page(job, listing, names=NO_NAMES, printed_by="This page can't see which program printed the listing."):
+def page(job, listing, names=NO_NAMES, printed_by=UNKNOWN_PROGRAM):
     "the page of a job and its listing, as text"
     return Page(job, listing, names, printed_by).whole()

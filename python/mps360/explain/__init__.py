@@ -1,0 +1,21 @@
+"What a listing means, in words. Nothing is solved: verdicts, rays and directions are the listing's, and are compared with the job."
+from mps360.explain.reports import explain_reports, explain_setups, replay
+from mps360.explain.stops import explain_stop
+
+
+def explain(text, parsed):
+    end = parsed["end"]
+    run, why = replay(text, parsed)
+    if end is None:
+        print("The listing has no end: it was cut off (status 25), or isn't whole.")
+        return
+    if end["text"].startswith("STOP"):
+        explain_stop(end, text, [line.rstrip(" \r") for line in text.split("\n")], run)
+    else:
+        print(end["text"])
+    if why:
+        print(f"\nThe listing isn't of this job ({why}), so it is explained by itself.")
+    if run:
+        explain_setups(run)
+    if not end["text"].startswith("STOP"):
+        explain_reports(parsed["reports"], run)
