@@ -19,6 +19,7 @@ from collections.abc import Callable, Sequence
 from dataclasses import dataclass, field
 
 from mps360 import bases, solutions, solvers
+from mps360.at_hand import Tool
 from mps360.bases import Basis
 from mps360.errors import Refused
 from mps360.jobs.write import Job
@@ -59,12 +60,6 @@ class Plan:
 
     def takes(self, route: str) -> bool:
         return self.only in (None, route)
-
-
-@dataclass(frozen=True)
-class Checker:
-    "the checker of listings: its command gets the job on standard input, and the listing as the file LISTING of its folder"
-    command: tuple[str, ...]
 
 
 @dataclass(frozen=True)
@@ -165,9 +160,8 @@ class Decided(Exception):
 class Routes:
     "the routes of one job, which mps360.jobs.write made of a model"
 
-    def __init__(self, job: Job, program: Sequence[str], plan: Plan, checker: Checker | None = None, observer: Observer | None = None) -> None:
-        "program is the command that gets a job on standard input"
-        self.job, self.program, self.plan, self.checker, self.observer = job, list(program), plan, checker, observer or Observer()
+    def __init__(self, job: Job, program: Tool, plan: Plan, checker: Tool | None = None, observer: Observer | None = None) -> None:
+        self.job, self.program, self.plan, self.checker, self.observer = job, program, plan, checker, observer or Observer()
         self.given: tuple[Basis, str] | None = None
         self.tried: list[tuple[float, Tried]] = []   # each with the time when it began
         self.opening: Attempt | None = None     # PRIMAL from the opening basis, while it runs
@@ -187,6 +181,7 @@ class Routes:
         with Processes() as processes:
             self.processes = processes
             try:
+                self.prepare()
                 return self.outcome(self.last_of_all())
             except Decided as decided:
                 if self.opening:
@@ -209,6 +204,13 @@ class Routes:
             attempt.listing, attempt.seconds = attempt.process.printed(), attempt.process.seconds
         attempt.listing = attempt.listing[:attempt.listing.rfind(b"\n") + 1]
         return self.outcome(attempt, interrupted=True)
+
+    def prepare(self) -> None:
+        "compiles a program that runs unproved and isn't compiled; its own words are told"
+        if self.program.prepare:
+            process = self.processes.start(self.program.prepare, tell=self.observer.heard, keeps=False)
+            if self.wait(process, self.left(), lambda: "waits for the program to be compiled") and process.status:
+                raise NoAnswer("no program could be compiled", process.status if 0 < process.status < 128 else NO_ANSWER)
 
     # ---- time, and waiting
 
@@ -294,7 +296,7 @@ class Routes:
         return solvers.installed(names) if self.may_ask() else []
 
     def start(self, attempt: Attempt) -> Attempt:
-        attempt.process = self.processes.start(self.program, attempt.job.encode("ascii"), tell=self.observer.heard)
+        attempt.process = self.processes.start(self.program.command, attempt.job.encode("ascii"), tell=self.observer.heard)
         return attempt
 
     def begin_opening(self) -> None:

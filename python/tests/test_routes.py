@@ -7,7 +7,7 @@ import time
 
 import fakes
 import pytest
-from mps360 import routes, solvers
+from mps360 import at_hand, routes, solvers
 from mps360.jobs.write import job_of
 from mps360.mps import Reading, read_text
 from test_solvers import GLASS, HIGHS_SOLUTION
@@ -45,8 +45,9 @@ class Told:
 def run(folder, plan, *, opening="overflow", inserted="answers", checker=None, told=None, begin=None):
     "the outcome of the routes with a stand-in for the program"
     program = fakes.program(folder, "program", fakes.PROGRAM, opening=opening, inserted=inserted)
-    attests = checker and routes.Checker((fakes.program(folder, "checker", fakes.CHECKER, answer=checker, status=0 if checker.startswith("ATTESTED") else 40),))
-    way = routes.Routes(job(), [program], plan, attests, (told or Told()).observer())
+    status = 0 if checker and checker.startswith("ATTESTED") else 40
+    attests = checker and at_hand.Tool((fakes.program(folder, "checker", fakes.CHECKER, answer=checker, status=status),), "other")
+    way = routes.Routes(job(), at_hand.Tool((program,), "other"), plan, attests, (told or Told()).observer())
     if begin:
         way.begin_at(begin, "model.bas")
     return way.run()
@@ -214,7 +215,7 @@ def test_a_program_that_gives_no_answer(tmp_path):
 
 def test_a_program_that_cant_be_run(tmp_path):
     with pytest.raises(OSError):
-        routes.Routes(job(), [str(tmp_path / "none")], plan(solvers=())).run()
+        routes.Routes(job(), at_hand.Tool((str(tmp_path / "none"),), "other"), plan(solvers=())).run()
 
 
 # ---- real solvers
@@ -234,7 +235,7 @@ def real_program(folder):
 def test_a_real_basis_takes_no_step(tmp_path, name):
     if solvers.find(name) is None:
         pytest.skip(f"{name} isn't installed")
-    outcome = routes.Routes(job(), [real_program(tmp_path)], routes.Plan(solvers=(name,), only="basis")).run()
+    outcome = routes.Routes(job(), at_hand.Tool((real_program(tmp_path),), "other"), routes.Plan(solvers=(name,), only="basis")).run()
     assert outcome.status == 0 and outcome.attempt.verdict.groups() == ("OPTIMAL", "0", "36")
     assert outcome.attempt.solver.name == name and outcome.version
 
