@@ -22,21 +22,29 @@ SHORTEST, LONGEST = 0.001, 0.05   # seconds between two looks at what runs
 MOST_FILE = 100_000_000   # bytes: a file of a program that grows past it ends the program
 
 Tell = Callable[[str], None]
+Place = pathlib.Path | None   # the folder in which a program runs, where it isn't one of its own
+
+
+def size_of(path: pathlib.Path) -> int:
+    "the size of a file in bytes, 0 where it has gone"
+    try:
+        return path.stat().st_size
+    except OSError:
+        return 0
 
 
 class Process:
     "a program that runs, or has ended; what it prints goes to a file of its folder, what it says on standard error to another"
 
-    def __init__(self, command: Sequence[str], folder: pathlib.Path, given: bytes, *, keeps: bool, tell: Tell | None) -> None:
-        self.folder, self.tell, self.heard = folder, tell, 0
+    def __init__(self, command: Sequence[str], folder: pathlib.Path, given: bytes, *, keeps: bool, tell: Tell | None, place: Place) -> None:
+        self.folder, self.tell, self.heard, self.place = folder, tell, 0, place
         self.started, self.ended_at, self.was_ended = time.monotonic(), None, False   # type: float, float | None, bool
         self.output = folder / "output" if keeps else None
         self.said = folder / "said"
         self.room = folder / "room"
-        self.room.mkdir(exist_ok=True)
         (folder / "given").write_bytes(given)
         with open(folder / "given", "rb") as source, open(self.said, "wb") as said, open(self.output or os.devnull, "wb") as output:
-            self.child = subprocess.Popen(list(command), stdin=source, stdout=output, stderr=said, cwd=self.room, start_new_session=True)
+            self.child = subprocess.Popen(list(command), stdin=source, stdout=output, stderr=said, cwd=place or self.room, start_new_session=True)
 
     @property
     def status(self) -> int | None:
@@ -52,7 +60,7 @@ class Process:
         "whether it has ended; on the way its new lines on standard error are told, and a file that grows without end ends it"
         over = self.child.poll() is not None
         self.relay()
-        if not over and any(path.stat().st_size > MOST_FILE for path in self.files()):
+        if not over and not self.place and any(size_of(path) > MOST_FILE for path in self.files()):
             self.end()
             return True
         if over and self.ended_at is None:
@@ -60,8 +68,8 @@ class Process:
         return over
 
     def files(self) -> list[pathlib.Path]:
-        "the files that it writes"
-        return [path for path in (self.said, *([self.output] if self.output else []), *self.room.iterdir()) if path.is_file()]
+        "the files that it writes beside its output"
+        return [self.said, *self.room.iterdir()]
 
     def printed(self) -> bytes:
         "what it has printed so far"
@@ -112,14 +120,14 @@ class Processes:
             self.folder.cleanup()
 
     def start(self, command: Sequence[str], given: bytes = b"", *, files: Mapping[str, bytes] | None = None, keeps: bool = True,
-              tell: Tell | None = None) -> Process:
-        """starts a program in a new folder, which has these files; given is its standard input. keeps says whether its standard output is kept; tell
-        gets its lines on standard error. OSError where it can't be run."""
+              tell: Tell | None = None, place: Place = None) -> Process:
+        """starts a program in a new folder, which has these files, or in another place; given is its standard input. keeps says whether its standard
+        output is kept; tell gets its lines on standard error. OSError where it can't be run."""
         folder = pathlib.Path(self.folder.name, str(len(self.all)))
         (folder / "room").mkdir(parents=True)
         for name, content in (files or {}).items():
             (folder / "room" / name).write_bytes(content)
-        process = Process(command, folder, given, keeps=keeps, tell=tell)
+        process = Process(command, folder, given, keeps=keeps, tell=tell, place=place)
         self.all.append(process)
         return process
 

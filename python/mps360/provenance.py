@@ -60,6 +60,8 @@ class Provenance:
         "by which route it was found, for people"
         others = f" ({self.solver_words})" if self.version else ""
         failed = [f"{tried.words}: {tried.why}" for tried in self.routes if tried.why]
+        if not self.routes:
+            return ""
         return f"By {self.route}{others}{'; before, or beside it: ' if failed else ''}{'; '.join(failed)}."
 
     def checksum_sentence(self) -> str:
@@ -67,6 +69,14 @@ class Provenance:
         what = "checker" if self.by_checker else "program"
         parts = [f"{name} {value}" for name, value in (("file", self.file_sha256), (what, self.program_sha256)) if value]
         return f"SHA-256: {', '.join(parts)}" if parts else ""
+
+    def line(self) -> str:
+        "who proved the answer, or why it isn't proved, and by which route, in a line"
+        if not self.has_verdict:
+            return f"no verdict: {tried_words(self.routes)}"
+        who = {"proved": f"proved by the {'checker' if self.by_checker else 'program'}", "unproved": f"not proved, since the {'checker' if self.by_checker else 'program'} ran unproved",
+               "other": f"not proved, since another {'checker' if self.by_checker else 'program'} ran"}[self.kind]
+        return f"{who}: by {self.route}{f' ({self.solver_words})' if self.version else ''}"
 
     def sentence(self) -> str:
         "whether the listing is proved, for people"

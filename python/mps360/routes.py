@@ -13,7 +13,6 @@ from __future__ import annotations
 
 import functools
 import os
-import re
 import time
 from collections.abc import Callable, Sequence
 from dataclasses import dataclass, field
@@ -26,22 +25,14 @@ from mps360.jobs.write import Job
 from mps360.listings import write
 from mps360.plain import Plain
 from mps360.processes import Process, Processes
+from mps360.runs import NO_END, Attempt, NoAnswer, Observer, shown, waits_for
 from mps360.solvers import NoBasis, Request, Solver
 
 OPENING_SECONDS, SOLVER_SECONDS, RUN_SECONDS = 5.0, 20.0, 20.0
-NO_END, INTERRUPTED, NO_ANSWER = 124, 130, 70
-VERDICT = re.compile(r"PRIMAL (OPTIMAL|INFEASIBLE|UNBOUNDED) STEPS (\d+)(?: OBJECTIVE (\S+))?")
+INTERRUPTED = 130
 OPENING = "PRIMAL from the opening basis"
 ROUTES = ("primal", "basis", "exact")
 EXACT_SOLVER = "esolver"
-
-
-class NoAnswer(Exception):
-    "a run ended as no run of a job ends; status is its exit status, or 70"
-
-    def __init__(self, cause: str, status: int = NO_ANSWER) -> None:
-        super().__init__(cause)
-        self.status = status
 
 
 @dataclass(frozen=True)
@@ -63,14 +54,6 @@ class Plan:
 
 
 @dataclass(frozen=True)
-class Observer:
-    "who is told how it goes on: say a sentence; heard a line that a program says on standard error; tick how long what has been waited for"
-    say: Callable[[str], None] = lambda sentence: None
-    heard: Callable[[str], None] | None = None
-    tick: Callable[[float, Callable[[], str]], None] = lambda seconds, waits: None
-
-
-@dataclass(frozen=True)
 class Tried:
     "a route, how long it took, and why it came to nothing; None where it is the one that led to the answer"
     words: str
@@ -79,74 +62,16 @@ class Tried:
 
 
 @dataclass
-class Attempt:
-    "a run of a job, and what came of it"
-    words: str
-    job: str
-    basis: Basis | None = None
-    solver: Solver | None = None
-    written: str = ""                           # the basis as the solver wrote it
-    begun: float = field(default_factory=time.monotonic)
-    process: Process | None = None
-    listing: bytes = b""
-    status: int = NO_END
-    seconds: float = 0.0
-    why: str | None = None                      # why its listing isn't whole
-    by_checker: bool = False
-
-    @property
-    def verdict(self) -> re.Match[str] | None:
-        return next((found for line in self.lines() if (found := VERDICT.match(line))), None)
-
-    def lines(self) -> list[str]:
-        "the lines of its listing that are whole"
-        return self.listing.decode("latin-1").split("\n")[:-1]
-
-    def read(self, limit: float | None) -> None:
-        "takes what the run has printed; limit is how many seconds it had, where it hadn't ended by itself"
-        process = self.process
-        assert process is not None
-        self.listing, self.seconds = process.printed(), process.seconds
-        status = NO_END if process.was_ended or process.status is None else process.status
-        self.status = status
-        if status == NO_END:
-            self.why = f"no end in {shown(limit)} seconds" if limit is not None else "it was ended"
-            return
-        self.why = stop_words(self.lines(), status)
-        if self.why is None and (status not in (0, 1, 2) or not self.verdict):
-            raise NoAnswer(f"the program gave no answer (it ended with {status})", status if 2 < status < 128 else NO_ANSWER)
-
-
-def shown(seconds: float | None) -> str:
-    "seconds as text, to a hundredth"
-    return f"{round(seconds or 0.0, 2):g}"
-
-
-def stop_words(lines: Sequence[str], status: int) -> str | None:
-    "why a run stopped, where it stopped as a run of a lawful job may"
-    stop = next((line for line in lines if line.startswith("STOP ")), "")
-    known = {"STOP 10 VERB FAULT 15 ": "the basis is singular", "STOP 20 ": "a number doesn't fit", "STOP 16 ": "the limit of steps was met"}
-    for begin, words in known.items():
-        if stop.startswith(begin):
-            return words
-    return "memory ran out" if status == 28 else None
-
-
-@dataclass
 class Outcome:
     "what the routes came to: the attempt whose listing it is, and all that were tried, in their order"
     attempt: Attempt
     routes: list[Tried]
-    interrupted: bool = False
     version: str = ""                           # of the solver whose basis or answer it is
 
     @property
     def status(self) -> int:
-        return INTERRUPTED if self.interrupted else self.attempt.status
-
-    @property
-    def is_decided(self) -> bool:
-        return self.attempt.verdict is not None and not self.interrupted
+        "the exit status"
+        return INTERRUPTED if self.attempt.interrupted else self.attempt.status
 
 
 class Decided(Exception):
@@ -165,6 +90,7 @@ class Routes:
         self.given: tuple[Basis, str] | None = None
         self.tried: list[tuple[float, Tried]] = []   # each with the time when it began
         self.opening: Attempt | None = None     # PRIMAL from the opening basis, while it runs
+        self.running: Attempt | None = None     # a run from a basis, while it runs
         self.kept: list[Attempt] = []           # attempts whose listings aren't whole; what stands where no other is
         self.first_basis = ""                   # the first basis that a solver gave, as a basis file of the plain model
         self.begun = time.monotonic()
@@ -191,30 +117,28 @@ class Routes:
             except KeyboardInterrupt:
                 return self.stopped()
 
-    def outcome(self, attempt: Attempt, interrupted: bool = False) -> Outcome:
+    def outcome(self, attempt: Attempt) -> Outcome:
         "what the routes came to; those that were tried stand in the order in which they began"
         routes = [tried for _, tried in sorted(self.tried, key=lambda pair: pair[0])]
-        return Outcome(attempt, routes, interrupted, attempt.solver.version if attempt.solver and not interrupted else "")
+        return Outcome(attempt, routes, attempt.solver.version if attempt.solver and not attempt.interrupted else "")
 
     def stopped(self) -> Outcome:
         "what stands at an interruption"
         attempt = next((one for one in (self.running, self.opening, *self.kept) if one and one.process), None) or Attempt(OPENING, self.job.text)
         if attempt.process:
             attempt.process.end()
-            attempt.listing, attempt.seconds = attempt.process.printed(), attempt.process.seconds
-        attempt.listing = attempt.listing[:attempt.listing.rfind(b"\n") + 1]
-        return self.outcome(attempt, interrupted=True)
+            attempt.take()
+        attempt.interrupted = True
+        return self.outcome(attempt)
 
     def prepare(self) -> None:
         "compiles a program that runs unproved and isn't compiled; its own words are told"
         if self.program.prepare:
             process = self.processes.start(self.program.prepare, tell=self.observer.heard, keeps=False)
             if self.wait(process, self.left(), lambda: "waits for the program to be compiled") and process.status:
-                raise NoAnswer("no program could be compiled", process.status if 0 < process.status < 128 else NO_ANSWER)
+                raise NoAnswer.of(process.status)
 
     # ---- time, and waiting
-
-    running: Attempt | None = None
 
     def left(self) -> float | None:
         "the seconds that are left of all"
@@ -296,7 +220,7 @@ class Routes:
         return solvers.installed(names) if self.may_ask() else []
 
     def start(self, attempt: Attempt) -> Attempt:
-        attempt.process = self.processes.start(self.program.command, attempt.job.encode("ascii"), tell=self.observer.heard)
+        attempt.process = self.processes.start(self.program.command, attempt.job.encode("latin-1"), tell=self.observer.heard)
         return attempt
 
     def begin_opening(self) -> None:
@@ -305,7 +229,7 @@ class Routes:
         seconds = self.seconds_for(self.plan.opening_seconds if self.may_ask() else None)
         if self.wait_opening(seconds) or self.is_late() or not self.those_asked:
             return
-        self.observer.say(f"PRIMAL had no end in {shown(seconds)} s")
+        self.observer.going(f"PRIMAL had no end in {shown(seconds)} s")
         if self.plan.processors < 2:
             self.end_opening(seconds)
 
@@ -320,18 +244,20 @@ class Routes:
 
     def try_opening(self) -> None:
         "PRIMAL from the opening basis, to its end"
+        seconds = limit = self.seconds_for(self.plan.last_seconds)
         if self.opening is None:
             if any(one.words == OPENING and one.status != NO_END for one in self.kept):
                 return
             self.opening = self.start(Attempt(OPENING, self.job.text))
-        seconds = self.seconds_for(self.plan.last_seconds)
+        elif seconds is not None and self.opening.process:
+            limit = self.opening.process.seconds + seconds
         if not self.wait_opening(seconds):
-            self.end_opening(self.opening.process.seconds if self.opening and self.opening.process else seconds)
+            self.end_opening(limit)
 
     def try_solver(self, solver: Solver) -> None:
         "asks a solver for a basis, and begins there"
         attempt = Attempt(f"INSERT of {solver.title}'s basis and PRIMAL", "", solver=solver)
-        self.observer.say(f"asking {solver.title} for a basis")
+        self.observer.going(f"asking {solver.title} for a basis")
         try:
             attempt.basis, attempt.written = self.asked(lambda: solver.ask(self.plain_form(), self.processes), solver).basis()
         except (NoBasis, Refused, OSError) as cause:
@@ -385,7 +311,7 @@ class Routes:
         try:
             if self.checker is None:
                 raise NoBasis("no checker of listings is at hand (scripts/build.sh builds it)")
-            self.observer.say(f"asking {solver.title} for an exact answer")
+            self.observer.going(f"asking {solver.title} for an exact answer")
             request = self.asked(lambda: solver.ask_exactly(self.plain_form(), self.processes, self.first_basis), solver)
             attempt.written = request.written()
             attempt.listing = self.listing_of(attempt.written).encode("latin-1")
@@ -409,7 +335,7 @@ class Routes:
     def attest(self, attempt: Attempt) -> None:
         "asks the checker of listings; NoBasis where it doesn't attest"
         assert self.checker is not None
-        process = self.processes.start(self.checker.command, attempt.job.encode("ascii"), files={"LISTING": attempt.listing}, tell=self.observer.heard)
+        process = self.processes.start(self.checker.command, attempt.job.encode("latin-1"), files={"LISTING": attempt.listing}, tell=self.observer.heard)
         if not self.wait(process, self.left(), lambda: "waits for the checker of listings"):
             raise NoBasis("the checker of listings had no end in the time that was left")
         said = process.printed().decode("latin-1")
@@ -425,13 +351,3 @@ class Routes:
         if self.tried and not self.is_late():
             raise NoBasis("; ".join(tried.why for _, tried in self.tried if tried.why))
         return Attempt(OPENING, self.job.text, why=f"no end in {shown(self.plan.seconds)} seconds")
-
-
-def waits_for(attempt: Attempt) -> str:
-    "what a run of the program does, as far as its listing tells"
-    assert attempt.process is not None
-    attempt.listing = attempt.process.printed()
-    lines = attempt.lines()
-    if not lines:
-        return "waits for the program's first line"
-    return f"waits for {attempt.words}; the listing has {len(lines)} lines so far"

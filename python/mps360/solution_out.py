@@ -6,15 +6,16 @@
 The names are those of the MPS file. Numbers of a solution are rounded to 15 digits, as these programs do; the exact ones stand in the listing."""
 from __future__ import annotations
 
-from collections.abc import Callable, Iterable, Mapping
+from collections.abc import Mapping, Sequence
 from dataclasses import dataclass
 from fractions import Fraction
 
-from mps360.bases import BASIC, FREE, LOWER, UPPER
+from mps360.bases import BASIC, FREE, LOWER, UPPER, Basis
 from mps360.errors import Refused
+from mps360.model import Model
 from mps360.plain import basis_cards, has_two
 
-AT = {"BS": BASIC, "LL": LOWER, "UL": UPPER, "EQ": LOWER, "FR": FREE}
+AT = {"BS": BASIC, "LL": LOWER, "UL": UPPER, "EQ": LOWER, "FR": FREE, "**": BASIC}
 FORMS = ("glpsol", "highs")
 GLPSOL_LETTERS = {BASIC: "b", LOWER: "l", UPPER: "u", FREE: "f"}
 HIGHS_STATUS = {LOWER: 0, BASIC: 1, UPPER: 2, FREE: 3}
@@ -114,6 +115,20 @@ def nothing_text(verdict: str) -> str:
     return f"Model status\n{verdict.capitalize()}\n\n# Primal solution values\nNone\n\n# Dual solution values\nNone\n\n# Basis\nHiGHS v1\nNone\n"
 
 
-def lines_of(names: Iterable[str], table: Mapping[str, tuple[str, Fraction, Fraction]], limits_of: Callable[[str], Limits]) -> tuple[Line, ...]:
-    "the lines of these names, in their order, from (AT of the listing, activity, price)"
-    return tuple(Line(name, AT[at], activity, price, limits_of(name)) for name, (at, activity, price) in ((name, table[name]) for name in names))
+Cell = tuple[str, Fraction, Fraction]   # AT of the listing, the activity, and the dual value or reduced cost
+
+
+def point_of(model: Model, rows: Sequence[Cell], columns: Sequence[Cell], *, basis: Basis | None = None, has_basis: bool = True) -> Point:
+    """the point of a SOLUTION, whose rows and columns are in the model's order. AT says how each stands; or the basis does, of an answer whose AT says
+    only where values stand. ValueError where they aren't as many as the model's."""
+    row_at, column_at = (basis.rows, basis.columns) if basis else ({}, {})
+
+    def line(name: str, cell: Cell, stands: Mapping[str, str], limits: Limits) -> Line:
+        at, activity, price = cell
+        return Line(name, stands[name] if basis else AT[at], activity, price, limits)
+
+    listed = dict(zip(model.rows, rows, strict=True))
+    entries = sum(model.rows.get(row, "N") != "N" for column in model.columns for row in model.numbers_of(column))
+    return Point(model.name, model.objective or "", model.sense or "MIN", listed[model.objective][1] + model.constant, entries,
+                 tuple(line(row, cell, row_at, model.row_limits(row)) for row, cell in listed.items() if model.rows[row] != "N"),
+                 tuple(line(name, cell, column_at, model.column_limits(name)) for name, cell in zip(model.columns, columns, strict=True)), has_basis)

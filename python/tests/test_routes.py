@@ -7,7 +7,7 @@ import time
 
 import fakes
 import pytest
-from mps360 import at_hand, routes, solvers
+from mps360 import at_hand, routes, runs, solvers
 from mps360.jobs.write import job_of
 from mps360.mps import Reading, read_text
 from test_solvers import GLASS, HIGHS_SOLUTION
@@ -34,7 +34,7 @@ class Told:
         self.said, self.waited, self.stop = [], [], stop
 
     def observer(self):
-        return routes.Observer(say=self.said.append, tick=self.tick)
+        return runs.Observer(say=self.said.append, going=self.said.append, tick=self.tick)
 
     def tick(self, seconds, waits):
         self.waited.append(waits())
@@ -193,7 +193,7 @@ def test_interrupted(tmp_path):
     with fakes.only_path(tmp_path) as pids:
         told = Told(stop=lambda waits: "1 lines" in waits and pids.exists())
         outcome = run(tmp_path, plan(solvers=()), opening="hangs", told=told)
-        assert outcome.interrupted and outcome.status == 130 and outcome.attempt.lines() == ["TITLE FAKE"]
+        assert outcome.attempt.interrupted and outcome.status == 130 and outcome.attempt.lines() == ["TITLE FAKE"]
         assert fakes.left_over(pids) == []
 
 
@@ -202,13 +202,13 @@ def test_interrupted_while_a_solver_runs(tmp_path):
         fakes.program(tmp_path, "clp", fakes.HANGS)
         told = Told(stop=lambda waits: "basis of clp" in waits and pids.exists() and pids.read_text().endswith("\n"))
         outcome = run(tmp_path, plan(solvers=("clp",), solver_seconds=60.0), told=told)
-        assert outcome.interrupted and outcome.attempt.lines()[-1].startswith("STOP 20")
+        assert outcome.attempt.interrupted and outcome.attempt.lines()[-1].startswith("STOP 20")
         assert fakes.left_over(pids) == []
 
 
 def test_a_program_that_gives_no_answer(tmp_path):
     with fakes.only_path(tmp_path):
-        with pytest.raises(routes.NoAnswer) as none:
+        with pytest.raises(runs.NoAnswer) as none:
             run(tmp_path, plan(solvers=()), opening="fails")
     assert none.value.status == 70
 
