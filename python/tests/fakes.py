@@ -6,6 +6,8 @@ import sys
 import textwrap
 import time
 
+import places  # pylint: disable=unused-import  (the packages are known from here on)
+
 # what a stand-in for a solver does; its words stand in sys.argv
 CRASHES = "import os, signal; os.kill(os.getpid(), signal.SIGSEGV)"
 FAILS = "sys.exit(3)"

@@ -6,6 +6,7 @@ import sys
 import time
 
 import fakes
+import places
 import pytest
 from mps360 import at_hand, routes, runs, solvers
 from mps360.jobs.write import job_of
@@ -224,9 +225,8 @@ def real_program(folder):
     "the program of MPS360_PROGRAM, or a script that runs the oracle"
     if os.environ.get("MPS360_PROGRAM"):
         return os.environ["MPS360_PROGRAM"]
-    top = pathlib.Path(__file__).resolve().parent.parent
     path = pathlib.Path(folder, "oracle-program")
-    path.write_text(f"#!/bin/sh\ncd {str(top)!r} && exec {sys.executable!r} -m oracle.listing -\n", encoding="utf-8")
+    path.write_text(f"#!/bin/sh\nexec {sys.executable} {places.ORACLE} listing\n", encoding="utf-8")
     path.chmod(0o755)
     return str(path)
 

@@ -5,6 +5,7 @@ import shutil
 import subprocess
 from fractions import Fraction
 
+import places  # pylint: disable=unused-import  (the packages are known from here on)
 import pytest
 from mps360 import bases, highs_files, solution_out
 from mps360.errors import Refused

@@ -2,6 +2,7 @@
 import random
 from fractions import Fraction
 
+import places  # pylint: disable=unused-import  (the packages are known from here on)
 import pytest
 from mps360 import value_bases
 from mps360.bases import BASIC, LOWER, UPPER
