@@ -1,6 +1,6 @@
 #!/usr/bin/env bash
 # Small checks of the repository, which run after the gate, in under a minute. A check whose tool is missing is skipped, and so is,
-# saying so, what needs the proved program where it isn't fresh.
+# saying so, what needs the proved program where it isn't fresh. With CHECK_WHOLE=1 a tool that is missing (pytest, mypy) is a fault too.
 # usage: check.sh      ends with 1 where a check fails
 set -u
 case ${1:-} in
@@ -10,7 +10,9 @@ case ${1:-} in
         ;;
 esac
 cd "$(dirname "$0")/.." || exit 1
-failed=0
+failed=0 missing='' typed=''
+room=$(mktemp -d)
+trap 'rm -rf "$room"' EXIT
 fail() {
     echo "check: $*" >&2
     failed=1
@@ -75,6 +77,24 @@ if command -v python3 >/dev/null; then
     wait "$answers" || fail "a solution, a listing or a certificate becomes another than it is, or is taken where it should be refused"
     wait "$files" || fail "mps2job.py changes a problem, or takes a file that it should refuse"
     wait "$installed" || fail "build.sh, install.sh, an installed command or mps360-batch does otherwise than it is to do"
+    # The tests of the packages: by pytest where a python3 has it, else by plain_tests.py, which runs the same files.
+    tester=
+    for python in python3 /usr/bin/python3; do
+        [ -n "$tester" ] || ! "$python" -c 'import pytest' 2>/dev/null || tester=$python
+    done
+    if [ -n "$tester" ]; then
+        "$tester" -m pytest -q python/tests >"$room/tests" 2>&1 || { tail -n 60 "$room/tests" >&2 && fail "a test of python/tests"; }
+        tail -n 1 "$room/tests" | sed 's/^/check: python\/tests: /'
+    else
+        missing="pytest (apt-get install python3-pytest; dev/plain_tests.py ran the tests) "
+        python3 dev/plain_tests.py || fail "a test of python/tests"
+    fi
+    if command -v mypy >/dev/null; then
+        (cd python && mypy --no-error-summary $typed) || fail "types of the packages"
+    else
+        missing="${missing}mypy (apt-get install mypy): no types were checked"
+    fi
+    [ -z "$missing" ] || [ -z "${CHECK_WHOLE:-}" ] || fail "missing: $missing"
     if scripts/program.sh --fresh >/dev/null; then
         bash dev/examples.sh || fail "the program prints other listings of examples/"
         python3 dev/faults.py --run || fail "the program ends the jobs of examples/faults otherwise"
@@ -89,5 +109,5 @@ if command -v python3 >/dev/null; then
     fi
 fi
 
-[ "$failed" -eq 0 ] && echo "check: ok"
+[ "$failed" -eq 0 ] && echo "check: ok${missing:+, but without $missing}"
 exit "$failed"

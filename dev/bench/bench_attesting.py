@@ -25,9 +25,9 @@ sys.path.insert(0, str(pathlib.Path(__file__).resolve().parents[2] / "python"))
 import bench_bases
 from mps360 import mps
 from mps360.cli import mps2job
-from mps360.cli import prove
 from mps360.cli import solution2listing
 from mps360.jobs.write import job_of
+from mps360.plain import Plain
 from mps360.listings.write import Answer, listing_of
 from mps360 import programs
 from oracle.attesting import ATTESTED, UNCHECKED, attest
@@ -73,8 +73,8 @@ def counts(asked, options):
             for decimals in bench_bases.DECIMALS:
                 ends = collections.Counter()
                 for number in range(1, options.models + 1):
-                    model = prove.plain_model(bench_bases.made_model(rows, decimals, number))
-                    ends[end_of(asked, prove.plain_text(model), pathlib.Path(folder), options.seconds)] += 1
+                    model = Plain(bench_bases.made_model(rows, decimals, number))
+                    ends[end_of(asked, model.text, pathlib.Path(folder), options.seconds)] += 1
                 print("| " + " | ".join(str(cell) for cell in (rows, decimals, options.models, *(ends[end] for end in ENDS))) + " |", flush=True)
 
 

@@ -12,10 +12,10 @@ and at 0. Programs that write XU, XL, UL and LL mean the same by basic, but not 
     lp_solve turns L rows, and E rows with a range below 0: what it calls lower is their upper limit
     glpsol has no such cards: its -w writes one line for each row that isn't N, and each column, by their numbers
 So where a row has one limit, or two that are equal, the code is of no use, and where it has two that differ it goes by the writer."""
-import gzip
 import re
 from dataclasses import dataclass, field
 from mps360.errors import Refused
+from mps360.files import unzipped
 from mps360.text import some_of
 
 BASIC, LOWER, UPPER, FREE = "BS", "LL", "UL", "FR"
@@ -287,13 +287,7 @@ def read_text(text, model, writer=None):
 def read_file(path, model, writer=None):
     with open(path, "rb") as source:
         data = source.read(MOST_TEXT + 1)
-    if data[:2] == b"\x1f\x8b":
-        try:
-            data = gzip.decompress(data)
-        except (OSError, EOFError) as cause:
-            raise Refused(f"it begins as a gzipped file, and isn't one: {cause}")
-    if len(data) > MOST_TEXT:
-        raise Refused(f"it has more than {MOST_TEXT:,} bytes")
+    data = unzipped(data, MOST_TEXT)
     try:
         return read_text(data.decode("utf-8-sig"), model, writer)
     except UnicodeDecodeError:

@@ -11,6 +11,7 @@ import sys
 from dataclasses import dataclass, replace
 from fractions import Fraction
 from mps360.errors import Refused
+from mps360.files import unzipped
 from mps360.fields import FIELDS, LAST_COLUMN, Line
 from mps360.model import MOST, Limits, Model
 from mps360.numbers import NUMBER, decimal_text, has_text, nearest, number, text_of
@@ -507,17 +508,7 @@ def read_text(text, reading=Reading()):
 
 
 def read_bytes(data, reading=Reading()):
-    if data[:2] == b"\x1f\x8b":
-        import gzip
-        import io
-        import zlib
-        try:
-            with gzip.open(io.BytesIO(data)) as source:
-                data = source.read(MOST_TEXT + 1)
-        except (OSError, EOFError, zlib.error) as cause:
-            raise Refused(f"it begins as a gzipped file, and isn't one: {cause}")
-    if len(data) > MOST_TEXT:
-        raise Refused(f"it has more than {MOST_TEXT:,} bytes")
+    data = unzipped(data, MOST_TEXT)
     if data[:2] in (codecs.BOM_UTF16_LE, codecs.BOM_UTF16_BE):
         raise Refused("it is UTF-16; save it as UTF-8")
     try:

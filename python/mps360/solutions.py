@@ -5,13 +5,12 @@
 
 Two forms are read, gzipped too: what `esolver -O` of QSopt_ex writes, which leaves out what is 0; and JSON, which the page on models of other
 solvers describes. Numbers are whole, or fractions such as -7/3: a decimal number is refused, since most programs round it."""
-import gzip
-import io
 import json
 import re
-import zlib
 from fractions import Fraction
 
+from mps360.errors import Refused
+from mps360.files import unzipped
 from mps360.listings.write import Answer
 
 FRACTION = re.compile(r"[+-]?[0-9]{1,4000}(?:/[0-9]{1,4000})?")
@@ -163,14 +162,10 @@ def read_crossed(given, model):
 # ---- a file
 
 def read_bytes(data, model):
-    if data[:2] == b"\x1f\x8b":
-        try:
-            with gzip.open(io.BytesIO(data)) as source:
-                data = source.read(MOST_BYTES + 1)
-        except (OSError, EOFError, zlib.error) as cause:
-            raise NoSolution(f"it begins as a gzipped file, and isn't one: {cause}") from None
-    if len(data) > MOST_BYTES:
-        raise NoSolution(f"it has more than {MOST_BYTES:,} bytes")
+    try:
+        data = unzipped(data, MOST_BYTES)
+    except Refused as cause:
+        raise NoSolution(str(cause)) from None
     try:
         text = data.decode("utf-8-sig")
     except UnicodeDecodeError:

@@ -11,7 +11,9 @@ import places
 
 PACKAGES = ("mps360", "oracle")
 # what an answer in text doesn't need: loaded where it is used, since each costs time at every start
-HEAVY = ("gzip", "csv", "html", "textwrap", "tempfile", "mps360.jobs.decks", "mps360.pages")
+HEAVY = ("gzip", "csv", "html", "textwrap", "mps360.jobs.decks", "mps360.pages")
+# what only an extra of the package needs, in a child process or in a module of its own
+EXTRAS = {"scipy", "numpy", "pulp"}
 
 
 def modules(package: str) -> list[pathlib.Path]:
@@ -43,7 +45,7 @@ def test_packages_are_apart(package: str) -> None:
     for path in modules(package):
         roots = {name.partition(".")[0] for name in imported(path)}
         assert not roots & others, path
-        assert roots - {package} <= sys.stdlib_module_names, path
+        assert roots - {package} - EXTRAS <= sys.stdlib_module_names, path
 
 
 def test_checker_of_certificates_is_one_file() -> None:
@@ -52,9 +54,9 @@ def test_checker_of_certificates_is_one_file() -> None:
 
 
 def test_commands_alone_meet_the_command_line() -> None:
-    "argparse, sys.argv and handlers of signals stand in cli"
+    "argparse, sys.argv and handlers of signals stand in cli; solvers.py is called as a child process too"
     for path in modules("mps360"):
-        if path.parent.name != "cli":
+        if path.parent.name != "cli" and path.name != "solvers.py":
             assert "argparse" not in set(imported(path)), path
             assert not used(path) & {"sys.argv", "signal.signal"}, path
 

@@ -12,15 +12,14 @@ it can't be, and said, a row. Refused: derivations other than lin, variables of 
 form of 12 columns. It ends with 0, with 64 for wrong use, 65 where the certificate is refused, 66 where it can't be read, 73 where a file can't
 be written."""
 import argparse
-import gzip
 import os
 import sys
-import zlib
 
 from mps360 import errors
 from mps360.cli import solution2listing
 from mps360.cli.mps2job import say
 from mps360.cli.solution2listing import Ended
+from mps360.files import unzipped
 from mps360.jobs.write import job_of
 from mps360.listings.write import Refused, listing_of
 from mps360.vipr import NoCertificate, Wrong, check, model_of, read
@@ -37,11 +36,9 @@ def text_of(path):
     "the text of a certificate's file, gzipped or not"
     try:
         with open(path, "rb") as source:
-            is_gzipped = source.read(2) == b"\x1f\x8b"
-        with (gzip.open if is_gzipped else open)(path, "rb") as source:
-            return source.read(MOST_BYTES).decode("latin-1")
-    except (gzip.BadGzipFile, EOFError, zlib.error) as cause:
-        raise Ended(65, f"{path}: it begins as a gzipped file, and isn't one: {cause}") from None
+            return unzipped(source.read(MOST_BYTES + 1), MOST_BYTES).decode("latin-1")
+    except errors.Refused as cause:
+        raise Ended(65, f"{path}: {cause}") from None
     except OSError as cause:
         raise Ended(66, f"can't read {path}: {cause.strerror}") from None
 
