@@ -4,11 +4,15 @@
 class Refused(Exception):
     "why a file isn't taken; the line and the part of it that is shown, where there is one"
 
-    def __init__(self, cause, word=None, line=None):
+    text: str | None
+    span: tuple[int, int] | None
+
+    def __init__(self, cause: str, word: int | str | tuple[int, int] | None = None, line: int | None = None) -> None:
+        "the word is shown in its line: as text, as the number of a word or field of the line (from 0), or as the columns from and to"
         super().__init__(cause)
         self.cause, self.word, self.line, self.text, self.span = cause, word, line, None, None
 
-    def __str__(self):
+    def __str__(self) -> str:
         if self.line is None:
             return self.cause
         told = f"line {self.line}: {self.cause}"

@@ -1,4 +1,5 @@
 "The parts of a line of an MPS file: its words, or its fields by their columns."
+from collections.abc import Collection
 import re
 from mps360.errors import Refused
 
@@ -14,7 +15,7 @@ BY_COLUMNS = re.compile(r" ([^\t]{2}) ([^\t]{8})  ([^\t]{8})  ([^\t]{12})   ([^\
 class Line:
     "the words or the fields of a line, by which its parts are known"
 
-    def __init__(self, text, fixed):
+    def __init__(self, text: str, fixed: bool) -> None:
         self.text, self.fixed = text, fixed
         if fixed:
             self.check_gaps()
@@ -24,13 +25,13 @@ class Line:
             self.words = WORDS.findall(text)
 
     @property
-    def spans(self):
+    def spans(self) -> list[tuple[int, int]]:
         "where the words or the fields stand"
         if self.fixed:
             return [(a, max(a + 1, min(b, len(self.text)))) for a, b in FIELDS]
         return [found.span() for found in WORDS.finditer(self.text)]
 
-    def check_gaps(self):
+    def check_gaps(self) -> None:
         if "\t" in self.text:
             raise Refused("a tab has no place among columns", "\t")
         self.check_remark()
@@ -41,14 +42,14 @@ class Line:
                 start = self.text.index(between, a)
                 raise Refused(f"something stands between the fields, in columns {a + 1} to {b}", (start, start + len(between)))
 
-    def check_remark(self):
+    def check_remark(self) -> None:
         "a $ at the start of field 3 or 5 begins a remark"
         self.remark = next((a for a, b in (FIELDS[2], FIELDS[4]) if self.text[a:a + 1] == "$"), None)
         if self.remark is not None:
             self.marked = self.text[self.remark:self.remark + 8].rstrip(" ")
             self.text = self.text[:self.remark].rstrip(" ")
 
-    def cut_remark(self, section, known):
+    def cut_remark(self, section: str, known: Collection[str]) -> None:
         "leaves out a remark; refused where the word that begins it is a name"
         if self.fixed:
             if self.remark is not None and self.marked in known:
@@ -64,12 +65,12 @@ class Line:
                 del self.words[place:]
                 return
 
-    def by_columns(self):
+    def by_columns(self) -> list[str] | None:
         "the parts of the line by the columns of fields, or None where something stands between these"
         found = BY_COLUMNS.fullmatch(self.text.ljust(LAST_COLUMN))
-        return found and [part.strip(" ") for part in found.groups()]
+        return [part.strip(" ") for part in found.groups()] if found else None
 
-    def span_of(self, word):
+    def span_of(self, word: int | str | tuple[int, int]) -> tuple[int, int] | None:
         "where a part stands: a place among the words, a word, or columns"
         if isinstance(word, tuple):
             return word

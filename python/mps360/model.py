@@ -10,6 +10,7 @@ A Model holds all of the file, by the file's names, with Fractions for numbers a
     left out or chosen"""
 from dataclasses import dataclass, field
 from fractions import Fraction
+from typing import TypeVar
 
 # what a job holds at most
 MOST = {"rows": 1000, "columns": 5000, "entries": 50000, "cards": 200_000}
@@ -24,29 +25,38 @@ class Limits:
     upper_line: int = 0
 
 
+Value = TypeVar("Value")
+
+
+def of_set(sets: dict[str, dict[str, Value]], name: str | None) -> dict[str, Value]:
+    "the items of a set; none where no set is taken"
+    return sets.get(name, {}) if name is not None else {}
+
+
 @dataclass
 class Model:
+    "a linear program by the names of its file"
     name: str = ""
-    sense: str | None = None
-    objective: str | None = None
-    rows: dict = field(default_factory=dict)
-    parts: dict = field(default_factory=dict)
-    columns: dict = field(default_factory=dict)
-    rhs: dict = field(default_factory=dict)
-    ranges: dict = field(default_factory=dict)
-    bounds: dict = field(default_factory=dict)
+    sense: str = "MIN"
+    objective: str = ""
+    rows: dict[str, str] = field(default_factory=dict)
+    parts: dict[str, dict[str, Fraction]] = field(default_factory=dict)
+    columns: dict[str, dict[str, Fraction]] = field(default_factory=dict)
+    rhs: dict[str, dict[str, Fraction]] = field(default_factory=dict)
+    ranges: dict[str, dict[str, Fraction]] = field(default_factory=dict)
+    bounds: dict[str, dict[str, Limits]] = field(default_factory=dict)
     rhs_set: str | None = None
     range_set: str | None = None
     bound_set: str | None = None
-    relaxed: list = field(default_factory=list)
-    rounded: list = field(default_factory=list)
-    said: list = field(default_factory=list)
+    relaxed: list[str] = field(default_factory=list)
+    rounded: list[tuple[int, str, Fraction]] = field(default_factory=list)
+    said: list[str] = field(default_factory=list)
     constant_sign: int = -1
 
-    def row_limits(self, row):
+    def row_limits(self, row: str) -> tuple[Fraction | None, Fraction | None]:
         "the lower and the upper limit of a row, None where it has none"
-        kind, limit = self.rows[row], self.rhs.get(self.rhs_set, {}).get(row, Fraction(0))
-        span = self.ranges.get(self.range_set, {}).get(row)
+        kind, limit = self.rows[row], of_set(self.rhs, self.rhs_set).get(row, Fraction(0))
+        span = of_set(self.ranges, self.range_set).get(row)
         if kind == "N":
             return None, None
         if kind == "E":
@@ -55,7 +65,7 @@ class Model:
             return (None if span is None else limit - abs(span)), limit
         return limit, (None if span is None else limit + abs(span))
 
-    def numbers_of(self, column):
+    def numbers_of(self, column: str) -> dict[str, Fraction]:
         "the numbers of a column: its entries, and on each combination the sum of its parts, each its multiplier times the number on the part's row"
         numbers = dict(self.columns[column])
         for row in self.rows if self.parts else ():
@@ -64,14 +74,16 @@ class Model:
                 numbers[row] = sum(met, Fraction(0))
         return numbers
 
-    def column_limits(self, column):
-        limits = self.bounds.get(self.bound_set, {}).get(column, Limits())
+    def column_limits(self, column: str) -> tuple[Fraction | None, Fraction | None]:
+        "the lower and the upper limit of a column, None where it has none"
+        limits = of_set(self.bounds, self.bound_set).get(column, Limits())
         return limits.lower, limits.upper
 
-    def constant_of(self, rhs_set, row):
-        return self.constant_sign * self.rhs.get(rhs_set, {}).get(row, Fraction(0))
+    def constant_of(self, rhs_set: str | None, row: str) -> Fraction:
+        "the constant that a set of RHS gives to an N row"
+        return self.constant_sign * of_set(self.rhs, rhs_set).get(row, Fraction(0))
 
     @property
-    def constant(self):
+    def constant(self) -> Fraction:
         "what is added to the objective's activity"
         return self.constant_of(self.rhs_set, self.objective)

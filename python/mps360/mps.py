@@ -5,6 +5,7 @@
 
 Reading says how a file is read where programs differ, and which numbers are taken: "exact" takes every decimal number and any size, "job"
 refuses what a job can't hold, "round" rounds to the nearest number that 12 columns hold. PATH may be gzipped, or - for standard input."""
+from typing import Any
 import codecs
 import re
 import sys
@@ -49,22 +50,31 @@ class Reading:
 
 
 class Reader:
-    def __init__(self, reading):
+    "takes the lines of a file one after the other; line is the number of the present one, counted from 1"
+    def __init__(self, reading: Reading) -> None:
         self.reading, self.model = reading, Model(constant_sign=-1 if reading.constant == "minus" else 1)
-        self.sets = {"RHS": self.model.rhs, "RANGES": self.model.ranges, "BOUNDS": self.model.bounds}
+        self.sets: dict[str, dict[str, dict[str, Any]]] = {"RHS": self.model.rhs, "RANGES": self.model.ranges, "BOUNDS": self.model.bounds}
         self.entries = self.line = 0
-        self.section = self.said_sense = self.said_objective = self.last_column = None
+        self.section = ""
+        self.said_sense: str | None = None
+        self.said_objective: tuple[str, int] | None = None
+        self.last_column: str | None = None
         # the type and the name on the line of ROWS before, where that is a combination's
-        self.combining = None
-        self.last_set, self.whole, self.marked, self.lines = {}, {}, {}, {}
+        self.combining: tuple[str, str] | None = None
+        self.last_set: dict[str, str] = {}
+        self.whole: dict[str, int] = {}
+        self.marked: dict[str, int] = {}
+        self.lines: dict[str, list[int]] = {}
         self.named = self.between_markers = False
         self.exact = reading.numbers == "exact"
         self.takes = {"ROWS": self.take_row, "COLUMNS": self.take_column, "RHS": self.take_value, "RANGES": self.take_value, "BOUNDS": self.take_bound}
 
-    def note(self, kind):
+    def note(self, kind: str) -> None:
+        "the present line is one of this kind"
         self.lines.setdefault(kind, []).append(self.line)
 
-    def read(self, text):
+    def read(self, text: str) -> Model:
+        "the model of a whole text"
         lines = re.split(r"\r\n|\n|\r", text)
         try:
             for self.line, line in enumerate(lines, 1):
@@ -83,18 +93,20 @@ class Reader:
             raise
         return self.model
 
-    def show(self, cause, lines):
+    def show(self, cause: Refused, lines: list[str]) -> None:
         "gives a refusal its line, and the part of that which is meant"
         if cause.line and cause.text is None:
             cause.text = lines[cause.line - 1]
             if isinstance(cause.word, str):
                 cause.span = Line(cause.text, False).span_of(cause.word)
 
-    def take_comment(self, line):
+    def take_comment(self, line: str) -> None:
+        "a remark; one that asks for the greatest objective is told, since remarks aren't read"
         if re.match(r"\*\s*sense\s*:\s*max", line, re.I):
             self.lines.setdefault("maximizing", []).append(self.line)
 
-    def take(self, text):
+    def take(self, text: str) -> None:
+        "a line that isn't blank and no remark"
         line = None
         try:
             if text[0] not in " \t":
@@ -104,8 +116,7 @@ class Reader:
                 line = Line(text, self.reading.form == "fixed")
                 if line.fixed and line.text[LAST_COLUMN:]:
                     self.note("past")
-                known = self.model.columns if self.section == "BOUNDS" else self.model.rows
-                line.cut_remark(self.section, known)
+                line.cut_remark(self.section, self.model.columns.keys() if self.section == "BOUNDS" else self.model.rows.keys())
                 self.takes[self.section](line)
             else:
                 line = Line(text, False)
@@ -116,7 +127,8 @@ class Reader:
                 cause.span = (line or Line(text, False)).span_of(cause.word)
             raise
 
-    def take_section(self, line):
+    def take_section(self, line: Line) -> None:
+        "the line that begins a section"
         section, rest = line.words[0].upper(), line.words[1:]
         if self.section in ("OBJSENSE", "OBJNAME"):
             raise Refused(f"{self.section} says nothing before this section", 0)
@@ -141,7 +153,7 @@ class Reader:
             self.note("header")
         self.section = section
 
-    def take_word(self, line, place=0, word=None):
+    def take_word(self, line: Line, place: int = 0, word: str | None = None) -> None:
         "the word of OBJSENSE or of OBJNAME"
         word = word or line.words[place]
         if self.section == "OBJSENSE" and word.upper() in SENSES and len(line.words) <= place + 1:
@@ -154,13 +166,18 @@ class Reader:
             raise Refused("this is a job already, and no MPS file: scripts/mps360 runs it", place)
         else:
             raise Refused("a data line where no section takes one", place)
-        self.section = None
+        self.section = ""
 
-    def most(self, what, count):
+    def is_infinite(self, value: Fraction | float) -> bool:
+        "whether a number is infinite, or as large as what is read as that"
+        return isinstance(value, float) or abs(value) >= self.reading.infinity
+
+    def most(self, what: str, count: int) -> None:
+        "Refused where there are so many already, and one more than a job holds"
         if not self.exact and count >= MOST[what]:
             raise Refused(f"a job holds at most {MOST[what]:,} {what}")
 
-    def value(self, place, line):
+    def value(self, place: int, line: Line) -> Fraction | float:
         "the number of a word, as the model has it: rounded where that is asked for"
         word = line.words[place]
         try:
@@ -168,9 +185,9 @@ class Reader:
         except Refused as cause:
             cause.word = place
             raise
-        if self.exact or has_text(word) or self.section not in ("ROWS", "COLUMNS") and abs(value) >= self.reading.infinity:
+        if self.exact or has_text(word) or self.section not in ("ROWS", "COLUMNS") and self.is_infinite(value):
             return value
-        if self.section == "RHS" and self.model.rows[line.words[place - 1]] == "N":
+        if isinstance(value, float) or self.section == "RHS" and self.model.rows[line.words[place - 1]] == "N":
             return value
         near = nearest(value)
         if near is None:
@@ -180,7 +197,7 @@ class Reader:
         self.model.rounded.append((self.line, word, near))
         return near
 
-    def take_row(self, line):
+    def take_row(self, line: Line) -> None:
         words = [word for word in line.words if word] if not line.fixed else line.words[:2] + [word for word in line.words[2:] if word]
         kind = words[0].upper()
         if kind not in ("N", "L", "G", "E", *COMBINATIONS):
@@ -198,7 +215,7 @@ class Reader:
         self.most("rows", len(self.model.rows))
         self.model.rows[words[1]] = kind
 
-    def take_combination(self, kind, line, goes_on):
+    def take_combination(self, kind: str, line: Line, goes_on: bool) -> None:
         "a line of a row that is a sum of multiples of earlier rows; it begins one, or goes on with that of the line before"
         if not line.fixed and (len(line.words) % 2 or len(line.words) > 6):
             raise Refused("a combination wants a name, and none, one or two pairs of a row and a multiplier (names with blanks: --fixed)", len(line.words) - 1)
@@ -217,11 +234,12 @@ class Reader:
                 raise Refused(f"no row before it is named {row[:30]}", at)
             if row in parts:
                 raise Refused(f"a second part on row {row[:30]}", at)
-            parts[row] = self.value(number_at, line)
-            if isinstance(parts[row], float):
+            value = self.value(number_at, line)
+            if isinstance(value, float):
                 raise Refused("a multiplier can't be infinite", number_at)
+            parts[row] = value
 
-    def pairs(self, line):
+    def pairs(self, line: Line) -> tuple[int | None, list[tuple[int, int]]]:
         "the place of the name in front, or None where it is blank, and the places of the pairs"
         if line.fixed:
             words = line.words
@@ -242,12 +260,13 @@ class Reader:
                 raise Refused(f"no row is named {line.words[row][:30]}", row)
         return name, places
 
-    def check_form(self, line, read):
+    def check_form(self, line: Line, read: tuple[str, list[tuple[str, str]]]) -> None:
         "refuses a line whose fields, by their columns, say another thing than its words"
         if self.reading.form != "either" or (fields := line.by_columns()) is None or [part for part in fields if part] == line.words:
             return
-        kind, name, *pairs = fields
-        pairs = [pair for pair in (tuple(pairs[:2]), tuple(pairs[2:])) if any(pair)]
+        kind, name = fields[:2]
+        pairs = [pair for pair in ((fields[2], fields[3]), (fields[4], fields[5])) if any(pair)]
+        lawful: object
         if self.section == "BOUNDS":
             takes = BOUNDS.get(kind.upper(), (None, None))[1]
             lawful = takes is not None and len(pairs) == 1 and pairs[0][0] in self.model.columns and (NUMBER.fullmatch(pairs[0][1]) or not takes)
@@ -258,7 +277,8 @@ class Reader:
         if lawful and (name, pairs) != read:
             raise Refused("this line's words say one thing, its fields by their columns another: --free or --fixed says which counts")
 
-    def take_marker(self, line):
+    def take_marker(self, line: Line) -> None:
+        "a line that begins or ends columns of whole numbers"
         words = [word.strip("'\"").upper() for word in line.words]
         kind = next((word for word in words if word in ("INTORG", "INTEND")), None)
         if kind is None:
@@ -267,9 +287,11 @@ class Reader:
             raise Refused("columns of whole numbers (MARKER); --relax takes them as columns of any numbers", "'MARKER'")
         self.between_markers = kind == "INTORG"
 
-    def take_column(self, line):
+    def take_column(self, line: Line) -> None:
+        "a line of COLUMNS"
         if "'MARKER'" in line.words:
-            return self.take_marker(line)
+            self.take_marker(line)
+            return
         place, places = self.pairs(line)
         if place is None:
             if self.last_column is None or not line.fixed and (line.text[:14].strip(" ") or "\t" in line.text):
@@ -299,7 +321,7 @@ class Reader:
             self.entries += 1
             column[line.words[row]] = value
 
-    def set_named(self, name, place):
+    def set_named(self, name: str, place: int) -> dict[str, Any]:
         "the items of the set of this name; a blank name beside others is refused, or is as the reading says"
         sets = self.sets[self.section]
         if name not in sets and (sets and not name or "" in sets):
@@ -314,7 +336,8 @@ class Reader:
         self.last_set[self.section] = name
         return sets.setdefault(name, {})
 
-    def take_value(self, line):
+    def take_value(self, line: Line) -> None:
+        "a line of RHS or RANGES"
         place, places = self.pairs(line)
         if not places:
             raise Refused("a row and a number are wanted", 1)
@@ -330,27 +353,29 @@ class Reader:
             else:
                 self.take_range(items, row, number_at, line)
 
-    def take_rhs(self, items, row, at, line):
+    def take_rhs(self, items: dict[str, Fraction], row: str, at: int, line: Line) -> None:
+        "a right-hand side, or the constant of an N row"
         value = self.value(at, line)
-        if self.model.rows[row] == "N" and isinstance(value, float):
-            raise Refused("a constant can't be infinite", at)
-        if self.model.rows[row] != "N" and abs(value) >= self.reading.infinity:
+        if self.model.rows[row] != "N" and self.is_infinite(value):
             raise Refused(f"a right-hand side of {decimal_text(self.reading.infinity)} and more is infinite in some programs; "
                           "make the row an N row, or leave it out (or say --infinity)", at)
+        if isinstance(value, float):
+            raise Refused("a constant can't be infinite", at)
         items[row] = value
 
-    def take_range(self, items, row, at, line):
+    def take_range(self, items: dict[str, Fraction], row: str, at: int, line: Line) -> None:
+        "a range of a row"
         value = self.value(at, line)
         if self.model.rows[row] == "N":
             self.note("range on N")
-        elif abs(value) < self.reading.infinity:
+        elif isinstance(value, Fraction) and abs(value) < self.reading.infinity:
             items[row] = value
         elif self.model.rows[row] == "E":
             raise Refused("an infinite range on an E row", at)
         else:
             self.note("infinite range")
 
-    def bound_parts(self, line):
+    def bound_parts(self, line: Line) -> tuple[str, int | None, int, int | None]:
         "the type of a bound, and the places of set, column and number, None where there is none"
         kind = line.words[0].upper()
         if kind == "SC":
@@ -370,7 +395,8 @@ class Reader:
             return kind, None, 1, 2 if takes else None
         return kind, 1, 2, 3 if count == 4 else None
 
-    def take_bound(self, line):
+    def take_bound(self, line: Line) -> None:
+        "a line of BOUNDS"
         kind, place, at, number_at = self.bound_parts(line)
         ends, takes, whole = BOUNDS[kind]
         name, column = line.words[place] if place is not None else "", line.words[at]
@@ -383,24 +409,24 @@ class Reader:
             self.whole[column] = self.line
         if not takes and number_at is not None:
             self.note("number on " + kind)
-        value = self.limit(kind, number_at, line) if takes else None
+        value = self.limit(kind, number_at, line) if takes and number_at is not None else None
         limits = self.set_named(name, place if place is not None else at).setdefault(column, Limits())
         if ends in ("lower", "both"):
             self.touch(limits, "lower", Fraction(0) if kind == "BV" else value, at)
         if ends in ("upper", "both"):
             self.touch(limits, "upper", Fraction(1) if kind == "BV" else value, at)
 
-    def limit(self, kind, at, line):
+    def limit(self, kind: str, at: int, line: Line) -> Fraction | None:
         "a limit, or None where it is infinite"
         value = self.value(at, line)
-        if abs(value) < self.reading.infinity:
+        if isinstance(value, Fraction) and abs(value) < self.reading.infinity:
             return value
         if (value > 0) != (kind in ("UP", "UI")) or kind == "FX":
             raise Refused(f"a bound {kind} of {line.words[at][:30]} is infinite, and leaves no number", at)
         self.note("infinite bound")
         return None
 
-    def touch(self, limits, end, value, at):
+    def touch(self, limits: Limits, end: str, value: Fraction | None, at: int) -> None:
         "sets an end of a column's limits; refused where another line sets it to another value"
         before = getattr(limits, end + "_line")
         if before and getattr(limits, end) != value:
@@ -409,7 +435,7 @@ class Reader:
         setattr(limits, end, value)
         setattr(limits, end + "_line", before or self.line)
 
-    def end(self):
+    def end(self) -> None:
         "what can be known at the end alone"
         if not any(kind == "N" for kind in self.model.rows.values()):
             raise Refused("there is no N row, so no objective")
@@ -418,7 +444,8 @@ class Reader:
         self.choose()
         self.tell()
 
-    def end_bounds(self):
+    def end_bounds(self) -> None:
+        "negative upper limits where nothing is said of the lower one"
         for items in self.model.bounds.values():
             for column, limits in items.items():
                 if limits.upper is None or limits.upper >= 0 or limits.lower_line:
@@ -430,7 +457,7 @@ class Reader:
                     limits.lower = None
                 self.lines.setdefault("negative " + self.reading.negative_up, []).append(limits.upper_line)
 
-    def end_markers(self):
+    def end_markers(self) -> None:
         "the upper limits of whole-number columns between markers of which no bound says one"
         sets = list(self.model.bounds.values()) or [{}]
         changed = {}
@@ -452,7 +479,7 @@ class Reader:
                                    "upper limit is 1, as you said")
         self.model.relaxed = list(self.whole)
 
-    def choose(self):
+    def choose(self) -> None:
         "the objective, the sense and the sets that are taken"
         model, reading = self.model, self.reading
         first = next(row for row, kind in model.rows.items() if kind == "N")
@@ -461,13 +488,15 @@ class Reader:
         if model.rows.get(model.objective) != "N":
             raise Refused(f"the objective {model.objective[:30]} isn't an N row", model.objective, None if reading.objective else line)
         model.sense = reading.sense or self.said_sense or "MIN"
-        for attribute, sets, what in (("rhs_set", model.rhs, "RHS"), ("range_set", model.ranges, "RANGES"), ("bound_set", model.bounds, "BOUNDS")):
+        for attribute, what in (("rhs_set", "RHS"), ("range_set", "RANGES"), ("bound_set", "BOUNDS")):
+            sets = self.sets[what]
             wanted = getattr(reading, attribute)
             if wanted is not None and wanted not in sets:
                 raise Refused(f"no set of {what} is named {wanted[:30]}")
             setattr(model, attribute, wanted if wanted is not None else next(iter(sets), None))
 
-    def tell(self):
+    def tell(self) -> None:
+        "a sentence for each thing that was left out or chosen"
         model, told = self.model, self.model.said
         sentences = {"after": "what follows ENDATA isn't read", "header": "what follows the name of a section isn't read",
                      "range on N": "a range on an N row says nothing, and is left out",
@@ -493,8 +522,9 @@ class Reader:
         if model.rounded:
             self.tell_rounding()
 
-    def tell_rounding(self):
-        exact = [(line, word, near, number(word)) for line, word, near in self.model.rounded]
+    def tell_rounding(self) -> None:
+        "how many numbers were rounded, and by how much at most"
+        exact = [(line, word, near, Fraction(number(word))) for line, word, near in self.model.rounded]
         changes = [(abs(near - value), abs(near / value - 1), line, word) for line, word, near, value in exact]
         most, least = max(changes), max(changes, key=lambda change: change[1])
         told = f"{counted(len(changes), 'number', 'was', 'were')} rounded to 12 columns; "
@@ -503,11 +533,13 @@ class Reader:
         self.model.said.append(told)
 
 
-def read_text(text, reading=Reading()):
+def read_text(text: str, reading: Reading = Reading()) -> Model:
+    "the model of a text; Refused names the line"
     return Reader(reading).read(text)
 
 
-def read_bytes(data, reading=Reading()):
+def read_bytes(data: bytes, reading: Reading = Reading()) -> Model:
+    "the model of the bytes of a file, gzipped or not, in UTF-8 or Latin-1"
     data = unzipped(data, MOST_TEXT)
     if data[:2] in (codecs.BOM_UTF16_LE, codecs.BOM_UTF16_BE):
         raise Refused("it is UTF-16; save it as UTF-8")
@@ -515,13 +547,14 @@ def read_bytes(data, reading=Reading()):
         return read_text(data.decode("utf-8-sig"), reading)
     except UnicodeDecodeError as cause:
         if data.startswith(codecs.BOM_UTF8):
-            raise Refused("it begins as UTF-8, and has a byte that isn't", line=cause.object[:cause.start].count(b"\n") + 1)
+            raise Refused("it begins as UTF-8, and has a byte that isn't", line=cause.object[:cause.start].count(b"\n") + 1) from None
         model = read_text(data.decode("latin-1"), reading)
     model.said.append("the file isn't UTF-8: its letters are read as Latin-1")
     return model
 
 
-def read_file(path, reading=Reading()):
+def read_file(path: str, reading: Reading = Reading()) -> Model:
+    "the model of a file; - is standard input"
     if str(path) == "-":
         return read_bytes(sys.stdin.buffer.read(), reading)
     with open(path, "rb") as source:

@@ -268,8 +268,7 @@ def limits_of(lp: LinearProgram) -> tuple[list[tuple[int, str, Fraction]], int]:
         if lower is not None and lower == upper:
             listed.append((k, "E", lower))
         else:
-            listed += [(k, "G", lower)] if lower is not None else []
-            listed += [(k, "L", upper)] if upper is not None else []
+            listed += [(k, sense, end) for sense, end in (("G", lower), ("L", upper)) if end is not None]
         rows = len(listed) if k < lp.m else rows
     return listed, rows
 

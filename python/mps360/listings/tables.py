@@ -37,14 +37,16 @@ def rounded(text: str) -> float | None:
 
 def result_of(listing: Listing) -> dict[str, Any]:
     "what the last verdict is, with the sense of its objective"
-    end = listing["end"]
-    status, sense, result = end["status"] if end else None, None, None
+    end, sense = listing["end"], None
+    status = end["status"] if end else None
+    result: dict[str, Any] = {}
     for report in listing["reports"]:
         if report["report"] == "setup":
             sense = report["sense"]
         elif report["report"] == "verdict":
             kept = ("objective", "objective_constant", "objective_with_constant", "steps", "checked")
-            result = {"status": status, "verdict": report["verdict"], "sense": sense, **{key: value for key, value in report.items() if key in kept}}
+            result = {"status": status, "verdict": report["verdict"], "sense": sense}
+            result |= {key: value for key, value in report.items() if key in kept}
     return result or {"status": status, "verdict": None, "sense": sense}
 
 
