@@ -12,6 +12,7 @@ import check_tools
 from mps360 import programs
 from mps360.listings import tables
 from mps360.listings.read import each_line, parse
+from mps360.pages.html import page as page_of
 
 SCRIPTS, EXAMPLES = programs.TOP / "scripts", programs.TOP / "examples"
 SCHEMA = json.loads((programs.TOP / "docs/listing.schema.json").read_text())
