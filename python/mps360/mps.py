@@ -3,19 +3,21 @@
     model = read_file(PATH, Reading(..))      a Model, or Refused, which names the line and shows the word; OSError where PATH can't be read
     model = read_text(TEXT, Reading(..))      the same of a text
 
-Reading says how a file is read where programs differ, and which numbers are taken: "exact" takes every decimal number and any size, "job"
-refuses what a job can't hold, "round" rounds to the nearest number that 12 columns hold. PATH may be gzipped, or - for standard input."""
+Reading says how a file is read where programs differ, and which numbers are taken: "exact" takes every decimal number, "job" refuses
+one that a job can't hold, "round" rounds to the nearest number that 12 columns hold. PATH may be gzipped, or - for standard input."""
 from typing import Any
 import codecs
 import re
 import sys
+from collections.abc import Iterator
 from dataclasses import dataclass, replace
 from fractions import Fraction
 from mps360.errors import Refused
-from mps360.files import unzipped
 from mps360.fields import FIELDS, LAST_COLUMN, Line
-from mps360.model import MOST, Limits, Model
-from mps360.numbers import NUMBER, decimal_text, has_text, nearest, number, text_of
+from mps360.files import unzipped
+from mps360.model import MOST, Limits, Model, Place
+from mps360.model_checks import Choices, warnings
+from mps360.numbers import NUMBER, decimal_text, has_text, nearest, number, shortest_double, text_of
 from mps360.text import counted, lines_text, some_of
 
 MOST_TEXT = 300_000_000
@@ -29,6 +31,8 @@ BOUNDS = {"UP": ("upper", True, False), "LO": ("lower", True, False), "FX": ("bo
           "UI": ("upper", True, True)}
 # the NAME line of a free deck of a job; the name stands in columns 15 to 22
 FREE_DECK = re.compile(r"NAME.{18}  FREE")
+# the first word behind the remarks of an MPS file and the comments of an LP file
+FIRST_WORD = re.compile(r"(?:\s|(?:(?<=\n)|^)\*[^\n]*\n?|\\[^\n]*\n?)*([^\s\\:]+)")
 
 
 @dataclass(frozen=True)
@@ -36,6 +40,7 @@ class Reading:
     "how a file is read"
     form: str = "either"             # fields are words, unless their columns say otherwise; "free": words; "fixed": by their columns
     numbers: str = "job"             # "exact", "job" or "round"
+    doubles: bool = False            # a number of 16 or 17 digits is the shortest decimal that is the same double
     relax: bool = False              # columns of whole numbers are taken as columns of any numbers
     marker_upper: str | None = None  # the upper limit of such a column between markers that has no bound: "1" or "none"
     negative_up: str | None = None   # "keep" leaves the lower limit of a negative UP at 0, "free" takes it away
@@ -174,7 +179,7 @@ class Reader:
 
     def most(self, what: str, count: int) -> None:
         "Refused where there are so many already, and one more than a job holds"
-        if not self.exact and count >= MOST[what]:
+        if count >= MOST[what]:
             raise Refused(f"a job holds at most {MOST[what]:,} {what}")
 
     def value(self, place: int, line: Line) -> Fraction | float:
@@ -182,9 +187,14 @@ class Reader:
         word = line.words[place]
         try:
             value = number(word)
+            if self.reading.doubles and (short := shortest_double(word)) is not None:
+                self.model.doubles.append((self.line, word, short))
+                word, value = short, number(short)
         except Refused as cause:
             cause.word = place
             raise
+        if isinstance(value, Fraction) and self.exact and not has_text(word):
+            self.model.long.setdefault(value, Place(word, self.line, line.text, line.spans[place]))
         if self.exact or has_text(word) or self.section not in ("ROWS", "COLUMNS") and self.is_infinite(value):
             return value
         if isinstance(value, float) or self.section == "RHS" and self.model.rows[line.words[place - 1]] == "N":
@@ -443,6 +453,8 @@ class Reader:
         self.end_markers()
         self.choose()
         self.tell()
+        self.model.warned = warnings(self.model, self.choices())
+        self.model.said += self.model.warned
 
     def end_bounds(self) -> None:
         "negative upper limits where nothing is said of the lower one"
@@ -495,6 +507,13 @@ class Reader:
                 raise Refused(f"no set of {what} is named {wanted[:30]}")
             setattr(model, attribute, wanted if wanted is not None else next(iter(sets), None))
 
+    def choices(self) -> Choices:
+        "what the file or the reading says, so that nothing was chosen here"
+        reading = self.reading
+        named = {"RHS": reading.rhs_set, "RANGES": reading.range_set, "BOUNDS": reading.bound_set}
+        return Choices((reading.sense or self.said_sense) is not None, (reading.objective or self.said_objective) is not None,
+                       frozenset(what for what, name in named.items() if name is not None))
+
     def tell(self) -> None:
         "a sentence for each thing that was left out or chosen"
         model, told = self.model, self.model.said
@@ -514,41 +533,57 @@ class Reader:
             told.append(f"{counted(len(model.relaxed), 'column')} should have whole numbers ({some_of(model.relaxed)}): any numbers are allowed here")
         taken = {"RHS": model.rhs_set, "RANGES": model.range_set, "BOUNDS": model.bound_set}
         for what, sets in self.sets.items():
-            if len(sets) > 1:
+            if len(sets) > 1 and what in self.choices().sets:
                 told.append(f"{what} has {len(sets)} sets; {taken[what] or 'the one without a name'} is taken")
         others = [row for row, kind in model.rows.items() if kind == "N"]
-        if len(others) > 1:
+        if len(others) > 1 and self.choices().objective:
             told.append(f"there are {len(others)} N rows; the objective is {model.objective}")
-        if model.rounded:
-            self.tell_rounding()
+        told += numbers_told(model)
 
-    def tell_rounding(self) -> None:
-        "how many numbers were rounded, and by how much at most"
-        exact = [(line, word, near, Fraction(number(word))) for line, word, near in self.model.rounded]
+
+def numbers_told(model: Model) -> Iterator[str]:
+    "a sentence for the numbers that were rounded, and one for those that were taken as doubles"
+    if model.doubles:
+        line, word, short = model.doubles[0]
+        yield (f"{counted(len(model.doubles), 'number', 'of 16 or 17 digits was', 'of 16 or 17 digits were')} taken as the shortest decimal that is the same double, as {short} for "
+               f"{word[:40]} in line {line}")
+    if model.rounded:
+        exact = [(line, word, near, Fraction(number(word))) for line, word, near in model.rounded]
         changes = [(abs(near - value), abs(near / value - 1), line, word) for line, word, near, value in exact]
         most, least = max(changes), max(changes, key=lambda change: change[1])
         told = f"{counted(len(changes), 'number', 'was', 'were')} rounded to 12 columns; "
         told += f"the greatest change is {decimal_text(most[0])}, of {most[3][:40]} in line {most[2]}"
         told += f", and the greatest relative change {decimal_text(least[1])}, of {least[3][:40]} in line {least[2]}"
-        self.model.said.append(told)
+        yield told
 
 
-def read_text(text: str, reading: Reading = Reading()) -> Model:
+def is_lp(text: str, name: str = "") -> bool:
+    "whether a text is a CPLEX LP file: by its first word, or by its name where that word begins no MPS file either"
+    found = FIRST_WORD.match(text)
+    word = found[1].upper() if found else ""
+    is_named = name.lower().removesuffix(".gz").endswith(".lp")
+    return word in SENSES or is_named and word not in ("NAME", "OBJSENSE", "OBJNAME", *SECTIONS)
+
+
+def read_text(text: str, reading: Reading = Reading(), name: str = "") -> Model:
     "the model of a text; Refused names the line"
+    if is_lp(text, name):
+        from mps360 import lp_file  # pylint: disable=import-outside-toplevel
+        return lp_file.read_text(text, reading)
     return Reader(reading).read(text)
 
 
-def read_bytes(data: bytes, reading: Reading = Reading()) -> Model:
-    "the model of the bytes of a file, gzipped or not, in UTF-8 or Latin-1"
+def read_bytes(data: bytes, reading: Reading = Reading(), name: str = "") -> Model:
+    "the model of the bytes of a file, gzipped or not, in UTF-8 or Latin-1; its name may tell its form"
     data = unzipped(data, MOST_TEXT)
     if data[:2] in (codecs.BOM_UTF16_LE, codecs.BOM_UTF16_BE):
         raise Refused("it is UTF-16; save it as UTF-8")
     try:
-        return read_text(data.decode("utf-8-sig"), reading)
+        return read_text(data.decode("utf-8-sig"), reading, name)
     except UnicodeDecodeError as cause:
         if data.startswith(codecs.BOM_UTF8):
             raise Refused("it begins as UTF-8, and has a byte that isn't", line=cause.object[:cause.start].count(b"\n") + 1) from None
-        model = read_text(data.decode("latin-1"), reading)
+        model = read_text(data.decode("latin-1"), reading, name)
     model.said.append("the file isn't UTF-8: its letters are read as Latin-1")
     return model
 
@@ -558,4 +593,4 @@ def read_file(path: str, reading: Reading = Reading()) -> Model:
     if str(path) == "-":
         return read_bytes(sys.stdin.buffer.read(), reading)
     with open(path, "rb") as source:
-        return read_bytes(source.read(), reading)
+        return read_bytes(source.read(), reading, str(path))

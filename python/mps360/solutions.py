@@ -14,6 +14,7 @@ from fractions import Fraction
 from mps360.errors import Refused
 from mps360.files import unzipped
 from mps360.listings.write import Answer
+from mps360.model import Sums
 
 FRACTION = re.compile(r"[+-]?[0-9]{1,4000}(?:/[0-9]{1,4000})?")
 DECIMAL = re.compile(r"[+-]?(?:[0-9]+\.?[0-9]*|\.[0-9]+)(?:[eE][+-]?[0-9]+)?")
@@ -90,7 +91,8 @@ def check_objective(told: Fraction | None, columns: dict[str, Fraction], model: 
     "an objective that isn't that of the activities tells of another model, or of one that was read otherwise; a constant may be in it or not"
     if told is None:
         return
-    worth = sum((value * model.numbers_of(name).get(model.objective, Fraction(0)) for name, value in columns.items()), Fraction(0))
+    sums = Sums(model)
+    worth = sum((value * sums.of(name).get(model.objective, Fraction(0)) for name, value in columns.items()), Fraction(0))
     if told not in (worth, worth + model.constant):
         raise NoSolution(f"the objective is said to be {told}, and by the activities it is {worth}: a solution of another model, or of one that its "
                          "solver reads otherwise")

@@ -5,17 +5,21 @@
 A Job has text; rows, columns and sets {name: name in the job}; problem, the problem's name in it; name_map(), a table for JSON by which
 listing2json.py puts the file's names back: the names that were changed by those in the job, the objective, the sense, the sets taken, the
 constants, the rounded numbers, the relaxed columns, and all that was said."""
+from __future__ import annotations
+
 from collections.abc import Callable, Iterator
-from typing import Any
-from fractions import Fraction
-from mps360.model import Limits
 import itertools
+from fractions import Fraction
 import re
 from dataclasses import dataclass, field
+from typing import TYPE_CHECKING, Any
 from mps360.errors import Refused
-from mps360.model import MOST, Model
+from mps360.model import MOST, Limits, Model
 from mps360.numbers import text_of
 from mps360.text import counted, some_of
+
+if TYPE_CHECKING:
+    from mps360.long_numbers import Split
 
 
 class Names:
@@ -50,6 +54,12 @@ class Job:
     sets: dict[str, str] = field(default_factory=dict)
     rhs_on_objective: str | None = None  # the number of the objective in RHS, where the deck has it
     said: list[str] = field(default_factory=list)
+    split: Split | None = None  # where the model is one of short numbers, made of the file's
+
+    @property
+    def file(self) -> Model:
+        "the model as the file has it, with its long numbers"
+        return self.split.file if self.split else self.model
 
     @property
     def renamed(self) -> bool:
@@ -58,7 +68,7 @@ class Job:
 
     def name_map(self) -> dict[str, Any]:
         "the table of names, for JSON"
-        model = self.model
+        model, file = self.model, self.file
         changed = {key: {short: name for name, short in getattr(self, key).items() if name != short} for key in ("rows", "columns", "sets")}
         taken = {"RHS": model.rhs_set, "RANGES": model.range_set, "BOUNDS": model.bound_set}
         return {"problem": {self.problem: model.name} if self.problem != model.name else {}, **changed, "sense": model.sense,
@@ -67,14 +77,20 @@ class Job:
                 "constants": {self.sets[name]: {self.rows[row]: str(model.constant_of(name, row)) for row in items if model.rows[row] == "N"}
                               for name, items in model.rhs.items()},
                 "relaxed": [self.columns[name] for name in model.relaxed],
-                "rounded": [{"line": line, "from": word, "to": text_of(near)} for line, word, near in model.rounded], "said": self.said}
+                "rounded": [{"line": line, "from": word, "to": text_of(near)} for line, word, near in model.rounded], "said": self.said,
+                **({"doubles": [{"line": line, "from": word, "to": short} for line, word, short in file.doubles]} if file.doubles else {}),
+                **({"long": self.split.table(self)} if self.split else {})}
+
+
+class TooLong(Refused):
+    "a number that 12 columns don't hold"
 
 
 def card_number(value: Fraction) -> str:
     "the text of a number; Refused where 12 columns don't hold it"
     text = text_of(value)
     if text is None:
-        raise Refused(f"the number {value} has no exact form of 12 columns")
+        raise TooLong(f"the number {value} has no exact form of 12 columns")
     return text
 
 
