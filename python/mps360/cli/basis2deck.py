@@ -22,7 +22,11 @@ from mps360.cli import mps2job
 from mps360.listings import read as listing2json
 from mps360 import errors
 from mps360 import mps
+from mps360.output import command, write_file
 from mps360.jobs.write import job_of
+
+
+NAME = "basis2deck.py"
 
 
 class Ended(Exception):
@@ -30,7 +34,7 @@ class Ended(Exception):
 
 
 def say(words):
-    mps2job.say(f"basis2deck.py: {words}")
+    mps2job.say(f"{NAME}: {words}")
 
 
 def read_job(path, words):
@@ -72,6 +76,7 @@ def same_file(path, other):
     return other is not None and os.path.isfile(other) and os.path.realpath(path) == os.path.realpath(other)
 
 
+@command(NAME)
 def main(words):
     if any(word in ("-h", "--help") for word in words):
         print(__doc__)
@@ -97,16 +102,11 @@ def main(words):
             say(sentence)
         deck = basis_file.deck_of(basis, job)
         if options.deck:
-            mps2job.write(options.deck, deck)
+            write_file(options.deck, deck)
         else:
             sys.stdout.write(deck)
-            sys.stdout.flush()
     except Ended as ended:
         status, words = ended.args
         say(words)
         return status
-    except OSError as cause:
-        say(f"can't write {cause.filename or 'to standard output'}: {cause.strerror}")
-        sys.stdout = None
-        return 73
     return 0

@@ -8,7 +8,7 @@ usage: explain JOB [LISTING]      without LISTING the job is run first (mps360);
 Nothing is solved here: verdicts, rays and directions are the listing's, and are compared with the job.
 
 It ends with 0, with 64 for wrong use, 66 where a file can't be read, 65 where the listing isn't one, 70 where the job can't be run."""
-import difflib, os, pathlib, re, subprocess, sys, tempfile
+import difflib, pathlib, re, subprocess, sys, tempfile
 from fractions import Fraction
 from mps360.jobs import decks as job_decks
 from mps360.jobs import selection as job_following
@@ -18,6 +18,7 @@ from mps360.numbers import nearest, text_of
 from mps360.pages import parametric as plot_parametric
 from mps360 import programs
 from mps360 import text as strangers_text
+from mps360.output import command
 
 IS_INSTALLED = (programs.COMMANDS / "program").exists()
 DOCUMENTS = programs.TOP.parents[1] / "share/doc/mps360" if IS_INSTALLED else "docs"
@@ -786,15 +787,6 @@ def answered(words):
     return 0
 
 
+@command("explain")
 def main(words):
-    try:
-        status = answered(words)
-        sys.stdout.flush()
-    except BrokenPipeError:
-        # (nor is it told when Python ends)
-        os.dup2(os.open(os.devnull, os.O_WRONLY), sys.__stdout__.fileno())
-        status = 0
-    except KeyboardInterrupt:
-        print("explain: interrupted", file=sys.stderr)
-        status = 130
-    return status
+    return answered(words)

@@ -13,15 +13,16 @@ usage: listing2json.py [--csv | --table NAME] [--decimal] [--names MAP] [FILE]  
 In CSV a name that a spreadsheet could take for a formula (it begins with = + - @ or an apostrophe) has an apostrophe before it, and a control
 character stands as an escape; in JSON names are exact. It ends with 0, with 64 for wrong use, 65 where the text isn't a listing, 66 where it
 can't be read."""
-import argparse, signal, sys
+import argparse, sys
 from mps360.listings.read import NoListing, NoNames, TABLES, add_decimals, document, json_text, name_back, parse, read_names, write_solution, write_table
+from mps360.output import command
 
 
+@command("listing2json.py")
 def main(words):
     if any(word in ("-h", "--help") for word in words):
         print(__doc__)
         return 0
-    signal.signal(signal.SIGPIPE, signal.SIG_DFL)
     parser = argparse.ArgumentParser(add_help=False)
     parser.error = lambda message: (print(f"listing2json.py: {message}", file=sys.stderr), sys.exit(64))
     kind = parser.add_mutually_exclusive_group()

@@ -36,6 +36,7 @@ from mps360.cli.options import add_routes, check_routes, plan_of
 from mps360.provenance import Provenance
 from mps360.jobs.write import job_of
 from mps360.listings import made as made_listing
+from mps360.output import command, make_folder, write_file
 from mps360.text import marked_decimal
 from mps360.text import as_text
 
@@ -292,11 +293,8 @@ def table(head, names, lines):
 # ---- the whole
 
 def kept(folder, name, content):
-    try:
-        folder.mkdir(parents=True, exist_ok=True)
-        (folder / name).write_bytes(content)
-    except OSError as cause:
-        raise Ended(73, f"can't write {folder / name}: {cause.strerror}")
+    make_folder(folder)
+    write_file(folder / name, content)
 
 
 def stem_of(options):
@@ -331,7 +329,6 @@ def write_outputs(options, model, answer):
         page = listing2html.page(model.job.decode("latin-1"), answer.text, model.names, answer.printed_by())
         path = pathlib.Path(options.html)
         kept(path.parent, path.name, page.encode("utf-8"))
-    signal.signal(signal.SIGPIPE, signal.SIG_DFL)
     if options.json:
         sys.stdout.write(answer.json())
     elif options.csv:
@@ -417,6 +414,7 @@ def interrupt(*_):
     raise KeyboardInterrupt
 
 
+@command(NAME)
 def main(words):
     if any(word in ("-h", "--help") for word in words):
         print(__doc__)

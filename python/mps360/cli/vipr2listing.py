@@ -20,6 +20,7 @@ from mps360 import errors
 from mps360.jobs.write import job_of
 from mps360.model import Limits, Model
 from mps360.numbers import text_of
+from mps360.output import command
 from mps360.text import counted
 from oracle import vipr as check_vipr
 from oracle.vipr import nonzero, worth
@@ -27,7 +28,7 @@ from mps360.cli.mps2job import say
 
 NAME = "vipr2listing.py"
 SET = "LIMITS"
-Ended, write = solution2listing.Ended, solution2listing.write
+Ended = solution2listing.Ended
 
 
 def told(message):
@@ -169,6 +170,7 @@ def run(words):
     return 0
 
 
+@command(NAME)
 def main(words):
     if any(word in ("-h", "--help") for word in words):
         print(__doc__)
