@@ -6,8 +6,10 @@ usage: check_vipr.py CERTIFICATE      CERTIFICATE may be gzipped; - is standard 
 
 It prints what is proved, infeasible or the objective's bounds, and ends with 0; with 1 where something isn't so, with the place. Derivations
 by other means than multipliers (lin), as branching needs them, are refused. 65: it isn't such a certificate; 66: it can't be read."""
+import errno
 import gzip
 import io
+import os
 import re
 import sys
 import zlib
@@ -253,15 +255,29 @@ def say(message):
     print("".join(letter if " " <= letter <= "~" else "?" for letter in f"check_vipr.py: {message}"), file=sys.stderr)
 
 
+def printed(text):
+    "the status of printing a text: 0, or 73 where standard output doesn't take all of it, which is said"
+    try:
+        if sys.stdout is None:
+            raise OSError(errno.EBADF, "it is closed")
+        print(text, flush=True)
+    except OSError as cause:
+        say(f"can't write to standard output: {cause.strerror}")
+        if sys.stdout:
+            # (nor is it tried again when Python ends)
+            os.dup2(os.open(os.devnull, os.O_WRONLY), sys.stdout.fileno())
+        return 73
+    return 0
+
+
 def main(words):
     if words and words[0] in ("-h", "--help"):
-        print(__doc__)
-        return 0
+        return printed(__doc__)
     if len(words) != 1:
         say("one certificate is due; --help says what there is")
         return 64
     try:
-        print(check(read_file(words[0])))
+        told = check(read_file(words[0]))
     except OSError as cause:
         say(f"can't read {words[0]}: {cause.strerror}")
         return 66
@@ -271,7 +287,7 @@ def main(words):
     except Wrong as cause:
         say(f"{words[0]}: {cause}")
         return 1
-    return 0
+    return printed(told)
 
 
 if __name__ == "__main__":

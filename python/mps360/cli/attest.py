@@ -26,6 +26,7 @@ from mps360.cli import solution2listing
 from mps360 import programs
 from mps360.cli.solution2listing import Ended
 from mps360.text import as_text
+from mps360.output import command, make_folder, write_file
 
 NAME = "attest"
 ANSWER = re.compile(r"(?:ATTESTED \d+ REPORTS|(?:WRONG|OPEN|UNCHECKED) LINE (\d+)|LONG LISTING|STOP .*)\n")
@@ -93,12 +94,9 @@ def kept(folder, job, listing, others):
     "the job, its listing and the table of names stay"
     texts = {pathlib.Path(folder, f"model.{ending}"): text for ending, text in (("job", job.text), ("listing", listing), ("names", json.dumps(job.name_map(), indent=1) + "\n"))}
     solution2listing.check_places(*texts, *others)
-    try:
-        pathlib.Path(folder).mkdir(parents=True, exist_ok=True)
-    except OSError as cause:
-        raise Ended(73, f"can't write {folder}: {cause.strerror}") from None
+    make_folder(folder)
     for path, text in texts.items():
-        solution2listing.write(path, text)
+        write_file(path, text)
 
 
 def run(words):
@@ -120,6 +118,7 @@ def run(words):
     return status
 
 
+@command(NAME)
 def main(words=None):
     words = sys.argv[1:] if words is None else words
     if any(word in ("-h", "--help") for word in words):

@@ -25,6 +25,9 @@ from mps360.listings.read import NoNames, read_names
 from mps360 import errors
 from mps360 import mps
 from mps360.jobs.write import job_of
+from mps360.output import command, write_file
+
+NAME = "basis2deck.py"
 
 
 class Ended(Exception):
@@ -32,7 +35,7 @@ class Ended(Exception):
 
 
 def say(words):
-    mps2job.say(f"basis2deck.py: {words}")
+    mps2job.say(f"{NAME}: {words}")
 
 
 def read_job(path, words):
@@ -74,6 +77,7 @@ def same_file(path, other):
     return other is not None and os.path.isfile(other) and os.path.realpath(path) == os.path.realpath(other)
 
 
+@command(NAME)
 def main(words=None):
     words = sys.argv[1:] if words is None else words
     if any(word in ("-h", "--help") for word in words):
@@ -100,16 +104,11 @@ def main(words=None):
             say(sentence)
         deck = deck_of(basis, job)
         if options.deck:
-            mps2job.write(options.deck, deck)
+            write_file(options.deck, deck)
         else:
             sys.stdout.write(deck)
-            sys.stdout.flush()
     except Ended as ended:
         status, words = ended.args
         say(words)
         return status
-    except OSError as cause:
-        say(f"can't write {cause.filename or 'to standard output'}: {cause.strerror}")
-        sys.stdout = None
-        return 73
     return 0

@@ -18,6 +18,7 @@ from mps360 import programs
 from mps360.explain import explain
 from mps360.listings.read import NoListing, parse
 from mps360.text import guard
+from mps360.output import command
 
 LINE_EACH = 10
 
@@ -74,16 +75,6 @@ def answered(words):
     return 0
 
 
+@command("explain")
 def main(words=None):
-    words = sys.argv[1:] if words is None else words
-    try:
-        status = answered(words)
-        sys.stdout.flush()
-    except BrokenPipeError:
-        # (nor is it told when Python ends)
-        os.dup2(os.open(os.devnull, os.O_WRONLY), sys.__stdout__.fileno())
-        status = 0
-    except KeyboardInterrupt:
-        print("explain: interrupted", file=sys.stderr)
-        status = 130
-    return status
+    return answered(sys.argv[1:] if words is None else words)

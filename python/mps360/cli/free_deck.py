@@ -14,6 +14,7 @@ import sys
 from mps360.jobs import decks
 from mps360.text import guard
 from mps360.jobs.decks import ACTIONS, BOUNDS, FIELDS, NAMES, VALUED, DeckFault, is_skipped
+from mps360.output import command
 
 MEANS = {3: "an unknown row type", 8: "a number is faulty", 10: "an unknown bound type", 20: "something stands where a fixed card is to be blank",
          25: "no card of this section has so many words", 26: "a name of more than 8 bytes", 27: "a number of more than 12 bytes"}
@@ -181,6 +182,7 @@ def turned(data, is_free, say):
     return "\n".join(line if new == old else new + line[len(line.rstrip("\r")):] for line, old, new in zip(lines, cards, changed))
 
 
+@command("free_deck.py")
 def main(words=None):
     words = sys.argv[1:] if words is None else words
     guard()
@@ -205,5 +207,5 @@ def main(words=None):
         return 65
     for line in said:
         print(f"free_deck.py: {line}", file=sys.stderr)
-    sys.__stdout__.buffer.write(text.encode("latin-1"))
+    sys.stdout.buffer.write(text.encode("latin-1"))
     return 0

@@ -14,20 +14,20 @@ In CSV a name that a spreadsheet could take for a formula (it begins with = + - 
 character stands as an escape; in JSON names are exact. It ends with 0, with 64 for wrong use, 65 where the text isn't a listing, 66 where it
 can't be read."""
 import argparse
-import signal
 import sys
 from mps360.listings.read import NoListing, NoNames, name_back, parse, read_names
 from mps360.listings.tables import TABLES, add_decimals, document, json_text, write_solution, write_table
+from mps360.output import command
 
 OTHER_OBJECTIVE = "listing2json.py: the objective or its right-hand side isn't that of the table of names; no constant is added"
 
 
+@command("listing2json.py")
 def main(words=None):
     words = sys.argv[1:] if words is None else words
     if any(word in ("-h", "--help") for word in words):
         print(__doc__)
         return 0
-    signal.signal(signal.SIGPIPE, signal.SIG_DFL)
     parser = argparse.ArgumentParser(add_help=False)
     parser.error = lambda message: (print(f"listing2json.py: {message}", file=sys.stderr), sys.exit(64))
     kind = parser.add_mutually_exclusive_group()

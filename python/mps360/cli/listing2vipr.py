@@ -18,6 +18,7 @@ import sys
 from mps360.listings.made import OtherJob
 from mps360.listings.read import NoListing
 from mps360.vipr import NoClaim, claims_of, lines_of
+from mps360.output import command, write_file
 
 NAME = "listing2vipr.py"
 
@@ -53,6 +54,7 @@ def say(message):
     print("".join(letter if " " <= letter <= "~" else "?" for letter in f"{NAME}: {message}"), file=sys.stderr)
 
 
+@command(NAME)
 def main(words=None):
     words = sys.argv[1:] if words is None else words
     if any(word in ("-h", "--help") for word in words):
@@ -73,12 +75,8 @@ def main(words=None):
     except (NoClaim, NoListing, OtherJob) as cause:
         say(f"{options.listing}: {cause}")
         return 65
-    if not options.certificate:
+    if options.certificate:
+        write_file(options.certificate, text)
+    else:
         sys.stdout.write(text)
-        return 0
-    try:
-        pathlib.Path(options.certificate).write_text(text, encoding="ascii")
-    except OSError as cause:
-        say(f"can't write {cause.filename}: {cause.strerror}")
-        return 73
     return 0

@@ -33,6 +33,7 @@ from mps360 import errors
 from mps360 import mps
 from mps360.jobs.write import job_of
 from mps360.numbers import number
+from mps360.output import command, write_file
 
 
 def say(message):
@@ -90,11 +91,7 @@ def check_places(options):
         wrong_use("JOB, MAP and FILE are different files")
 
 
-def write(path, text):
-    with open(path, "w", encoding="utf-8") as out:
-        out.write(text)
-
-
+@command("mps2job.py")
 def main(words=None):
     words = sys.argv[1:] if words is None else words
     if any(word in ("-h", "--help") for word in words):
@@ -116,16 +113,10 @@ def main(words=None):
         return 64
     for sentence in job.said:
         say(f"mps2job.py: {sentence}")
-    try:
-        if options.names:
-            write(options.names, json.dumps(job.name_map(), indent=1) + "\n")
-        if options.job:
-            write(options.job, job.text)
-        else:
-            sys.stdout.write(job.text)
-            sys.stdout.flush()
-    except OSError as cause:
-        say(f"mps2job.py: can't write {cause.filename or 'to standard output'}: {cause.strerror}")
-        sys.stdout = None
-        return 73
+    if options.names:
+        write_file(options.names, json.dumps(job.name_map(), indent=1) + "\n")
+    if options.job:
+        write_file(options.job, job.text)
+    else:
+        sys.stdout.write(job.text)
     return 0

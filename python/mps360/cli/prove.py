@@ -32,6 +32,7 @@ from mps360.bases import WRITERS
 from mps360.cli import basis2deck, solve
 from mps360.cli.options import positive, solvers_of
 from mps360.life import FIRST, Life
+from mps360.output import command
 
 NAME = "prove"
 NO_BASIS = "no basis of "
@@ -104,7 +105,6 @@ def prove(options, passed):
     for sentence in job.said:
         life.say(sentence)
     outcome = outcome_of(options, job, program, life)
-    signal.signal(signal.SIGPIPE, signal.SIG_DFL)
     keep(options, outcome.attempt, job)
     sys.stdout.write(outcome.attempt.listing.decode("latin-1"))
     sys.stdout.flush()
@@ -132,6 +132,7 @@ def options_of(words, life):
     return options, passed
 
 
+@command(NAME)
 def main(words=None):
     words = sys.argv[1:] if words is None else words
     if any(word in ("-h", "--help") for word in words):

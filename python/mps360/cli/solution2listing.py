@@ -26,6 +26,7 @@ from mps360 import mps
 from mps360.jobs.write import job_of
 from mps360.solutions import NoSolution, TABLES, read_file
 from mps360.cli.mps2job import say
+from mps360.output import command, write_file
 
 NAME = "solution2listing.py"
 
@@ -86,14 +87,6 @@ def made(options, solution):
         raise Ended(65, f"{solution}: {cause}") from None
 
 
-def write(path, text):
-    try:
-        with open(path, "w", encoding="utf-8") as out:
-            out.write(text)
-    except OSError as cause:
-        raise Ended(73, f"can't write {path}: {cause.strerror}") from None
-
-
 def check_places(*paths):
     "nothing is written over another file of this call"
     places = [os.path.realpath(path) for path in paths if path]
@@ -107,11 +100,11 @@ def put(job, listing, options, say):
         raise Ended(64, "names were shortened; say by --names MAP where the table of names goes")
     for sentence in job.said:
         say(sentence)
-    write(options.job, job.text)
+    write_file(options.job, job.text)
     if options.names:
-        write(options.names, json.dumps(job.name_map(), indent=1) + "\n")
+        write_file(options.names, json.dumps(job.name_map(), indent=1) + "\n")
     if options.listing:
-        write(options.listing, listing)
+        write_file(options.listing, listing)
     else:
         sys.stdout.write(listing)
 
@@ -127,6 +120,7 @@ def run(words):
     return 0
 
 
+@command(NAME)
 def main(words=None):
     words = sys.argv[1:] if words is None else words
     if any(word in ("-h", "--help") for word in words):

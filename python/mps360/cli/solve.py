@@ -47,6 +47,7 @@ from mps360.jobs.write import job_of
 from mps360.listings.made import OtherJob, check_made
 from mps360.text import marked_decimal
 from mps360.text import as_text
+from mps360.output import command, make_folder, write_file
 
 NAME = "solve"
 MOST_LINES = 40
@@ -302,11 +303,8 @@ def table(head, names, lines):
 # ---- the whole
 
 def kept(folder, name, content):
-    try:
-        folder.mkdir(parents=True, exist_ok=True)
-        (folder / name).write_bytes(content)
-    except OSError as cause:
-        raise Ended(73, f"can't write {folder / name}: {cause.strerror}")
+    make_folder(folder)
+    write_file(folder / name, content)
 
 
 def stem_of(options):
@@ -341,7 +339,6 @@ def write_outputs(options, model, answer):
         page = page_of(model.job.decode("latin-1"), answer.text, model.names, answer.printed_by())
         path = pathlib.Path(options.html)
         kept(path.parent, path.name, page.encode("utf-8"))
-    signal.signal(signal.SIGPIPE, signal.SIG_DFL)
     if options.json:
         sys.stdout.write(answer.json())
     elif options.csv:
@@ -427,6 +424,7 @@ def interrupt(*_):
     raise KeyboardInterrupt
 
 
+@command(NAME)
 def main(words=None):
     words = sys.argv[1:] if words is None else words
     if any(word in ("-h", "--help") for word in words):

@@ -19,6 +19,7 @@ import tempfile
 import time
 
 from mps360.unproved import ATTESTS, PROVES, RUNS, Answered, NoAnswer, crate_of, kept, make, say
+from mps360.output import CantWrite, command
 
 LONG_RUN = 10
 
@@ -39,9 +40,9 @@ def told(answer):
     try:
         sys.stdout.buffer.write(answer.listing)
         sys.stdout.flush()
-    except OSError:
-        # (nor is it tried again when Python ends)
-        os.dup2(os.open(os.devnull, os.O_WRONLY), sys.stdout.fileno())
+    except CantWrite:
+        # (as the program ends where its listing can't be written)
+        sys.stdout.give_up()
         return 25
     if re.search(rb"^BCDOUT  ", answer.listing, re.M):
         say(RUNS, "this unproved run keeps no punched deck; the program that scripts/build.sh builds does")
@@ -71,6 +72,7 @@ def answer(name, words):
             return run(name, program, words, given)
 
 
+@command("unproved.py")
 def main(words=None):
     words = sys.argv[1:] if words is None else words
     signal.signal(signal.SIGTERM, lambda *_: sys.exit(143))

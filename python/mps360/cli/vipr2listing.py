@@ -23,6 +23,7 @@ from mps360.files import unzipped
 from mps360.jobs.write import job_of
 from mps360.listings.write import Refused, listing_of
 from mps360.vipr import NoCertificate, Wrong, check, model_of, read
+from mps360.output import command
 
 NAME = "vipr2listing.py"
 MOST_BYTES = 1_000_000_000
@@ -72,6 +73,7 @@ def run(words):
     return 0
 
 
+@command(NAME)
 def main(words=None):
     words = sys.argv[1:] if words is None else words
     if any(word in ("-h", "--help") for word in words):
