@@ -3,10 +3,7 @@ import re
 from fractions import Fraction
 from mps360.listings.follow import Followed, ListingEnds, OtherJob, UNKNOWN
 from mps360.explain.stops import DOCUMENTS, MOST_SHOWN, PLACES, more_than
-from mps360.jobs.selection import VerbFault
 from mps360.pages.parametric import value_at
-
-
 
 
 # ---- the run of a listing, without solving
@@ -28,17 +25,10 @@ class Replayed(Followed):
     "keeps, beside what each report is about, each SETUP, and what a verb after it chose otherwise"
     def __init__(self, text, reports):
         super().__init__(text, reports)
-        self.setups, self.programs, self.has_sense = [], {}, False
+        self.setups, self.has_sense = [], False
 
     def select(self):
-        if self.setup is None:
-            raise VerbFault(3)
-        problem, options = self.setup
-        key = id(problem), self.cells.get("XOBJ"), self.cells.get("XRHS"), *options.values()
-        if key not in self.programs:
-            super().select()
-            self.programs[key] = self.lp
-        self.lp = self.programs[key]
+        super().select()
         now = Setup(self, self.verb)
         if self.verb == "SETUP" or now.taken() != self.setups[-1].taken():
             self.setups.append(now)
@@ -106,7 +96,7 @@ def does_nothing(setup):
 
 def setup_lines(setup):
     problem, free = setup.problem, [name for name, kind in setup.problem.rows.items() if kind == "N"]
-    sense = setup.options["sense"]
+    sense = setup.options.sense
     if setup.verb == "SETUP":
         yield f"SETUP, card {setup.card}: problem '{problem.name}', {sense}" + ("" if setup.has_sense else ", since SETUP names neither MIN nor MAX")
     else:
@@ -119,8 +109,8 @@ def setup_lines(setup):
     if constant:
         yield f"  LOOK: the number {constant} on the objective in RHS is used in SLACK alone; many programs read it as a constant of {-constant}"
     if setup.verb == "SETUP":
-        yield "  " + lines_of_sets("bounds", "BOUND", setup.options["bound"], problem.sets["BOUNDS"])
-        yield "  " + lines_of_sets("ranges", "RANGE", setup.options["range"], problem.sets["RANGES"])
+        yield "  " + lines_of_sets("bounds", "BOUND", setup.options.bound, problem.sets["BOUNDS"])
+        yield "  " + lines_of_sets("ranges", "RANGE", setup.options.ranges, problem.sets["RANGES"])
     if does_nothing(setup):
         all_costs, other = ("0 or more", "MAX") if sense == "MIN" else ("0 or less", "MIN")
         yield f"  LOOK: every cost is {all_costs} and no limit forces anything, so under {sense} doing nothing is best; is {other} meant?"

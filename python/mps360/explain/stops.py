@@ -383,8 +383,9 @@ def explain_end(end, run):
     "what a stop at INSERT or DUAL says besides"
     if "dependency" in end:
         explain_dependency(end["dependency"], run)
-    if "variable" in end and run and run.lp and 1 <= end["variable"] <= len(run.lp.names):
-        print(f"\nVariable {end['variable']} is {run.lp.names[end['variable'] - 1]}.")
+    names = run.lp.names if run and hasattr(run, "lp") else []
+    if "variable" in end and 1 <= end["variable"] <= len(names):
+        print(f"\nVariable {end['variable']} is {names[end['variable'] - 1]}.")
 
 
 def explain_combination(stop, run):
