@@ -367,7 +367,7 @@ def cure_of(stop, entry, cards, place):
 
 def explain_dependency(lines, run):
     "the lines after fault 15, as a sentence"
-    rows = run.lp.m if run and run.lp else None
+    rows = run.lp.m if run and hasattr(run, "lp") else None
     columns = [line for line in lines if rows is None or line["number"] > rows]
     print("\nTake each column as often as its number says:\n")
     for line in columns:
