@@ -8,7 +8,6 @@ usage: explain JOB [LISTING]      without LISTING the job is run first (mps360);
 Nothing is solved here: verdicts, rays and directions are the listing's, and are compared with the job.
 
 It ends with 0, with 64 for wrong use, 66 where a file can't be read, 65 where the listing isn't one, 70 where the job can't be run."""
-import os
 import pathlib
 import re
 import subprocess
@@ -23,13 +22,13 @@ from mps360.output import command
 LINE_EACH = 10
 
 
-def run_job(text):
+def run_job(text: str) -> str | None:
     "the listing of the job, which runs in a folder of its own, so that no file PUNCH is overwritten; None where there is none"
-    command = [programs.COMMANDS / "mps360"]
+    program = [programs.COMMANDS / "mps360"]
     with tempfile.TemporaryDirectory() as folder, tempfile.TemporaryFile() as given:
         given.write(text.encode("latin-1"))
         given.seek(0)
-        ran = subprocess.Popen(command, stdin=given, stdout=subprocess.PIPE, cwd=folder)
+        ran = subprocess.Popen(program, stdin=given, stdout=subprocess.PIPE, cwd=folder)
         waited = 0
         while True:
             try:
@@ -40,12 +39,14 @@ def run_job(text):
                 print(f"explain: the job runs, {waited} s", file=sys.stderr, flush=True)
 
 
-def read(word):
+def read(word: str) -> str:
+    "the text of a file, or of standard input"
     data = sys.stdin.buffer.read() if word == "-" else pathlib.Path(word).read_bytes()
     return data.decode("latin-1")
 
 
-def answered(words):
+def answered(words: list[str]) -> int:
+    "the command"
     guard()
     if words and words[0] in ("-h", "--help"):
         print(__doc__)
@@ -76,5 +77,6 @@ def answered(words):
 
 
 @command("explain")
-def main(words=None):
+def main(words: list[str] | None = None) -> int:
+    "the command; its status"
     return answered(sys.argv[1:] if words is None else words)

@@ -13,23 +13,30 @@ usage: listing2json.py [--csv | --table NAME] [--decimal] [--names MAP] [FILE]  
 In CSV a name that a spreadsheet could take for a formula (it begins with = + - @ or an apostrophe) has an apostrophe before it, and a control
 character stands as an escape; in JSON names are exact. It ends with 0, with 64 for wrong use, 65 where the text isn't a listing, 66 where it
 can't be read."""
-import argparse
 import sys
 from mps360.listings.read import NoListing, NoNames, name_back, parse, read_names
 from mps360.listings.tables import TABLES, add_decimals, document, json_text, write_solution, write_table
+from mps360.cli.options import Parser, ending
 from mps360.output import command
 
-OTHER_OBJECTIVE = "listing2json.py: the objective or its right-hand side isn't that of the table of names; no constant is added"
+OTHER_OBJECTIVE = "the objective or its right-hand side isn't that of the table of names; no constant is added"
+
+NAME = "listing2json.py"
 
 
-@command("listing2json.py")
-def main(words=None):
+def say(message: str) -> None:
+    "a line on standard error"
+    print(f"{NAME}: {message}", file=sys.stderr)
+
+
+@command(NAME)
+def main(words: list[str] | None = None) -> int:
+    "the command; its status"
     words = sys.argv[1:] if words is None else words
     if any(word in ("-h", "--help") for word in words):
         print(__doc__)
         return 0
-    parser = argparse.ArgumentParser(add_help=False)
-    parser.error = lambda message: (print(f"listing2json.py: {message}", file=sys.stderr), sys.exit(64))
+    parser = Parser(ending(say), allow_abbrev=True)
     kind = parser.add_mutually_exclusive_group()
     kind.add_argument("--csv", action="store_true")
     kind.add_argument("--table", choices=TABLES)
@@ -41,18 +48,18 @@ def main(words=None):
         text = open(options.file, encoding="latin-1").read() if options.file else sys.stdin.buffer.read().decode("latin-1")
         names = read_names(options.names) if options.names else None
     except (OSError, ValueError) as cause:
-        print(f"listing2json.py: can't read: {cause}", file=sys.stderr)
+        say(f"can't read: {cause}")
         return 66
     except NoNames as cause:
-        print(f"listing2json.py: {options.names}: {cause}", file=sys.stderr)
+        say(f"{options.names}: {cause}")
         return 65
-    sys.stdout.reconfigure(encoding="utf-8")
+    getattr(sys.stdout, "reconfigure")(encoding="utf-8")
     try:
         listing = parse(text)
         if not listing["reports"] and not listing["end"]:
             raise NoListing("it is empty")
         if names and not name_back(listing, names):
-            print(OTHER_OBJECTIVE, file=sys.stderr)
+            say(OTHER_OBJECTIVE)
         if options.csv:
             write_solution(listing, options.decimal, sys.stdout)
         elif options.table:
@@ -63,6 +70,6 @@ def main(words=None):
                 add_decimals(whole)
             sys.stdout.write(json_text(whole))
     except NoListing as cause:
-        print(f"listing2json.py: not a listing: {cause}", file=sys.stderr)
+        say(f"not a listing: {cause}")
         return 65
     return 0

@@ -17,13 +17,14 @@ import sys
 
 from mps360.listings.made import OtherJob
 from mps360.listings.read import NoListing
-from mps360.vipr import NoClaim, claims_of, lines_of
+from mps360.vipr import Certificate, NoClaim, claims_of, lines_of
+from mps360.cli.options import Parser, ending
 from mps360.output import command, write_file
 
 NAME = "listing2vipr.py"
 
 
-def claimed(job, listing, line, table):
+def claimed(job: str, listing: str, line: int | None, table: dict[str, dict[str, str]]) -> Certificate:
     "the certificate of the answer that is wanted; NoClaim where there is none"
     claims = []
     for claim in claims_of(job, listing, table):
@@ -34,14 +35,15 @@ def claimed(job, listing, line, table):
     if not wanted:
         place = f"begins at line {line}" if line else "is in it; SOLUTION after PRIMAL prints the proof"
         raise NoClaim(f"no SOLUTION OPTIMAL and no verdict INFEASIBLE {place}")
-    if wanted[-1].certificate is None:
+    certificate = wanted[-1].certificate
+    if certificate is None:
         raise NoClaim(f"line {wanted[-1].line}: the answer is UNBOUNDED, for which VIPR has no form")
-    return wanted[-1].certificate
+    return certificate
 
 
-def parsed_options(words):
-    parser = argparse.ArgumentParser(add_help=False, allow_abbrev=False)
-    parser.error = lambda message: (say(message), sys.exit(64))
+def parsed_options(words: list[str]) -> argparse.Namespace:
+    "the options that these words say"
+    parser = Parser(ending(say))
     parser.add_argument("--line", type=int)
     parser.add_argument("--names")
     parser.add_argument("-o", dest="certificate")
@@ -50,12 +52,14 @@ def parsed_options(words):
     return parser.parse_args(words)
 
 
-def say(message):
+def say(message: str) -> None:
+    "a line on standard error"
     print("".join(letter if " " <= letter <= "~" else "?" for letter in f"{NAME}: {message}"), file=sys.stderr)
 
 
 @command(NAME)
-def main(words=None):
+def main(words: list[str] | None = None) -> int:
+    "the command; its status"
     words = sys.argv[1:] if words is None else words
     if any(word in ("-h", "--help") for word in words):
         print(__doc__)

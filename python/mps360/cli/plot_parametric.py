@@ -9,23 +9,30 @@ usage: plot_parametric.py [--svg] [--run K] [-o FILE] [LISTING]      without LIS
 The value at each parameter is the sum of price times activity over rows and columns, which for a best plan is its objective (with the
 parameter's share of the change row, in a run of PARAOBJ). It ends with 0, with 64 for wrong use, 65 where the text isn't a listing, or has
 no such run, 66 where a file can't be read, 73 where one can't be written."""
-import argparse
 import sys
 from mps360.text import guard
 from mps360.listings.read import NoListing, parse
 from mps360.pages.parametric import NoRun, in_letters, in_svg, points_of
+from mps360.cli.options import Parser, ending
 from mps360.output import command, write_file
 
+NAME = "plot_parametric.py"
 
-@command("plot_parametric.py")
-def main(words=None):
+
+def say(message: str) -> None:
+    "a line on standard error"
+    print(f"{NAME}: {message}", file=sys.stderr)
+
+
+@command(NAME)
+def main(words: list[str] | None = None) -> int:
+    "the command; its status"
     words = sys.argv[1:] if words is None else words
     if any(word in ("-h", "--help") for word in words):
         print(__doc__)
         return 0
     guard()
-    parser = argparse.ArgumentParser(add_help=False)
-    parser.error = lambda message: (print(f"plot_parametric.py: {message}", file=sys.stderr), sys.exit(64))
+    parser = Parser(ending(say), allow_abbrev=True)
     parser.add_argument("--svg", action="store_true")
     parser.add_argument("--run", type=int)
     parser.add_argument("-o", dest="out")
@@ -44,9 +51,9 @@ def main(words=None):
         else:
             sys.stdout.write(picture)
     except OSError as cause:
-        print(f"plot_parametric.py: {cause.filename}: {cause.strerror}", file=sys.stderr)
+        say(f"{cause.filename}: {cause.strerror}")
         return 66
     except (NoListing, NoRun) as cause:
-        print(f"plot_parametric.py: can't be drawn: {cause}", file=sys.stderr)
+        say(f"can't be drawn: {cause}")
         return 65
     return 0

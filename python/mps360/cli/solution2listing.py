@@ -15,6 +15,13 @@ Each other option is one of mps2job.py, which reads the file: what it changes, l
 
 Prices that aren't there, a name that the model hasn't, a decimal number, a number past 128 bits are refused, with the place. It ends with 0,
 with 64 for wrong use, 65 where a file is refused, 66 where it can't be read, 73 where one can't be written."""
+import argparse
+import pathlib
+from typing import NoReturn
+from collections.abc import Callable
+from fractions import Fraction
+from mps360.jobs.write import Job
+from mps360.listings.write import Answer
 import dataclasses
 import json
 import os
@@ -31,22 +38,24 @@ from mps360.output import command, write_file
 NAME = "solution2listing.py"
 
 
-def told(message):
-    say(f"{NAME}: {message}")
-
-
-def wrong_use(message):
-    raise Ended(64, message)
-
-
 class Ended(Exception):
     "the status with which this ends, and what is said"
-    def __init__(self, status, message):
+    def __init__(self, status: int, message: str) -> None:
         super().__init__(message)
         self.status = status
 
 
-def own_words(words):
+def told(message: object) -> None:
+    "a line on standard error"
+    say(f"{NAME}: {message}")
+
+
+def wrong_use(message: str) -> NoReturn:
+    "ends the command for wrong use"
+    raise Ended(64, message)
+
+
+def own_words(words: list[str]) -> tuple[list[str], str | None, str]:
     "the words without --listing LISTING and the last one, and these two"
     words, listing = list(words), None
     if "--listing" in words:
@@ -60,16 +69,16 @@ def own_words(words):
     return words[:-1], listing, words[-1]
 
 
-def in_job_names(answer, job):
+def in_job_names(answer: Answer, job: Job) -> Answer:
     "the answer by the names of the job"
-    def named(table, names):
+    def named(table: dict[str, Fraction] | None, names: dict[str, str]) -> dict[str, Fraction] | None:
         return None if table is None else {names[name]: value for name, value in table.items()}
     crossed = answer.crossed and (answer.crossed[0], (job.rows if answer.crossed[0] == "row" else job.columns)[answer.crossed[1]])
     tables = {key: named(getattr(answer, key), getattr(job, kind)) for key, kind in TABLES.items()}
     return dataclasses.replace(answer, crossed=crossed, **tables)
 
 
-def made(options, solution):
+def made(options: argparse.Namespace, solution: str) -> tuple[Job, str]:
     "the job, and the listing of the solution"
     try:
         model = mps.read_file(options.file, mps2job.reading_of(options))
@@ -87,14 +96,14 @@ def made(options, solution):
         raise Ended(65, f"{solution}: {cause}") from None
 
 
-def check_places(*paths):
+def check_places(*paths: pathlib.Path | str | None) -> None:
     "nothing is written over another file of this call"
     places = [os.path.realpath(path) for path in paths if path]
     if len(set(places)) < len(places):
         raise Ended(64, "the files of this call are different files")
 
 
-def put(job, listing, options, say):
+def put(job: Job, listing: str, options: argparse.Namespace, say: Callable[[str], object]) -> None:
     "the job, its table of names and the listing go where they are wanted; what was changed is said"
     if job.renamed and not options.names:
         raise Ended(64, "names were shortened; say by --names MAP where the table of names goes")
@@ -109,19 +118,22 @@ def put(job, listing, options, say):
         sys.stdout.write(listing)
 
 
-def run(words):
+def run(words: list[str]) -> int:
+    "the command, or Ended"
     words, listing, solution = own_words(words)
     options = mps2job.parsed_options(words, wrong_use)
     options.listing = listing
     if not options.job:
         raise Ended(64, "-o JOB is needed")
     check_places(options.job, options.names, listing, options.file, solution)
-    put(*made(options, solution), options, told)
+    job, text = made(options, solution)
+    put(job, text, options, told)
     return 0
 
 
 @command(NAME)
-def main(words=None):
+def main(words: list[str] | None = None) -> int:
+    "the command; its status"
     words = sys.argv[1:] if words is None else words
     if any(word in ("-h", "--help") for word in words):
         print(__doc__)

@@ -27,6 +27,9 @@ far each number may move; every other word that begins with - is handed to mps2j
 It ends with the status of the run: 0, 1 no plan, 2 no bound, more in docs/FAULTS.md; or with 64 for wrong use, 65 where MODEL is refused, 66
 where it can't be read, 70 where there is no program or no solver, 73 where a file can't be written, 124 where there is no end in S seconds, 130
 after Ctrl-C or a TERM signal: then what stands is said. A deck that is punched goes to the file PUNCH of this folder."""
+from typing import Any
+from collections.abc import Iterator
+from mps360.jobs.write import Job
 import argparse
 import hashlib
 import io
@@ -61,15 +64,15 @@ class Ended(Exception):
     "the work is over, with this status and these words"
 
 
-def say(words):
+def say(words: str) -> None:
     print(f"{NAME}: {as_text(str(words))}", file=sys.stderr, flush=True)
 
 
-def wrong_use(message):
+def wrong_use(message: Any) -> None:
     raise Ended(64, message)
 
 
-def is_job(content):
+def is_job(content: bytes) -> bool:
     "whether the first card that means something is PROGRAM"
     first = next((line for line in content.split(b"\n") if line.strip() and not line.startswith(b"*")), b"")
     return re.match(rb"(\S* +)PROGRAM\b", first) is not None
@@ -79,7 +82,7 @@ def is_job(content):
 
 class Model:
     "a model, as the job that is run and the table of its names"
-    def __init__(self, options, passed):
+    def __init__(self, options: argparse.Namespace, passed: list[str]) -> None:
         self.path, self.notes, self.names, self.table, self.converted = options.model, [], NO_NAMES, b"", None
         self.basis, self.has_basis = None, False
         try:
@@ -103,10 +106,10 @@ class Model:
         else:
             self.convert(content, options, passed)
 
-    def take_names(self, path):
+    def take_names(self, path: str) -> None:
         self.names, self.table = read_names(path), pathlib.Path(path).read_bytes()
 
-    def convert(self, content, options, passed):
+    def convert(self, content: bytes, options: argparse.Namespace, passed: list[str]) -> None:
         words = mps2job.parsed_options([*passed, "--", self.path], wrong_use)
         try:
             model = mps.read_bytes(content, mps2job.reading_of(words, wrong_use))
@@ -120,7 +123,7 @@ class Model:
         table = job.name_map()
         self.names, self.table = names_of(table), (json.dumps(table, indent=1) + "\n").encode()
 
-    def take_basis(self, options, job):
+    def take_basis(self, options: argparse.Namespace, job: Job) -> None:
         from mps360.cli import basis2deck
         try:
             self.basis = basis2deck.read_basis(options.basis, job.model, options.writer)
@@ -129,7 +132,7 @@ class Model:
             raise Ended(status, *words.split("\n"))
         self.notes += self.basis.said
 
-    def ran(self, attempt):
+    def ran(self, attempt: Any) -> None:
         "the listing is that of this attempt's job"
         if self.converted:
             self.job, self.has_basis = attempt.job.encode("ascii"), attempt.basis is not None and not attempt.by_checker
@@ -140,7 +143,7 @@ class Model:
 
 class Answer:
     "what a run came to"
-    def __init__(self, model, run, provenance):
+    def __init__(self, model: Model, run: Run, provenance: Any) -> None:
         self.run, self.provenance, self.model = run, provenance, model
         self.text = run.listing.decode("latin-1")
         try:
@@ -152,7 +155,7 @@ class Answer:
             model.notes.append("the objective or its right-hand side isn't that of the table of names: no constant is added")
         self.result = tables.result_of(self.listing)
 
-    def objective_of(self, reports):
+    def objective_of(self, reports: list[Any]) -> str | None:
         "the name of the objective; the reports are compared with the job"
         job = self.model.converted
         if job:
@@ -164,10 +167,10 @@ class Answer:
         name = programs[-1].names[programs[-1].objective] if programs else "the objective"
         return self.model.names[0].get("rows", {}).get(name, name) if programs else name
 
-    def last(self, kind):
+    def last(self, kind: str) -> dict[str, Any] | None:
         return next((report for report in reversed(self.listing["reports"]) if report["report"] == kind), None)
 
-    def point(self):
+    def point(self) -> Any:
         "the best plan for other solvers, None where there is none or its tables aren't whole"
         solution, model = self.last("solution"), self.model.converted.model
         if self.result["verdict"] != "optimal" or not solution:
@@ -180,18 +183,18 @@ class Answer:
         basis = self.run.basis if self.run.by_checker else None
         return solution_out.point_of(model, rows, columns, basis=basis, has_basis=basis is not None or not self.run.by_checker)
 
-    def printed_by(self):
+    def printed_by(self) -> str:
         "who printed the listing, by which route, and the checksums, as the page says it"
         return " ".join(part for part in (self.provenance.page_sentence(), self.provenance.route_sentence(), self.provenance.checksum_sentence()) if part)
 
-    def json(self):
+    def json(self) -> str:
         run = {"model": self.model.path, "program": self.provenance.kind, "seconds": round(self.run.seconds, 3), "interrupted": self.run.interrupted,
                "notes": self.model.notes, **self.provenance.as_json()}
         whole = tables.document(self.listing, run)
         tables.add_decimals(whole)
         return tables.json_text(whole)
 
-    def csv(self):
+    def csv(self) -> str:
         out = io.StringIO()
         if self.last("solution") and self.result["verdict"] == "optimal":
             tables.write_solution(self.listing, True, out)
@@ -203,7 +206,7 @@ class Answer:
 
     # ---- as a text
 
-    def text_lines(self):
+    def text_lines(self) -> Iterator[str]:
         verdict = self.last("verdict")
         if verdict:
             yield self.sentence(verdict)
@@ -221,7 +224,7 @@ class Answer:
         yield from (part for part in (self.provenance.route_sentence(), self.provenance.checksum_sentence()) if part)
         yield f"Scripts, which are tested, {'made the job of the file and ' if self.model.converted else ''}put in names and decimals (rounded after ≈)."
 
-    def sentence(self, verdict):
+    def sentence(self, verdict: dict[str, Any]) -> str:
         sense = self.result["sense"]
         most, more = ("greatest", "more") if sense == "MAX" else ("least", "less")
         if verdict["verdict"] == "optimal":
@@ -234,7 +237,7 @@ class Answer:
             return f"INFEASIBLE: variable {verdict['crossed']} has a lower limit above its upper one."
         return "INFEASIBLE: no plan keeps all limits; those of these rows and columns conflict, with these factors."
 
-    def table_of(self, verdict):
+    def table_of(self, verdict: dict[str, Any] | None) -> Iterator[str]:
         "the plan with its rows, or the ray or the direction"
         if not verdict:
             return
@@ -255,7 +258,7 @@ class Answer:
             lines = [(line["name"], both(line["activity"]), both(line["direction"])) for line in moving]
             yield from table("Row or column", ("activity", "changes by"), lines)
 
-    def solution_table(self, head, price, lines, near, which, interval):
+    def solution_table(self, head: str, price: str, lines: list[dict[str, int | str | None]], near: dict[int, dict[str, int | str | None]], which: str, interval: tuple[str, str, str]) -> Iterator[str]:
         low, high, words = interval
         shown = [line for line in lines if line[which] != "0"]
         names = ("activity", "shadow price" if price == "dual" else "reduced cost", *([words] if near else []))
@@ -265,7 +268,7 @@ class Answer:
             yield f"({len(lines) - len(shown)} more have {'the activity' if which == 'activity' else 'the price'} 0)"
 
 
-def with_cells(text, cells):
+def with_cells(text: Any, cells: Any) -> Any:
     "CSV with these columns behind the others, the same on each line"
     import csv
     head, *lines = csv.reader(io.StringIO(text))
@@ -274,13 +277,13 @@ def with_cells(text, cells):
     return out.getvalue()
 
 
-def both(number):
+def both(number: str) -> str:
     "a number as a decimal, with the exact fraction beside it where it is another text"
     text = marked_decimal(number)
     return text if text == number else f"{text} = {number}"
 
 
-def ends_of(line, low, high):
+def ends_of(line: dict[str, int | str | None], low: str, high: str) -> str:
     "an interval of RANGE, or nothing"
     if low not in line or line[low] == "-":
         return ""
@@ -289,7 +292,7 @@ def ends_of(line, low, high):
     return f"{'any' if line[low] is None else marked_decimal(line[low])} to {'any' if line[high] is None else marked_decimal(line[high])}"
 
 
-def table(head, names, lines):
+def table(head: str, names: tuple[str, ...], lines: list[tuple[str, ...]]) -> Iterator[str]:
     "the lines of a table: a name, and texts under these names"
     width = max([len(head), *(len(as_text(line[0])) for line in lines[:MOST_LINES])])
     wide = [max([len(name), *(len(line[k]) for line in lines[:MOST_LINES])]) for k, name in enumerate(names, 1)]
@@ -302,16 +305,16 @@ def table(head, names, lines):
 
 # ---- the whole
 
-def kept(folder, name, content):
+def kept(folder: pathlib.Path, name: str, content: bytes) -> None:
     make_folder(folder)
     write_file(folder / name, content)
 
 
-def stem_of(options):
+def stem_of(options: argparse.Namespace) -> str:
     return pathlib.Path(options.model).name.removesuffix(".gz").rsplit(".", 1)[0] if options.model != "-" else "model"
 
 
-def write_solution(options, model, answer):
+def write_solution(options: Any, model: Any, answer: Any) -> None:
     "the files for other solvers; why one isn't written is said"
     wanted = [word for word in ("--write-basis", "--solution") if getattr(options, MODEL_WORDS[word])]
     if not wanted:
@@ -330,7 +333,7 @@ def write_solution(options, model, answer):
             say(f"{word}: {path} isn't written: {cause}")
 
 
-def write_outputs(options, model, answer):
+def write_outputs(options: argparse.Namespace, model: Model, answer: Answer) -> None:
     write_solution(options, model, answer)
     if options.keep:
         kept(pathlib.Path(options.keep), f"{stem_of(options)}.listing", answer.text.encode("latin-1"))
@@ -347,7 +350,7 @@ def write_outputs(options, model, answer):
         print("\n".join(answer.text_lines()))
 
 
-def program_of(options):
+def program_of(options: argparse.Namespace) -> tuple[list[str], str]:
     "the program that runs; that it runs unproved is said"
     try:
         program = at_hand.solver_program(options.program)
@@ -358,7 +361,7 @@ def program_of(options):
     return program
 
 
-def checker_of(options):
+def checker_of(options: Any) -> Any:
     "the checker of listings, or None"
     try:
         return at_hand.listing_checker(options.checker)
@@ -366,7 +369,7 @@ def checker_of(options):
         raise Ended(70, str(cause))
 
 
-def outcome_of(options, model, program, checker, life):
+def outcome_of(options: Any, model: Any, program: Any, checker: Any, life: Any) -> Any:
     "what the run of a job, or the routes of an MPS file, came to"
     observer = runs.Observer(say=life.say, going=life.say, heard=life.heard, tick=life.tick)
     try:
@@ -386,7 +389,7 @@ def outcome_of(options, model, program, checker, life):
         life.clear()
 
 
-def say_interrupted(attempt):
+def say_interrupted(attempt: Any) -> None:
     "what stands after an interruption"
     lines = attempt.lines()
     stands = f"What was printed stands; its last line is: {lines[-1]}" if lines else "Nothing was printed."
@@ -394,12 +397,12 @@ def say_interrupted(attempt):
     say(f"interrupted after {attempt.seconds:.0f} s, when it {waited}. {stands}")
 
 
-def keep(options, name, content):
+def keep(options: Any, name: Any, content: Any) -> None:
     if options.keep:
         kept(pathlib.Path(options.keep), name, content)
 
 
-def solve(options, passed):
+def solve(options: argparse.Namespace, passed: list[str]) -> int | None:
     model, stem = Model(options, passed), stem_of(options)
     keep(options, f"{stem}.job", model.job)
     if model.table:
@@ -420,12 +423,13 @@ def solve(options, passed):
     return outcome.status
 
 
-def interrupt(*_):
+def interrupt(*_: Any) -> None:
     raise KeyboardInterrupt
 
 
 @command(NAME)
-def main(words=None):
+def main(words: list[str] | None = None) -> int:
+    "the command; its status"
     words = sys.argv[1:] if words is None else words
     if any(word in ("-h", "--help") for word in words):
         print(__doc__)

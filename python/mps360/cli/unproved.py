@@ -17,6 +17,7 @@ import subprocess
 import sys
 import tempfile
 import time
+from typing import BinaryIO
 
 from mps360.unproved import ATTESTS, PROVES, RUNS, Answered, NoAnswer, crate_of, kept, make, say
 from mps360.output import CantWrite, command
@@ -24,7 +25,8 @@ from mps360.output import CantWrite, command
 LONG_RUN = 10
 
 
-def run(name, program, words, job=None):
+def run(name: str, program: str, words: list[str], job: BinaryIO | None = None) -> int:
+    "runs the program; its status"
     begun = time.monotonic()
     ended = subprocess.run([program, *words], stdin=job)
     if time.monotonic() - begun > LONG_RUN and os.path.basename(program) != "fast":
@@ -35,28 +37,28 @@ def run(name, program, words, job=None):
     return ended.returncode
 
 
-def told(answer):
+def told(answer: Answered) -> int:
     "the answer of rt try"
     try:
         sys.stdout.buffer.write(answer.listing)
         sys.stdout.flush()
     except CantWrite:
         # (as the program ends where its listing can't be written)
-        sys.stdout.give_up()
+        getattr(sys.stdout, "give_up")()
         return 25
     if re.search(rb"^BCDOUT  ", answer.listing, re.M):
         say(RUNS, "this unproved run keeps no punched deck; the program that scripts/build.sh builds does")
     return answer.status
 
 
-def own_words(words):
+def own_words(words: list[str]) -> tuple[str, bool, list[str]] | None:
     "the program's name, whether it is compiled alone, and the words that it gets; None where the words are no use of this"
     name, words = (words[1], words[2:]) if words[:1] == ["--program"] and len(words) > 1 else (RUNS, words)
-    is_made = name == RUNS and words and words[0].startswith("--make")
+    is_made = name == RUNS and words[:1] != [] and words[0].startswith("--make")
     return (name, words == ["--compile"], words if is_made else []) if name in (RUNS, ATTESTS) and (is_made or words in ([], ["--compile"])) else None
 
 
-def answer(name, words):
+def answer(name: str, words: list[str]) -> int:
     "runs the program that was kept, or compiles it first; its status"
     program = kept(name) if crate_of(name).is_dir() else None
     if program:
@@ -73,7 +75,8 @@ def answer(name, words):
 
 
 @command("unproved.py")
-def main(words=None):
+def main(words: list[str] | None = None) -> int:
+    "the command; its status"
     words = sys.argv[1:] if words is None else words
     signal.signal(signal.SIGTERM, lambda *_: sys.exit(143))
     if words and words[0] in ("-h", "--help"):

@@ -11,7 +11,6 @@ The certificate is checked first, and refused where it doesn't hold. A constrain
 it can't be, and said, a row. Refused: derivations other than lin, variables of whole numbers, bounds that don't meet, a number without an exact
 form of 12 columns. It ends with 0, with 64 for wrong use, 65 where the certificate is refused, 66 where it can't be read, 73 where a file can't
 be written."""
-import argparse
 import os
 import sys
 
@@ -20,20 +19,22 @@ from mps360.cli import solution2listing
 from mps360.cli.mps2job import say
 from mps360.cli.solution2listing import Ended
 from mps360.files import unzipped
-from mps360.jobs.write import job_of
+from mps360.jobs.write import Job, job_of
 from mps360.listings.write import Refused, listing_of
 from mps360.vipr import NoCertificate, Wrong, check, model_of, read
+from mps360.cli.options import Parser, ending
 from mps360.output import command
 
 NAME = "vipr2listing.py"
 MOST_BYTES = 1_000_000_000
 
 
-def told(message):
+def told(message: object) -> None:
+    "a line on standard error"
     say(f"{NAME}: {message}")
 
 
-def text_of(path):
+def text_of(path: str) -> str:
     "the text of a certificate's file, gzipped or not"
     try:
         with open(path, "rb") as source:
@@ -44,7 +45,7 @@ def text_of(path):
         raise Ended(66, f"can't read {path}: {cause.strerror}") from None
 
 
-def made(path):
+def made(path: str) -> tuple[Job, str]:
     "the job and the listing of a certificate"
     text = text_of(path)
     try:
@@ -59,9 +60,9 @@ def made(path):
         raise Ended(65, f"{path}: {cause}") from None
 
 
-def run(words):
-    parser = argparse.ArgumentParser(add_help=False, allow_abbrev=False)
-    parser.error = lambda message: (told(message), sys.exit(64))
+def run(words: list[str]) -> int:
+    "the command, or Ended"
+    parser = Parser(ending(told))
     parser.add_argument("-o", dest="job", required=True)
     parser.add_argument("--listing")
     parser.add_argument("--names")
@@ -74,7 +75,8 @@ def run(words):
 
 
 @command(NAME)
-def main(words=None):
+def main(words: list[str] | None = None) -> int:
+    "the command; its status"
     words = sys.argv[1:] if words is None else words
     if any(word in ("-h", "--help") for word in words):
         print(__doc__)

@@ -1,9 +1,10 @@
 "What a listing means, in words. Nothing is solved: verdicts, rays and directions are the listing's, and are compared with the job."
+from mps360.listings.read import Listing
 from mps360.explain.reports import explain_reports, explain_setups, replay
 from mps360.explain.stops import explain_stop
 
 
-def explain(text, parsed):
+def explain(text: str, parsed: Listing) -> None:
     end = parsed["end"]
     run, why = replay(text, parsed)
     if end is None:

@@ -1,7 +1,12 @@
 "What the reports of a listing mean: what a SETUP took, verdicts with their rays and directions, parametric runs."
+from collections.abc import Iterator, Mapping, Sequence
+from typing import Any
+from mps360.jobs.selection import LinearProgram
 import re
 from fractions import Fraction
-from mps360.listings.follow import Followed, ListingEnds, OtherJob, UNKNOWN
+from mps360.listings.follow import UNKNOWN, Followed, ListingEnds, Told
+from mps360.listings.made import OtherJob
+from mps360.listings.read import Line, Listing
 from mps360.explain.stops import DOCUMENTS, MOST_SHOWN, PLACES, more_than
 from mps360.pages.parametric import value_at
 
@@ -10,35 +15,37 @@ from mps360.pages.parametric import value_at
 
 class Setup:
     "what a SETUP took, and what a PRIMAL after it took otherwise"
-    def __init__(self, run, verb):
+    def __init__(self, run: "Replayed", verb: str) -> None:
+        assert run.setup is not None
         problem, options = run.setup
         self.card, self.verb, self.problem, self.options, self.lp = run.card, verb, problem, options, run.lp
         self.has_sense = run.has_sense
         self.objective, self.is_moved = list(problem.rows)[run.lp.objective], "XOBJ" in run.cells
         self.rhs, self.is_rhs_moved = run.cells.get("XRHS", next(iter(problem.sets["RHS"]), None)), "XRHS" in run.cells
 
-    def taken(self):
+    def taken(self) -> tuple[str, str]:
         return self.objective, self.rhs
 
 
 class Replayed(Followed):
     "keeps, beside what each report is about, each SETUP, and what a verb after it chose otherwise"
-    def __init__(self, text, reports):
+    def __init__(self, text: str, reports: Sequence[Told]) -> None:
         super().__init__(text, reports)
-        self.setups, self.has_sense = [], False
+        self.setups: list[Setup] = []
+        self.has_sense = False
 
-    def select(self):
+    def select(self) -> None:
         super().select()
         now = Setup(self, self.verb)
         if self.verb == "SETUP" or now.taken() != self.setups[-1].taken():
             self.setups.append(now)
 
-    def set_up(self, words):
+    def set_up(self, words: list[str]) -> None:
         self.has_sense = "MIN" in words or "MAX" in words
         super().set_up(words)
 
 
-def replay(text, parsed):
+def replay(text: str, parsed: Listing) -> tuple[Replayed | None, str | None]:
     "the run of the listing over the job, as far as both go together; None and why where the job isn't followed, or the listing is another's"
     run, why = None, None
     try:
@@ -58,11 +65,11 @@ def replay(text, parsed):
 
 # ---- what a SETUP took, and what was perhaps forgotten
 
-def listed(names):
+def listed(names: list[str]) -> str:
     return ", ".join(names[:MOST_SHOWN]) + more_than(names)
 
 
-def lines_of_sets(what, option, name, sets):
+def lines_of_sets(what: str, option: str, name: str | None, sets: Mapping[str, Any]) -> str:
     "which set of bounds or ranges counts"
     others = [f"'{other}'" for other in sets if other != name]
     if name is not None:
@@ -73,7 +80,7 @@ def lines_of_sets(what, option, name, sets):
     return f"{what}: none; the deck has none"
 
 
-def line_of_choice(what, name, is_moved, cell, names):
+def line_of_choice(what: str, name: str, is_moved: bool, cell: str, names: list[str]) -> str:
     others = [f"'{other}'" for other in names if other != name]
     if name is None:
         return f"{what}: no set; all are 0"
@@ -84,7 +91,7 @@ def line_of_choice(what, name, is_moved, cell, names):
     return f"{what}: '{name}', {how}" + (f" (the others: {listed(others)}); MOVE({cell},{others[0]}) before SETUP takes another" if others and not is_moved else "")
 
 
-def does_nothing(setup):
+def does_nothing(setup: Setup) -> bool:
     "whether doing nothing is a best plan, since every cost is 0 or worse and no limit forces anything"
     lp = setup.lp
     costs = [entries.get(lp.objective, Fraction(0)) * lp.better() for entries in lp.columns]
@@ -94,7 +101,7 @@ def does_nothing(setup):
         not cost or low == 0 for cost, (low, _) in zip(costs, ends[lp.m:]))
 
 
-def setup_lines(setup):
+def setup_lines(setup: Setup) -> Iterator[str]:
     problem, free = setup.problem, [name for name, kind in setup.problem.rows.items() if kind == "N"]
     sense = setup.options.sense
     if setup.verb == "SETUP":
@@ -116,7 +123,7 @@ def setup_lines(setup):
         yield f"  LOOK: every cost is {all_costs} and no limit forces anything, so under {sense} doing nothing is best; is {other} meant?"
 
 
-def explain_setups(run):
+def explain_setups(run: Replayed) -> None:
     "each SETUP, once where it is run again in a loop"
     told = list(dict.fromkeys("\n".join(setup_lines(setup)) for setup in run.setups[:1000]))
     for lines in told[:MOST_SHOWN]:
@@ -125,7 +132,7 @@ def explain_setups(run):
         print(f"\n{more_than(told).strip()}")
 
 
-def affine(constant, rate):
+def affine(constant: Fraction, rate: Fraction) -> str:
     "constant + rate * theta, as text"
     if not rate:
         return str(constant)
@@ -135,21 +142,20 @@ def affine(constant, rate):
     return f"{constant} {'+' if rate > 0 else '-'} {term}"
 
 
-def is_of(ray, program, shift):
+def is_of(ray: list[Line], program: LinearProgram, shift: Mapping[str, Fraction]) -> bool:
     "whether a ray's sum cancels in this linear program, each limit that it takes is there, and they don't cancel"
     factors = {line["number"] - 1: Fraction(line["multiplier"]) for line in ray}
     if any(not 0 <= k < len(program.names) or program.names[k] != line["name"] for k, line in zip(factors, ray)):
         return False
-    if any((program.upper if factor > 0 else program.lower)[k] is None for k, factor in factors.items()):
-        return False
-    total = sum(factor * (program.upper if factor > 0 else program.lower)[k] for k, factor in factors.items())
-    if not shift and total >= 0:
+    limits = {k: (program.upper if factor > 0 else program.lower)[k] for k, factor in factors.items()}
+    parts = [factors[k] * limit for k, limit in limits.items() if limit is not None]
+    if len(parts) < len(limits) or not shift and sum(parts) >= 0:
         return False
     return all(not factors.get(program.m + j, 0) + sum(value * factors.get(i, 0) for i, value in entries.items())
                for j, entries in enumerate(program.columns))
 
 
-def explain_ray(ray, program, shift):
+def explain_ray(ray: list[Line], program: LinearProgram | None, shift: Mapping[str, Fraction]) -> list[Fraction] | None:
     "the sum of the ray's limits, as a constant and a rate with theta; None where they aren't known. The shift is of the rows' limits with theta"
     print("Multiply these activities and add them up: they cancel, whatever the plan, and their limits don't.\n")
     total = [Fraction(0), Fraction(0)]
@@ -160,7 +166,7 @@ def explain_ray(ray, program, shift):
         factor, place = Fraction(line["multiplier"]), line["number"] - 1
         start = f"  {line['multiplier']:>8} x {line['name']:<8} which is"
         if program:
-            limit = (program.upper if factor > 0 else program.lower)[place]
+            limit = (program.upper if factor > 0 else program.lower)[place] or Fraction(0)
             rate = shift.get(line["name"], Fraction(0)) if place < program.m else Fraction(0)
             total = [total[0] + factor * limit, total[1] + factor * rate]
             print(f"{start} {'at most' if factor > 0 else 'at least'} {affine(limit, rate)}: at most {affine(factor * limit, factor * rate)}")
@@ -171,13 +177,13 @@ def explain_ray(ray, program, shift):
     return total if program else None
 
 
-def explain_direction(direction):
+def explain_direction(direction: list[Line]) -> None:
     for line in direction:
         if Fraction(line["direction"]):
             print(f"  {line['name']:<8} changes by {line['direction']} a unit of the way")
 
 
-def explain_verdict(report, program):
+def explain_verdict(report: Told, program: LinearProgram | None) -> None:
     if report["by"] in ("paraobj", "pararhs"):
         print(f"At XPARAM, where {report['by'].upper()} begins, there is no best plan, so there are no intervals.")
     if report["verdict"] == "infeasible" and "ray" in report:
@@ -197,7 +203,7 @@ def explain_verdict(report, program):
               (", checked again." if report["checked"] else "; its check met a number too large (UNCHECKED).") + f" {DOCUMENTS}/LISTING.md says how to read it.")
 
 
-def explain_change(before, now):
+def explain_change(before: list[Line], now: list[Line]) -> None:
     "the variables that stand elsewhere than in the interval before"
     moved = [(old, new) for old, new in zip(before, now) if old["at"] != new["at"]]
     for old, new in moved[:MOST_SHOWN]:
@@ -210,7 +216,7 @@ def explain_change(before, now):
         print("  " + more_than(moved).strip())
 
 
-def explain_interval(interval, before):
+def explain_interval(interval: Told, before: list[Line]) -> None:
     lines, first, last = interval["lines"], *(Fraction(interval[end]) for end in ("from", "to"))
     constant, there = (value_at(lines, Fraction(theta)) for theta in (0, 1))
     rate = there - constant
@@ -223,7 +229,7 @@ def explain_interval(interval, before):
     explain_change(before, lines)
 
 
-def explain_past_limits(report, program, shift):
+def explain_past_limits(report: Told, program: LinearProgram | None, shift: Mapping[str, Fraction]) -> None:
     print(f"Past theta = {report['at']} no plan keeps all limits. ", end="")
     total = explain_ray(report["ray"], program, shift)
     if total:
@@ -232,7 +238,7 @@ def explain_past_limits(report, program, shift):
               f"  A unit by which one of them gives way moves that end by its factor{share} at most.")
 
 
-def explain_past_bound(report, program):
+def explain_past_bound(report: Told, program: LinearProgram | None) -> None:
     print(f"Past theta = {report['at']} the objective has no bound. From the activities of the table one may go along the direction as far as one likes:\n")
     explain_direction(report["direction"])
     if program:
@@ -243,11 +249,11 @@ def explain_past_bound(report, program):
     print("\nA row or a bound that should stop this is missing, or theta isn't to go so far.")
 
 
-def explain_parametric(report, program, shift):
+def explain_parametric(report: Told, program: LinearProgram | None, shift: Mapping[str, Fraction]) -> None:
     "a parametric run"
     verb = report["by"].upper()
     print(f"{verb}: theta times the {'row' if verb == 'PARAOBJ' else 'set'} {report['change']} is added to the {'objective' if verb == 'PARAOBJ' else 'limits of the rows'}.")
-    before = []
+    before: list[Line] = []
     for interval in report["intervals"]:
         explain_interval(interval, before)
         before = interval["lines"]
@@ -259,7 +265,7 @@ def explain_parametric(report, program, shift):
         explain_past_bound(report, program)
 
 
-def explain_reports(reports, run):
+def explain_reports(reports: Sequence[Told], run: Replayed | None) -> None:
     "each parametric run, and the last verdict"
     last = max((k for k, report in enumerate(reports) if report["report"] == "verdict"), default=None)
     for k, report in enumerate(reports):

@@ -1,9 +1,17 @@
 "What a STOP line means: the card that it names, what the fault is, and what helps."
+from __future__ import annotations
+
+from collections.abc import Iterator, Sequence
+from typing import TYPE_CHECKING, Any
 import difflib
 import re
 from mps360 import programs
 from mps360.jobs import decks
 from mps360.numbers import nearest, text_of
+
+if TYPE_CHECKING:
+    from mps360.explain.reports import Replayed
+    from mps360.listings.read import End, Line
 
 IS_INSTALLED = (programs.COMMANDS / "program").exists()
 DOCUMENTS = programs.TOP.parents[1] / "share/doc/mps360" if IS_INSTALLED else "docs"
@@ -33,18 +41,20 @@ PLACES = {"LL": "stands at its lower limit", "UL": "stands at its upper limit", 
 MOST_SHOWN = 30
 
 
-def fault_entries():
+def fault_entries() -> Iterator[tuple[str, dict[str, str]]]:
     path = next(path for path in (programs.TOP / "examples/faults/INDEX", programs.TOP / "faults/INDEX") if path.exists())
     for block in re.sub(r"^#.*\n", "", path.read_text(), flags=re.M).strip().split("\n\n"):
         name, *lines = block.split("\n")
         yield name, dict(line[2:].split(" ", 1) for line in lines)
 
 
-def entry_of(stop):
+def entry_of(stop: str) -> dict[str, str] | None:
     "the entry of the fault that a STOP line tells"
     kind = re.match(r"STOP (\d+) (?:(CONTROL|VERB|DECK|CARD) FAULT (\d+))?", stop)
     number = re.search(r" NUMBER (\d+)", stop)
     names = dict(fault_entries())
+    if not kind:
+        return None
     if kind[2]:
         width = 1 if kind[2] == "CARD" else 2
         name = f"{kind[2].lower()}-{int(kind[3]):0{width}}" + (f"-{number[1]}" if number else "")
@@ -52,14 +62,14 @@ def entry_of(stop):
     return next((entry for entry in names.values() if entry["status"] == kind[1]), None)
 
 
-def revises(cards):
+def revises(cards: list[str]) -> bool:
     "whether the deck that begins with these cards, of which the first is its NAME card, revises another"
     end = next((place for place, card in enumerate(cards) if card.split(" ")[0] == "ENDATA"), len(cards))
     is_free, data = decks.is_free(cards[0]), [card for card in cards[1:end] if card.startswith(" ")]
     return any(decks.action_on(card, is_free) for card in (data[:1] if is_free else data))
 
 
-def word_fields(card, section, deletes):
+def word_fields(card: str, section: str, deletes: bool) -> Any:
     "the fields that the words of a free card are, in order; None where its section takes no card of so many words"
     words = decks.words_of(card)
     given = decks.word_fields(section, deletes, words[0][1])
@@ -68,11 +78,11 @@ def word_fields(card, section, deletes):
 
 class DataCard:
     "a data card in a section of a deck: its place, from 0, whether its deck is free, the action over it, or that it is itself"
-    def __init__(self, place, card, section, is_free, action, is_action, begins):
+    def __init__(self, place: int, card: str, section: str, is_free: bool, action: str | None, is_action: bool, begins: int) -> None:
         self.place, self.card, self.section, self.is_free, self.begins = place, card, section, is_free, begins
         self.is_action, self.deletes = is_action, action == "DELETE"
 
-    def field(self, number):
+    def field(self, number: int) -> str:
         if not self.is_free:
             first, last = FIELDS[number - 1]
             return self.card[first - 1:last].rstrip()
@@ -80,9 +90,9 @@ class DataCard:
         return next((word for field, (_, word) in zip(fields, decks.words_of(self.card)) if field == number), "")
 
 
-def data_cards(cards):
+def data_cards(cards: list[str]) -> Iterator[DataCard]:
     "the data cards of the decks of problems and revisions; begins is the place of the NAME card, where the deck revises none"
-    section = action = None
+    section, action = "", None
     is_free = is_revision = False
     begins = 0
     for place, card in enumerate(cards):
@@ -99,21 +109,22 @@ def data_cards(cards):
             yield DataCard(place, card, section, is_free, action, found is not None, begins)
 
 
-def data_card_at(cards, place):
+def data_card_at(cards: list[str], place: int) -> DataCard | None:
     "the data card of this number, None where that is another card"
     return next((card for card in data_cards(cards[:place]) if card.place == place - 1), None)
 
 
-def deck_before(cards, place):
+def deck_before(cards: list[str], place: int) -> dict[str, list[str]]:
     "the names of rows and columns, and of sets, of the deck up to this card, and of the deck before where it revises that"
     listed = [card for card in data_cards(cards[:place]) if not card.is_action]
     begins = max((card.begins for card in listed), default=0)
     return {section: list(dict.fromkeys(card.field(2) for card in listed if card.section == section and card.begins == begins)) for section in HOLDS}
 
 
-def earlier_rows(cards, data):
+def earlier_rows(cards: list[str], data: DataCard) -> list[str] | None:
     "the rows before that of a card of ROWS, on which its parts may stand; None where the decks can't be read so far"
-    problem, begins = None, data.begins
+    problem: decks.Problem | None = None
+    begins = data.begins
     for place in range(data.begins, data.place + 1):
         if cards[place].split(" ")[0] != "ENDATA" and place < data.place:
             continue
@@ -122,11 +133,11 @@ def earlier_rows(cards, data):
             problem = problem.revised(deck) if problem else decks.Problem(deck)
         except decks.DeckFault as fault:
             if place == data.place:
-                return fault.known
+                return list(fault.known) if fault.known is not None else None
     return None
 
 
-def known_names(stop, cards, place, run):
+def known_names(stop: str, cards: list[str], place: int, run: Replayed | None) -> tuple[str, list[str], list[str]] | None:
     "what is known where an unknown name stands, and the words on the card; run has the problem that is set up"
     card = cards[place - 1] if place else ""
     kind = re.match(r"STOP \d+ (\w+) FAULT (\d+)", stop)
@@ -144,16 +155,16 @@ def known_names(stop, cards, place, run):
         return "labels", [text.split()[0] for text in cards if text[:1] not in ("", " ", "*")][:40], re.findall(r"[(,]([A-Z0-9]+)\)", card)
     whole = deck_before(cards, len(cards))
     if fault[0] == "DECK" and fault[1] in (6, 11) and section_at(cards, place) == "NAME":
-        problem = run and run.setup and run.setup[0]
-        names = problem and (problem.rows if fault[1] == 6 else problem.columns)
-        return names and ("rows" if fault[1] == 6 else "columns", list(names), [card[14:22].rstrip() if fault[1] == 6 else card[4:12].rstrip()])
+        problem = run.setup[0] if run and run.setup else None
+        names = list(problem.rows.keys() if fault[1] == 6 else problem.columns.keys()) if problem else []
+        return None if not names else ("rows" if fault[1] == 6 else "columns", names, [card[14:22].rstrip() if fault[1] == 6 else card[4:12].rstrip()])
     if fault[0] == "DECK" and fault[1] in (6, 11):
-        kind, data = "rows" if fault[1] == 6 else "columns", data_card_at(cards, place)
+        what, data = "rows" if fault[1] == 6 else "columns", data_card_at(cards, place)
         wrong = [data.field(number) for number in ((3, 5) if fault[1] == 6 else (3,))] if data else []
         earlier = earlier_rows(cards, data) if data and data.section == "ROWS" else None
         if earlier is not None:
             return "earlier rows", earlier, [name for name in wrong if name and name not in earlier]
-        return kind, deck_before(cards, place)[kind.upper()], [name for name in wrong if name]
+        return what, deck_before(cards, place)[what.upper()], [name for name in wrong if name]
     table = {6: ("ROWS", "XCHROW"), 7: ("RHS", "XCHCOL"), 10: ("ROWS", "XOBJ"), 11: ("ROWS", "XOBJ"), 12: ("RHS", "XRHS"),
              13: ("RANGES", None), 14: ("BOUNDS", None)}
     if fault[0] == "VERB" and fault[1] in table:
@@ -165,23 +176,23 @@ def known_names(stop, cards, place, run):
     return None
 
 
-def more_than(shown):
+def more_than(shown: Sequence[object]) -> str:
     return f" and {len(shown) - MOST_SHOWN} more" if len(shown) > MOST_SHOWN else ""
 
 
-def wordings(text):
+def wordings(text: str) -> str:
     "a text of the index of faults, with the names that commands and documents have here"
     text = re.sub(r"\b([A-Z_]{4,}\.md)", lambda found: f"{DOCUMENTS}/{found[1]}", text)
     return re.sub(r"scripts/(\w+)(?:\.py)?\b", r"\1", text) if IS_INSTALLED else text
 
 
-def section_at(cards, place):
+def section_at(cards: list[str], place: int) -> str | None:
     "the section in which a card stands"
     words = [card.split(" ")[0] for card in cards[:place] if card and card[0] not in " *"]
     return words[-1] if words else None
 
 
-def ruler():
+def ruler() -> str:
     "the fields, with | in the first and the last column of each"
     line = [" "] * FIELDS[-1][1]
     for number, (first, last) in enumerate(FIELDS, 1):
@@ -190,11 +201,11 @@ def ruler():
     return "".join(line)
 
 
-def is_combination(card):
+def is_combination(card: str) -> bool:
     return card[1:3].strip() in decks.COMBINATIONS
 
 
-def to_be_blank(card, section, deletes):
+def to_be_blank(card: str, section: str, deletes: bool) -> Any:
     "the first column of a data card that holds something and is to be blank, and why"
     if section == "NAME":
         section = next((kind for kind in USED if kind.endswith(f" {card[1:3].strip()} card")), section)
@@ -214,7 +225,7 @@ def to_be_blank(card, section, deletes):
     return None
 
 
-def show_words(data):
+def show_words(data: DataCard) -> None:
     "the field of each word of a free card below it, and what it is read as; nothing where its section takes no card of so many words"
     words, fields = decks.words_of(data.card), word_fields(data.card, data.section, data.deletes)
     if data.is_action:
@@ -230,7 +241,7 @@ def show_words(data):
     print("\nIt is read as " + ", ".join(f"{what} '{word}'" for what, (_, word) in read) + ".")
 
 
-def of_word(data, fault):
+def of_word(data: DataCard, fault: int) -> Any:
     "the column of the word of a free card that has fault 25, 26 or 27, and what is wrong with it"
     words, section = decks.words_of(data.card), data.section
     given = decks.word_fields(section, data.deletes, words[0][1])
@@ -246,7 +257,7 @@ def of_word(data, fault):
     return column, f"{word} has {len(word)} characters, and a {'name' if fault == 26 else 'number'} has {most} at most" + shorter(word)
 
 
-def shorter(word):
+def shorter(word: str) -> Any:
     "the same number in fewer characters, where there is one"
     if not decks.NUMBER.match(word) or len(word) <= decks.NUMBER_LENGTH:
         return ""
@@ -254,7 +265,7 @@ def shorter(word):
     return f": {short} is the same number" if short else f": {text_of(nearest(decks.number(word)))} is near to it"
 
 
-def where_free(cards, place):
+def where_free(cards: list[str], place: int) -> list[str]:
     "what is said where the NAME card has the word FREE, and begins a fixed deck all the same"
     name = next((card for card in reversed(cards[:place]) if card.split(" ")[0] == "NAME"), "")
     found = re.search(r"\bFREE\b", name[4:])
@@ -265,7 +276,7 @@ def where_free(cards, place):
     return [f"The deck is fixed: FREE counts in columns 25 to 28 of the NAME card, with columns 23, 24 and 29 to 80 blank, and {why}."]
 
 
-def misplaced(card, section):
+def misplaced(card: str, section: str) -> Any:
     "a number or a name on a data card that stands in wrong columns, as words tell it"
     for found in re.finditer(r"\S+", card[:FIELDS[-1][1]]):
         first, last = found.start() + 1, found.end()
@@ -283,18 +294,19 @@ def misplaced(card, section):
     return None
 
 
-def show_card(stop, cards, place):
+def show_card(stop: str, cards: list[str], place: int) -> None:
     "the card that the stop names, under a ruler"
     card, section, data = cards[place - 1], section_at(cards, place), data_card_at(cards, place)
     print(f"\ncard {place}:")
     print("    " + "".join(f"{ten:>10}" for ten in range(10, 81, 10)))
     print("    " + "1234567890" * 8)
     print("    " + re.sub(r"[^ -~]", "?", card)[:80])
-    column = re.search(r" COLUMN (\d+)", stop)
-    column, why = (int(column[1]), None) if column else (None, None)
+    told = re.search(r" COLUMN (\d+)", stop)
+    column: int | None = int(told[1]) if told else None
+    why: str | None = None
     word_fault = re.search(r" DECK FAULT (25|26|27) ", stop)
     if " DECK FAULT 20 " in stop + " ":
-        column, why = to_be_blank(card, section, bool(data) and data.deletes) or (None, None)
+        column, why = to_be_blank(card, section or "", data is not None and data.deletes) or (None, None)
     elif word_fault and data and data.is_free:
         column, why = of_word(data, int(word_fault[1]))
     if " CARD FAULT 4 " in stop:
@@ -310,7 +322,7 @@ def show_card(stop, cards, place):
         print(f"\n{why[0].upper()}{why[1:]}.")
 
 
-def about_arguments(card):
+def about_arguments(card: str) -> list[str]:
     "what is wrong with the arguments of a statement, as far as that can be seen, and what the verb wants"
     found = re.match(r"\S*\s+([A-Z]+)(.*)", card[:72])
     if not found:
@@ -344,7 +356,7 @@ def about_arguments(card):
     return said
 
 
-def mistaken(stop, text, cards, place):
+def mistaken(stop: str, text: str, cards: list[str], place: int) -> list[str]:
     "what the file, or the card, was perhaps meant to be"
     card = cards[place - 1] if 0 < place <= len(cards) else ""
     if text.startswith(("\xef\xbb\xbf", "\xff\xfe", "\xfe\xff")):
@@ -359,13 +371,13 @@ def mistaken(stop, text, cards, place):
     return about_arguments(card) if "CONTROL FAULT 7 " in stop else []
 
 
-def cure_of(stop, entry, cards, place):
+def cure_of(stop: str, entry: dict[str, str], cards: list[str], place: int) -> str:
     "what helps: where a number or a name of a data card stands in wrong columns, that; else what the index of faults says"
-    told = misplaced(cards[place - 1], section_at(cards, place)) if " DECK FAULT 20 " in stop + " " and 0 < place <= len(cards) else None
+    told: str | None = misplaced(cards[place - 1], section_at(cards, place) or "") if " DECK FAULT 20 " in stop + " " and 0 < place <= len(cards) else None
     return told or wordings(entry["cure"])
 
 
-def explain_dependency(lines, run):
+def explain_dependency(lines: list[Line], run: Replayed | None) -> None:
     "the lines after fault 15, as a sentence"
     rows = run.lp.m if run and hasattr(run, "lp") else None
     columns = [line for line in lines if rows is None or line["number"] > rows]
@@ -379,7 +391,7 @@ def explain_dependency(lines, run):
     print("So these columns can't be basic together: in those rows each is made up by the others.")
 
 
-def explain_end(end, run):
+def explain_end(end: End, run: Replayed | None) -> None:
     "what a stop at INSERT or DUAL says besides"
     if "dependency" in end:
         explain_dependency(end["dependency"], run)
@@ -388,7 +400,7 @@ def explain_end(end, run):
         print(f"\nVariable {end['variable']} is {names[end['variable'] - 1]}.")
 
 
-def explain_combination(stop, run):
+def explain_combination(stop: str, run: Replayed | None) -> None:
     "what formula 19 says: a combination's number in a column, a product or a sum of its parts"
     found = re.match(r"STOP 20 OVERFLOW F19 (MUL|ADD) (\S+) (\S+) .* I (\d+) J (\d+) TERM (\d+) ", stop)
     if not found:
@@ -403,10 +415,11 @@ def explain_combination(stop, run):
         print(f"and of {found[2]}, the sum of the first {term} parts that count, and the next, {found[3]}, the sum doesn't fit.")
 
 
-def explain_stop(end, text, cards, run):
+def explain_stop(end: End, text: str, cards: list[str], run: Replayed | None) -> None:
+    "what a STOP line means"
     stop = end["text"]
-    place = re.search(r" CARD (\d+)", stop)
-    place = int(place[1]) if place else 0
+    told = re.search(r" CARD (\d+)", stop)
+    place = int(told[1]) if told else 0
     print(stop.split("\n")[0])
     if 0 < place <= len(cards):
         show_card(stop, cards, place)
