@@ -87,7 +87,7 @@ def outcome(status: int, number: int | None, listing: str, constant: Fraction) -
         place = f": line {number} of the listing, {lines[number - 1][:60]}" if number and number <= len(lines) else ""
         return "not attested: " + REFUSED.get(status, f"the checker ended with {status}") + place
     found = VERDICT.search(listing)
-    verdict, objective = found.groups() if found else ("", None)
+    verdict, objective = (found[1], found[2]) if found else ("", "0")
     if verdict != "OPTIMAL":
         return MEANS.get(verdict, "the listing has no verdict")
     return f"OPTIMAL, objective {objective}" + (f", {Fraction(objective) + constant} with the file's constant" if constant else "")

@@ -19,8 +19,6 @@ The proved program is used where it is built; else all run UNPROVED, compiled on
 
 Ends with 0 where each ended with an END line; 1 where one didn't; 64 for wrong use; 66 where there is no such folder or file, or
 nothing to run in it; 70 where no program can be had; 73 where OUT can't be written; 130 and 143 where it was interrupted."""
-from typing import Any
-from collections.abc import Callable
 import argparse
 import collections
 import csv
@@ -54,7 +52,7 @@ USAGE = "usage: mps360-batch [-j N] [--time-limit S] [--resume] [--mps2job WORDS
 
 class Wrong(Exception):
     "what ends the whole, with its exit status"
-    def __init__(self, status: Any, cause: Any) -> None:
+    def __init__(self, status, cause):
         super().__init__(cause)
         self.status = status
 
@@ -65,12 +63,12 @@ class Interrupted(Exception):
 
 class Signals:
     "what Ctrl-C does: while jobs run it is noted, and met between two results, so that no lock is left held; else it is raised at once"
-    def __init__(self) -> None:
+    def __init__(self):
         self.number, self.is_noted = None, False
         for number in (signal.SIGINT, signal.SIGTERM):
             signal.signal(number, self.meet)
 
-    def meet(self, number: int, _: frame) -> None:
+    def meet(self, number, _):
         self.number = number
         if not self.is_noted:
             raise Interrupted(number)
@@ -80,17 +78,17 @@ class TimeOver(Exception):
     "a job has met the time limit"
 
 
-def say(text: str) -> None:
+def say(text):
     print(f"mps360-batch: {text}", file=sys.stderr, flush=True)
 
 
 # ---- what is to be run
 
-def stem(path: pathlib.Path) -> str:
+def stem(path):
     return next((path.name[:-len(ending)] for ending in sorted(ENDINGS, key=len, reverse=True) if path.name.lower().endswith(ending)), path.name)
 
 
-def named(paths: list[pathlib.Path]) -> dict[str, pathlib.Path]:
+def named(paths):
     "from names to files; two of one name, as a.job and a.mps, have their whole names"
     count = collections.Counter(stem(path) for path in paths)
     names = [(stem(path) if count[stem(path)] == 1 else path.name, path) for path in paths]
@@ -100,7 +98,7 @@ def named(paths: list[pathlib.Path]) -> dict[str, pathlib.Path]:
     return dict(sorted(names))
 
 
-def files_of(options: argparse.Namespace) -> tuple[dict[str, pathlib.Path], pathlib.Path]:
+def files_of(options):
     "the files and the folder that the words name"
     words = [pathlib.Path(word) for word in options.words]
     if options.out is not None:
@@ -124,7 +122,7 @@ def files_of(options: argparse.Namespace) -> tuple[dict[str, pathlib.Path], path
 
 # ---- the summary
 
-def for_a_sheet(text: Any) -> Any:
+def for_a_sheet(text):
     "text that no spreadsheet takes for a formula"
     text = as_text(str(text))
     return "'" + text if text[:1] in tuple("=+-@") else text
@@ -132,10 +130,10 @@ def for_a_sheet(text: Any) -> Any:
 
 class Summary:
     "a line of summary.csv for each result as soon as it is there"
-    def __init__(self, out: Any) -> None:
+    def __init__(self, out):
         self.path, self.json, self.records = out / "summary.csv", out / "summary.json", {}
 
-    def before(self) -> Any:
+    def before(self):
         "the records of an earlier batch; a line that isn't whole counts for nothing"
         try:
             with open(self.path, encoding="utf-8", newline="") as file:
@@ -143,28 +141,28 @@ class Summary:
         except FileNotFoundError:
             return {}
 
-    def line(self, record: Any) -> Any:
+    def line(self, record):
         return {key: for_a_sheet(record[key]) if key in ("name", "file", "end") else record[key] for key in COLUMNS}
 
-    def begin(self, kept: Any) -> None:
+    def begin(self, kept):
         self.records = dict(kept)
         self.write_csv()
 
-    def write_csv(self) -> None:
+    def write_csv(self):
         self.replace(self.path, lambda file: self.write_lines(file, [self.records[name] for name in sorted(self.records)], head=True))
 
-    def write_lines(self, file: Any, records: Any, head: bool = False) -> None:
+    def write_lines(self, file, records, head=False):
         out = csv.DictWriter(file, COLUMNS, lineterminator="\n")
         if head:
             out.writeheader()
         out.writerows(map(self.line, records))
 
-    def add(self, record: Any) -> None:
+    def add(self, record):
         self.records[record["name"]] = record
         with open(self.path, "a", encoding="utf-8", newline="") as file:
             self.write_lines(file, [record])
 
-    def end(self, files: Any) -> None:
+    def end(self, files):
         "both files whole, in the order of the names; summary.json says too what isn't done"
         self.write_csv()
         states = collections.Counter(record["state"] for record in self.records.values())
@@ -174,14 +172,14 @@ class Summary:
         self.replace(self.json, lambda file: file.write(json.dumps(whole, indent=1) + "\n"))
 
     @staticmethod
-    def replace(path: Any, write: Any) -> None:
+    def replace(path, write):
         part = path.with_name(path.name + ".part")
         with open(part, "w", encoding="utf-8", newline="") as file:
             write(file)
         os.replace(part, path)
 
 
-def as_record(line: Any, name: Any, path: Any) -> Any:
+def as_record(line, name, path):
     "a record again of a line of summary.csv, for the file that it is of"
     end = line["end"][1:] if line["end"][:1] == "'" else line["end"]
     return {**line, "name": name, "file": str(path), "end": end, "status": int(line["status"]) if line["status"] else None, "seconds": float(line["seconds"])}
@@ -191,16 +189,16 @@ def as_record(line: Any, name: Any, path: Any) -> Any:
 
 class Runs:
     "runs a file, and ends what is running where all is to end"
-    def __init__(self, program: Any, is_proved: Any, out: Any, options: Any) -> None:
+    def __init__(self, program, is_proved, out, options):
         self.program, self.proved, self.out, self.limit = program, "yes" if is_proved else "no", out, options.time_limit
         self.words = shlex.split(options.mps2job)
         self.lock, self.processes, self.running, self.is_over = threading.Lock(), {}, {}, False
 
-    def sum_of(self, path: Any) -> Any:
+    def sum_of(self, path):
         words = "" if path.name.lower().endswith(".job") else "\0".join(self.words)
         return hashlib.sha256(path.read_bytes() + b"\0" + words.encode()).hexdigest()[:16]
 
-    def call(self, words: Any, until: Any, **more: Any) -> Any:
+    def call(self, words, until, **more):
         "the status of a command, which is ended at the time limit"
         with self.lock:
             if self.is_over:
@@ -218,14 +216,14 @@ class Runs:
                 self.kill(process)
 
     @staticmethod
-    def kill(process: Any) -> None:
+    def kill(process):
         try:
             os.killpg(process.pid, signal.SIGKILL)
         except ProcessLookupError:
             pass
         process.wait()
 
-    def end(self) -> None:
+    def end(self):
         with self.lock:
             self.is_over = True
             for process in self.processes.values():
@@ -234,7 +232,7 @@ class Runs:
                 except ProcessLookupError:
                     pass
 
-    def job_of(self, name: Any, path: Any, until: Any) -> Any:
+    def job_of(self, name, path, until):
         "the job of a file, and why there is none"
         if path.name.lower().endswith(".job"):
             return path, ""
@@ -256,7 +254,7 @@ class Runs:
             say(f"{name}: {len(lines) - MOST_SAID} lines more, which {name}.names has")
         return job, ""
 
-    def run(self, name: Any, path: Any) -> Any:
+    def run(self, name, path):
         "the record of a file's run; what it leaves stands in OUT before"
         begun = time.monotonic()
         until = None if self.limit is None else begun + self.limit
@@ -286,7 +284,7 @@ class Runs:
             part.unlink()
         return {**record, "seconds": round(time.monotonic() - begun, 3)}
 
-    def keep(self, name: Any, folder: Any, record: Any, status: Any) -> None:
+    def keep(self, name, folder, record, status):
         listing, part, punch = self.out / f"{name}.listing", self.out / f"{name}.listing.part", pathlib.Path(folder, "PUNCH")
         if punch.is_file():
             shutil.copyfile(punch, self.out / f"{name}.punch")
@@ -300,18 +298,18 @@ class Runs:
         if found:
             record["objective"] = self.with_constant(name, found[-1])
 
-    def with_constant(self, name: Any, objective: Any) -> Any:
+    def with_constant(self, name, objective):
         names = self.out / f"{name}.names"
         constant = read_names(names)[1] if names.exists() else None
         return objective if constant is None else str(Fraction(objective) + constant)
 
 
-def how_it_ended(listing: Any) -> Any:
+def how_it_ended(listing):
     lines = listing.rstrip("\n").split("\n")
     return next((line for line in reversed(lines) if re.match("END |STOP ", line)), lines[-1])
 
 
-def a_program() -> None:
+def a_program():
     "the path of the program, and whether it is proved"
     program = programs.proved_program()
     if program:
@@ -327,7 +325,7 @@ def a_program() -> None:
         raise Wrong(70, cause) from None
 
 
-def done_before(summary: Any, runs: Any, files: Any) -> Any:
+def done_before(summary, runs, files):
     "the records that --resume keeps"
     kept, before = {}, summary.before()
     for name, path in files.items():
@@ -346,10 +344,10 @@ def done_before(summary: Any, runs: Any, files: Any) -> Any:
 
 class Lines:
     "the line of each result on standard output; the results are kept also where it can't be written, which is told in the end"
-    def __init__(self) -> None:
+    def __init__(self):
         self.fault = None
 
-    def tell(self, record: Any) -> None:
+    def tell(self, record):
         status = "none" if record["status"] is None else record["status"]
         try:
             if self.fault is None:
@@ -358,7 +356,7 @@ class Lines:
             self.fault = cause
 
 
-def work_off(files: Any, runs: Any, summary: Any, at_once: Any, signals: Any, lines: Any) -> None:
+def work_off(files, runs, summary, at_once, signals, lines):
     "runs what isn't done, and takes each result as it comes, until all are done or a signal came"
     told = begun = time.monotonic()
     total = len(files) + len(summary.records)
@@ -384,7 +382,7 @@ def work_off(files: Any, runs: Any, summary: Any, at_once: Any, signals: Any, li
                 runs.end()
 
 
-def batch(options: argparse.Namespace, signals: Signals) -> None:
+def batch(options, signals):
     files, out = files_of(options)
     try:
         out.mkdir(parents=True, exist_ok=True)
@@ -409,8 +407,8 @@ def batch(options: argparse.Namespace, signals: Signals) -> None:
     return 0 if all(record["state"] == "ended" for record in summary.records.values()) else 1
 
 
-def positive(kind: type) -> Callable[..., Any]:
-    def read(word: Any) -> Any:
+def positive(kind):
+    def read(word):
         if not kind(word) > 0:
             raise ValueError
         return kind(word)
@@ -418,8 +416,7 @@ def positive(kind: type) -> Callable[..., Any]:
 
 
 @command("mps360-batch")
-def main(words: list[str] | None = None) -> int:
-    "the command; its status"
+def main(words=None):
     words = sys.argv[1:] if words is None else words
     guard()
     if any(word in ("-h", "--help") for word in words):

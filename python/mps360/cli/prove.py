@@ -20,9 +20,6 @@ PRIMAL begins at the opening basis instead, in the end; without a basis it alway
 It ends with the status of the run whose listing is printed: 0, 1 no plan, 2 no bound, 20 a number doesn't fit, more in docs/FAULTS.md; or with
 64 for wrong use, 65 where a file is refused, 66 where it can't be read, 70 where there is no program or no solver, 73 where a file can't be
 written, 124 where a run was ended after S seconds, 130 after Ctrl-C or a TERM signal."""
-from typing import Any
-from mps360.jobs.write import Job
-from mps360.model import Model
 import argparse
 import json
 import os
@@ -42,13 +39,13 @@ NO_BASIS = "no basis of "
 Ended = solve.Ended
 
 
-def plan_of(options: Any) -> Any:
+def plan_of(options):
     "a basis of each solver that is named, then PRIMAL from the opening basis: each for so many seconds, and none beside another"
     seconds = options.seconds
     return routes.Plan(solvers=options.solvers, opening_first=False, exact=False, solver_seconds=seconds, run_seconds=seconds, last_seconds=seconds)
 
 
-def told(attempt: Any, model: Model, words: str) -> str:
+def told(attempt, model, words):
     "what the verdict of a run says"
     verdict, steps, objective = attempt.verdict.groups()
     if objective:
@@ -58,7 +55,7 @@ def told(attempt: Any, model: Model, words: str) -> str:
     return f"{verdict}, by {attempt.words} in {steps} step{'' if steps == '1' else 's'}{words}"
 
 
-def last_line(outcome: Any, model: Model, kind: Any) -> str:
+def last_line(outcome, model, kind):
     "what is proved, and by which route"
     attempt = outcome.attempt
     failed = [tried for tried in outcome.routes if tried.why and not tried.why.startswith(NO_BASIS) and tried.words != attempt.words]
@@ -72,7 +69,7 @@ def last_line(outcome: Any, model: Model, kind: Any) -> str:
     return before[kind] + told(attempt, model, part + others)
 
 
-def keep(options: argparse.Namespace, attempt: Any, job: Job) -> None:
+def keep(options, attempt, job):
     "the job, its listing, the table of names and what the solver wrote stay"
     if not options.keep:
         return
@@ -84,7 +81,7 @@ def keep(options: argparse.Namespace, attempt: Any, job: Job) -> None:
         solve.kept(folder, f"{stem}.{attempt.solver.name}", attempt.written.encode("latin-1"))
 
 
-def outcome_of(options: Any, job: Any, program: Any, life: Any) -> Any:
+def outcome_of(options, job, program, life):
     "what the routes came to"
     way = routes.Routes(job, program, plan_of(options), None, runs.Observer(say=life.say, heard=life.heard, tick=life.tick))
     if options.basis:
@@ -101,7 +98,7 @@ def outcome_of(options: Any, job: Any, program: Any, life: Any) -> Any:
         life.clear()
 
 
-def prove(options: argparse.Namespace, passed: list[Any]) -> int:
+def prove(options, passed):
     life = Life(NAME, options.life)
     job = basis2deck.read_job(options.model, passed)
     program = solve.program_of(options)
@@ -115,7 +112,7 @@ def prove(options: argparse.Namespace, passed: list[Any]) -> int:
     return outcome.status
 
 
-def options_of(words: list[str], life: Any) -> tuple[argparse.Namespace, list[Any]]:
+def options_of(words, life):
     parser = argparse.ArgumentParser(add_help=False, allow_abbrev=False)
     parser.error = lambda message: (life.say(message), sys.exit(64))
     begin = parser.add_mutually_exclusive_group()
@@ -136,8 +133,7 @@ def options_of(words: list[str], life: Any) -> tuple[argparse.Namespace, list[An
 
 
 @command(NAME)
-def main(words: list[str] | None = None) -> int:
-    "the command; its status"
+def main(words=None):
     words = sys.argv[1:] if words is None else words
     if any(word in ("-h", "--help") for word in words):
         print(__doc__)

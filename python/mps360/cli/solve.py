@@ -27,9 +27,6 @@ far each number may move; every other word that begins with - is handed to mps2j
 It ends with the status of the run: 0, 1 no plan, 2 no bound, more in docs/FAULTS.md; or with 64 for wrong use, 65 where MODEL is refused, 66
 where it can't be read, 70 where there is no program or no solver, 73 where a file can't be written, 124 where there is no end in S seconds, 130
 after Ctrl-C or a TERM signal: then what stands is said. A deck that is punched goes to the file PUNCH of this folder."""
-from typing import Any
-from collections.abc import Iterator
-from mps360.jobs.write import Job
 import argparse
 import hashlib
 import io
@@ -64,15 +61,15 @@ class Ended(Exception):
     "the work is over, with this status and these words"
 
 
-def say(words: str) -> None:
+def say(words):
     print(f"{NAME}: {as_text(str(words))}", file=sys.stderr, flush=True)
 
 
-def wrong_use(message: Any) -> None:
+def wrong_use(message):
     raise Ended(64, message)
 
 
-def is_job(content: bytes) -> bool:
+def is_job(content):
     "whether the first card that means something is PROGRAM"
     first = next((line for line in content.split(b"\n") if line.strip() and not line.startswith(b"*")), b"")
     return re.match(rb"(\S* +)PROGRAM\b", first) is not None
@@ -82,7 +79,7 @@ def is_job(content: bytes) -> bool:
 
 class Model:
     "a model, as the job that is run and the table of its names"
-    def __init__(self, options: argparse.Namespace, passed: list[str]) -> None:
+    def __init__(self, options, passed):
         self.path, self.notes, self.names, self.table, self.converted = options.model, [], NO_NAMES, b"", None
         self.basis, self.has_basis = None, False
         try:
@@ -106,10 +103,10 @@ class Model:
         else:
             self.convert(content, options, passed)
 
-    def take_names(self, path: str) -> None:
+    def take_names(self, path):
         self.names, self.table = read_names(path), pathlib.Path(path).read_bytes()
 
-    def convert(self, content: bytes, options: argparse.Namespace, passed: list[str]) -> None:
+    def convert(self, content, options, passed):
         words = mps2job.parsed_options([*passed, "--", self.path], wrong_use)
         try:
             model = mps.read_bytes(content, mps2job.reading_of(words, wrong_use))
@@ -123,7 +120,7 @@ class Model:
         table = job.name_map()
         self.names, self.table = names_of(table), (json.dumps(table, indent=1) + "\n").encode()
 
-    def take_basis(self, options: argparse.Namespace, job: Job) -> None:
+    def take_basis(self, options, job):
         from mps360.cli import basis2deck
         try:
             self.basis = basis2deck.read_basis(options.basis, job.model, options.writer)
@@ -132,7 +129,7 @@ class Model:
             raise Ended(status, *words.split("\n"))
         self.notes += self.basis.said
 
-    def ran(self, attempt: Any) -> None:
+    def ran(self, attempt):
         "the listing is that of this attempt's job"
         if self.converted:
             self.job, self.has_basis = attempt.job.encode("ascii"), attempt.basis is not None and not attempt.by_checker
@@ -143,7 +140,7 @@ class Model:
 
 class Answer:
     "what a run came to"
-    def __init__(self, model: Model, run: Run, provenance: Any) -> None:
+    def __init__(self, model, run, provenance):
         self.run, self.provenance, self.model = run, provenance, model
         self.text = run.listing.decode("latin-1")
         try:
@@ -155,7 +152,7 @@ class Answer:
             model.notes.append("the objective or its right-hand side isn't that of the table of names: no constant is added")
         self.result = tables.result_of(self.listing)
 
-    def objective_of(self, reports: list[Any]) -> str | None:
+    def objective_of(self, reports):
         "the name of the objective; the reports are compared with the job"
         job = self.model.converted
         if job:
@@ -167,10 +164,10 @@ class Answer:
         name = programs[-1].names[programs[-1].objective] if programs else "the objective"
         return self.model.names[0].get("rows", {}).get(name, name) if programs else name
 
-    def last(self, kind: str) -> dict[str, Any] | None:
+    def last(self, kind):
         return next((report for report in reversed(self.listing["reports"]) if report["report"] == kind), None)
 
-    def point(self) -> Any:
+    def point(self):
         "the best plan for other solvers, None where there is none or its tables aren't whole"
         solution, model = self.last("solution"), self.model.converted.model
         if self.result["verdict"] != "optimal" or not solution:
@@ -183,18 +180,18 @@ class Answer:
         basis = self.run.basis if self.run.by_checker else None
         return solution_out.point_of(model, rows, columns, basis=basis, has_basis=basis is not None or not self.run.by_checker)
 
-    def printed_by(self) -> str:
+    def printed_by(self):
         "who printed the listing, by which route, and the checksums, as the page says it"
         return " ".join(part for part in (self.provenance.page_sentence(), self.provenance.route_sentence(), self.provenance.checksum_sentence()) if part)
 
-    def json(self) -> str:
+    def json(self):
         run = {"model": self.model.path, "program": self.provenance.kind, "seconds": round(self.run.seconds, 3), "interrupted": self.run.interrupted,
                "notes": self.model.notes, **self.provenance.as_json()}
         whole = tables.document(self.listing, run)
         tables.add_decimals(whole)
         return tables.json_text(whole)
 
-    def csv(self) -> str:
+    def csv(self):
         out = io.StringIO()
         if self.last("solution") and self.result["verdict"] == "optimal":
             tables.write_solution(self.listing, True, out)
@@ -206,7 +203,7 @@ class Answer:
 
     # ---- as a text
 
-    def text_lines(self) -> Iterator[str]:
+    def text_lines(self):
         verdict = self.last("verdict")
         if verdict:
             yield self.sentence(verdict)
@@ -224,7 +221,7 @@ class Answer:
         yield from (part for part in (self.provenance.route_sentence(), self.provenance.checksum_sentence()) if part)
         yield f"Scripts, which are tested, {'made the job of the file and ' if self.model.converted else ''}put in names and decimals (rounded after ≈)."
 
-    def sentence(self, verdict: dict[str, Any]) -> str:
+    def sentence(self, verdict):
         sense = self.result["sense"]
         most, more = ("greatest", "more") if sense == "MAX" else ("least", "less")
         if verdict["verdict"] == "optimal":
@@ -237,7 +234,7 @@ class Answer:
             return f"INFEASIBLE: variable {verdict['crossed']} has a lower limit above its upper one."
         return "INFEASIBLE: no plan keeps all limits; those of these rows and columns conflict, with these factors."
 
-    def table_of(self, verdict: dict[str, Any] | None) -> Iterator[str]:
+    def table_of(self, verdict):
         "the plan with its rows, or the ray or the direction"
         if not verdict:
             return
@@ -258,7 +255,7 @@ class Answer:
             lines = [(line["name"], both(line["activity"]), both(line["direction"])) for line in moving]
             yield from table("Row or column", ("activity", "changes by"), lines)
 
-    def solution_table(self, head: str, price: str, lines: list[dict[str, int | str | None]], near: dict[int, dict[str, int | str | None]], which: str, interval: tuple[str, str, str]) -> Iterator[str]:
+    def solution_table(self, head, price, lines, near, which, interval):
         low, high, words = interval
         shown = [line for line in lines if line[which] != "0"]
         names = ("activity", "shadow price" if price == "dual" else "reduced cost", *([words] if near else []))
@@ -268,7 +265,7 @@ class Answer:
             yield f"({len(lines) - len(shown)} more have {'the activity' if which == 'activity' else 'the price'} 0)"
 
 
-def with_cells(text: Any, cells: Any) -> Any:
+def with_cells(text, cells):
     "CSV with these columns behind the others, the same on each line"
     import csv
     head, *lines = csv.reader(io.StringIO(text))
@@ -277,13 +274,13 @@ def with_cells(text: Any, cells: Any) -> Any:
     return out.getvalue()
 
 
-def both(number: str) -> str:
+def both(number):
     "a number as a decimal, with the exact fraction beside it where it is another text"
     text = marked_decimal(number)
     return text if text == number else f"{text} = {number}"
 
 
-def ends_of(line: dict[str, int | str | None], low: str, high: str) -> str:
+def ends_of(line, low, high):
     "an interval of RANGE, or nothing"
     if low not in line or line[low] == "-":
         return ""
@@ -292,7 +289,7 @@ def ends_of(line: dict[str, int | str | None], low: str, high: str) -> str:
     return f"{'any' if line[low] is None else marked_decimal(line[low])} to {'any' if line[high] is None else marked_decimal(line[high])}"
 
 
-def table(head: str, names: tuple[str, ...], lines: list[tuple[str, ...]]) -> Iterator[str]:
+def table(head, names, lines):
     "the lines of a table: a name, and texts under these names"
     width = max([len(head), *(len(as_text(line[0])) for line in lines[:MOST_LINES])])
     wide = [max([len(name), *(len(line[k]) for line in lines[:MOST_LINES])]) for k, name in enumerate(names, 1)]
@@ -305,16 +302,16 @@ def table(head: str, names: tuple[str, ...], lines: list[tuple[str, ...]]) -> It
 
 # ---- the whole
 
-def kept(folder: pathlib.Path, name: str, content: bytes) -> None:
+def kept(folder, name, content):
     make_folder(folder)
     write_file(folder / name, content)
 
 
-def stem_of(options: argparse.Namespace) -> str:
+def stem_of(options):
     return pathlib.Path(options.model).name.removesuffix(".gz").rsplit(".", 1)[0] if options.model != "-" else "model"
 
 
-def write_solution(options: Any, model: Any, answer: Any) -> None:
+def write_solution(options, model, answer):
     "the files for other solvers; why one isn't written is said"
     wanted = [word for word in ("--write-basis", "--solution") if getattr(options, MODEL_WORDS[word])]
     if not wanted:
@@ -333,7 +330,7 @@ def write_solution(options: Any, model: Any, answer: Any) -> None:
             say(f"{word}: {path} isn't written: {cause}")
 
 
-def write_outputs(options: argparse.Namespace, model: Model, answer: Answer) -> None:
+def write_outputs(options, model, answer):
     write_solution(options, model, answer)
     if options.keep:
         kept(pathlib.Path(options.keep), f"{stem_of(options)}.listing", answer.text.encode("latin-1"))
@@ -350,7 +347,7 @@ def write_outputs(options: argparse.Namespace, model: Model, answer: Answer) -> 
         print("\n".join(answer.text_lines()))
 
 
-def program_of(options: argparse.Namespace) -> tuple[list[str], str]:
+def program_of(options):
     "the program that runs; that it runs unproved is said"
     try:
         program = at_hand.solver_program(options.program)
@@ -361,7 +358,7 @@ def program_of(options: argparse.Namespace) -> tuple[list[str], str]:
     return program
 
 
-def checker_of(options: Any) -> Any:
+def checker_of(options):
     "the checker of listings, or None"
     try:
         return at_hand.listing_checker(options.checker)
@@ -369,7 +366,7 @@ def checker_of(options: Any) -> Any:
         raise Ended(70, str(cause))
 
 
-def outcome_of(options: Any, model: Any, program: Any, checker: Any, life: Any) -> Any:
+def outcome_of(options, model, program, checker, life):
     "what the run of a job, or the routes of an MPS file, came to"
     observer = runs.Observer(say=life.say, going=life.say, heard=life.heard, tick=life.tick)
     try:
@@ -389,7 +386,7 @@ def outcome_of(options: Any, model: Any, program: Any, checker: Any, life: Any) 
         life.clear()
 
 
-def say_interrupted(attempt: Any) -> None:
+def say_interrupted(attempt):
     "what stands after an interruption"
     lines = attempt.lines()
     stands = f"What was printed stands; its last line is: {lines[-1]}" if lines else "Nothing was printed."
@@ -397,12 +394,12 @@ def say_interrupted(attempt: Any) -> None:
     say(f"interrupted after {attempt.seconds:.0f} s, when it {waited}. {stands}")
 
 
-def keep(options: Any, name: Any, content: Any) -> None:
+def keep(options, name, content):
     if options.keep:
         kept(pathlib.Path(options.keep), name, content)
 
 
-def solve(options: argparse.Namespace, passed: list[str]) -> int | None:
+def solve(options, passed):
     model, stem = Model(options, passed), stem_of(options)
     keep(options, f"{stem}.job", model.job)
     if model.table:
@@ -423,13 +420,12 @@ def solve(options: argparse.Namespace, passed: list[str]) -> int | None:
     return outcome.status
 
 
-def interrupt(*_: Any) -> None:
+def interrupt(*_):
     raise KeyboardInterrupt
 
 
 @command(NAME)
-def main(words: list[str] | None = None) -> int:
-    "the command; its status"
+def main(words=None):
     words = sys.argv[1:] if words is None else words
     if any(word in ("-h", "--help") for word in words):
         print(__doc__)
