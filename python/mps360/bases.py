@@ -40,6 +40,11 @@ class Basis:
     writer: str | None = None
     said: list[str] = field(default_factory=list)
 
+    @property
+    def notes(self) -> tuple[str, ...]:
+        "a sentence for each column that stands otherwise than the file says"
+        return tuple(self.said)
+
 
 def opening_of(limits: tuple[Fraction | None, Fraction | None]) -> str:
     "where a column stands that no line names: at its lower limit, or else at its upper one, or else it is free"
@@ -308,15 +313,19 @@ def read_text(text: str, model: Model, writer: str | None = None) -> Basis:
         raise
 
 
+def text_of(data: bytes) -> str:
+    "the text of a file, gzipped or not, in UTF-8 or Latin-1"
+    data = unzipped(data, MOST_TEXT)
+    try:
+        return data.decode("utf-8-sig")
+    except UnicodeDecodeError:
+        return data.decode("latin-1")
+
+
 def read_file(path: str, model: Model, writer: str | None = None) -> Basis:
     "the basis of a file, gzipped or not"
     with open(path, "rb") as source:
-        data = source.read(MOST_TEXT + 1)
-    data = unzipped(data, MOST_TEXT)
-    try:
-        return read_text(data.decode("utf-8-sig"), model, writer)
-    except UnicodeDecodeError:
-        return read_text(data.decode("latin-1"), model, writer)
+        return read_text(text_of(source.read(MOST_TEXT + 1)), model, writer)
 
 
 def deck_of(basis: Basis, job: Job) -> str:

@@ -7,14 +7,11 @@ import shutil
 import subprocess
 import tempfile
 from mps360 import unproved
+from mps360.errors import NoProgram
 
 # the repository, or the folder where the commands are installed
 TOP = pathlib.Path(__file__).resolve().parents[2]
 COMMANDS = TOP / "scripts" if (TOP / "scripts").is_dir() else TOP
-
-
-class NoProgram(Exception):
-    "neither a proved program nor an unproved run can be had"
 
 
 def proved_program(name: str = "mps360") -> str | None:

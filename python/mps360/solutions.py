@@ -7,12 +7,14 @@ Two forms are read, gzipped too: what `esolver -O` of QSopt_ex writes, which lea
 solvers describes. Numbers are whole, or fractions such as -7/3: a decimal number is refused, since most programs round it."""
 from typing import Any, NoReturn
 from mps360.model import Model
+import dataclasses
 import json
 import re
 from fractions import Fraction
 
 from mps360.errors import Refused
 from mps360.files import unzipped
+from mps360.jobs.write import Job
 from mps360.listings.write import Answer
 from mps360.model import Sums
 
@@ -197,3 +199,12 @@ def read_file(path: str, model: Model) -> Answer:
     "the answer of a file"
     with open(path, "rb") as source:
         return read_bytes(source.read(MOST_BYTES + 1), model)
+
+
+def in_job_names(answer: Answer, job: Job) -> Answer:
+    "the answer by the names of the job"
+    def named(table: dict[str, Fraction] | None, names: dict[str, str]) -> dict[str, Fraction] | None:
+        return None if table is None else {names[name]: value for name, value in table.items()}
+    crossed = answer.crossed and (answer.crossed[0], (job.rows if answer.crossed[0] == "row" else job.columns)[answer.crossed[1]])
+    tables = {key: named(getattr(answer, key), getattr(job, kind)) for key, kind in TABLES.items()}
+    return dataclasses.replace(answer, crossed=crossed, **tables)

@@ -22,7 +22,6 @@ from collections.abc import Callable
 from fractions import Fraction
 from mps360.jobs.write import Job
 from mps360.listings.write import Answer
-import dataclasses
 import json
 import os
 import sys
@@ -31,7 +30,7 @@ from mps360.listings.write import Refused, listing_of
 from mps360 import errors
 from mps360 import mps
 from mps360.jobs.write import job_of
-from mps360.solutions import NoSolution, TABLES, read_file
+from mps360.solutions import NoSolution, in_job_names, read_file
 from mps360.cli.mps2job import say
 from mps360.output import command, write_file
 
@@ -67,15 +66,6 @@ def own_words(words: list[str]) -> tuple[list[str], str | None, str]:
     if len(words) < 2 or words[-1].startswith("-"):
         raise Ended(64, "MODEL.mps and SOLUTION are two files; --help says what there is")
     return words[:-1], listing, words[-1]
-
-
-def in_job_names(answer: Answer, job: Job) -> Answer:
-    "the answer by the names of the job"
-    def named(table: dict[str, Fraction] | None, names: dict[str, str]) -> dict[str, Fraction] | None:
-        return None if table is None else {names[name]: value for name, value in table.items()}
-    crossed = answer.crossed and (answer.crossed[0], (job.rows if answer.crossed[0] == "row" else job.columns)[answer.crossed[1]])
-    tables = {key: named(getattr(answer, key), getattr(job, kind)) for key, kind in TABLES.items()}
-    return dataclasses.replace(answer, crossed=crossed, **tables)
 
 
 def made(options: argparse.Namespace, solution: str) -> tuple[Job, str]:

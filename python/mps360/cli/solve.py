@@ -2,6 +2,7 @@
 
 usage: solve [--json | --csv | --html FILE] [--basis FILE [--from WRITER]] [--with SOLVER,..|none] [--only ROUTE] [--seconds S] [--names MAP]
              [--keep FOLDER] [--write-basis FILE] [--solution FILE] [--life S] [--max | --min] [--ranging] [..] MODEL
+       solve --serve [--program FILE] [--checker FILE]
 
   --json         JSON on standard output, in place of a text (docs/listing.schema.json has its fields)
   --csv          CSV: the plan with its rows; where there is no best plan, the ray or the direction
@@ -19,6 +20,8 @@ usage: solve [--json | --csv | --html FILE] [--basis FILE [--from WRITER]] [--wi
   --life S       the first line of life on standard error after S seconds (5), the next after twice as long each time; 0 for none
   --program FILE another program than scripts/mps360: it gets the job on standard input. What it prints is called unproved
   --checker FILE another checker than scripts/mps360check
+  --serve        answers many requests in one process: a JSON object on each line of standard input, a reply on each line of standard output
+                 (docs/PYTHON.md has them)
 
 No solver is believed: what each gives is where PRIMAL begins, or goes to the checker, and the answer says by which route it came. MODEL is an MPS file or a job (it begins with PROGRAM), or - for standard input. --max and --min go before what the file says, --ranging asks how
 far each number may move; every other word that begins with - is handed to mps2job.py as it stands, its value after a =, as
@@ -430,6 +433,9 @@ def main(words=None):
     if any(word in ("-h", "--help") for word in words):
         print(__doc__)
         return 0
+    if "--serve" in words:
+        from mps360.cli.serve import main as serve
+        return serve(words)
     parser = argparse.ArgumentParser(add_help=False, allow_abbrev=False)
     parser.error = lambda message: (say(message), sys.exit(64))
     form = parser.add_mutually_exclusive_group()

@@ -10,6 +10,8 @@ from collections.abc import Iterator, Mapping
 from fractions import Fraction
 from typing import Any, Literal, NoReturn, TypedDict, Union
 
+from mps360.errors import Error
+
 # a line of a table, by the names of its columns: number is an int, all else text, None where the listing has NONE
 Line = dict[str, Any]
 Names = tuple[dict[str, Any], Fraction | None, Fraction | None]
@@ -151,7 +153,7 @@ class Listing(TypedDict):
     end: End | None
 
 
-class NoListing(Exception):
+class NoListing(Error):
     "the text isn't a listing; the message names the line"
 
 
