@@ -23,7 +23,7 @@ from mps360.listings import read as listing2json
 from mps360 import errors
 from mps360 import mps
 from mps360.output import command, write_file
-from mps360.jobs.write import job_of
+from mps360.long_numbers import exact_job
 
 
 NAME = "basis2deck.py"
@@ -42,7 +42,7 @@ def read_job(path, words):
     try:
         options = mps2job.parsed_options([*words, "--", path])
         model = mps.read_file(path, mps2job.reading_of(options))
-        return job_of(model, options.ranging, model.name or path)
+        return exact_job(model, options.ranging, model.name or path)
     except OSError as cause:
         raise Ended(66, f"can't read {path}: {cause.strerror}")
     except errors.Refused as cause:
@@ -97,7 +97,7 @@ def main(words):
         job = read_job(options.model, passed)
         if options.names:
             check_names(options.names, job)
-        basis = read_basis(options.basis, job.model, options.writer)
+        basis = read_basis(options.basis, job.file, options.writer)
         for sentence in basis.said:
             say(sentence)
         deck = basis_file.deck_of(basis, job)

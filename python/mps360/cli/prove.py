@@ -80,7 +80,7 @@ def outcome_of(options, job, program, life):
     "what the routes came to"
     way = routes.Routes(job, program, plan_of(options), None, runs.Observer(say=life.say, heard=life.heard, tick=life.tick))
     if options.basis:
-        way.begin_at(basis2deck.read_basis(options.basis, job.model, options.writer), os.path.basename(options.basis))
+        way.begin_at(basis2deck.read_basis(options.basis, job.file, options.writer), os.path.basename(options.basis))
     try:
         return way.run()
     except OSError as cause:

@@ -34,7 +34,7 @@ from mps360.listings import read as listing2json
 from mps360 import at_hand, errors, life, mps, routes, runs, solvers
 from mps360.cli.options import add_routes, check_routes, plan_of
 from mps360.provenance import Provenance
-from mps360.jobs.write import job_of
+from mps360.long_numbers import exact_job
 from mps360.listings import made as made_listing
 from mps360.output import command, make_folder, write_file
 from mps360.text import marked_decimal
@@ -42,6 +42,8 @@ from mps360.text import as_text
 
 NAME = "solve"
 MOST_LINES = 40
+# the status of a run that met a number which doesn't fit, and what is said then of a file with long numbers
+OVERFLOW, SHORTER = 20, "the file's numbers of more than 12 columns are kept exactly: --round, or --doubles, may come further"
 WRITERS = ("clp", "esolver", "lp_solve", "glpsol", "activity")
 FORMS = ("glpsol", "highs")
 # the words that a job doesn't go with, and the options that they are
@@ -100,11 +102,13 @@ class Model:
     def convert(self, content, options, passed):
         words = mps2job.parsed_options([*passed, "--", self.path], wrong_use)
         try:
-            model = mps.read_bytes(content, mps2job.reading_of(words, wrong_use))
+            model = mps.read_bytes(content, mps2job.reading_of(words, wrong_use), self.path)
             file = ("model.mps.gz" if content.startswith(b"\x1f\x8b") else "model.mps") if self.path == "-" else os.path.basename(self.path)
-            job = self.converted = job_of(model, words.ranging, model.name or file)
+            job = self.converted = exact_job(model, words.ranging, model.name or file)
         except errors.Refused as cause:
             raise Ended(65, *f"{self.path}: {cause}".split("\n"))
+        for sentence in model.warned:
+            say(sentence)
         self.notes, self.job, self.ranging = list(job.said), job.text.encode("ascii"), words.ranging
         if options.basis:
             self.take_basis(options, job)
@@ -114,7 +118,7 @@ class Model:
     def take_basis(self, options, job):
         from mps360.cli import basis2deck
         try:
-            self.basis = basis2deck.read_basis(options.basis, job.model, options.writer)
+            self.basis = basis2deck.read_basis(options.basis, job.file, options.writer)
         except basis2deck.Ended as ended:
             status, words = ended.args
             raise Ended(status, *words.split("\n"))
@@ -141,6 +145,8 @@ class Answer:
             raise Ended(70, f"what the program printed isn't the listing of this job: {cause}")
         listing2json.name_back(self.listing, model.names)
         self.result = listing2json.result_of(self.listing)
+        if self.result["status"] == OVERFLOW and model.converted and model.converted.split:
+            model.notes.append(SHORTER)
 
     def objective_of(self, reports):
         "the name of the objective; the reports are compared with the job"
@@ -159,7 +165,7 @@ class Answer:
 
     def point(self):
         "the best plan for other solvers, None where there is none or its tables aren't whole"
-        solution, model = self.last("solution"), self.model.converted.model
+        solution, model = self.last("solution"), self.model.converted.file
         if self.result["verdict"] != "optimal" or not solution:
             return None
         from mps360 import solution_out

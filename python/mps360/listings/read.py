@@ -1,6 +1,7 @@
 "Reads listings: their reports as dictionaries, and these as JSON or CSV. docs/listing.schema.json has each field with its meaning."
 import json, re, sys
 from fractions import Fraction
+from mps360.listings.restore import BadTable, Table, recount, restore
 from mps360.text import cell
 
 FORMAT, VERSION = "mps360 listing", 1
@@ -182,7 +183,11 @@ def names_of(names):
     if names.get("constants") and "constant" not in names:
         raise NoNames("an older mps2job.py wrote it; make it anew")
     try:
+        if "long" in names:
+            Table(names["long"])
         return names, *(None if constant.get(key) is None else Fraction(constant[key]) for key in ("value", "rhs"))
+    except BadTable as cause:
+        raise NoNames(str(cause))
     except (AttributeError, TypeError, ValueError, ZeroDivisionError):
         raise NoNames("its constant isn't a number")
 
@@ -209,8 +214,11 @@ def add_constant(reports, names, constant, rhs):
 
 
 def name_back(listing, names):
-    "the names of the file, and the constant of its objective"
+    "the names of the file, and the constant of its objective; what was added to the job for long numbers is left out"
     names, constant, rhs = names
+    long = Table(names["long"]) if "long" in names else None
+    if long:
+        restore(listing["reports"], long)
     if constant is not None:
         add_constant(listing["reports"], names, constant, rhs)
     rows = None
@@ -225,6 +233,8 @@ def name_back(listing, names):
         if "change" in report:
             table = names.get("rows" if report["by"] == "paraobj" else "sets", {})
             report["change"] = table.get(report["change"], report["change"])
+    if long:
+        recount(listing["reports"], long)
 
 
 def add_decimals(listing):

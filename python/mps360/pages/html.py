@@ -3,6 +3,7 @@ import hashlib, html
 from fractions import Fraction
 from mps360.listings import follow as follow_listing
 from mps360.listings import read as listing2json
+from mps360.listings import restore
 from mps360.pages import plots as parametric_svg
 from mps360.text import as_text, marked_decimal
 
@@ -152,6 +153,8 @@ class Page:
         self.about, self.shifts = follow_listing.follow(job, self.reports)
         self.long = names[0].get("rows", {}), names[0].get("columns", {})
         listing2json.name_back(self.parsed, names)
+        # (of a job whose long numbers were dealt out: the limits of the file)
+        self.moved = restore.Table(names[0]["long"]) if "long" in names[0] else None
         self.sense, self.parts = "MIN", []
 
     # ---- what is known of the linear program
@@ -160,6 +163,11 @@ class Page:
         "the modeller's name of a variable, numbered from 0"
         name = program.names[place]
         return self.long[0 if place < program.m else 1].get(name, name)
+
+    def limits_of(self, program, place):
+        "the lower and the upper limit of a variable, numbered from 0, as the file has them"
+        moved = self.moved.limits(place + 1) if self.moved else None
+        return moved or (program.lower[place], program.upper[place])
 
     def objective(self, k):
         return as_text(self.name_of(self.about[k], self.about[k].objective)) if self.about[k] else "the objective"
@@ -203,7 +211,7 @@ class Page:
             def limit(line):
                 factor, at = Fraction(line["multiplier"]), line["number"] - 1
                 moves = shift.get(program.names[at], Fraction(0)) if at < program.m else Fraction(0)
-                return factor, (program.upper if factor > 0 else program.lower)[at], moves
+                return factor, self.limits_of(program, at)[1 if factor > 0 else 0], moves
             if any(limit(line)[1] is None for line in ray):
                 raise follow_listing.OtherJob("the ray names a limit that the job hasn't")
             total = tuple(sum(limit(line)[0] * limit(line)[part] for line in ray) for part in (1, 2))
@@ -225,7 +233,8 @@ class Page:
             ("Changes by", lambda line: number(line["direction"]))], moving))
         if not program:
             return
-        step, name = Fraction(lines[program.objective]["direction"]), as_text(self.name_of(program, program.objective))
+        step = next(Fraction(line["direction"]) for line in lines if line["number"] == program.objective + 1)
+        name = as_text(self.name_of(program, program.objective))
         missing = f"A row or a bound that should stop this is missing{', or MIN stands for MAX' if past is None else ''}."
         if change is None:
             self.say(f"Each unit changes {name} by {said(str(step))}. {missing}")
