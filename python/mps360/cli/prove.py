@@ -22,7 +22,7 @@ It ends with the status of the run whose listing is printed: 0, 1 no plan, 2 no 
 written, 124 where a run was ended after S seconds, 130 after Ctrl-C or a TERM signal."""
 import argparse, json, os, pathlib, signal, sys
 from fractions import Fraction
-from mps360 import at_hand, routes, runs, solvers
+from mps360 import notes, routes, runs, solvers
 from mps360.bases import WRITERS
 from mps360.cli import basis2deck, solve
 from mps360.cli.options import positive, solvers_of
@@ -43,6 +43,7 @@ def plan_of(options):
 def told(attempt, model, words):
     "what the verdict of a run says"
     verdict, steps, objective = attempt.verdict.groups()
+    verdict += notes.after_verdict(model)
     if objective:
         verdict += f", objective {objective}"
         if model.constant:
@@ -97,13 +98,13 @@ def prove(options, passed):
     life = Life(NAME, options.life)
     job = basis2deck.read_job(options.model, passed)
     program = solve.program_of(options)
-    for sentence in job.said:
+    for sentence in job.said if options.keep else job.said_without(job.of_table):
         life.say(sentence)
     outcome = outcome_of(options, job, program, life)
     keep(options, outcome.attempt, job)
     sys.stdout.write(outcome.attempt.listing.decode("latin-1"))
     sys.stdout.flush()
-    life.say(last_line(outcome, job.model, program.kind))
+    life.say(last_line(outcome, job.file, program.kind))
     return outcome.status
 
 

@@ -31,7 +31,7 @@ import argparse, hashlib, io, json, os, pathlib, re, signal, sys
 from mps360.cli import mps2job
 from fractions import Fraction
 from mps360.listings import read as listing2json
-from mps360 import at_hand, errors, life, mps, routes, runs, solvers
+from mps360 import at_hand, errors, life, mps, notes, routes, runs, solvers
 from mps360.cli.options import add_routes, check_routes, plan_of
 from mps360.provenance import Provenance
 from mps360.jobs.write import job_of
@@ -105,7 +105,7 @@ class Model:
             job = self.converted = job_of(model, words.ranging, model.name or file)
         except errors.Refused as cause:
             raise Ended(65, *f"{self.path}: {cause}".split("\n"))
-        self.notes, self.job, self.ranging = list(job.said), job.text.encode("ascii"), words.ranging
+        self.notes, self.job, self.ranging = list(job.said) if options.keep else job.said_without(job.of_table, job.of_listing), job.text.encode("ascii"), words.ranging
         if options.basis:
             self.take_basis(options, job)
         table = job.name_map()
@@ -189,7 +189,10 @@ class Answer:
             listing2json.write_table(self.listing, "intervals", True, out)
         else:
             listing2json.write_table(self.listing, "rays" if self.result["verdict"] else "verdicts", True, out)
-        return with_cells(out.getvalue(), self.provenance.cells())
+        if out.getvalue().count("\n") < 2:
+            for note in self.model.notes:
+                say(note)
+        return with_cells(out.getvalue(), {**self.provenance.cells(), notes.COLUMN: notes.as_cell(self.model.notes)})
 
     # ---- as a text
 
@@ -214,15 +217,16 @@ class Answer:
     def sentence(self, verdict):
         sense = self.result["sense"]
         most, more = ("greatest", "more") if sense == "MAX" else ("least", "less")
+        changed = notes.after_verdict(self.model.converted.file) if self.model.converted else ""
         if verdict["verdict"] == "optimal":
             total = verdict.get("objective_with_constant", verdict["objective"])
             constant = f" ({verdict['objective']} and the constant {verdict['objective_constant']})" if total != verdict["objective"] else ""
-            return f"OPTIMAL: the {most} {self.objective} is {both(total)}{constant}; no plan that keeps all limits has {more}."
+            return f"OPTIMAL{changed}: the {most} {self.objective} is {both(total)}{constant}; no plan that keeps all limits has {more}."
         if verdict["verdict"] == "unbounded":
-            return f"UNBOUNDED: {self.objective} {'grows' if sense == 'MAX' else 'falls'} without end along this direction, from the activities beside it."
+            return f"UNBOUNDED{changed}: {self.objective} {'grows' if sense == 'MAX' else 'falls'} without end along this direction, from the activities beside it."
         if "crossed" in verdict:
-            return f"INFEASIBLE: variable {verdict['crossed']} has a lower limit above its upper one."
-        return "INFEASIBLE: no plan keeps all limits; those of these rows and columns conflict, with these factors."
+            return f"INFEASIBLE{changed}: variable {verdict['crossed']} has a lower limit above its upper one."
+        return f"INFEASIBLE{changed}: no plan keeps all limits; those of these rows and columns conflict, with these factors."
 
     def table_of(self, verdict):
         "the plan with its rows, or the ray or the direction"
@@ -326,7 +330,7 @@ def write_outputs(options, model, answer):
         kept(pathlib.Path(options.keep), f"{stem_of(options)}.listing", answer.text.encode("latin-1"))
     if options.html:
         from mps360.pages import html as listing2html
-        page = listing2html.page(model.job.decode("latin-1"), answer.text, model.names, answer.printed_by())
+        page = listing2html.page(model.job.decode("latin-1"), answer.text, model.names, answer.printed_by(), model.notes)
         path = pathlib.Path(options.html)
         kept(path.parent, path.name, page.encode("utf-8"))
     if options.json:
