@@ -43,8 +43,8 @@ def run(*words, status=0):
     return ended.stdout.decode(), ended.stderr.decode()
 
 
-@pytest.fixture(name="model")
-def model_of(tmp_path):
+@pytest.fixture
+def model(tmp_path):
     path = tmp_path / "shop.mps"
     path.write_text(FILE, encoding="ascii")
     return path

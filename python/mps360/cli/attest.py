@@ -17,10 +17,12 @@ import json, os, pathlib, re, subprocess, sys, tempfile
 from fractions import Fraction
 from mps360.cli import mps2job
 from mps360.cli import solution2listing
+from mps360.cli.words import taken
 from mps360 import notes, programs
+from mps360.commands import here
 from mps360.output import command, make_folder, write_file
 from mps360.cli.solution2listing import Ended
-from mps360.text import as_text
+from mps360.text import as_lines, as_text
 
 NAME = "attest"
 ANSWER = re.compile(r"(?:ATTESTED \d+ REPORTS|(?:WRONG|OPEN|UNCHECKED) LINE (\d+)|LONG LISTING|STOP .*)\n")
@@ -31,17 +33,7 @@ MEANS = {"INFEASIBLE": ", no plan keeps all limits", "UNBOUNDED": ", the objecti
 
 
 def told(message):
-    mps2job.say(f"{NAME}: {as_text(str(message))}")
-
-
-def taken(words, name):
-    "the words without an option, and its value"
-    if name not in words:
-        return words, None
-    at = words.index(name)
-    if at + 1 == len(words):
-        raise Ended(64, f"{name} wants a value")
-    return words[:at] + words[at + 2:], words[at + 1]
+    mps2job.say(f"{NAME}: {as_lines(str(message))}")
 
 
 def checker_of(file):
@@ -95,8 +87,11 @@ def kept(folder, job, listing, others):
 
 
 def run(words):
-    words, keep = taken(words, "--keep")
-    words, program = taken(words, "--program")
+    try:
+        words, keep = taken(words, "--keep")
+        words, program = taken(words, "--program")
+    except ValueError as cause:
+        raise Ended(64, str(cause)) from None
     if len(words) < 2 or words[-1].startswith("-"):
         raise Ended(64, "MODEL.mps and SOLUTION are two files; --help says what there is")
     options = mps2job.parsed_options(words[:-1], solution2listing.wrong_use)
@@ -116,7 +111,7 @@ def run(words):
 @command(NAME)
 def main(words):
     if any(word in ("-h", "--help") for word in words):
-        print(__doc__)
+        print(here(__doc__))
         return 0
     try:
         return run(words)

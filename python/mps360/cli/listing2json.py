@@ -17,13 +17,14 @@ can't be read."""
 import argparse, sys
 from mps360.listings.read import NoListing, NoNames, TABLES, add_decimals, document, json_text, name_back, parse, read_names, write_solution, write_table
 from mps360 import notes
+from mps360.commands import here
 from mps360.output import command
 
 
 @command("listing2json.py")
 def main(words):
     if any(word in ("-h", "--help") for word in words):
-        print(__doc__)
+        print(here(__doc__))
         return 0
     parser = argparse.ArgumentParser(add_help=False)
     parser.error = lambda message: (print(f"listing2json.py: {message}", file=sys.stderr), sys.exit(64))

@@ -3,6 +3,7 @@ import hashlib, html
 from fractions import Fraction
 from mps360.listings import follow as follow_listing
 from mps360.listings import read as listing2json
+from mps360.commands import called
 from mps360.notes import of_table
 from mps360.pages import plots as parametric_svg
 from mps360.text import as_text, marked_decimal
@@ -361,7 +362,7 @@ class Page:
         elif end["text"].startswith("STOP"):
             why = STOPS.get(str(end["status"]), "see the line")
             self.parts.append(tag("div", tag("strong", f"Stopped with status {end['status']}: "), f"{why}. ", tag("code", end["text"].split("\n")[0]),
-                                  " The reports above stand. scripts/explain JOB LISTING says what to do.", class_="verdict stop", role="status"))
+                                  f" The reports above stand. {called('explain')} JOB LISTING says what to do.", class_="verdict stop", role="status"))
 
     def whole(self):
         for k, report in enumerate(self.reports):
