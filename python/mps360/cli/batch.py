@@ -25,6 +25,7 @@ from fractions import Fraction
 from mps360.listings import read as listing2json
 from mps360 import programs
 from mps360 import text as strangers_text
+from mps360.commands import here
 from mps360.output import CantWrite, command
 from mps360 import unproved
 
@@ -404,7 +405,7 @@ def positive(kind):
 def main(words):
     strangers_text.guard()
     if any(word in ("-h", "--help") for word in words):
-        print(__doc__)
+        print(here(__doc__))
         return 0
     parser = argparse.ArgumentParser(add_help=False, allow_abbrev=False)
     parser.error = lambda message: (print(f"{USAGE}: {message}", file=sys.stderr), sys.exit(64))

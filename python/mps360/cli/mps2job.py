@@ -32,6 +32,7 @@ from mps360 import errors
 from mps360 import mps
 from mps360.long_numbers import exact_job
 from mps360.numbers import number
+from mps360.commands import here
 from mps360.output import command, write_file
 
 
@@ -93,7 +94,7 @@ def check_places(options):
 @command("mps2job.py")
 def main(words):
     if any(word in ("-h", "--help") for word in words):
-        print(__doc__)
+        print(here(__doc__))
         return 0
     options = parsed_options(words)
     check_places(options)

@@ -24,6 +24,8 @@ from mps360.long_answers import listing_of
 from mps360.long_numbers import exact_job
 from mps360 import solutions as solution_file
 from mps360.cli.mps2job import say
+from mps360.cli.words import taken
+from mps360.commands import here
 from mps360.output import command, write_file
 
 NAME = "solution2listing.py"
@@ -46,13 +48,10 @@ class Ended(Exception):
 
 def own_words(words):
     "the words without --listing LISTING and the last one, and these two"
-    words, listing = list(words), None
-    if "--listing" in words:
-        at = words.index("--listing")
-        if at + 1 == len(words):
-            raise Ended(64, "--listing names a file")
-        listing = words[at + 1]
-        del words[at:at + 2]
+    try:
+        words, listing = taken(words, "--listing")
+    except ValueError as cause:
+        raise Ended(64, str(cause)) from None
     if len(words) < 2 or words[-1].startswith("-"):
         raise Ended(64, "MODEL.mps and SOLUTION are two files; --help says what there is")
     return words[:-1], listing, words[-1]
@@ -112,7 +111,7 @@ def run(words):
 @command(NAME)
 def main(words):
     if any(word in ("-h", "--help") for word in words):
-        print(__doc__)
+        print(here(__doc__))
         return 0
     try:
         return run(words)

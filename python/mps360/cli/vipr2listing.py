@@ -21,6 +21,7 @@ from mps360.jobs.write import job_of
 from mps360.long_answers import listing_of
 from mps360.model import Limits, Model
 from mps360.numbers import text_of
+from mps360.commands import here
 from mps360.output import command
 from mps360.text import counted
 from oracle import vipr as check_vipr
@@ -174,7 +175,7 @@ def run(words):
 @command(NAME)
 def main(words):
     if any(word in ("-h", "--help") for word in words):
-        print(__doc__)
+        print(here(__doc__))
         return 0
     try:
         return run(words)

@@ -259,9 +259,9 @@ def result_of(listing):
     return result
 
 
-def document(listing, run=None):
+def document(listing, run=None, notes=None):
     "the whole of what is printed as JSON"
-    return {"format": FORMAT, "version": VERSION, **({"run": run} if run else {}), "result": result_of(listing), **listing}
+    return {"format": FORMAT, "version": VERSION, **({"run": run} if run else {}), **({} if notes is None else {"notes": notes}), "result": result_of(listing), **listing}
 
 
 def json_text(document):
@@ -324,24 +324,25 @@ def table_of(listing, table):
     return found
 
 
-def write_csv(lines, heads, decimal, out):
+def write_csv(lines, heads, decimal, out, more=None):
+    "lines under these heads; more is of cells that come behind each"
     numbers = [key for key in heads if decimal and any(is_number(line, key) for line in lines)]
     import csv
-    writer = csv.DictWriter(out, [*heads, *(key + "_decimal" for key in numbers)], restval="", lineterminator="\n", extrasaction="ignore")
+    writer = csv.DictWriter(out, [*heads, *(key + "_decimal" for key in numbers), *(more or ())], restval="", lineterminator="\n", extrasaction="ignore")
     writer.writeheader()
     for line in lines:
         decimals = {key + "_decimal": rounded(line[key]) for key in numbers if is_number(line, key)}
-        writer.writerow({key: cell_of(key, value) for key, value in (line | decimals).items()})
+        writer.writerow({key: cell_of(key, value) for key, value in (line | decimals).items()} | (more or {}))
 
 
-def write_table(listing, table, decimal, out):
+def write_table(listing, table, decimal, out, more=None):
     "all reports of a kind"
-    write_csv(table_of(listing, table), ["report", *TABLES[table]], decimal, out)
+    write_csv(table_of(listing, table), ["report", *TABLES[table]], decimal, out, more)
 
 
-def write_solution(listing, decimal, out):
+def write_solution(listing, decimal, out, more=None):
     "the last SOLUTION"
     lines = table_of(listing, "solutions")
     if not lines:
         raise NoListing("the listing has no SOLUTION")
-    write_csv([line for line in lines if line["report"] == lines[-1]["report"]], TABLES["solutions"], decimal, out)
+    write_csv([line for line in lines if line["report"] == lines[-1]["report"]], TABLES["solutions"], decimal, out, more)

@@ -4,6 +4,8 @@ from fractions import Fraction
 from mps360.listings import follow as follow_listing
 from mps360.listings import read as listing2json
 from mps360.listings import restore
+from mps360.commands import called
+from mps360.notes import of_table
 from mps360.pages import plots as parametric_svg
 from mps360.text import as_text, marked_decimal
 
@@ -32,6 +34,7 @@ label{margin-right:1.2rem;cursor:pointer}input{width:1.05rem;height:1.05rem;vert
 .skip{position:absolute;left:-99rem}.skip:focus{position:static}
 .verdict{border:1px solid var(--line);border-left:.5rem solid var(--soft);background:var(--band);padding:.6rem 1rem;margin:.6rem 0;font-size:1.1rem}
 .optimal{border-left-color:var(--good)}.infeasible{border-left-color:var(--bad)}.unbounded,.stop{border-left-color:var(--warn)}
+.notes{border:1px solid var(--line);border-left:.5rem solid var(--warn);padding:.4rem 1rem;margin:.6rem 0}.notes ul{margin:.2rem 0;padding-left:1.2rem}
 .wide{overflow-x:auto;margin:.4rem 0}
 table{border-collapse:collapse;font-size:.92rem;font-variant-numeric:tabular-nums}
 caption{text-align:left;color:var(--soft);padding:.2rem 0}
@@ -50,7 +53,7 @@ svg{max-width:100%;height:auto;display:block}svg text{fill:var(--ink);font:11px 
 @media print{:root{color-scheme:light;--ink:#000;--paper:#fff;--soft:#333;--line:#999;--band:#fff;--blue:#000;--good:#000;--bad:#000;--warn:#000}
 @page{margin:12mm}
 body{max-width:none;padding:0;font-size:10pt}table{font-size:8pt}td{white-space:normal}th,td{padding:.15rem .35rem}
-.tools,.skip{display:none}.wide{overflow:visible}tr,figure,.verdict{break-inside:avoid}thead{display:table-header-group}
+.tools,.skip{display:none}.wide{overflow:visible}tr,figure,.verdict,.notes{break-inside:avoid}thead{display:table-header-group}
 h2,h3{break-after:avoid}.e,.d,#exact:checked~main .d{display:inline}.e::before{content:" ("}.e::after{content:")"}pre{white-space:pre-wrap}}
 """
 
@@ -146,7 +149,7 @@ def row_heads(solution, near):
 
 
 class Page:
-    def __init__(self, job, listing, names, printed_by):
+    def __init__(self, job, listing, names, printed_by, notes):
         self.job, self.listing, self.printed_by = job, listing, printed_by
         self.parsed = listing2json.parse(listing)
         self.reports = self.parsed["reports"]
@@ -155,7 +158,7 @@ class Page:
         listing2json.name_back(self.parsed, names)
         # (of a job whose long numbers were dealt out: the limits of the file)
         self.moved = restore.Table(names[0]["long"]) if "long" in names[0] else None
-        self.sense, self.parts = "MIN", []
+        self.sense, self.parts, self.notes = "MIN", [], notes
 
     # ---- what is known of the linear program
 
@@ -194,11 +197,19 @@ class Page:
             words = f"No plan keeps all limits: {conflict_of(report['ray'])} conflict."
         check = "" if report["checked"] else " The second check met a number too large to be kept, and stopped; it found nothing wrong."
         self.parts.append(tag("div", tag("strong", kind.capitalize() + ". "), words + check, class_=f"verdict {kind}", role="status"))
+        self.show_notes()
         self.say(f"After {report['steps']} steps of the simplex path{', and checked again' if report['checked'] else ''}. {self.printed_by}", "soft")
         if "ray" in report:
             self.ray(report["ray"], self.about[k], {})
         elif "direction" in report:
             self.direction(report["direction"], self.about[k])
+
+    def show_notes(self):
+        "what was changed, left out or chosen of the file, once: under the first verdict, or at the end where there is none"
+        if self.notes:
+            lines = tag("ul", *(tag("li", note) for note in self.notes))
+            self.parts.append(tag("div", tag("strong", "What was changed, left out or chosen in reading the file:"), lines, class_="notes", role="note"))
+            self.notes = []
 
     def say(self, words, kind=None):
         self.parts.append(tag("p", words, class_=kind))
@@ -360,12 +371,13 @@ class Page:
         elif end["text"].startswith("STOP"):
             why = STOPS.get(str(end["status"]), "see the line")
             self.parts.append(tag("div", tag("strong", f"Stopped with status {end['status']}: "), f"{why}. ", tag("code", end["text"].split("\n")[0]),
-                                  " The reports above stand. scripts/explain JOB LISTING says what to do.", class_="verdict stop", role="status"))
+                                  f" The reports above stand. {called('explain')} JOB LISTING says what to do.", class_="verdict stop", role="status"))
 
     def whole(self):
         for k, report in enumerate(self.reports):
             self.report(k, report)
         self.end()
+        self.show_notes()
         first = self.reports[0] if self.reports else {}
         title = (first.get("text") or first.get("name") or "").strip() or "A listing of mps360"
         policy = "default-src 'none'; style-src 'unsafe-inline'; base-uri 'none'; form-action 'none'"
@@ -413,6 +425,6 @@ def affine(constant, rate):
     return joined([number(str(constant)), " − " if rate < 0 else " + ", factor, "θ"])
 
 
-def page(job, listing, names=listing2json.NO_NAMES, printed_by="This page can't see which program printed the listing."):
-    "the page of a job and its listing, as text"
-    return Page(job, listing, names, printed_by).whole()
+def page(job, listing, names=listing2json.NO_NAMES, printed_by="This page can't see which program printed the listing.", notes=None):
+    "the page of a job and its listing, as text; the notes are those of the table of names where none are given"
+    return Page(job, listing, names, printed_by, of_table(names[0]) if notes is None else notes).whole()
