@@ -13,7 +13,7 @@ from mps360.at_hand import Tool
 from mps360.bases import BASIC, FREE, LOWER, UPPER, Basis
 from mps360.errors import Error
 from mps360.jobs.write import Job
-from mps360.listings import restore, tables
+from mps360.listings import tables
 from mps360.listings.made import OtherJob, check_made
 from mps360.listings.read import Line, Listing, NoListing, Ranges, Report, Verdict, each_line, name_back, names_of, parse
 from mps360.provenance import ProvedBy, Provenance
@@ -161,8 +161,6 @@ def read(job: Job, text: str, inserted: bool, ranging: bool) -> tuple[Listing, l
         check_made(job, listing["reports"], inserted, ranging)
     except OtherJob as cause:
         raise NoListing(str(cause)) from None
-    if "long" in table:
-        restore.restore(listing["reports"], restore.Table(table["long"]))  # type: ignore[arg-type]
     if not name_back(listing, names_of(table)):
         notes.append("the objective of the listing isn't that of the file: no constant is added")
     return listing, notes

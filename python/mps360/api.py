@@ -164,7 +164,7 @@ def ended(model: Model, plan: Plan, basis: Basis | None, ranging: bool, tools: t
     routes = Routes(job, program, plan, checker, observer)
     if basis is not None:
         check_basis(basis, model)
-        routes.begin_at(long_answers.basis_in_short(basis, job.split) if job.split else basis, "the basis")
+        routes.begin_at(basis, "the basis")
     try:
         outcome = routes.run()
     except runs.NoAnswer as cause:
@@ -219,9 +219,7 @@ def attest(model: Model, answer: Answer | Solution, *, seconds: float | None = N
         raise NoProgram(f"no proved checker of listings is there; {at_hand.PROVES}. Another one is named by checker=FILE")
     job, found = job_for(model, False), solution_of(answer)
     try:
-        if job.split:
-            found = long_answers.in_short(found, job.split)
-        listing = write.listing_of(job, solutions.in_job_names(found, job))
+        listing = long_answers.listing_of(job, found)
     except (KeyError, write.Refused) as cause:
         raise Refused(f"the model has no {cause}" if isinstance(cause, KeyError) else str(cause)) from None
     return attestation(tool, job, listing, seconds)

@@ -7,14 +7,13 @@ Two forms are read, gzipped too: what `esolver -O` of QSopt_ex writes, which lea
 solvers describes. Numbers are whole, or fractions such as -7/3: a decimal number is refused, since most programs round it."""
 from typing import Any, NoReturn
 from mps360.model import Model
-import dataclasses
 import json
 import re
 from fractions import Fraction
 
+from mps360.commands import called
 from mps360.errors import Refused
 from mps360.files import unzipped
-from mps360.jobs.write import Job
 from mps360.listings.write import Answer
 from mps360.model import Sums
 
@@ -28,6 +27,11 @@ TABLES = {"columns": "columns", "prices": "rows", "reduced": "columns", "ray": "
 NEEDED = {"optimal": ("columns", "prices"), "infeasible": (), "unbounded": ("columns", "direction")}
 
 
+# what helps where a solver gives rounded numbers
+OF_FLOATS = (f"Of rounded numbers nothing is proved, but of the basis at which a solver ended: {called('solve')} --with highs MODEL.mps asks the solver for it, "
+             f"and {called('prove')} --basis BASIS MODEL.mps takes one that was written")
+
+
 class NoSolution(Exception):
     "why a file isn't taken"
 
@@ -35,7 +39,7 @@ class NoSolution(Exception):
 def number(word: str) -> Fraction:
     "an exact number, whole or a fraction"
     if DECIMAL.fullmatch(word) and not FRACTION.fullmatch(word):
-        raise NoSolution(f"{word[:40]} is a decimal number, which may be rounded: an exact one is whole, or a fraction such as -7/3")
+        raise NoSolution(f"{word[:40]} is a decimal number, which may be rounded: an exact one is whole, or a fraction such as -7/3. {OF_FLOATS}")
     if not FRACTION.fullmatch(word) or re.search(r"/0+$", word):
         raise NoSolution(f"{word[:40]!r} isn't a number, whole or a fraction such as -7/3")
     return Fraction(word)
@@ -63,7 +67,7 @@ def read_esolver(text: str, model: Model) -> Answer:
     status = lines[0].removeprefix("status").strip(" =").split(" ")[0]
     if status != "OPTIMAL":
         raise NoSolution(f"esolver says {status}, and writes no ray and no direction that would prove it. PRIMAL finds them: "
-                         "scripts/solve MODEL.mps, or with another solver's basis scripts/solve --basis BASIS MODEL.mps")
+                         f"{called('solve')} MODEL.mps, or with another solver's basis {called('solve')} --basis BASIS MODEL.mps")
     names, told, section = Names(model), None, ""
     tables: dict[str, dict[str, Fraction]] = {}
     for place, line in enumerate(lines, 1):
@@ -104,7 +108,7 @@ def check_objective(told: Fraction | None, columns: dict[str, Fraction], model: 
 
 def no_float(word: str) -> NoReturn:
     "NoSolution, since a decimal number may be rounded"
-    raise NoSolution(f"{word[:40]} is a decimal number, which may be rounded: write an exact one as text, such as \"-7/3\"")
+    raise NoSolution(f"{word[:40]} is a decimal number, which may be rounded: write an exact one as text, such as \"-7/3\". {OF_FLOATS}")
 
 
 def no_twice(pairs: list[tuple[str, Any]]) -> dict[str, Any]:
@@ -192,19 +196,10 @@ def read_bytes(data: bytes, model: Model) -> Answer:
         return read_json(text, model)
     if re.match(r"status(?: =)? \S", text):
         return read_esolver(text, model)
-    raise NoSolution("it is neither what esolver -O writes, which begins with status, nor a JSON object")
+    raise NoSolution(f"it is neither what esolver -O writes, which begins with status, nor a JSON object. {OF_FLOATS}")
 
 
 def read_file(path: str, model: Model) -> Answer:
     "the answer of a file"
     with open(path, "rb") as source:
         return read_bytes(source.read(MOST_BYTES + 1), model)
-
-
-def in_job_names(answer: Answer, job: Job) -> Answer:
-    "the answer by the names of the job"
-    def named(table: dict[str, Fraction] | None, names: dict[str, str]) -> dict[str, Fraction] | None:
-        return None if table is None else {names[name]: value for name, value in table.items()}
-    crossed = answer.crossed and (answer.crossed[0], (job.rows if answer.crossed[0] == "row" else job.columns)[answer.crossed[1]])
-    tables = {key: named(getattr(answer, key), getattr(job, kind)) for key, kind in TABLES.items()}
-    return dataclasses.replace(answer, crossed=crossed, **tables)

@@ -21,6 +21,11 @@ def as_text(text: str) -> str:
     return UNSEEN.sub(escape, text)
 
 
+def as_lines(text: str) -> str:
+    "the same of a text of several lines, which stay lines"
+    return "\n".join(as_text(line) for line in text.split("\n"))
+
+
 class Shown:
     "a stream on which only line feeds are obeyed, and what it can't write is escaped"
     def __init__(self, stream: TextIO) -> None:
@@ -28,7 +33,7 @@ class Shown:
 
     def write(self, text: str) -> None:
         "writes text whose control characters are escaped"
-        seen = "\n".join(as_text(line) for line in text.split("\n"))
+        seen = as_lines(text)
         encoding = getattr(self.stream, "encoding", None) or "utf-8"
         self.stream.write(seen.encode(encoding, "backslashreplace").decode(encoding))
 

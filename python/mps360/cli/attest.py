@@ -26,30 +26,24 @@ from mps360.cli import mps2job
 from mps360.cli import solution2listing
 from mps360 import programs
 from mps360.cli.solution2listing import Ended
-from mps360.text import as_text
+from mps360.text import as_lines, as_text
 from mps360.output import command, make_folder, write_file
+from mps360.commands import here
+from mps360 import notes
+from mps360.cli.words import taken
+from mps360.model import Model
 
 NAME = "attest"
 ANSWER = re.compile(r"(?:ATTESTED \d+ REPORTS|(?:WRONG|OPEN|UNCHECKED) LINE (\d+)|LONG LISTING|STOP .*)\n")
 REFUSED = {40: "its numbers don't prove it", 41: "it can't be attested", 42: "an operation of its test doesn't fit 127 bits", 43: "its listing has more than 64,000,000 bytes"}
 BEFORE = {"proved": "attested: ", "unproved": "not proved, since the checker ran unproved; it attests: ", "other": "not proved, since another program ran; it attests: "}
 VERDICT = re.compile(r"^PRIMAL (OPTIMAL|INFEASIBLE|UNBOUNDED) STEPS \d+ (?:OBJECTIVE (\S+))?", re.M)
-MEANS = {"INFEASIBLE": "INFEASIBLE, no plan keeps all limits", "UNBOUNDED": "UNBOUNDED, the objective has no bound"}
+MEANS = {"INFEASIBLE": ", no plan keeps all limits", "UNBOUNDED": ", the objective has no bound"}
 
 
 def told(message: object) -> None:
     "a line on standard error"
-    mps2job.say(f"{NAME}: {as_text(str(message))}")
-
-
-def taken(words: list[str], name: str) -> tuple[list[str], str | None]:
-    "the words without an option, and its value"
-    if name not in words:
-        return words, None
-    at = words.index(name)
-    if at + 1 == len(words):
-        raise Ended(64, f"{name} wants a value")
-    return words[:at] + words[at + 2:], words[at + 1]
+    mps2job.say(f"{NAME}: {as_lines(str(message))}")
 
 
 def checker_of(file: str | None) -> tuple[list[str], str]:
@@ -80,7 +74,7 @@ def answer_of(program: list[str], job: bytes, listing: bytes) -> tuple[int, int 
     return ended.returncode, int(answer[1]) if answer and answer[1] else None
 
 
-def outcome(status: int, number: int | None, listing: str, constant: Fraction) -> str:
+def outcome(status: int, number: int | None, listing: str, model: Model) -> str:
     "what the answer is, or why it isn't attested"
     if status:
         lines = listing.split("\n")
@@ -88,9 +82,10 @@ def outcome(status: int, number: int | None, listing: str, constant: Fraction) -
         return "not attested: " + REFUSED.get(status, f"the checker ended with {status}") + place
     found = VERDICT.search(listing)
     verdict, objective = (found[1], found[2]) if found else ("", "0")
+    changed = notes.after_verdict(model)
     if verdict != "OPTIMAL":
-        return MEANS.get(verdict, "the listing has no verdict")
-    return f"OPTIMAL, objective {objective}" + (f", {Fraction(objective) + constant} with the file's constant" if constant else "")
+        return verdict + changed + MEANS.get(verdict, ", the listing has no verdict")
+    return f"OPTIMAL{changed}, objective {objective}" + (f", {Fraction(objective) + model.constant} with the file's constant" if model.constant else "")
 
 
 def kept(folder: str, job: Job, listing: str, others: tuple[str, str]) -> None:
@@ -104,8 +99,11 @@ def kept(folder: str, job: Job, listing: str, others: tuple[str, str]) -> None:
 
 def run(words: list[str]) -> int:
     "the command, or Ended"
-    words, keep = taken(words, "--keep")
-    words, program = taken(words, "--program")
+    try:
+        words, keep = taken(words, "--keep")
+        words, program = taken(words, "--program")
+    except ValueError as cause:
+        raise Ended(64, str(cause)) from None
     if len(words) < 2 or words[-1].startswith("-"):
         raise Ended(64, "MODEL.mps and SOLUTION are two files; --help says what there is")
     options = mps2job.parsed_options(words[:-1], solution2listing.wrong_use)
@@ -113,12 +111,12 @@ def run(words: list[str]) -> int:
         raise Ended(64, "--keep FOLDER keeps the job and the table of names")
     checker, which = checker_of(program)
     job, listing = solution2listing.made(options, words[-1])
-    for sentence in job.said:
+    for sentence in job.said if keep else job.said_without(job.of_table, job.of_listing):
         told(sentence)
     if keep:
         kept(keep, job, listing, (options.file, words[-1]))
     status, number = answer_of(checker, job.text.encode(), listing.encode())
-    print(("" if status else BEFORE[which]) + as_text(outcome(status, number, listing, job.model.constant)))
+    print(("" if status else BEFORE[which]) + as_text(outcome(status, number, listing, job.file)))
     return status
 
 
@@ -127,7 +125,7 @@ def main(words: list[str] | None = None) -> int:
     "the command; its status"
     words = sys.argv[1:] if words is None else words
     if any(word in ("-h", "--help") for word in words):
-        print(__doc__)
+        print(here(__doc__ or ""))
         return 0
     try:
         return run(words)

@@ -9,8 +9,7 @@ usage: basis2deck.py [OPTIONS] [-o DECK] [--names MAP] [--from WRITER] MODEL.mps
   --from WRITER    clp, esolver, lp_solve or glpsol, or activity: another program, which calls a row's limit upper where the row's activity
                    is at its upper limit. Needed where the file doesn't tell, and has a row of two limits
 
-Each other option is one of mps2job.py, and says how MODEL.mps is read, its value behind a = (--negative-up=free): say here what was said
-there. The deck goes behind the data deck of the job, and INSERT between SETUP and PRIMAL (scripts/prove does all of it).
+Each other option is one of mps2job.py, and says how MODEL.mps is read: say here what was said there. The deck goes behind the data deck of the job, and INSERT between SETUP and PRIMAL (scripts/prove does all of it).
 
 A column that no line names stands where SETUP puts it: at its lower limit, or else at its upper one, or else it is free. Names that were
 shortened for the job are shortened here. What is placed otherwise than the file says, since a limit isn't there, is said on standard error:
@@ -26,9 +25,11 @@ from mps360.cli import mps2job
 from mps360.listings.read import NoNames, read_names
 from mps360 import errors
 from mps360 import mps
-from mps360.jobs.write import job_of
 from mps360.cli.options import Parser, ending
 from mps360.output import command, write_file
+from mps360.commands import here
+from mps360.cli.words import joined
+from mps360.long_numbers import exact_job
 
 NAME = "basis2deck.py"
 
@@ -47,7 +48,7 @@ def read_job(path: str, words: list[str]) -> Job:
     try:
         options = mps2job.parsed_options([*words, "--", path])
         model = mps.read_file(path, mps2job.reading_of(options))
-        return job_of(model, options.ranging, model.name or path)
+        return exact_job(model, options.ranging, model.name or path)
     except OSError as cause:
         raise Ended(66, f"can't read {path}: {cause.strerror}") from None
     except errors.Refused as cause:
@@ -87,7 +88,7 @@ def main(words: list[str] | None = None) -> int:
     "the command; its status"
     words = sys.argv[1:] if words is None else words
     if any(word in ("-h", "--help") for word in words):
-        print(__doc__)
+        print(here(__doc__ or ""))
         return 0
     parser = Parser(ending(say))
     parser.add_argument("-o", dest="deck")
@@ -95,7 +96,7 @@ def main(words: list[str] | None = None) -> int:
     parser.add_argument("--from", dest="writer", choices=WRITERS)
     parser.add_argument("model")
     parser.add_argument("basis")
-    options, passed = parser.parse_known_args(words)
+    options, passed = parser.parse_known_args(joined(words))
     if unknown := [word for word in passed if not word.startswith("--")]:
         parser.error(f"one model and one basis; what is {unknown[0]}?")
     if options.deck and any(same_file(options.deck, path) for path in (options.model, options.basis, options.names)):
@@ -104,7 +105,7 @@ def main(words: list[str] | None = None) -> int:
         job = read_job(options.model, passed)
         if options.names:
             check_names(options.names, job)
-        basis = read_basis(options.basis, job.model, options.writer)
+        basis = read_basis(options.basis, job.file, options.writer)
         for sentence in basis.said:
             say(sentence)
         deck = deck_of(basis, job)

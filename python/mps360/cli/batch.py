@@ -42,6 +42,7 @@ from mps360 import programs
 from mps360.text import as_text, guard
 from mps360 import unproved
 from mps360.output import CantWrite, command
+from mps360.commands import here
 
 ENDINGS = (".job", ".mps", ".mps.gz")
 COLUMNS = ("name", "file", "state", "status", "objective", "seconds", "proved", "end", "sum")
@@ -420,7 +421,7 @@ def main(words=None):
     words = sys.argv[1:] if words is None else words
     guard()
     if any(word in ("-h", "--help") for word in words):
-        print(__doc__)
+        print(here(__doc__ or ""))
         return 0
     parser = argparse.ArgumentParser(add_help=False, allow_abbrev=False)
     parser.error = lambda message: (print(f"{USAGE}: {message}", file=sys.stderr), sys.exit(64))

@@ -15,6 +15,7 @@ from mps360.listings.read import NO_NAMES, NoListing, NoNames, read_names
 from mps360.pages.html import Page
 from mps360.cli.options import Parser, ending
 from mps360.output import command, write_file
+from mps360.commands import here
 
 NAME = "listing2html.py"
 
@@ -29,7 +30,7 @@ def main(words: list[str] | None = None) -> int:
     "the command; its status"
     words = sys.argv[1:] if words is None else words
     if any(word in ("-h", "--help") for word in words):
-        print(__doc__)
+        print(here(__doc__ or ""))
         return 0
     parser = Parser(ending(say), allow_abbrev=True)
     parser.add_argument("--names")

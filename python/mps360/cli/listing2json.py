@@ -8,7 +8,8 @@ usage: listing2json.py [--csv | --table NAME] [--decimal] [--names MAP] [FILE]  
   --decimal     beside each fraction its value as a decimal number, which is rounded
   --names MAP   the table of names that mps2job.py wrote: names come as they were, and a constant of the objective is added to the objective
                 of each verdict, under objective_with_constant; it isn't, and a line on standard error says so, where the SOLUTION below
-                the verdict has another objective or right-hand side
+                the verdict has another objective or right-hand side. What mps2job.py changed, left out or chosen stands under notes, in CSV
+                on each line
 
 In CSV a name that a spreadsheet could take for a formula (it begins with = + - @ or an apostrophe) has an apostrophe before it, and a control
 character stands as an escape; in JSON names are exact. It ends with 0, with 64 for wrong use, 65 where the text isn't a listing, 66 where it
@@ -18,6 +19,8 @@ from mps360.listings.read import NoListing, NoNames, name_back, parse, read_name
 from mps360.listings.tables import TABLES, add_decimals, document, json_text, write_solution, write_table
 from mps360.cli.options import Parser, ending
 from mps360.output import command
+from mps360.commands import here
+from mps360 import notes
 
 OTHER_OBJECTIVE = "the objective or its right-hand side isn't that of the table of names; no constant is added"
 
@@ -34,7 +37,7 @@ def main(words: list[str] | None = None) -> int:
     "the command; its status"
     words = sys.argv[1:] if words is None else words
     if any(word in ("-h", "--help") for word in words):
-        print(__doc__)
+        print(here(__doc__ or ""))
         return 0
     parser = Parser(ending(say), allow_abbrev=True)
     kind = parser.add_mutually_exclusive_group()
@@ -60,12 +63,13 @@ def main(words: list[str] | None = None) -> int:
             raise NoListing("it is empty")
         if names and not name_back(listing, names):
             say(OTHER_OBJECTIVE)
+        more = None if names is None else {notes.COLUMN: notes.as_cell(notes.of_table(names[0]))}
         if options.csv:
-            write_solution(listing, options.decimal, sys.stdout)
+            write_solution(listing, options.decimal, sys.stdout, more)
         elif options.table:
-            write_table(listing, options.table, options.decimal, sys.stdout)
+            write_table(listing, options.table, options.decimal, sys.stdout, more)
         else:
-            whole = document(listing)
+            whole = document(listing, notes=None if names is None else notes.of_table(names[0]))
             if options.decimal:
                 add_decimals(whole)
             sys.stdout.write(json_text(whole))

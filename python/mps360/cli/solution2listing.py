@@ -26,13 +26,16 @@ import json
 import os
 import sys
 from mps360.cli import mps2job
-from mps360.listings.write import Refused, listing_of
+from mps360.listings.write import Refused
 from mps360 import errors
 from mps360 import mps
-from mps360.jobs.write import job_of
-from mps360.solutions import NoSolution, in_job_names, read_file
+from mps360.solutions import NoSolution, read_file
 from mps360.cli.mps2job import say
 from mps360.output import command, write_file
+from mps360.commands import here
+from mps360.cli.words import taken
+from mps360.long_answers import listing_of
+from mps360.long_numbers import exact_job
 
 NAME = "solution2listing.py"
 
@@ -56,13 +59,10 @@ def wrong_use(message: str) -> NoReturn:
 
 def own_words(words: list[str]) -> tuple[list[str], str | None, str]:
     "the words without --listing LISTING and the last one, and these two"
-    words, listing = list(words), None
-    if "--listing" in words:
-        at = words.index("--listing")
-        if at + 1 == len(words):
-            raise Ended(64, "--listing names a file")
-        listing = words[at + 1]
-        del words[at:at + 2]
+    try:
+        words, listing = taken(words, "--listing")
+    except ValueError as cause:
+        raise Ended(64, str(cause)) from None
     if len(words) < 2 or words[-1].startswith("-"):
         raise Ended(64, "MODEL.mps and SOLUTION are two files; --help says what there is")
     return words[:-1], listing, words[-1]
@@ -72,14 +72,14 @@ def made(options: argparse.Namespace, solution: str) -> tuple[Job, str]:
     "the job, and the listing of the solution"
     try:
         model = mps.read_file(options.file, mps2job.reading_of(options))
-        job = job_of(model, False, model.name or os.path.basename(options.file))
+        job = exact_job(model, False, model.name or os.path.basename(options.file))
     except OSError as cause:
         raise Ended(66, f"can't read {options.file}: {cause.strerror}") from None
     except errors.Refused as cause:
         raise Ended(65, f"{options.file}: {cause}") from None
     try:
         answer = read_file(solution, model)
-        return job, listing_of(job, in_job_names(answer, job))
+        return job, listing_of(job, answer)
     except OSError as cause:
         raise Ended(66, f"can't read {solution}: {cause.strerror}") from None
     except (NoSolution, Refused) as cause:
@@ -126,7 +126,7 @@ def main(words: list[str] | None = None) -> int:
     "the command; its status"
     words = sys.argv[1:] if words is None else words
     if any(word in ("-h", "--help") for word in words):
-        print(__doc__)
+        print(here(__doc__ or ""))
         return 0
     try:
         return run(words)

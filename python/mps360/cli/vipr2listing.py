@@ -20,10 +20,12 @@ from mps360.cli.mps2job import say
 from mps360.cli.solution2listing import Ended
 from mps360.files import unzipped
 from mps360.jobs.write import Job, job_of
-from mps360.listings.write import Refused, listing_of
+from mps360.listings.write import Refused
+from mps360.long_answers import listing_of
 from mps360.vipr import NoCertificate, Wrong, check, model_of, read
 from mps360.cli.options import Parser, ending
 from mps360.output import command
+from mps360.commands import here
 
 NAME = "vipr2listing.py"
 MOST_BYTES = 1_000_000_000
@@ -55,7 +57,7 @@ def made(path: str) -> tuple[Job, str]:
             raise Wrong(f"{found.variables[found.integers[0]]} is to be whole, and a linear program has no such variables")
         model, answer = model_of(found)
         job = job_of(model, False, os.path.basename(path))
-        return job, listing_of(job, solution2listing.in_job_names(answer, job))
+        return job, listing_of(job, answer)
     except (NoCertificate, Wrong, errors.Refused, Refused) as cause:
         raise Ended(65, f"{path}: {cause}") from None
 
@@ -79,7 +81,7 @@ def main(words: list[str] | None = None) -> int:
     "the command; its status"
     words = sys.argv[1:] if words is None else words
     if any(word in ("-h", "--help") for word in words):
-        print(__doc__)
+        print(here(__doc__ or ""))
         return 0
     try:
         return run(words)

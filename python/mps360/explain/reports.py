@@ -7,7 +7,8 @@ from fractions import Fraction
 from mps360.listings.follow import UNKNOWN, Followed, ListingEnds, Told
 from mps360.listings.made import OtherJob
 from mps360.listings.read import Line, Listing
-from mps360.explain.stops import DOCUMENTS, MOST_SHOWN, PLACES, more_than
+from mps360.commands import DOCUMENTS
+from mps360.explain.stops import MOST_SHOWN, PLACES, more_than
 from mps360.pages.parametric import value_at
 
 

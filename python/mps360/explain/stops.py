@@ -6,6 +6,7 @@ from typing import TYPE_CHECKING, Any
 import difflib
 import re
 from mps360 import programs
+from mps360.commands import called, here
 from mps360.jobs import decks
 from mps360.numbers import nearest, text_of
 
@@ -13,9 +14,6 @@ if TYPE_CHECKING:
     from mps360.explain.reports import Replayed
     from mps360.listings.read import End, Line
 
-IS_INSTALLED = (programs.COMMANDS / "program").exists()
-DOCUMENTS = programs.TOP.parents[1] / "share/doc/mps360" if IS_INSTALLED else "docs"
-MPS2JOB = "mps2job" if IS_INSTALLED else "scripts/mps2job.py"
 # the fields of a data card, by their columns on it
 FIELDS = ((2, 3), (5, 12), (15, 22), (25, 36), (40, 47), (50, 61))
 # the fields that a section uses; the first and the last section alone may leave the others out
@@ -182,8 +180,7 @@ def more_than(shown: Sequence[object]) -> str:
 
 def wordings(text: str) -> str:
     "a text of the index of faults, with the names that commands and documents have here"
-    text = re.sub(r"\b([A-Z_]{4,}\.md)", lambda found: f"{DOCUMENTS}/{found[1]}", text)
-    return re.sub(r"scripts/(\w+)(?:\.py)?\b", r"\1", text) if IS_INSTALLED else text
+    return here(re.sub(r"(?<!docs/)\b([A-Z_]{4,}\.md)", r"docs/\1", text))
 
 
 def section_at(cards: list[str], place: int) -> str | None:
@@ -290,7 +287,7 @@ def misplaced(card: str, section: str) -> Any:
                 return f"the number {found[0]} has {len(found[0])} characters, and field {number} has {end - start + 1} columns: shorten it"
             return f"move the number {found[0]}, which stands in columns {first} to {last}, into field {number}, columns {start} to {end}"
         if len(found[0]) > 8 and not decks.NUMBER.match(found[0]):
-            return f"{found[0]} runs over its field, and a name has 8 characters at most; {MPS2JOB} shortens longer ones"
+            return f"{found[0]} runs over its field, and a name has 8 characters at most; {called('mps2job.py')} shortens longer ones"
     return None
 
 
@@ -363,7 +360,7 @@ def mistaken(stop: str, text: str, cards: list[str], place: int) -> list[str]:
         name = "UTF-8" if text.startswith("\xef") else "UTF-16"
         return [f"The file begins with a byte order mark (BOM) of {name}: save it as plain ASCII, without BOM."]
     if "CONTROL FAULT 1 " in stop and re.match(r"NAME|ROWS|OBJSENSE|OBJNAME", card) and "PROGRAM" not in card:
-        return [f"The file begins as an MPS file does: {MPS2JOB} makes a job of it."]
+        return [f"The file begins as an MPS file does: {called('mps2job.py')} makes a job of it."]
     if re.search(r" DECK FAULT (?:3|20|21|30) ", stop + " "):
         return where_free(cards, place)
     if re.search(r"CONTROL FAULT (3|4|7) ", stop) and re.match(r"NAME\b", card):
@@ -431,7 +428,7 @@ def explain_stop(end: End, text: str, cards: list[str], run: Replayed | None) ->
         print(f"What to do: {cure_of(stop, entry, cards, place)}.")
     explain_end(end, run)
     explain_combination(stop, run)
-    known = known_names(stop, cards, place, run)
+    known = known_names(stop, cards, place, run) if cards else None
     if known:
         what, names, wrong = known
         shown = [f"'{name}'" for name in names[:MOST_SHOWN]]

@@ -11,6 +11,7 @@ from fractions import Fraction
 from typing import Any, Literal, NoReturn, TypedDict, Union
 
 from mps360.errors import Error
+from mps360.listings.restore import BadTable, Table, recount, restore
 
 # a line of a table, by the names of its columns: number is an int, all else text, None where the listing has NONE
 Line = dict[str, Any]
@@ -40,7 +41,7 @@ VERDICT = re.compile(
 PARAMETRIC = re.compile(rf"(PARAOBJ|PARARHS) FROM ({NUMBER}) CHANGE (.*)$")
 INTERVAL = re.compile(rf"INTERVAL (\d{{1,20}}) FROM ({NUMBER}) TO ({NUMBER})$")
 SWEPT = re.compile(rf"(?:PARAOBJ|PARARHS) (ENDS AT|UNBOUNDED PAST|INFEASIBLE PAST) ({NUMBER})$")
-TABLE = re.compile(r"( *\d{1,9}) (.{8}) (.+)$")
+TABLE_LINE = re.compile(r"( *\d{1,9}) (.{8}) (.+)$")
 
 
 class Title(TypedDict):
@@ -172,7 +173,7 @@ def is_value(key: str, text: str, keys: tuple[str, ...]) -> bool:
 
 def table_line(line: str, keys: tuple[str, ...]) -> Line:
     "a line of a table whose columns have these names"
-    found = TABLE.match(line)
+    found = TABLE_LINE.match(line)
     values = found[3].split(" ") if found else []
     if not found or len(values) != len(keys) or not all(is_value(key, value, keys) for key, value in zip(keys, values)):
         raise NoListing(f"not a table line: {line[:60]}")
@@ -349,7 +350,11 @@ def names_of(names: Any) -> Names:
     if names.get("constants") and "constant" not in names:
         raise NoNames("an older mps2job.py wrote it; make it anew")
     try:
+        if "long" in names:
+            Table(names["long"])
         value, rhs = (None if constant.get(key) is None else Fraction(constant[key]) for key in ("value", "rhs"))
+    except BadTable as cause:
+        raise NoNames(str(cause)) from None
     except (AttributeError, TypeError, ValueError, ZeroDivisionError):
         raise NoNames("its constant isn't a number") from None
     return names, value, rhs
@@ -380,9 +385,13 @@ def add_constant(reports: list[Report], names: dict[str, Any], constant: Fractio
 
 
 def name_back(listing: Listing, names: Names) -> bool:
-    """puts in the names of the file, and the constant of its objective beside each verdict's; False where the constant belongs to another
-    objective or right-hand side than a SOLUTION shows, and isn't added there"""
+    """puts in the names of the file, and the constant of its objective beside each verdict's; what was added to the job for long numbers is left out.
+    False where the constant belongs to another objective or right-hand side than a SOLUTION shows, and isn't added there"""
     table, constant, rhs = names
+    reports: list[Any] = list(listing["reports"])
+    long = Table(table["long"]) if "long" in table else None
+    if long:
+        restore(reports, long)
     belongs = constant is None or add_constant(listing["reports"], table, constant, rhs)
     rows: int | None = None
     places: list[dict[str, Any]] = [*listing["reports"], *([listing["end"]] if listing["end"] else [])]  # type: ignore[list-item]
@@ -397,4 +406,6 @@ def name_back(listing: Listing, names: Names) -> bool:
         if "change" in place:
             kind = table.get("rows" if place["by"] == "paraobj" else "sets", {})
             place["change"] = kind.get(place["change"], place["change"])
+    if long:
+        recount(reports, long)
     return belongs

@@ -1,7 +1,7 @@
 """A listing as JSON, or its reports as CSV. docs/listing.schema.json has each field with its meaning."""
 import json
 import re
-from collections.abc import Iterable, Iterator, Mapping
+from collections.abc import Iterable, Iterator, Mapping, Sequence
 from fractions import Fraction
 from typing import Any, TextIO
 
@@ -23,6 +23,7 @@ OTHERS = ("title", "convert", "revise", "setup", "bcdout", "punch", "insert")
 # the columns that hold text of strangers
 TEXTS = ("name", "change")
 Row = Mapping[str, Any]
+Cells = Mapping[str, str] | None
 
 
 def rounded(text: str) -> float | None:
@@ -50,9 +51,9 @@ def result_of(listing: Listing) -> dict[str, Any]:
     return result or {"status": status, "verdict": None, "sense": sense}
 
 
-def document(listing: Listing, run: Mapping[str, Any] | None = None) -> dict[str, Any]:
+def document(listing: Listing, run: Mapping[str, Any] | None = None, notes: Sequence[str] | None = None) -> dict[str, Any]:
     "the whole of what is printed as JSON"
-    return {"format": FORMAT, "version": VERSION, **({"run": run} if run else {}), "result": result_of(listing), **listing}
+    return {"format": FORMAT, "version": VERSION, **({"run": run} if run else {}), **({} if notes is None else {"notes": list(notes)}), "result": result_of(listing), **listing}
 
 
 def add_decimals(whole: Mapping[str, Any]) -> None:
@@ -115,25 +116,25 @@ def table_of(listing: Listing, table: str) -> list[dict[str, Any]]:
     return found
 
 
-def write_csv(lines: list[dict[str, Any]], heads: Iterable[str], decimal: bool, out: TextIO) -> None:
-    "lines under heads; with decimal a column NAME_decimal of rounded numbers beside each column of fractions"
+def write_csv(lines: list[dict[str, Any]], heads: Iterable[str], decimal: bool, out: TextIO, more: Cells = None) -> None:
+    "lines under heads; with decimal a column NAME_decimal of rounded numbers beside each column of fractions; more is of cells that come behind each line"
     import csv  # pylint: disable=import-outside-toplevel
     numbers = [key for key in heads if decimal and any(is_number(line, key) for line in lines)]
-    writer = csv.DictWriter(out, [*heads, *(key + "_decimal" for key in numbers)], restval="", lineterminator="\n", extrasaction="ignore")
+    writer = csv.DictWriter(out, [*heads, *(key + "_decimal" for key in numbers), *(more or ())], restval="", lineterminator="\n", extrasaction="ignore")
     writer.writeheader()
     for line in lines:
         decimals = {key + "_decimal": rounded(line[key]) for key in numbers if is_number(line, key)}
-        writer.writerow({key: cell_of(key, value) for key, value in (line | decimals).items()})
+        writer.writerow({key: cell_of(key, value) for key, value in (line | decimals).items()} | dict(more or {}))
 
 
-def write_table(listing: Listing, table: str, decimal: bool, out: TextIO) -> None:
+def write_table(listing: Listing, table: str, decimal: bool, out: TextIO, more: Cells = None) -> None:
     "all reports of a kind, which is one of TABLES"
-    write_csv(table_of(listing, table), ["report", *TABLES[table]], decimal, out)
+    write_csv(table_of(listing, table), ["report", *TABLES[table]], decimal, out, more)
 
 
-def write_solution(listing: Listing, decimal: bool, out: TextIO) -> None:
+def write_solution(listing: Listing, decimal: bool, out: TextIO, more: Cells = None) -> None:
     "the last SOLUTION; NoListing where there is none"
     lines = table_of(listing, "solutions")
     if not lines:
         raise NoListing("the listing has no SOLUTION")
-    write_csv([line for line in lines if line["report"] == lines[-1]["report"]], TABLES["solutions"], decimal, out)
+    write_csv([line for line in lines if line["report"] == lines[-1]["report"]], TABLES["solutions"], decimal, out, more)
