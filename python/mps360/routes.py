@@ -36,6 +36,11 @@ ROUTES = ("primal", "basis", "exact")
 EXACT_SOLVER = "esolver"
 
 
+def processors_here() -> int:
+    "how many processors this process may use"
+    return len(os.sched_getaffinity(0)) if hasattr(os, "sched_getaffinity") else os.cpu_count() or 1
+
+
 @dataclass(frozen=True)
 class Plan:
     "which routes are tried, for how many seconds each; None is without an end"
@@ -48,7 +53,7 @@ class Plan:
     solver_seconds: float | None = SOLVER_SECONDS
     run_seconds: float | None = RUN_SECONDS
     last_seconds: float | None = None           # of the last run of PRIMAL from the opening basis
-    processors: int = field(default_factory=lambda: len(os.sched_getaffinity(0)) if hasattr(os, "sched_getaffinity") else os.cpu_count() or 1)
+    processors: int = field(default_factory=processors_here)   # from two on PRIMAL goes on beside the others
 
     def takes(self, route: str) -> bool:
         return self.only in (None, route)
