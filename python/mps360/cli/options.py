@@ -2,6 +2,7 @@
 from __future__ import annotations
 
 import argparse
+import time
 
 from mps360 import routes, solvers
 
@@ -45,11 +46,13 @@ def add_routes(parser: argparse.ArgumentParser) -> None:
     parser.add_argument("--only", choices=routes.ROUTES)
     parser.add_argument("--seconds", type=positive)
     parser.add_argument("--processors", type=counted)
+    parser.set_defaults(begun=time.monotonic())
 
 
 def plan_of(options: argparse.Namespace) -> routes.Plan:
     "the routes that these options leave"
-    return routes.Plan(solvers=options.solvers, only=options.only, seconds=options.seconds, processors=options.processors or routes.processors_here())
+    return routes.Plan(solvers=options.solvers, only=options.only, seconds=options.seconds, begun=options.begun,
+                       processors=options.processors or routes.processors_here())
 
 
 def check_routes(options: argparse.Namespace) -> str | None:

@@ -427,7 +427,7 @@ def outcome_of(options, model, program, checker, life):
     observer = runs.Observer(say=life.say, going=life.say, heard=life.heard, tick=life.tick)
     try:
         if not model.converted:
-            return routes.Outcome(runs.run_alone(model.job, program, seconds=options.seconds, observer=observer), [])
+            return routes.Outcome(runs.run_alone(model.job, program, seconds=options.seconds, begun=options.begun, observer=observer), [])
         way = routes.Routes(model.converted, program, plan_of(options), checker, observer)
         if model.basis:
             way.begin_at(model.basis, os.path.basename(options.basis))
