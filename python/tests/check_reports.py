@@ -360,7 +360,7 @@ def try_glass(document, folder, program, path):
     table = call(SCRIPTS / "listing2json.py", "--table", "ranges", "--names", folder / "kept/glass.names",
                  folder / "kept/glass.listing").stdout.decode()
     check(f"CSV of RANGE: {table}",
-          re.search(r"^\d+,columns_between,\d+,windows_batches,BS,6,,,5,2,none,,$", table, re.M)
+          re.search(r"^\d+,columns_between,\d+,windows_batches,BS,6,,,5,2,none,,,", table, re.M)
           and re.search(r"^\d+,rows_at_limit,\d+,plant_3_hours,UL,18,12,24,", table, re.M))
 
 

@@ -29,7 +29,8 @@ from mps360.cli.solution2listing import Ended
 from mps360.text import as_lines, as_text
 from mps360.output import command, make_folder, write_file
 from mps360.commands import here
-from mps360 import notes
+from mps360 import notes, solution_checks
+from mps360.listings.write import Answer
 from mps360.cli.words import taken
 from mps360.model import Model
 
@@ -74,12 +75,13 @@ def answer_of(program: list[str], job: bytes, listing: bytes) -> tuple[int, int 
     return ended.returncode, int(answer[1]) if answer and answer[1] else None
 
 
-def outcome(status: int, number: int | None, listing: str, model: Model) -> str:
+def outcome(status: int, number: int | None, listing: str, model: Model, answer: Answer) -> str:
     "what the answer is, or why it isn't attested"
     if status:
         lines = listing.split("\n")
         place = f": line {number} of the listing, {lines[number - 1][:60]}" if number and number <= len(lines) else ""
-        return "not attested: " + REFUSED.get(status, f"the checker ended with {status}") + place
+        fault = solution_checks.first_fault(model, answer) if status == 40 else None
+        return "not attested: " + REFUSED.get(status, f"the checker ended with {status}") + (f": {fault} ({place[2:]})" if fault else place)
     found = VERDICT.search(listing)
     verdict, objective = (found[1], found[2]) if found else ("", "0")
     changed = notes.after_verdict(model)
@@ -110,13 +112,13 @@ def run(words: list[str]) -> int:
     if options.job or options.names:
         raise Ended(64, "--keep FOLDER keeps the job and the table of names")
     checker, which = checker_of(program)
-    job, listing = solution2listing.made(options, words[-1])
+    job, answer, listing = solution2listing.answered(options, words[-1])
     for sentence in job.said if keep else job.said_without(job.of_table, job.of_listing):
         told(sentence)
     if keep:
         kept(keep, job, listing, (options.file, words[-1]))
     status, number = answer_of(checker, job.text.encode(), listing.encode())
-    print(("" if status else BEFORE[which]) + as_text(outcome(status, number, listing, job.file)))
+    print(("" if status else BEFORE[which]) + as_text(outcome(status, number, listing, job.file, answer)))
     return status
 
 

@@ -3,6 +3,7 @@ from __future__ import annotations
 
 import argparse
 import sys
+import time
 from collections.abc import Callable
 from typing import NoReturn
 
@@ -43,6 +44,14 @@ def positive(word: str) -> float:
     return number
 
 
+def counted(word: str) -> int:
+    "a count from 1 on"
+    number = int(word)
+    if number < 1:
+        raise ValueError(word)
+    return number
+
+
 def solvers_of(word: str) -> tuple[str, ...]:
     "the names of solvers, parted by commas"
     if word == NOBODY:
@@ -59,11 +68,14 @@ def add_routes(parser: argparse.ArgumentParser) -> None:
     parser.add_argument("--with", dest="solvers", type=solvers_of)
     parser.add_argument("--only", choices=routes.ROUTES)
     parser.add_argument("--seconds", type=positive)
+    parser.add_argument("--processors", type=counted)
+    parser.set_defaults(begun=time.monotonic())
 
 
 def plan_of(options: argparse.Namespace) -> routes.Plan:
     "the routes that these options leave"
-    return routes.Plan(solvers=options.solvers, only=options.only, seconds=options.seconds)
+    return routes.Plan(solvers=options.solvers, only=options.only, seconds=options.seconds, begun=options.begun,
+                       processors=options.processors or routes.processors_here())
 
 
 def check_routes(options: argparse.Namespace) -> str | None:

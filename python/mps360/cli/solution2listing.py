@@ -70,6 +70,12 @@ def own_words(words: list[str]) -> tuple[list[str], str | None, str]:
 
 def made(options: argparse.Namespace, solution: str) -> tuple[Job, str]:
     "the job, and the listing of the solution"
+    job, _, listing = answered(options, solution)
+    return job, listing
+
+
+def answered(options: argparse.Namespace, solution: str) -> tuple[Job, Answer, str]:
+    "the job, the answer of the solution by the file's names, and its listing"
     try:
         model = mps.read_file(options.file, mps2job.reading_of(options))
         job = exact_job(model, False, model.name or os.path.basename(options.file))
@@ -79,7 +85,7 @@ def made(options: argparse.Namespace, solution: str) -> tuple[Job, str]:
         raise Ended(65, f"{options.file}: {cause}") from None
     try:
         answer = read_file(solution, model)
-        return job, listing_of(job, answer)
+        return job, answer, listing_of(job, answer)
     except OSError as cause:
         raise Ended(66, f"can't read {solution}: {cause.strerror}") from None
     except (NoSolution, Refused) as cause:
