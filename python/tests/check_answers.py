@@ -579,12 +579,12 @@ def try_attest(folder):
         ended = subprocess.run([stub, *words], stdin=subprocess.DEVNULL, stdout=subprocess.PIPE, cwd="/")
         check(f"oracle/attesting.py --as-program {words}: {ended}", (ended.returncode, ended.stdout) == wanted)
     other = "not proved, since another program ran; it attests: "
-    refused = "not attested: its numbers don't prove it: line {}\n"
+    refused = "not attested: its numbers don't prove it: {} (line {})\n"
     constant = MODEL.replace(" plant_3 18\n", " plant_3 18 total_profit -5\n")
     for text, answer, status, wanted in ((MODEL, ESOLVER, 0, other + "OPTIMAL, objective 36\n"), (constant, ESOLVER, 0, other + "OPTIMAL, objective 36, 41 with the file's constant\n"),
-                                         (MODEL, ESOLVER.replace("plant_3 = 1", "plant_3 = 2"), 40, refused.format("5 of the listing, SOLUTION OPTIMAL")),
+                                         (MODEL, ESOLVER.replace("plant_3 = 1", "plant_3 = 2"), 40, refused.format("the column doors has the reduced cost 0, and by the prices it is -3", "5 of the listing, SOLUTION OPTIMAL")),
                                          (TIGHT, text_of(RAYS), 0, other + "INFEASIBLE, no plan keeps all limits\n"),
-                                         (MODEL, text_of(RAYS), 40, refused.format("4 of the listing, PRIMAL INFEASIBLE STEPS 0 RAY CHECKED")),
+                                         (MODEL, text_of(RAYS), 40, refused.format("the row plant_1 has the factor -3, which is for its lower limit, and it has none", "4 of the listing, PRIMAL INFEASIBLE STEPS 0 RAY CHECKED")),
                                          (LOOSE, text_of(DIRECTION), 0, other + "UNBOUNDED, the objective has no bound\n")):
         model.write_text(text)
         solution.write_text(answer)

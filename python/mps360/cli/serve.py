@@ -71,7 +71,8 @@ def attested(request: dict[str, Any], checker: str | None) -> dict[str, Any]:
 def fault(cause: Exception) -> dict[str, Any]:
     "what is said of a request that failed"
     kind = next((word for of, word in KINDS if isinstance(cause, of)), "wrong request")
-    told: dict[str, Any] = {"kind": kind, "cause": cause.cause if isinstance(cause, Refused) else str(cause)}
+    cause_words = cause.cause if isinstance(cause, Refused) else f"{cause.strerror}: {cause.filename}" if isinstance(cause, OSError) and cause.filename else str(cause)
+    told: dict[str, Any] = {"kind": kind, "cause": cause_words}
     if isinstance(cause, Refused):
         told |= {"file": cause.file, "line": cause.line, "column": cause.column, "word": cause.word if isinstance(cause.word, str) else None}
     return {"error": told}
