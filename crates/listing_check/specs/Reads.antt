@@ -33,7 +33,7 @@ module _ (reads : Reads) where
         ((bytes lines : List ℕ) → reads.is_job bytes → reads.is_listing lines → Answers bytes lines answer × (text ≡ answer_text lines answer)) →
         IsDue text (status_of answer)
 
-  pub data Tells {P : Type 0} (written stopped_at : P → Option (List ℕ)) (faults refusals : P → ℕ) (old new : P) (status : CheckStatus) : Type 0 where
-    no_memory : status ≡ Memory → new ≡ old → reads.job_quiet → reads.listing_quiet → Tells written stopped_at faults refusals old new status
-    says : (text : List ℕ) (own : CheckStatus) → IsDue text own → EndsWith written stopped_at faults refusals old new text own status →
-        Tells written stopped_at faults refusals old new status
+  pub data Tells (old new : SinkState) (status : CheckStatus) : Type 0 where
+    no_memory : status ≡ Memory → new ≡ old → reads.job_quiet → reads.listing_quiet → Tells old new status
+    says : (text : List ℕ) (own : CheckStatus) → IsDue text own → EndsWith old new text own status →
+        Tells old new status
