@@ -1,5 +1,5 @@
 -- What PUNCH comes to.
-use Rattle.std.proofs.Common.{◌≡◌, ◌+◌, ℕ, List, Option, Some, None, Result, Ok, Err, inl, refl, sym, ap, ◌∙◌}
+use Rattle.std.proofs.Common.{◌≡◌, ◌+◌, ℕ, List, Some, None, Result, Ok, Err, inl, refl, sym, ap, ◌∙◌}
 use Rattle.std.specs.Prelude.{min, length}
 use Rattle.job_devices.proofs.TextLemmas.{writes_same}
 use Rattle.job_devices.specs.States.{SinkState}

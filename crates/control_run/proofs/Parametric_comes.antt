@@ -1,6 +1,7 @@
 -- What PARAOBJ and PARARHS do by what they find.
 use Rattle.std.proofs.Common.{◌≡◌, ℕ, inl, inr, List, [], Option, None, Some, Ok, Err, refl, sym, ap, subst, ◌∙◌, option_map}
 use Rattle.std.specs.Prelude.{option_and_then}
+use Rattle.job_devices.specs.States.{SinkState}
 use Rattle.exact_values.specs.Rational.{ℚ}
 use Rattle.lp_definitions.specs.LinearProgram.{LinearProgram}
 use Rattle.lp_definitions.specs.declared.Evidence.{Evidence}

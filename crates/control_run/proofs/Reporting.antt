@@ -1,5 +1,5 @@
 -- What is found, with its report, and what a statement comes to by it.
-use Rattle.std.proofs.Common.{◌≡◌, ℕ, List, [], Option, Some, Result, Ok, Err, refl, sym, subst}
+use Rattle.std.proofs.Common.{◌≡◌, ℕ, List, [], Some, Result, Ok, Err, refl, sym, subst}
 use Rattle.std.specs.Prelude.{MatchResult}
 use Rattle.job_devices.proofs.TextLemmas.{writes_nothing}
 use Rattle.job_devices.specs.States.{SinkState}

@@ -1,5 +1,6 @@
 -- A statement at a position, and where it leads.
-use Rattle.std.proofs.Common.{◌≡◌, ℕ, ◌+◌, ◌-◌, ◌<◌, List, Option, Some, Ok, Err, slice_get, refl, sym, ap, subst, arith}
+use Rattle.std.proofs.Common.{◌≡◌, ℕ, ◌+◌, ◌-◌, ◌<◌, List, Some, Ok, Err, slice_get, refl, sym, ap, subst, arith}
+use Rattle.job_devices.specs.States.{SinkState}
 use Rattle.control_definitions.specs.Program.{Statement, Program}
 use Rattle.question_definitions.specs.Solving.{Solving}
 use Rattle.run_definitions.specs.State.{State}

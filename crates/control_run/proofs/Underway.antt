@@ -1,5 +1,5 @@
 -- A run that is underway, and what each statement makes of it.
-use Rattle.std.proofs.Common.{◌≡◌, ℕ, ◌+◌, ◌≤◌, ◌<◌, List, [], ◌++◌, Option, Ok, Err, length, refl, sym, subst, arith}
+use Rattle.std.proofs.Common.{◌≡◌, ℕ, ◌+◌, ◌≤◌, ◌<◌, List, [], ◌++◌, Ok, Err, length, refl, sym, subst, arith}
 use Rattle.job_devices.proofs.TextLemmas.{Appends-then, writes_then, writes_same, writes_nothing}
 use Rattle.job_devices.specs.States.{SinkState}
 use Rattle.job_devices.specs.declared.device.WriteStop.{WriteStop}

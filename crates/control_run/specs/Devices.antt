@@ -4,7 +4,7 @@
 --     IsReported before now status  each count that has grown is reported by the status
 --     IsStill .. old new            nothing was written after a write that stopped
 --     Leaves .. result              what a device counts and holds where the last write to it came to this result
-use Rattle.std.specs.Prelude.{◌≡◌, ◌⊎◌, ◌<◌, ℕ, List, Option, Result}
+use Rattle.std.specs.Prelude.{◌≡◌, ◌⊎◌, ◌<◌, ℕ, Result}
 use Rattle.job_devices.specs.States.{SinkState}
 use Rattle.job_devices.specs.declared.device.WriteStop.{WriteStop}
 use Rattle.job_devices.specs.Causes.{Rose, HasWriteCause, KeepsStop}

@@ -1,6 +1,6 @@
 -- What a call that runs a program promises of its status.
 --     IsEndOfRun .. status         how the run has ended, and what stands in print and punch then
-use Rattle.std.specs.Prelude.{◌≡◌, ℕ, List, Option, Some}
+use Rattle.std.specs.Prelude.{◌≡◌, ℕ, List, Some}
 use Rattle.std.specs.Io.KnownBytes.{Appends}
 use Rattle.job_devices.specs.States.{SinkState}
 use Rattle.job_devices.specs.Causes.{Rose}

@@ -3,7 +3,7 @@
 --     IsReported before now status  each count that has grown is reported by the status
 --     IsStill .. old new            nothing was written after a write that stopped
 --     EndsWith .. text own status   a line is printed, and the status is its own; or the print stops in it
-use Rattle.std.specs.Prelude.{◌≡◌, ◌⊎◌, ◌<◌, ℕ, List, Option, Ok, Err}
+use Rattle.std.specs.Prelude.{◌≡◌, ◌⊎◌, ◌<◌, ℕ, List, Ok, Err}
 use Rattle.job_devices.specs.States.{SinkState}
 use Rattle.job_devices.specs.declared.device.WriteStop.{WriteStop}
 use Rattle.job_devices.specs.Causes.{Rose}

@@ -3,6 +3,7 @@
 --     IsDue reads text status      this line is due, with this status
 --     Tells reads .. status        it is printed, or the print stops in it; or there is no memory, and nothing is printed
 use Rattle.std.specs.Prelude.{◌≡◌, ℕ, List, Option}
+use Rattle.job_devices.specs.States.{SinkState}
 use Rattle.walk_definitions.specs.Walker.{Found}
 use Rattle.walk_definitions.specs.Found.{Answers, answer_text}
 use Rattle.listing_check.specs.declared.status.CheckStatus.{CheckStatus}

@@ -1,5 +1,6 @@
 -- What the status reports of the devices, and what stands in them.
-use Rattle.std.proofs.Common.{◌≡◌, ◌⊎◌, inl, inr, ℕ, ◌<◌, List, Option, Ok, Err, refl, ap, ◌∙◌}
+use Rattle.std.proofs.Common.{◌≡◌, ◌⊎◌, inl, inr, ℕ, ◌<◌, Ok, Err, refl, ap, ◌∙◌}
+use Rattle.job_devices.specs.States.{SinkState}
 use Rattle.control_run.specs.declared.status.RunStatus.{RunStatus}
 use Rattle.control_run.specs.Statuses.{code_of}
 use Rattle.control_run.specs.Devices.{Counts, counts, StopsAtPrint, print_failed, print_wants_memory, IsReported, IsStill}

@@ -1,5 +1,5 @@
 -- What a statement does that punches nothing; and what BCDOUT comes to.
-use Rattle.std.proofs.Common.{◌≡◌, ℕ, ◌+◌, List, [], Option, None, Some, Result, Ok, Err, refl, sym, ap, ◌∙◌}
+use Rattle.std.proofs.Common.{◌≡◌, ℕ, ◌+◌, List, [], None, Some, Result, Ok, Err, refl, sym, ap, ◌∙◌}
 use Rattle.std.specs.Prelude.{min, length, IsErrOf}
 use Rattle.job_devices.proofs.TextLemmas.{writes_nothing, writes_same}
 use Rattle.job_devices.specs.States.{SinkState}

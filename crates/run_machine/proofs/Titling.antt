@@ -1,5 +1,5 @@
 -- What TITLE comes to.
-use Rattle.std.proofs.Common.{◌≡◌, ℕ, List, Option, Ok, Err, refl, subst}
+use Rattle.std.proofs.Common.{◌≡◌, ℕ, List, Ok, Err, refl, subst}
 use Rattle.job_devices.specs.States.{SinkState}
 use Rattle.job_devices.specs.declared.device.WriteStop.{WriteStop}
 use Rattle.job_devices.specs.Text.{Writes}

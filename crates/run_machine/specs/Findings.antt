@@ -3,7 +3,7 @@
 --     ReportsFinding result        what is found is reported, with its report printed; or it is cut off
 --     act_of cells card finding    what follows
 --     mark_left finding            the mark that it leaves
-use Rattle.std.specs.Prelude.{◌≡◌, ℕ, List, Option, Some, None, Result, Ok, Err}
+use Rattle.std.specs.Prelude.{◌≡◌, ℕ, Option, Some, None, Result, Ok, Err}
 use Rattle.job_devices.specs.States.{SinkState}
 use Rattle.job_devices.specs.declared.device.WriteStop.{WriteStop}
 use Rattle.job_devices.specs.Text.{Writes}

@@ -1,5 +1,6 @@
 -- What a statement comes to, whatever is right of linear programming, it comes to by what is right.
-use Rattle.std.proofs.Common.{ℕ, List, Option, Result, Ok, Err}
+use Rattle.std.proofs.Common.{ℕ, List, Result, Ok, Err}
+use Rattle.job_devices.specs.States.{SinkState}
 use Rattle.problem_file.specs.Filed.{Filed}
 use Rattle.control_definitions.specs.Program.{Verb}
 use Rattle.question_definitions.specs.Solving.{Solving}

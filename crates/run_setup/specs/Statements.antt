@@ -1,6 +1,7 @@
 -- What a statement does with the machine of a run, by what is right of linear programming: the words of run_machine, for a setup that
 -- keeps a basis.
-use Rattle.std.specs.Prelude.{ℕ, List, Option, Result}
+use Rattle.std.specs.Prelude.{ℕ, List, Result}
+use Rattle.job_devices.specs.States.{SinkState}
 use Rattle.control_definitions.specs.Program.{Verb}
 use Rattle.question_definitions.specs.Solving.{Solving}
 use Rattle.run_definitions.specs.State.{State}
