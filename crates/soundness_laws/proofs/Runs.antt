@@ -1,6 +1,6 @@
 -- Each report of the run of a job holds of the state in which it was made.
 use Rattle.std.proofs.Common.{ℕ, List, []}
-use Rattle.std.specs.Prelude.{All, Option}
+use Rattle.std.specs.Prelude.{All}
 use Rattle.std.proofs.lemmas.List.Elements.{All-nil, All-cons}
 use Rattle.control_definitions.specs.Program.{Program}
 use Rattle.listing_definitions.specs.declared.Mark.TheVariants.{Optimal, Infeasible, Unbounded}
