@@ -1,5 +1,5 @@
 -- Where no evidence of an overflow holds a job is answered as its run, or it is cut off.
-use Rattle.std.proofs.Common.{◌≡◌, ◌⊎◌, ℕ, List, Some, inl, inr, sym, ap, subst, ◌∙◌}
+use Rattle.std.proofs.Common.{◌≡◌, ◌⊎◌, ℕ, List, [], Some, inl, inr, sym, ap, subst, ◌∙◌}
 use Rattle.deck_definitions.specs.Written.{card_text}
 use Rattle.listing_definitions.specs.Report.{Report}
 use Rattle.listing_definitions.specs.Ending.{Ending, Ended, WordsRefused, ControlStop, VerbStop, SingularStop, PriceStop, DeckStop, CardStop, LimitStop, StatementLimit, OverflowStop, ReadFault, PrintFault, PunchFault, Memory, status_of}
@@ -12,28 +12,28 @@ use Rattle.determinism_laws.proofs.Runs.{overflow_or_not}
 use Rattle.determinism_laws.proofs.Stops.{IsOfItself, job_of_itself}
 
 -- where a run ends by itself the punch gains all of its cards
-all_gained : (ending : Ending) (punched text : List ℕ) → IsOfItself ending → Gains ending punched text → punched ≡ text
-all_gained (Ended code) punched text own gains = gains
-all_gained WordsRefused punched text own gains = gains
-all_gained (ControlStop fault) punched text own gains = gains
-all_gained (VerbStop fault) punched text own gains = gains
-all_gained (SingularStop basis) punched text own gains = gains
-all_gained (PriceStop price) punched text own gains = gains
-all_gained (DeckStop fault) punched text own gains = gains
-all_gained (CardStop fault) punched text own gains = gains
-all_gained (LimitStop reached) punched text own gains = gains
-all_gained StatementLimit punched text own gains = gains
-all_gained (OverflowStop overflow) punched text own gains = gains
-all_gained ReadFault punched text own gains = absurd own
-all_gained PrintFault punched text own gains = absurd own
-all_gained PunchFault punched text own gains = absurd own
-all_gained Memory punched text own gains = absurd own
+all_gained : (ending : Ending) (cards deck : List (List ℕ)) (punched : List ℕ) → IsOfItself ending → Gains ending cards deck punched → punched ≡ card_text cards
+all_gained (Ended code) cards deck punched own gains = gains
+all_gained WordsRefused cards deck punched own gains = gains
+all_gained (ControlStop fault) cards deck punched own gains = gains
+all_gained (VerbStop fault) cards deck punched own gains = gains
+all_gained (SingularStop basis) cards deck punched own gains = gains
+all_gained (PriceStop price) cards deck punched own gains = gains
+all_gained (DeckStop fault) cards deck punched own gains = gains
+all_gained (CardStop fault) cards deck punched own gains = gains
+all_gained (LimitStop reached) cards deck punched own gains = gains
+all_gained StatementLimit cards deck punched own gains = gains
+all_gained (OverflowStop overflow) cards deck punched own gains = gains
+all_gained ReadFault cards deck punched own gains = absurd own
+all_gained PrintFault cards deck punched own gains = absurd own
+all_gained PunchFault cards deck punched own gains = absurd own
+all_gained Memory cards deck punched own gains = absurd own
 
 module _ (S : Solving) (function : IsFunction S) (job : Job) (failures : Failures) (status : ℕ) (PrintGains PunchGains : List ℕ → Type 0) (printed punched : List ℕ)
     (print_gains : PrintGains printed) (punch_gains : PunchGains punched) (bytes : List ℕ) (of_job : bytes_of job ≡ Some bytes) (none : MeetsNoEvidence S bytes) where
   by_run : (reports : List Report) (cards : List (List ℕ)) (ending : Ending) → IsJobRun S bytes reports cards ending → status ≡ status_of ending → printed ≡ listing reports ending →
-      Gains ending punched (card_text cards) → IsAnswerOfRun S bytes status PrintGains PunchGains
-  by_run reports cards ending runs is text gains = record {
+      punched ≡ card_text cards → IsAnswerOfRun S bytes status PrintGains PunchGains
+  by_run reports cards ending runs is text all = record {
     reports = reports;
     cards = cards;
     ending = ending;
@@ -42,24 +42,25 @@ module _ (S : Solving) (function : IsFunction S) (job : Job) (failures : Failure
     no_overflow = function.unstopped bytes reports cards ending none runs;
     is_status = is;
     print_gains = subst PrintGains text print_gains;
-    punch_gains = subst PunchGains (all_gained ending punched (card_text cards) (job_of_itself S bytes reports cards ending runs) gains) punch_gains;
+    punch_gains = subst PunchGains all punch_gains;
   }
 
-  by_end : (reports : List Report) (cards : List (List ℕ)) (ending : Ending) → MayEnd S job failures reports cards ending → status ≡ status_of ending → printed ≡ listing reports ending →
-      Gains ending punched (card_text cards) → IsAnswerOfRun S bytes status PrintGains PunchGains ⊎ IsCutOff failures status
-  by_end _ _ _ (words_refused refused) is text gains = let e = sym (ap bytes_of refused) ∙ of_job in absurd (cc e)
-  by_end _ _ _ (read_fails read is_read failed) is text gains = inr (read_failed failed is)
-  by_end reports cards ending (by_itself others also runs) is text gains =
+  by_end : (reports : List Report) (cards deck : List (List ℕ)) (ending : Ending) → MayEnd S job failures reports cards deck ending → status ≡ status_of ending → printed ≡ listing reports ending →
+      Gains ending cards deck punched → IsAnswerOfRun S bytes status PrintGains PunchGains ⊎ IsCutOff failures status
+  by_end _ _ _ _ (words_refused refused) is text gains = let e = sym (ap bytes_of refused) ∙ of_job in absurd (cc e)
+  by_end _ _ _ _ (read_fails read is_read failed) is text gains = inr (read_failed failed is)
+  by_end reports cards _ ending (by_itself others also runs) is text gains =
       let e = sym also ∙ of_job in
       let same : others ≡ bytes = cc e in
-      inl (by_run reports cards ending (subst (λ (xs : List ℕ). IsJobRun S xs reports cards ending) same runs) is text gains)
-  by_end _ _ _ memory_at_start is text gains = inr (memory_wanted is)
-  by_end _ _ _ (memory_in_run others program state also so_far) is text gains = inr (memory_wanted is)
-  by_end _ _ _ (memory_at_punch others program state deck also so_far punching) is text gains = inr (memory_wanted is)
-  by_end _ _ _ (punch_fails others program state deck failed also so_far punching) is text gains = inr (punch_failed failed is)
+      let of_bytes = subst (λ (xs : List ℕ). IsJobRun S xs reports cards ending) same runs in
+      inl (by_run reports cards ending of_bytes is text (all_gained ending cards [] punched (job_of_itself S bytes reports cards ending of_bytes) gains))
+  by_end _ _ _ _ memory_at_start is text gains = inr (memory_wanted is)
+  by_end _ _ _ _ (memory_in_run others program state also so_far) is text gains = inr (memory_wanted is)
+  by_end _ _ _ _ (memory_at_punch others program state deck also so_far punching) is text gains = inr (memory_wanted is)
+  by_end _ _ _ _ (punch_fails others program state deck failed also so_far punching) is text gains = inr (punch_failed failed is)
 
   by_answer : IsAnswer S job failures (record { status = status; printed = printed; punched = punched }) → IsAnswerOfRun S bytes status PrintGains PunchGains ⊎ IsCutOff failures status
-  by_answer (whole {reports} {cards} ending may_end is text gains) = by_end reports cards ending may_end is text gains
+  by_answer (whole {reports} {cards} {deck} ending may_end is text gains) = by_end reports cards deck ending may_end is text gains
   by_answer (print_fails failed is cut) = inr (print_failed failed is)
   by_answer (print_wants_memory wanted is cut) = inr (memory_wanted is)
 
@@ -100,22 +101,22 @@ module _ (S : Solving) (function : IsFunction S) (job : Job) (failures : Failure
         subst PunchGains (all ∙ ap card_text same.same_cards) punch_gains,
       )
 
-  decided_by_end : (others : List Report) (other_cards : List (List ℕ)) (other : Ending) → MayEnd S job failures others other_cards other → status ≡ status_of other → printed ≡ listing others other →
-      Gains other punched (card_text other_cards) → IsOneOf
-  decided_by_end _ _ _ (words_refused refused) is text gains = let e = sym (ap bytes_of refused) ∙ of_job in absurd (cc e)
-  decided_by_end _ _ _ (read_fails read is_read failed) is text gains = inr (inr (read_failed failed is))
-  decided_by_end others other_cards other (by_itself known also runs_too) is text gains =
+  decided_by_end : (others : List Report) (other_cards deck : List (List ℕ)) (other : Ending) → MayEnd S job failures others other_cards deck other → status ≡ status_of other → printed ≡ listing others other →
+      Gains other other_cards deck punched → IsOneOf
+  decided_by_end _ _ _ _ (words_refused refused) is text gains = let e = sym (ap bytes_of refused) ∙ of_job in absurd (cc e)
+  decided_by_end _ _ _ _ (read_fails read is_read failed) is text gains = inr (inr (read_failed failed is))
+  decided_by_end others other_cards _ other (by_itself known also runs_too) is text gains =
       let e = sym also ∙ of_job in
       let same : known ≡ bytes = cc e in
       let of_bytes = subst (λ (xs : List ℕ). IsJobRun S xs others other_cards other) same runs_too in
-      by_other others other_cards other of_bytes is text (all_gained other punched (card_text other_cards) (job_of_itself S bytes others other_cards other of_bytes) gains) (overflow_or_not other)
-  decided_by_end _ _ _ memory_at_start is text gains = inr (inr (memory_wanted is))
-  decided_by_end _ _ _ (memory_in_run known program state also so_far) is text gains = inr (inr (memory_wanted is))
-  decided_by_end _ _ _ (memory_at_punch known program state deck also so_far punching) is text gains = inr (inr (memory_wanted is))
-  decided_by_end _ _ _ (punch_fails known program state deck failed also so_far punching) is text gains = inr (inr (punch_failed failed is))
+      by_other others other_cards other of_bytes is text (all_gained other other_cards [] punched (job_of_itself S bytes others other_cards other of_bytes) gains) (overflow_or_not other)
+  decided_by_end _ _ _ _ memory_at_start is text gains = inr (inr (memory_wanted is))
+  decided_by_end _ _ _ _ (memory_in_run known program state also so_far) is text gains = inr (inr (memory_wanted is))
+  decided_by_end _ _ _ _ (memory_at_punch known program state deck also so_far punching) is text gains = inr (inr (memory_wanted is))
+  decided_by_end _ _ _ _ (punch_fails known program state deck failed also so_far punching) is text gains = inr (inr (punch_failed failed is))
 
   decided_by_answer : IsAnswer S job failures (record { status = status; printed = printed; punched = punched }) → IsOneOf
-  decided_by_answer (whole {reports} {cards} ending may_end is text gains) = decided_by_end reports cards ending may_end is text gains
+  decided_by_answer (whole {reports} {cards} {deck} ending may_end is text gains) = decided_by_end reports cards deck ending may_end is text gains
   decided_by_answer (print_fails failed is cut) = inr (inr (print_failed failed is))
   decided_by_answer (print_wants_memory wanted is cut) = inr (inr (memory_wanted is))
 

@@ -165,7 +165,8 @@ fn run_request<S: Source, P: Sink, U: Sink>(
 ///
 /// After a fault of the print, or where the print runs out of memory, nothing more is printed. A deck in which a write to the punch
 /// fails, or in which the punch runs out of memory, is broken off, and ends the job. The status reports each of these. Memory may
-/// run out at any time, which ends a job.
+/// run out at any time, which ends a job. Each deck is punched whole before its report is printed, so a deck that was reported
+/// stands whole, however the job ends.
 ///
 /// A job whose run meets no evidence that a number is too large has one run, and gets the status, the whole listing and all the
 /// cards of this run, unless a read, a write to the print or one to the punch fails, or the status is 28. That is a free answer:
@@ -234,9 +235,9 @@ pub fn run_job<S: Source, P: Sink, U: Sink>(
 
     // What stands, by the status. With 0, 1, 2, 8, 10, 12, 13, 16, 17 and 20 the run of the job has this end; the whole
     // listing of the run stands, and all cards that it has punched; 8 and 13 leave their line alone, and so do 4 and 24. After
-    // 26 and 28 the reports so far stand with this line, and a prefix of the cards; and after 25, and where the print ran out of
-    // memory, the print has stopped in a report or in the lines of an end: all that comes before stands with a prefix of this
-    // text, and the cards that are punched by then.
+    // 26 and 28 the reports so far stand with this line, and all cards of these reports, then a prefix of the deck in hand, and no
+    // more; and after 25, and where the print ran out of memory, the print has stopped in a report or in the lines of an end: all
+    // that comes before stands with a prefix of this text, and the cards that are punched by then.
     ensures stands { (asked : Job) →
         IsAsked (requests.asked (map string_bytes words.now)) (S.given job.old).left asked →
         StandsAfter linear_programming asked
