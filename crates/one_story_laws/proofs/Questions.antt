@@ -29,6 +29,7 @@ use Rattle.one_story_laws.proofs.Marks.{FailsAt, same_verdict, same_failure, fai
 use Rattle.one_story_laws.proofs.Ends.{HasRun, same_close}
 use Rattle.one_story_laws.proofs.Reported.{Fails, Runs, SaysEnough, attested_says}
 use Rattle.one_story_laws.proofs.Alike.{SameSetup, one_setup, Alike, AlikeOrStopped, goes_alike, by_verdict_alike, IsAlike, may_stop, asked}
+use Rattle.walk_definitions.specs.Checkers.{Checker}
 
 -- ---- the linear program, and the parametric run, of which something is reported
 
@@ -82,7 +83,7 @@ same_last (InfeasiblePast value lines) (UnboundedPast other others) same = absur
 one_verdict : (P : Report → Type 0) (mark : Mark) (report : Report) (state : State) → All P (printed_by (gain_of (by_verdict mark report state))) → P report
 one_verdict P mark report state all = All-head P report [] (subst (All P) (printed_verdict mark report state) all)
 
-module _ (S : Solving) (Speaks : State → Report → Type 0) (Open : Type 0) (enough : SaysEnough S Speaks Open) (card : ℕ) (state : State) (problem : Problem ℕ) (options : SetupOptions)
+module _ (C : Checker) (S : Solving) (Speaks : State → Report → Type 0) (Open : Type 0) (enough : SaysEnough S Speaks Open) (card : ℕ) (state : State) (problem : Problem ℕ) (options : SetupOptions)
     (opening other : Basis) (steps others : List Basis) (lp : LinearProgram) (is : selected problem (choice_of state.cells options) ≡ Ok lp) where
   abbrev one : Present
   one = record { problem = problem; options = options; opening = opening; steps = steps }
@@ -137,15 +138,15 @@ module _ (S : Solving) (Speaks : State → Report → Type 0) (Open : Type 0) (e
         inl (verdicts_alike solver verdict another check other_check bases more (λ m. Some m)
         (same_verdict sheet verdict another (true_here (Some one) one verdict refl is spoken.0 spoken.1) (true_here (Some two) two another refl is said.0 said.1)))
 
-    pub path_asked : IsAlike S Speaks Open first second card (asks (OfPath solver limit) sheet one path_go) (asks (OfPath solver limit) sheet two path_on)
-    path_asked = may_stop S Speaks Open first second card _ _ _ _ (asked S Speaks Open first second card (OfPath solver limit) sheet (present_basis one) (present_basis two) path_go path_on paths_alike)
+    pub path_asked : IsAlike C S Speaks Open first second card (asks (OfPath solver limit) sheet one path_go) (asks (OfPath solver limit) sheet two path_on)
+    path_asked = may_stop C S Speaks Open first second card _ _ _ _ (asked C S Speaks Open first second card (OfPath solver limit) sheet (present_basis one) (present_basis two) path_go path_on paths_alike)
 
   -- ---- SOLUTION
 
-  pub solution_asked : (mark : Mark) → IsAlike S Speaks Open first second card (asks (OfSolution mark) sheet one (λ lines. next (Prints (Solution mark lines)) (counted first)))
+  pub solution_asked : (mark : Mark) → IsAlike C S Speaks Open first second card (asks (OfSolution mark) sheet one (λ lines. next (Prints (Solution mark lines)) (counted first)))
       (asks (OfSolution mark) sheet two (λ lines. next (Prints (Solution mark lines)) (counted second)))
   solution_asked mark =
-      may_stop S Speaks Open first second card _ _ _ _ (asked S Speaks Open first second card (OfSolution mark) sheet (present_basis one) (present_basis two) _ _ (λ x y right taken speaks says.
+      may_stop C S Speaks Open first second card _ _ _ _ (asked C S Speaks Open first second card (OfSolution mark) sheet (present_basis one) (present_basis two) _ _ (λ x y right taken speaks says.
       inl (goes_alike (Prints (Solution mark x)) (Prints (Solution mark y)) (record (counted state) { position = state.position + 1 }) (Some one) (Some two) (refl, tt)
       (one_setup problem options opening other steps others))))
 
@@ -225,5 +226,5 @@ module _ (S : Solving) (Speaks : State → Report → Type 0) (Open : Type 0) (e
         (same_close family parametric_run.from parametric_run.to end another (spoken_run intervals end speaks) (said_run others_intervals another says)
         (enough.lasts sheet (present_basis one) parametric_run bases intervals end right) (attested_says.lasts sheet (present_basis two) parametric_run more others_intervals another taken)))
 
-    pub parametric_run_asked : IsAlike S Speaks Open first second card (asks (OfParametricRun parametric_run) sheet one parametric_run_go) (asks (OfParametricRun parametric_run) sheet two parametric_run_on)
-    parametric_run_asked = may_stop S Speaks Open first second card _ _ _ _ (asked S Speaks Open first second card (OfParametricRun parametric_run) sheet (present_basis one) (present_basis two) parametric_run_go parametric_run_on parametric_runs_alike)
+    pub parametric_run_asked : IsAlike C S Speaks Open first second card (asks (OfParametricRun parametric_run) sheet one parametric_run_go) (asks (OfParametricRun parametric_run) sheet two parametric_run_on)
+    parametric_run_asked = may_stop C S Speaks Open first second card _ _ _ _ (asked C S Speaks Open first second card (OfParametricRun parametric_run) sheet (present_basis one) (present_basis two) parametric_run_go parametric_run_on parametric_runs_alike)

@@ -20,8 +20,8 @@ use Rattle.check_definitions.specs.declared.Verdict.{Verdict}
 use Rattle.check_definitions.specs.Steps.{verdict_of, in_turn, sum_steps, sum_of}
 use Rattle.check_definitions.specs.Checks.{feasible_point, equations, free_direction, ray_columns, ray_limits, multiplied, limit_product}
 use Rattle.certificate_check.proofs.True_claims.{never_point, never_equations, never_free, never_columns, never_limits_met}
-use Rattle.certificate_check.proofs.Meaning.{sum_of_met}
-use Rattle.certificate_check.proofs.Products.{sum_of-all}
+use Rattle.certificate_laws.proofs.Meaning.{sum_of_met}
+use Rattle.certificate_laws.proofs.Products.{sum_of-all}
 use Rattle.sensitivity_laws.proofs.MovedLimits.{moved, lower_is, upper_is}
 use Rattle.sensitivity_laws.proofs.Signs.{for_min-add}
 use Rattle.simplex_definitions.specs.Path.{listed}

@@ -23,7 +23,7 @@ use Rattle.check_definitions.specs.declared.Verdict.TheVariants.{Checked, Failed
 use Rattle.check_definitions.specs.Steps.{Step, operation, comparison, verdict_of, followed_by, in_turn, Product, product_of, sum_steps}
 use Rattle.check_definitions.specs.Checks.{equations, reduced_costs, optimal_check, crossed_check, infeasible_check, unbounded_check}
 use Rattle.check_definitions.proofs.Passing.{verdict-append}
-use Rattle.certificate_check.specs.Parts.{AreReducedCosts}
+use Rattle.certificate_laws.specs.Parts.{AreReducedCosts}
 use Rattle.certificate_check.proofs.True_claims.{NeverFails, never_equations, never_costs, never_optimal}
 use Rattle.simplex_definitions.specs.Path.{PathEnding, EndsOptimal, EndsCrossed, EndsInfeasible, EndsUnbounded, listed}
 use Rattle.simplex_laws.specs.Laws.{IsNonsingularBasis}

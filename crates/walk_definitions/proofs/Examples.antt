@@ -3,55 +3,69 @@ use Rattle.std.specs.Prelude.{◌≡◌, refl, true, false, [], codes, Some, Non
 use Rattle.divisors.specs.Gcd.{gcd}
 use Rattle.exact_values.specs.Rational.{fraction, whole, neg_ℚ}
 use Rattle.listing_definitions.specs.Numbers.{digits}
+use Rattle.walk_definitions.specs.Checkers.{checker_of_128_bits, checker_of_any_length}
 use Rattle.walk_definitions.specs.Words.{fraction_in, count_in, max_count}
 use Rattle.walk_definitions.specs.Forms.{is_open_stop, is_ranges, is_punched, is_inserted}
 use Rattle.walk_definitions.specs.Tables.{begins_table_line}
 
 -- ---- numbers: each is written in one way alone
 
-half : is_some (fraction_in (codes "5/2")) ≡ true
+half : is_some (fraction_in checker_of_128_bits (codes "5/2")) ≡ true
 unfolding fraction_in fraction gcd digits whole
 half = refl
 
-negative : is_some (fraction_in (codes "-17")) ≡ true
+negative : is_some (fraction_in checker_of_128_bits (codes "-17")) ≡ true
 unfolding fraction_in fraction gcd digits whole neg_ℚ
 negative = refl
 
-zero_alone : is_some (fraction_in (codes "0")) ≡ true
+zero_alone : is_some (fraction_in checker_of_128_bits (codes "0")) ≡ true
 unfolding fraction_in fraction gcd digits whole
 zero_alone = refl
 
-not_lowest : is_none (fraction_in (codes "10/4")) ≡ true
+not_lowest : is_none (fraction_in checker_of_128_bits (codes "10/4")) ≡ true
 unfolding fraction_in fraction gcd digits whole
 not_lowest = refl
 
-minus_zero : is_none (fraction_in (codes "-0")) ≡ true
+minus_zero : is_none (fraction_in checker_of_128_bits (codes "-0")) ≡ true
 unfolding fraction_in fraction gcd digits whole neg_ℚ
 minus_zero = refl
 
-with_plus : is_none (fraction_in (codes "+1")) ≡ true
+with_plus : is_none (fraction_in checker_of_128_bits (codes "+1")) ≡ true
 unfolding fraction_in fraction gcd digits whole
 with_plus = refl
 
-over_one : is_none (fraction_in (codes "3/1")) ≡ true
+over_one : is_none (fraction_in checker_of_128_bits (codes "3/1")) ≡ true
 unfolding fraction_in fraction gcd digits whole
 over_one = refl
 
-over_zero : is_none (fraction_in (codes "3/0")) ≡ true
+over_zero : is_none (fraction_in checker_of_128_bits (codes "3/0")) ≡ true
 unfolding fraction_in fraction gcd digits whole
 over_zero = refl
 
-two_slashes : is_none (fraction_in (codes "1/2/3")) ≡ true
+two_slashes : is_none (fraction_in checker_of_128_bits (codes "1/2/3")) ≡ true
 unfolding fraction_in fraction gcd digits whole
 two_slashes = refl
 
-letters : is_none (fraction_in (codes "1x2")) ≡ true
+letters : is_none (fraction_in checker_of_128_bits (codes "1x2")) ≡ true
 unfolding fraction_in fraction gcd digits whole
 letters = refl
 
 nothing : is_none (fraction_in []) ≡ true
 unfolding fraction_in fraction gcd digits whole
 nothing = refl
+
+-- 2 ^ 127, and of any length
+too_long : is_none (fraction_in checker_of_128_bits (codes "170141183460469231731687303715884105728")) ≡ true
+unfolding fraction_in fraction gcd digits whole
+too_long = refl
+
+of_any_length : is_some (fraction_in checker_of_any_length (codes "170141183460469231731687303715884105728")) ≡ true
+unfolding fraction_in fraction gcd digits whole
+of_any_length = refl
+
+not_lowest_either : is_none (fraction_in checker_of_any_length (codes "10/4")) ≡ true
+unfolding fraction_in fraction gcd digits whole
+not_lowest_either = refl
 
 greatest : count_in max_count (codes "4294967295") ≡ Some 4294967295
 unfolding count_in digits

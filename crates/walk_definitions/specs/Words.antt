@@ -4,13 +4,13 @@
 --     with_text text reads         a text stands there, and this is read after it
 --     word_in rest                 the bytes up to the first blank or line feed
 --     with_word of reads           a word that means something, and this is read after it
---     fraction_in, count_in        a number, as the listing writes it
+--     fraction_in C, count_in      a number, as the listing writes it, which the checker reads
 use Rattle.std.specs.Prelude.{ℕ, [], ◌∷◌, Bool, ◌||◌, ◌&&◌, ◌==◌, pos, List, Option, Some, None, take, drop, length, bytes_eq, nat_le, if◌then◌else◌, option_and_then}
 use Rattle.std.specs.List.{before_first, after_first, list_any}
 use Rattle.exact_values.specs.Rational.{ℚ, fraction, neg_ℚ}
-use Rattle.frac128.specs.Operations.{terms_fit}
 use Rattle.card_definitions.specs.Numbers.{digits_value}
 use Rattle.listing_definitions.specs.Numbers.{digits, rational_text}
+use Rattle.walk_definitions.specs.Checkers.{Checker}
 
 abbrev pub Parsed : Type 0 → Type 0
 Parsed X = Option (X × List ℕ)
@@ -53,9 +53,9 @@ spelled word = elim (left_after (45 ∷ []) word) [
   | Some size ↦ neg_ℚ (spelled_size size)
 ]
 
--- a fraction of 128 bits
-unfoldable pub fraction_in : List ℕ → Option ℚ
-fraction_in word = if terms_fit (spelled word) && bytes_eq (rational_text (spelled word)) word then Some (spelled word) else None
+-- a fraction that the arithmetic reads
+unfoldable pub fraction_in : Checker → List ℕ → Option ℚ
+fraction_in C word = if C.arithmetic.reads (spelled word) && bytes_eq (rational_text (spelled word)) word then Some (spelled word) else None
 
 -- a count up to a greatest one
 unfoldable pub count_in : ℕ → List ℕ → Option ℕ
