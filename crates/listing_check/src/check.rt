@@ -1,4 +1,5 @@
 // The top call.
+ghost use Rattle.walk_definitions.specs.Checkers.{checker_of_128_bits};
 ghost use Rattle.std.specs.Prelude.{◌≡◌, ◌≢◌, ◌<◌, List, ℕ, Some, length, take};
 ghost use Rattle.std.specs.Io.KnownBytes.{Appends};
 ghost use Rattle.job_devices.specs.Causes.{Rose};
@@ -152,7 +153,7 @@ pub fn check_listing<S: Source, L: Source, P: Sink>(
     // such that none is better, with prices that prove it; a verdict holds; and what is printed of a parametric run is right at
     // every value of the parameter.
     ensures truth { result ≡ CheckStatus.Attested → (bytes lines : List ℕ) → S.left job.old ≡ Some bytes →
-        L.left listing.old ≡ Some lines → IsTrueListing bytes lines }
+        L.left listing.old ≡ Some lines → IsTrueListing checker_of_128_bits bytes lines }
 
     // Which status, and what stands. Without words, and unless a read or the print fails or memory runs out, the line and the status are
     // those of what the listing is found to be, and of each job and each listing one thing is found.

@@ -50,7 +50,7 @@ letters : is_none (fraction_in checker_of_128_bits (codes "1x2")) ≡ true
 unfolding fraction_in fraction gcd digits whole
 letters = refl
 
-nothing : is_none (fraction_in []) ≡ true
+nothing : is_none (fraction_in checker_of_128_bits []) ≡ true
 unfolding fraction_in fraction gcd digits whole
 nothing = refl
 
