@@ -197,7 +197,7 @@ answered_counts : (C : Checker) (n : ℕ) (w : Walker) (question : Question) (sh
 answered_counts C n w question sheet go Fails counts = tt
 answered_counts C n w question sheet go Refuses counts = tt
 answered_counts C n w question sheet go (Right answer rest) counts =
-    settling_counts n w question sheet answer _ (follows_counts n (record (passed rest 1 w) { pending = noted w question sheet answer }) (go answer) (counts answer))
+    settling_counts C n w question sheet answer _ (follows_counts n (record (passed rest 1 w) { pending = noted w question sheet answer }) (go answer) (counts answer))
 
 due_counts : (C : Checker) (n : ℕ) (w : Walker) (move : StatementMove) → KeepsCount n move → CountsTurn n (due C w move)
 due_counts C n w (Does outcome) counts = taken_counts n w outcome (left_after (gain_text (gain_of outcome)) w.rest) counts

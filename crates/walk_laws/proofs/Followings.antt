@@ -74,7 +74,7 @@ module _ (C : Checker) (reading : ReadingLaw C) (truth : JudgedLaws C) (Holds : 
   quiet card after same = does C Holds w owed card (Goes Nothing after) (All-nil (Says w.state), same)
 
   prints : (card : ℕ) (report : Report) (after : State) → Says w.state report → SelectsAfter after → IsFollowed C Holds w card (Does (Goes (Prints report) after))
-  prints card report after says same = does C Holds w owed card (Goes (Prints report) after) (one_says Holds w report says, same)
+  prints card report after says same = does C Holds w owed card (Goes (Prints report) after) (one_says C Holds w report says, same)
 
   -- ---- problems
 
@@ -104,7 +104,7 @@ module _ (C : Checker) (reading : ReadingLaw C) (truth : JudgedLaws C) (Holds : 
   punches_followed : (card : ℕ) → IsFollowed C Holds w card (punches card (counted w.state))
   punches_followed card =
       unless_fault C Holds w owed card VerbFault.NoProblem (problem_of w.state.cells.xpbname w.state.file) _ (λ problem e.
-      does C Holds w owed card _ (one_says Holds w _ tt, λ stands. record { setups = refl; objectives = refl; rhs = refl }))
+      does C Holds w owed card _ (one_says C Holds w _ tt, λ stands. record { setups = refl; objectives = refl; rhs = refl }))
 
   -- ---- what is asked
 

@@ -75,10 +75,10 @@ module _ (C : Checker) (reading : ReadingLaw C) (truth : JudgedLaws C) (Holds : 
       shows_on holds =
           follows_on C Holds w card (move Optimal) (record (passed rest 1 w) { pending = None }) (go Optimal lines)
           (reads C Holds w reading card (OfSolution Optimal) sheet (present_basis present) (go Optimal) lines rest (w.rest, rest, e) e refl refl
-          (holds, one_says Holds w (Solution Optimal lines) (record { program = program; best = solved.best; certificate = solved.certificate })))
+          (holds, one_says C Holds w (Solution Optimal lines) (record { program = program; best = solved.best; certificate = solved.certificate })))
 
       settles_on : (pending : Option Pending) → Owes Holds pending w.state.setup w.state.cells →
-          ComesTo C Holds w card (move Optimal) (settled w pending (point_of sheet lines lp.objective) (follows (record (passed rest 1 w) { pending = None }) (go Optimal lines)))
+          ComesTo C Holds w card (move Optimal) (settled C w pending (point_of sheet lines lp.objective) (follows (record (passed rest 1 w) { pending = None }) (go Optimal lines)))
       settles_on None owed = shows_on owed
       settles_on (Some pending) owed = by (settles C pending (point_of sheet lines lp.objective)) refl
         where
@@ -103,7 +103,7 @@ module _ (C : Checker) (reading : ReadingLaw C) (truth : JudgedLaws C) (Holds : 
 
     other_on : (mark : Mark) (lines : SolutionLines) → Says w.state (Solution mark lines) → Owes (Holds × All (Says w.state) (Solution mark lines ∷ [])) w.pending w.state.setup w.state.cells
     other_on mark lines says =
-        owes_on Holds (All (Says w.state) (Solution mark lines ∷ [])) w.pending w.state.setup w.state.cells w.state.setup w.state.cells owed (one_says Holds w (Solution mark lines) says)
+        owes_on Holds (All (Says w.state) (Solution mark lines ∷ [])) w.pending w.state.setup w.state.cells w.state.setup w.state.cells owed (one_says C Holds w (Solution mark lines) says)
         (λ p some. record { setups = refl; objectives = refl; rhs = refl })
 
     pub solution_followed : (mark : Mark) → IsFollowed C Holds w card (asks (OfSolution mark) sheet present (go mark))
