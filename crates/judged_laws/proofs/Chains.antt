@@ -19,7 +19,7 @@ use Rattle.walk_definitions.specs.Checkers.{Checker}
 use Rattle.walk_definitions.specs.Words.{left_after, fraction_in}
 use Rattle.walk_definitions.specs.Tables.{part_slots, table_in}
 use Rattle.walk_definitions.specs.Tests.{interval_test, close_test}
-use Rattle.walk_definitions.specs.Reading.{Run, Judged, Right, Fails, Refuses, judged, judged_map, tested, verdict_in, interval_in, close_in, parametric_run_head, onward, part_in, run_in, opening_in, parametric_run_in}
+use Rattle.walk_definitions.specs.Reading.{Run, Judged, Right, Fails, Refuses, judged, judged_map, tested_by, verdict_in, interval_in, close_in, parametric_run_head, onward, part_in, run_in, opening_in, parametric_run_in}
 use Rattle.judged_laws.specs.Views.{part_of, past_of, MayChange}
 use Rattle.judged_laws.proofs.Judging.{right_is_passed, right_is_made}
 use Rattle.judged_laws.proofs.Readings.{after_text, after_word, mapped, at_some}
@@ -94,14 +94,14 @@ anything : {X : Type 0} (o : Option X) → IfSome o (λ x. Unit {0})
 anything None = tt
 anything (Some x) = tt
 
-begins_at : (C : Checker) (sheet : Sheet) (number : ℕ) (last : ℚ) (rest after : List ℕ) (interval : ParametricInterval) → interval_in C sheet number last rest ≡ Some (interval, after) → interval.from ≡ last
-begins_at C sheet number last rest after interval e =
-    at_some Begins (interval_in C sheet number last rest) (interval, after) e
+begins_at : (of : List ℕ → Option ℚ) (sheet : Sheet) (number : ℕ) (last : ℚ) (rest after : List ℕ) (interval : ParametricInterval) → interval_in of sheet number last rest ≡ Some (interval, after) → interval.from ≡ last
+begins_at of sheet number last rest after interval e =
+    at_some Begins (interval_in of sheet number last rest) (interval, after) e
     (after_text Begins (codes "INTERVAL " ++ (digits number ++ (codes " FROM " ++ (rational_text last ++ codes " TO ")))) _ rest (λ on.
-    after_word Begins (fraction_in C) _ on (λ to known on.
-    after_text Begins (codes "\n") (λ rest. option_map (λ got. (record { from = last; to = to; lines = got.0 }, got.1)) (table_in C sheet part_slots (variables sheet.lp.matrix) rest)) on (λ on.
+    after_word Begins of _ on (λ to known on.
+    after_text Begins (codes "\n") (λ rest. option_map (λ got. (record { from = last; to = to; lines = got.0 }, got.1)) (table_in of sheet part_slots (variables sheet.lp.matrix) rest)) on (λ on.
     mapped Begins (λ (got : List Line × List ℕ). Unit {0}) (λ got. (record { from = last; to = to; lines = got.0 }, got.1))
-    (table_in C sheet part_slots (variables sheet.lp.matrix) on) (anything (table_in C sheet part_slots (variables sheet.lp.matrix) on)) (λ got h. refl)))))
+    (table_in of sheet part_slots (variables sheet.lp.matrix) on) (anything (table_in of sheet part_slots (variables sheet.lp.matrix) on)) (λ got h. refl)))))
   where
     Begins : ParametricInterval × List ℕ → Type 0
     Begins got = got.0.from ≡ last
@@ -143,34 +143,34 @@ module _ (C : Checker) (between : BetweenLaws) (past : PastLaws) (sheet : Sheet)
     pub is_true : IsTrueInterval family is_first parametric_run.to (part_of interval)
 
   opens : (go : ℚ → List ℕ → Judged Run) (number : ℕ) (last : ℚ) (rest after : List ℕ) (run : Run)
-      → onward go (tested (interval_test C sheet parametric_run.changing (nat_eq number 1) parametric_run.to) (interval_in C sheet number last rest)) ≡ Right run after → Opens go (nat_eq number 1) last run after
+      → onward go (tested_by C (interval_test C sheet parametric_run.changing (nat_eq number 1) parametric_run.to) (λ of. interval_in of sheet number last) rest) ≡ Right run after → Opens go (nat_eq number 1) last run after
   opens go number last rest after run e =
       let test : ParametricInterval → Verdict = interval_test C sheet parametric_run.changing (nat_eq number 1) parametric_run.to in
-      let found = goes_on sheet parametric_run go (tested test (interval_in C sheet number last rest)) run after e in
-      let right = right_is_passed test (interval_in C sheet number last rest) found.interval found.left found.is_right in
+      let found = goes_on sheet parametric_run go (tested_by C test (λ of. interval_in of sheet number last) rest) run after e in
+      let right = right_is_passed C test (λ of. interval_in of sheet number last) rest found.interval found.left found.is_right in
       record {
         interval = found.interval;
         left = found.left;
         more = found.more;
         goes = found.goes;
         is_run = found.is_run;
-        begins = begins_at C sheet number last rest found.left found.interval right.is_read;
+        begins = begins_at (fraction_in C) sheet number last rest found.left found.interval right.is_read;
         is_true = interval_is_true C between sheet parametric_run.changing lawful may (nat_eq number 1) parametric_run.to found.interval right.passes;
       }
 
   -- where no interval stands the run closes
   closed : (last : ℚ) (rest after : List ℕ) (run : Run)
-      → judged_map (λ (end : ChainEnd). ([], end)) (tested (close_test C sheet parametric_run.changing parametric_run.to last) (close_in C sheet (parametric_solver parametric_run.changing) rest)) ≡ Right run after → RestIsTrue last run
+      → judged_map (λ (end : ChainEnd). ([], end)) (tested_by C (close_test C sheet parametric_run.changing parametric_run.to last) (λ of. close_in of sheet (parametric_solver parametric_run.changing)) rest) ≡ Right run after → RestIsTrue last run
   closed last rest after run e =
       let test : ChainEnd → Verdict = close_test C sheet parametric_run.changing parametric_run.to last in
       let none : ChainEnd → Run = λ end. ([], end) in
-      let made = right_is_made none (tested test (close_in C sheet (parametric_solver parametric_run.changing) rest)) run after e in
-      let right = right_is_passed test (close_in C sheet (parametric_solver parametric_run.changing) rest) made.made_of after made.is_right in
+      let made = right_is_made none (tested_by C test (λ of. close_in of sheet (parametric_solver parametric_run.changing)) rest) run after e in
+      let right = right_is_passed C test (λ of. close_in of sheet (parametric_solver parametric_run.changing)) rest made.made_of after made.is_right in
       subst (RestIsTrue last) made.is_made (no_more family parametric_run.to last (past_of sheet made.made_of) (close_is_true C sheet past parametric_run.changing parametric_run.to last made.made_of lawful right.passes))
 
   -- it doesn't close before its first interval
   closed_late : (b : Bool) (last : ℚ) (rest after : List ℕ) (run : Run)
-      → (if b then Fails else judged_map (λ (end : ChainEnd). ([], end)) (tested (close_test C sheet parametric_run.changing parametric_run.to last) (close_in C sheet (parametric_solver parametric_run.changing) rest))) ≡ Right run after
+      → (if b then Fails else judged_map (λ (end : ChainEnd). ([], end)) (tested_by C (close_test C sheet parametric_run.changing parametric_run.to last) (λ of. close_in of sheet (parametric_solver parametric_run.changing)) rest)) ≡ Right run after
       → RestIsTrue last run
   closed_late true last rest after run e = absurd (fails_is_not_right run after e)
   closed_late false last rest after run e = closed last rest after run e
@@ -221,7 +221,7 @@ module _ (C : Checker) (between : BetweenLaws) (past : PastLaws) (sheet : Sheet)
   -- an opening that is read is no run of intervals
   no_opening : (rest after : List ℕ) (bases : List Basis) (intervals : List ParametricInterval) (end : ChainEnd) → opening_in C sheet parametric_run rest ≡ Right (Chained bases intervals end) after → ⊥
   no_opening rest after bases intervals end e =
-      let made = right_is_made (opening_of C sheet parametric_run) (tested (claim_steps C sheet parametric_run) (verdict_in C sheet (parametric_solver parametric_run.changing) rest)) (Chained bases intervals end) after e in
+      let made = right_is_made (opening_of C sheet parametric_run) (tested_by C (claim_steps C sheet parametric_run) (λ of. verdict_in of sheet (parametric_solver parametric_run.changing)) rest) (Chained bases intervals end) after e in
       let two : Opening [] made.made_of.0 made.made_of.1 ≡ Chained bases intervals end = made.is_made in
       cc two
 

@@ -11,9 +11,9 @@ use Rattle.listing_definitions.specs.Report.{PathVerdict, OptimalAt, CrossedAt, 
 use Rattle.question_definitions.specs.Answers.{Basis, Sheet, Changing, Row, Set, parametric_solver, ParametricRun, ParametricRunEnd, OfParametricRun, Opening, Chained}
 use Rattle.answer_definitions.specs.ParametricRuns.{row_of, shifts_of, family_of, sheet_at}
 use Rattle.walk_definitions.specs.Checkers.{Checker}
-use Rattle.walk_definitions.specs.Words.{left_after}
+use Rattle.walk_definitions.specs.Words.{left_after, fraction_in}
 use Rattle.walk_definitions.specs.Tests.{says, making_steps, verdict_test}
-use Rattle.walk_definitions.specs.Reading.{Claim, Run, Right, judged, tested, verdict_in, parametric_run_head, run_in, opening_in, parametric_run_in}
+use Rattle.walk_definitions.specs.Reading.{Claim, Run, Right, judged, tested_by, verdict_in, parametric_run_head, run_in, opening_in, parametric_run_in}
 use Rattle.judged_laws.specs.Views.{MayChange, IsTrueAtFirst}
 use Rattle.judged_laws.proofs.Judging.{each_checked, right_is_passed, right_is_made}
 use Rattle.judged_laws.proofs.Claims.{MayBeOptimal, IsFormed, verdict_formed}
@@ -25,15 +25,15 @@ lawful_family sheet (Row name) lawful may theta = lawful_objective sheet.lp (row
 lawful_family sheet (Set name) lawful may theta = lawful_rhs sheet.lp (shifts_of sheet.problem name) lawful theta
 
 -- it has the same variables
-formed_at : (C : Checker) (sheet : Sheet) (changing : Changing) (theta : ℚ) (solver : Solver) (verdict : PathVerdict) → IsFormed C solver sheet verdict → IsFormed C solver (sheet_at sheet changing theta) verdict
-formed_at C sheet (Row name) theta solver (OptimalAt steps objective) h = h
-formed_at C sheet (Row name) theta solver (CrossedAt k) h = h
-formed_at C sheet (Row name) theta solver (InfeasibleBy steps lines) h = h
-formed_at C sheet (Row name) theta solver (UnboundedBy steps objective lines) h = h
-formed_at C sheet (Set name) theta solver (OptimalAt steps objective) h = h
-formed_at C sheet (Set name) theta solver (CrossedAt k) h = h
-formed_at C sheet (Set name) theta solver (InfeasibleBy steps lines) h = h
-formed_at C sheet (Set name) theta solver (UnboundedBy steps objective lines) h = h
+formed_at : (sheet : Sheet) (changing : Changing) (theta : ℚ) (solver : Solver) (verdict : PathVerdict) → IsFormed solver sheet verdict → IsFormed solver (sheet_at sheet changing theta) verdict
+formed_at sheet (Row name) theta solver (OptimalAt steps objective) h = h
+formed_at sheet (Row name) theta solver (CrossedAt k) h = h
+formed_at sheet (Row name) theta solver (InfeasibleBy steps lines) h = h
+formed_at sheet (Row name) theta solver (UnboundedBy steps objective lines) h = h
+formed_at sheet (Set name) theta solver (OptimalAt steps objective) h = h
+formed_at sheet (Set name) theta solver (CrossedAt k) h = h
+formed_at sheet (Set name) theta solver (InfeasibleBy steps lines) h = h
+formed_at sheet (Set name) theta solver (UnboundedBy steps objective lines) h = h
 
 never_optimal : (changing : Changing) → MayBeOptimal (parametric_solver changing) → ⊥
 never_optimal (Row name) h = h
@@ -63,11 +63,11 @@ module _ (C : Checker) (sheet : Sheet) (parametric_run : ParametricRun) where
       judged C (OfParametricRun parametric_run) sheet rest ≡ Right (Opening bases verdict check) after → IsTrueAtFirst first_sheet verdict
   opening_is_true rest after bases verdict check lawful may e =
       let read = no_intervals rest after bases verdict check (left_after (parametric_run_head parametric_run) rest) e in
-      let made = right_is_made opening_of (tested claim_steps (verdict_in C sheet (parametric_solver parametric_run.changing) rest)) (Opening bases verdict check) after read in
-      let right = right_is_passed claim_steps (verdict_in C sheet (parametric_solver parametric_run.changing) rest) made.made_of after made.is_right in
+      let made = right_is_made opening_of (tested_by C claim_steps (λ of. verdict_in of sheet (parametric_solver parametric_run.changing)) rest) (Opening bases verdict check) after read in
+      let right = right_is_passed C claim_steps (λ of. verdict_in of sheet (parametric_solver parametric_run.changing)) rest made.made_of after made.is_right in
       let claim : Claim = made.made_of in
       let each = each_checked (says C (making_steps sheet parametric_run.changing parametric_run.from) ∷ verdict_test C first_sheet claim.0 claim.1 ∷ []) right.passes in
-      let formed = formed_at C sheet parametric_run.changing parametric_run.from (parametric_solver parametric_run.changing) claim.0 (verdict_formed C sheet (parametric_solver parametric_run.changing) rest after claim right.is_read) in
+      let formed = formed_at sheet parametric_run.changing parametric_run.from (parametric_solver parametric_run.changing) claim.0 (verdict_formed (fraction_in C) sheet (parametric_solver parametric_run.changing) rest after claim right.is_read) in
       let is_true = claim_is_true C first_sheet (lawful_family sheet parametric_run.changing lawful may parametric_run.from) (parametric_solver parametric_run.changing) claim.0 claim.1 (never_optimal parametric_run.changing) formed each.1.0 in
       of_same claim made.is_made is_true
     where

@@ -25,7 +25,7 @@ solved_if_held p lawful z y held =
 pub solution_is_true : (C : Checker) (sheet : Sheet) (rest after : List ℕ) (lines : SolutionLines) → IsLinearProgram sheet.lp →
     judged C (OfSolution Optimal) sheet rest ≡ Right lines after → IsSolvedBy sheet.lp (point_of sheet lines) (prices_of sheet lines)
 solution_is_true C sheet rest after lines lawful e =
-    let right = right_is_passed (solution_test C sheet Optimal) (solution_in C sheet Optimal rest) lines after e in
+    let right = right_is_passed C (solution_test C sheet Optimal) (λ of. solution_in of sheet Optimal) rest lines after e in
     let z : Vector = point_of sheet lines in
     let y : Vector = prices_of sheet lines in
     let each = each_checked (says C (equations sheet.lp 1 z) ∷ says C (reduced_costs sheet.lp y)

@@ -19,9 +19,10 @@ use Rattle.question_definitions.specs.Answers.{Basis, Sheet, OfPath, Reached, Pa
 use Rattle.answer_definitions.specs.Lines.{pair_lines, ray_lines}
 use Rattle.soundness_laws.specs.Truth.{AreLinesOfRay, AreLinesOfDirection, IsNotUnbounded}
 use Rattle.walk_definitions.specs.Checkers.{Checker}
+use Rattle.walk_definitions.specs.Words.{fraction_in}
 use Rattle.walk_definitions.specs.Tables.{multipliers, column_of}
 use Rattle.walk_definitions.specs.Tests.{says, asked, claim_test, verdict_test}
-use Rattle.walk_definitions.specs.Reading.{Claim, Right, judged, tested, verdict_in}
+use Rattle.walk_definitions.specs.Reading.{Claim, Right, judged, tested_by, verdict_in}
 use Rattle.judged_laws.specs.Views.{AreLinesOfGrowth, IsTrueAtFirst}
 use Rattle.judged_laws.specs.Laws.{IsTrueUnlessOptimal}
 use Rattle.judged_laws.proofs.Judging.{asked_holds, each_checked, right_is_passed, right_is_made}
@@ -59,7 +60,7 @@ module _ (C : Checker) (sheet : Sheet) (lawful : IsLinearProgram sheet.lp) where
       )
 
   -- what is formed so and passes is true
-  pub claim_is_true : (solver : Solver) (verdict : PathVerdict) (check : Check) → (MayBeOptimal solver → ⊥) → IsFormed C solver sheet verdict → verdict_test C sheet verdict check ≡ Checked → IsTrueAtFirst sheet verdict
+  pub claim_is_true : (solver : Solver) (verdict : PathVerdict) (check : Check) → (MayBeOptimal solver → ⊥) → IsFormed solver sheet verdict → verdict_test C sheet verdict check ≡ Checked → IsTrueAtFirst sheet verdict
   claim_is_true solver (OptimalAt steps objective) check never formed e = never formed
   claim_is_true solver (CrossedAt k) check never formed e = crossed_is_true k formed (held (crossed_steps sheet.lp k) check e)
   claim_is_true solver (InfeasibleBy steps lines) check never formed e =
@@ -77,7 +78,7 @@ module _ (C : Checker) (sheet : Sheet) (lawful : IsLinearProgram sheet.lp) where
     are_lines = h.are_lines;
   }
 
-  pub verdict_of_claim : (solver : Solver) (verdict : PathVerdict) (check : Check) → sheet.lp.change ≡ None → IsFormed C solver sheet verdict → verdict_test C sheet verdict check ≡ Checked → IsTrueUnlessOptimal sheet verdict
+  pub verdict_of_claim : (solver : Solver) (verdict : PathVerdict) (check : Check) → sheet.lp.change ≡ None → IsFormed solver sheet verdict → verdict_test C sheet verdict check ≡ Checked → IsTrueUnlessOptimal sheet verdict
   verdict_of_claim solver (OptimalAt steps objective) check none formed e = tt
   verdict_of_claim solver (CrossedAt k) check none formed e = crossed_is_true k formed (held (crossed_steps sheet.lp k) check e)
   verdict_of_claim solver (InfeasibleBy steps lines) check none formed e =
@@ -90,7 +91,7 @@ module _ (C : Checker) (sheet : Sheet) (lawful : IsLinearProgram sheet.lp) where
 
 -- the verdict was read, formed so, and passed
 record IsJudged (C : Checker) (solver : Solver) (sheet : Sheet) (verdict : PathVerdict) (check : Check) : Type 0 where
-  formed : IsFormed C solver sheet verdict
+  formed : IsFormed solver sheet verdict
   passes : verdict_test C sheet verdict check ≡ Checked
 
 path_is_judged : (C : Checker) (solver : Solver) (limit : Option ℕ) (sheet : Sheet) (rest after : List ℕ) (bases : List Basis) (verdict : PathVerdict) (check : Check) →
@@ -98,16 +99,16 @@ path_is_judged : (C : Checker) (solver : Solver) (limit : Option ℕ) (sheet : S
 path_is_judged C solver limit sheet rest after bases verdict check e =
     let test : Claim → Verdict = λ claim. verdict_test C sheet claim.0 claim.1 in
     let answer : Claim → PathEnd = λ claim. Reached [] claim.0 claim.1 in
-    let made = right_is_made answer (tested test (verdict_in C sheet solver rest)) (Reached bases verdict check) after e in
-    let right = right_is_passed test (verdict_in C sheet solver rest) made.made_of after made.is_right in
-    of_same made.made_of made.is_made (verdict_formed C sheet solver rest after made.made_of right.is_read) right.passes
+    let made = right_is_made answer (tested_by C test (λ of. verdict_in of sheet solver) rest) (Reached bases verdict check) after e in
+    let right = right_is_passed C test (λ of. verdict_in of sheet solver) rest made.made_of after made.is_right in
+    of_same made.made_of made.is_made (verdict_formed (fraction_in C) sheet solver rest after made.made_of right.is_read) right.passes
   where
-    of_same : (claim : Claim) → Reached [] claim.0 claim.1 ≡ Reached bases verdict check → IsFormed C solver sheet claim.0 → verdict_test C sheet claim.0 claim.1 ≡ Checked → IsJudged C solver sheet verdict check
+    of_same : (claim : Claim) → Reached [] claim.0 claim.1 ≡ Reached bases verdict check → IsFormed solver sheet claim.0 → verdict_test C sheet claim.0 claim.1 ≡ Checked → IsJudged C solver sheet verdict check
     of_same claim e formed passes =
         let same : claim.0 ≡ verdict = cc in
         let word : claim.1 ≡ check = cc in
         record {
-          formed = subst (λ (v : PathVerdict). IsFormed C solver sheet v) same formed;
+          formed = subst (λ (v : PathVerdict). IsFormed solver sheet v) same formed;
           passes = sym (λ i. verdict_test C sheet (same i) (word i)) ∙ passes;
         }
 
@@ -122,7 +123,7 @@ pub dual_is_not_unbounded : (C : Checker) (limit : Option ℕ) (sheet : Sheet) (
     judged C (OfPath Dual limit) sheet rest ≡ Right (Reached bases verdict check) after → IsNotUnbounded verdict
 dual_is_not_unbounded C limit sheet rest after bases verdict check e = by verdict (path_is_judged C Dual limit sheet rest after bases verdict check e).formed
   where
-    by : (verdict : PathVerdict) → IsFormed C Dual sheet verdict → IsNotUnbounded verdict
+    by : (verdict : PathVerdict) → IsFormed Dual sheet verdict → IsNotUnbounded verdict
     by (OptimalAt steps objective) h = tt
     by (CrossedAt k) h = tt
     by (InfeasibleBy steps lines) h = tt

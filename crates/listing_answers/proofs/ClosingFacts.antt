@@ -13,7 +13,7 @@ use Rattle.question_definitions.specs.Answers.{Sheet, Changing, Row, Set, parame
 use Rattle.answer_definitions.specs.ParametricRuns.{row_of, shifts_of}
 use Rattle.run_definitions.specs.Verbs.{last_value}
 use Rattle.walk_definitions.specs.Checkers.{checker_of_128_bits}
-use Rattle.walk_definitions.specs.Words.{Parsed, left_after}
+use Rattle.walk_definitions.specs.Words.{Parsed, left_after, fraction_in}
 use Rattle.walk_definitions.specs.Tests.{asked, past_test, unbounded_past, infeasible_past, close_test}
 use Rattle.walk_definitions.specs.Reading.{close_in}
 use Rattle.listing_answers.specs.declared.closing.Closing as declared
@@ -37,7 +37,7 @@ module _ (sheet : Sheet) (second : List ℕ → Parsed ChainEnd) (old new : List
     end_then (Ok found) h = end_second found h
     end_then (Err none) h = h
 
-pub close_taken : (sheet : Sheet) (changing : Changing) (old left : List ℕ) → left_after (solver_text (parametric_solver changing)) old ≡ Some left → close_in checker_of_128_bits sheet (parametric_solver changing) old ≡ close_after_in sheet changing left
+pub close_taken : (sheet : Sheet) (changing : Changing) (old left : List ℕ) → left_after (solver_text (parametric_solver changing)) old ≡ Some left → close_in (fraction_in checker_of_128_bits) sheet (parametric_solver changing) old ≡ close_after_in sheet changing left
 close_taken sheet (Row name) old left e = ap (option_and_then (close_after_in sheet (Row name))) e
 close_taken sheet (Set name) old left e = ap (option_and_then (close_after_in sheet (Set name))) e
 

@@ -9,7 +9,7 @@ use Rattle.listing_definitions.specs.Report.{ParametricInterval, ChainEnd}
 use Rattle.question_definitions.specs.Answers.{Sheet, ParametricRun, parametric_solver}
 use Rattle.run_definitions.specs.Verbs.{last_value}
 use Rattle.walk_definitions.specs.Checkers.{checker_of_128_bits}
-use Rattle.walk_definitions.specs.Words.{left_after}
+use Rattle.walk_definitions.specs.Words.{left_after, fraction_in}
 use Rattle.walk_definitions.specs.Tests.{interval_test, close_test}
 use Rattle.walk_definitions.specs.Reading.{Judged, Right, Fails, Refuses, tested, judged_map, Run, interval_in, close_in, onward, part_in, run_in}
 use Rattle.listing_answers.specs.declared.answer.Stop.{Stop}
@@ -54,10 +54,10 @@ module _ (sheet : Sheet) (parametric_run : ParametricRun) where
       subst (λ (room : List ℕ). IsRunSoFar whole room (i + 1) last rest) (drop-cons bytes i 0 below ∙ ap (λ j. get_or bytes i 0 ∷ drop j bytes) (sym (add-one i))) so_far
 
   abbrev part_judged : ℕ → ℚ → List ℕ → Judged ParametricInterval
-  part_judged number last rest = tested (interval_test checker_of_128_bits sheet parametric_run.changing (nat_eq number 1) parametric_run.to) (interval_in checker_of_128_bits sheet number last rest)
+  part_judged number last rest = tested (interval_test checker_of_128_bits sheet parametric_run.changing (nat_eq number 1) parametric_run.to) (interval_in (fraction_in checker_of_128_bits) sheet number last rest)
 
   abbrev close_judged : ℚ → List ℕ → Judged ChainEnd
-  close_judged last rest = tested (close_test checker_of_128_bits sheet parametric_run.changing parametric_run.to last) (close_in checker_of_128_bits sheet (parametric_solver parametric_run.changing) rest)
+  close_judged last rest = tested (close_test checker_of_128_bits sheet parametric_run.changing parametric_run.to last) (close_in (fraction_in checker_of_128_bits) sheet (parametric_solver parametric_run.changing) rest)
 
   module _ (whole : Judged Run) (byte : ℕ) (room : List ℕ) (number : ℕ) (last : ℚ) (rest : List ℕ) (so_far : IsRunSoFar whole (byte ∷ room) number last rest) where
     -- an interval stands here

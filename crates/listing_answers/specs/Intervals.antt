@@ -50,8 +50,8 @@ pub record AreColumns (sheet : Sheet) (columns : Columns) (lines : List Line) : 
   pub counted : Counted sheet.lp columns
 
 abbrev pub AreColumnsRead : Sheet → List ℕ → List ℕ → Option Columns → Type 0
-AreColumnsRead sheet old new None = table_in checker_of_128_bits sheet part_slots (variables sheet.lp.matrix) old ≡ None
-AreColumnsRead sheet old new (Some columns) = (lines : List Line) × (table_in checker_of_128_bits sheet part_slots (variables sheet.lp.matrix) old ≡ Some (lines, new)) × AreColumns sheet columns lines
+AreColumnsRead sheet old new None = table_in (fraction_in checker_of_128_bits) sheet part_slots (variables sheet.lp.matrix) old ≡ None
+AreColumnsRead sheet old new (Some columns) = (lines : List Line) × (table_in (fraction_in checker_of_128_bits) sheet part_slots (variables sheet.lp.matrix) old ≡ Some (lines, new)) × AreColumns sheet columns lines
 
 pub record IsPart (sheet : Sheet) (from : ℚ) (part : Part) (interval : ParametricInterval) : Type 0 where
   pub begins : interval.from ≡ from

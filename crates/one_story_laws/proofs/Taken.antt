@@ -1,7 +1,7 @@
 -- What is taken of a listing for an answer: a parametric run that isn't broken ends at the last value, and nothing is cut off at a limit.
 --     OnRight P judged             what is judged right is so
 use Rattle.std.proofs.Common.{◌≡◌, ℕ, ◌+◌, Bool, true, false, List, [], ◌∷◌, Option, Some, None, refl, subst, codes, nat_eq}
-use Rattle.std.specs.Prelude.{if◌then◌else◌}
+use Rattle.std.specs.Prelude.{if◌then◌else◌, ◌&&◌, is_some}
 use Rattle.exact_values.specs.Rational.{ℚ}
 use Rattle.exact_values.specs.Tests.{eq_ℚ}
 use Rattle.exact_values.proofs.Tests_laws.{same_from_test}
@@ -13,9 +13,9 @@ use Rattle.listing_definitions.specs.declared.Solver.{Solver}
 use Rattle.listing_definitions.specs.Report.{ParametricInterval, ChainEnd, EndsAt, UnboundedPast, InfeasiblePast}
 use Rattle.question_definitions.specs.Answers.{Sheet, Changing, Row, Set, parametric_solver, ParametricRun, OfPath, OfParametricRun, PathEnd, Reached, ParametricRunEnd, Opening, Chained, ParametricRunLimit}
 use Rattle.walk_definitions.specs.Checkers.{Checker}
-use Rattle.walk_definitions.specs.Words.{Parsed, left_after}
+use Rattle.walk_definitions.specs.Words.{Parsed, left_after, fraction_in, form_in}
 use Rattle.walk_definitions.specs.Tests.{asked, interval_test, close_test}
-use Rattle.walk_definitions.specs.Reading.{Judged, Right, Fails, Refuses, by_verdict, tested, judged_map, Claim, interval_in, close_in, parametric_run_head, Run, onward, part_in, run_in, parametric_run_in, judged}
+use Rattle.walk_definitions.specs.Reading.{Judged, Right, Fails, Refuses, by_verdict, tested_or, tested_by, judged_map, Claim, interval_in, close_in, parametric_run_head, Run, onward, part_in, run_in, parametric_run_in, judged}
 use Rattle.walk_laws.specs.Proved.{IsTaken}
 use Rattle.one_story_laws.proofs.Ends.{IsLast}
 
@@ -33,14 +33,18 @@ on_any P all (Right x rest) = all x
 on_any P all Fails = tt
 on_any P all Refuses = tt
 
-on_tested : {X : Type 0} (P : X → Type 0) (test : X → Verdict) → ((x : X) → test x ≡ Checked → P x) → (parsed : Parsed X) → OnRight P (tested test parsed)
-on_tested P test passes None = tt
-on_tested P test passes (Some got) = by (test got.0) refl
+on_tested : (C : Checker) {X : Type 0} (P : X → Type 0) (test : X → Verdict) → ((x : X) → test x ≡ Checked → P x) → (reads : (List ℕ → Option ℚ) → List ℕ → Parsed X) (rest : List ℕ) → OnRight P (tested_by C test reads rest)
+on_tested C {X} P test passes reads rest = by_reading (is_some C.most_digits && is_some (reads (form_in C) rest)) (reads (fraction_in C) rest)
   where
-    by : (verdict : Verdict) → test got.0 ≡ verdict → OnRight P (by_verdict verdict got.0 got.1)
-    by Checked e = passes got.0 e
-    by (Failed part number) e = tt
-    by (Unchecked refused) e = tt
+    by : (got : X × List ℕ) (verdict : Verdict) → test got.0 ≡ verdict → OnRight P (by_verdict verdict got.0 got.1)
+    by got Checked e = passes got.0 e
+    by got (Failed part number) e = tt
+    by got (Unchecked refused) e = tt
+
+    by_reading : (b : Bool) (parsed : Parsed X) → OnRight P (tested_or (if b then Refuses else Fails) test parsed)
+    by_reading true None = tt
+    by_reading false None = tt
+    by_reading b (Some got) = by got (test got.0) refl
 
 -- ---- parametric runs
 
@@ -71,16 +75,16 @@ module _ (C : Checker) (sheet : Sheet) (parametric_run : ParametricRun) where
   on_onward go later Refuses = tt
 
   on_close : (first : Bool) (last : ℚ) (rest : List ℕ) →
-      OnRight Closes (if first then Fails else judged_map (λ (end : ChainEnd). ([], end)) (tested (close_test C sheet parametric_run.changing parametric_run.to last) (close_in C sheet (parametric_solver parametric_run.changing) rest)))
+      OnRight Closes (if first then Fails else judged_map (λ (end : ChainEnd). ([], end)) (tested_by C (close_test C sheet parametric_run.changing parametric_run.to last) (λ of. close_in of sheet (parametric_solver parametric_run.changing)) rest))
   on_close true last rest = tt
   on_close false last rest =
-      on_map Closes (λ (end : ChainEnd). ([], end)) (tested (close_test C sheet parametric_run.changing parametric_run.to last) (close_in C sheet (parametric_solver parametric_run.changing) rest))
-      (on_tested (IsLast parametric_run.to) (close_test C sheet parametric_run.changing parametric_run.to last) (last_by_test C sheet parametric_run.changing parametric_run.to last) (close_in C sheet (parametric_solver parametric_run.changing) rest))
+      on_map Closes (λ (end : ChainEnd). ([], end)) (tested_by C (close_test C sheet parametric_run.changing parametric_run.to last) (λ of. close_in of sheet (parametric_solver parametric_run.changing)) rest)
+      (on_tested C (IsLast parametric_run.to) (close_test C sheet parametric_run.changing parametric_run.to last) (last_by_test C sheet parametric_run.changing parametric_run.to last) (λ of. close_in of sheet (parametric_solver parametric_run.changing)) rest)
 
   on_part : (go : ℚ → List ℕ → Judged Run) → ((last : ℚ) (rest : List ℕ) → OnRight Closes (go last rest)) → (number : ℕ) (last : ℚ) (rest : List ℕ) (left : Option (List ℕ)) →
       OnRight Closes (part_in C sheet parametric_run go number last rest left)
   on_part go later number last rest (Some after) =
-      on_onward go later (tested (interval_test C sheet parametric_run.changing (nat_eq number 1) parametric_run.to) (interval_in C sheet number last rest))
+      on_onward go later (tested_by C (interval_test C sheet parametric_run.changing (nat_eq number 1) parametric_run.to) (λ of. interval_in of sheet number last) rest)
   on_part go later number last rest None = on_close (nat_eq number 1) last rest
 
   on_run : (room : List ℕ) (number : ℕ) (last : ℚ) (rest : List ℕ) → OnRight Closes (run_in C sheet parametric_run room number last rest)

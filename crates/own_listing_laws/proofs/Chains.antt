@@ -34,7 +34,7 @@ use Rattle.parametric_laws.specs.Truth.{IsTruePart, AreLongPast, last_end, IsTru
 use Rattle.parametric_laws.proofs.TrueRuns.{objective_runs, rhs_runs}
 use Rattle.control_definitions.specs.Cells.{steps_allowed}
 use Rattle.walk_definitions.specs.Checkers.{checker_of_128_bits}
-use Rattle.walk_definitions.specs.Words.{Parsed, left_after, max_count}
+use Rattle.walk_definitions.specs.Words.{Parsed, left_after, max_count, fraction_in}
 use Rattle.walk_definitions.specs.Tables.{begins_table_line}
 use Rattle.walk_definitions.specs.Tests.{interval_test, close_test}
 use Rattle.walk_definitions.specs.Reading.{Judged, Right, Fails, Refuses, by_verdict, tested, judged_map, interval_in, close_in, Run, onward, part_in, run_in, parametric_run_head, parametric_run_in, judged}
@@ -67,11 +67,11 @@ fine_tested test x rest passes = by (test x) passes
 
 -- ---- readers of the linear program at a value are those of the linear program
 
-same_interval_in : (sheet : Sheet) (changing : Changing) (theta : ℚ) (number : ℕ) (from : ℚ) (rest : List ℕ) → interval_in checker_of_128_bits sheet number from rest ≡ interval_in checker_of_128_bits (sheet_at sheet changing theta) number from rest
+same_interval_in : (sheet : Sheet) (changing : Changing) (theta : ℚ) (number : ℕ) (from : ℚ) (rest : List ℕ) → interval_in (fraction_in checker_of_128_bits) sheet number from rest ≡ interval_in (fraction_in checker_of_128_bits) (sheet_at sheet changing theta) number from rest
 same_interval_in sheet (Row name) theta number from rest = refl
 same_interval_in sheet (Set name) theta number from rest = refl
 
-same_close_in : (sheet : Sheet) (changing : Changing) (theta : ℚ) (rest : List ℕ) → close_in checker_of_128_bits sheet (parametric_solver changing) rest ≡ close_in checker_of_128_bits (sheet_at sheet changing theta) (parametric_solver changing) rest
+same_close_in : (sheet : Sheet) (changing : Changing) (theta : ℚ) (rest : List ℕ) → close_in (fraction_in checker_of_128_bits) sheet (parametric_solver changing) rest ≡ close_in (fraction_in checker_of_128_bits) (sheet_at sheet changing theta) (parametric_solver changing) rest
 same_close_in sheet (Row name) theta rest = refl
 same_close_in sheet (Set name) theta rest = refl
 
@@ -126,8 +126,8 @@ module _ (problem : Problem ℕ) (lp : LinearProgram) (parametric_run : Parametr
   close_fine [] number last v past some later best kind is fit = absurd (omega (arith, some))
   close_fine (byte ∷ room) number last v past some later best kind is fit =
       subst (λ (o : Option (List ℕ)). IsFine ([], end) more (part_in checker_of_128_bits sheet parametric_run (run_in checker_of_128_bits sheet parametric_run room (number + 1)) number last text o)) (sym (no_interval parametric_run.changing end more))
-      (subst (λ b. IsFine ([], end) more (if b then Fails else judged_map {Y = Run} (λ e. ([], e)) (tested (close_test checker_of_128_bits sheet parametric_run.changing parametric_run.to last) (close_in checker_of_128_bits sheet solver text)))) (sym later)
-      (fine_map {Y = Run} (λ e. ([], e)) end more (tested (close_test checker_of_128_bits sheet parametric_run.changing parametric_run.to last) (close_in checker_of_128_bits sheet solver text))
+      (subst (λ b. IsFine ([], end) more (if b then Fails else judged_map {Y = Run} (λ e. ([], e)) (tested (close_test checker_of_128_bits sheet parametric_run.changing parametric_run.to last) (close_in (fraction_in checker_of_128_bits) sheet solver text)))) (sym later)
+      (fine_map {Y = Run} (λ e. ([], e)) end more (tested (close_test checker_of_128_bits sheet parametric_run.changing parametric_run.to last) (close_in (fraction_in checker_of_128_bits) sheet solver text))
       (subst (λ (parsed : Parsed ChainEnd). IsFine end more (tested (close_test checker_of_128_bits sheet parametric_run.changing parametric_run.to last) parsed)) (sym read)
       (fine_tested (close_test checker_of_128_bits sheet parametric_run.changing parametric_run.to last) end more (close_passes problem lp parametric_run.changing lawful free parametric_run.from parametric_run.to last v best past kind is)))))
     where
@@ -137,7 +137,7 @@ module _ (problem : Problem ℕ) (lp : LinearProgram) (parametric_run : Parametr
       text : List ℕ
       text = chain_end_text solver (end_of first parametric_run.to past) ++ more
 
-      read : close_in checker_of_128_bits sheet solver (chain_end_text solver (end_of first parametric_run.to past) ++ more) ≡ Some (end_of first parametric_run.to past, more)
+      read : close_in (fraction_in checker_of_128_bits) sheet solver (chain_end_text solver (end_of first parametric_run.to past) ++ more) ≡ Some (end_of first parametric_run.to past, more)
       read =
           same_close_in sheet parametric_run.changing parametric_run.from (chain_end_text solver (end_of first parametric_run.to past) ++ more)
           ∙ close_read first solver (end_of first parametric_run.to past) more (is_end_of first parametric_run.changing parametric_run.to past kind) fit plain
@@ -166,10 +166,10 @@ module _ (problem : Problem ℕ) (lp : LinearProgram) (parametric_run : Parametr
       there : left_after (codes "INTERVAL ") (interval_text (number, interval_of first part) ++ rest) ≡ Some (drop 9 (interval_text (number, interval_of first part) ++ rest))
       there = stands (codes "INTERVAL ") (drop 9 (interval_text (number, interval_of first part) ++ rest))
 
-      read : interval_in checker_of_128_bits sheet number last (interval_text (number, interval_of first part) ++ rest) ≡ Some (interval_of first part, rest)
+      read : interval_in (fraction_in checker_of_128_bits) sheet number last (interval_text (number, interval_of first part) ++ rest) ≡ Some (interval_of first part, rest)
       read =
           same_interval_in sheet parametric_run.changing parametric_run.from number last (interval_text (number, interval_of first part) ++ rest)
-          ∙ ap (λ (x : ℚ). interval_in checker_of_128_bits first number x (interval_text (number, interval_of first part) ++ rest)) (sym begins) ∙ interval_read first number part rest fit lines_fit
+          ∙ ap (λ (x : ℚ). interval_in (fraction_in checker_of_128_bits) first number x (interval_text (number, interval_of first part) ++ rest)) (sym begins) ∙ interval_read first number part rest fit lines_fit
 
       by : (v : Verdict) → Passes v → IsFine (interval_of first part ∷ run.0, run.1) more (onward (run_in checker_of_128_bits sheet parametric_run room (number + 1)) (by_verdict v (interval_of first part) rest))
       by Checked passes = fine_map {Y = Run} (λ (r : Run). (interval_of first part ∷ r.0, r.1)) run more (run_in checker_of_128_bits sheet parametric_run room (number + 1) part.to rest) later

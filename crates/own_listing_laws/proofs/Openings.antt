@@ -25,7 +25,7 @@ use Rattle.run_definitions.specs.Run.{counted}
 use Rattle.soundness_laws.proofs.Runs.{knows_linear_programming}
 use Rattle.control_definitions.specs.Cells.{steps_allowed}
 use Rattle.walk_definitions.specs.Checkers.{checker_of_128_bits}
-use Rattle.walk_definitions.specs.Words.{Parsed, left_after, max_count}
+use Rattle.walk_definitions.specs.Words.{Parsed, left_after, max_count, fraction_in}
 use Rattle.walk_definitions.specs.Forms.{is_open_stop}
 use Rattle.walk_definitions.specs.Tests.{verdict_test, moving_steps, making_steps}
 use Rattle.walk_definitions.specs.Reading.{Judged, Right, tested, judged_map, judged, Claim, verdict_in, parametric_run_head, parametric_run_in}
@@ -178,9 +178,9 @@ module _ (w : Walker) (s : State) (opening : Basis) (steps : List Basis) (limits
       printed : IsPrinted sheet verdict
       printed = same_lines sheet parametric_run.changing parametric_run.from verdict (verdict_printed first there failed.opens.opens.ends.tableau (length bases) failed.ending verdict of failed.is_verdict.is_verdict)
 
-      read : verdict_in checker_of_128_bits sheet (parametric_solver parametric_run.changing) w.rest ≡ Some ((verdict, check), more)
+      read : verdict_in (fraction_in checker_of_128_bits) sheet (parametric_solver parametric_run.changing) w.rest ≡ Some ((verdict, check), more)
       read =
-          ap (verdict_in checker_of_128_bits sheet (parametric_solver parametric_run.changing)) (given.text ∙ ap (λ (g : Gain). gain_text g ++ more) gain)
+          ap (verdict_in (fraction_in checker_of_128_bits) sheet (parametric_solver parametric_run.changing)) (given.text ∙ ap (λ (g : Gain). gain_text g ++ more) gain)
           ∙ verdict_read sheet check fits.1 more (parametric_solver parametric_run.changing) verdict readable printed fits.0 given.plain
 
       passes : Passes (test (verdict, check))

@@ -31,7 +31,7 @@ use Rattle.soundness_laws.proofs.Runs.{knows_linear_programming}
 use Rattle.parametric_laws.proofs.Runs.{last_of-append}
 use Rattle.walk_definitions.specs.Checkers.{checker_of_128_bits}
 use Rattle.walk_definitions.specs.Forms.{is_open_stop}
-use Rattle.walk_definitions.specs.Words.{Parsed, max_count}
+use Rattle.walk_definitions.specs.Words.{Parsed, max_count, fraction_in}
 use Rattle.walk_definitions.specs.Tests.{verdict_test}
 use Rattle.walk_definitions.specs.Reading.{Judged, Right, Refuses, by_verdict as judge, tested, judged_map, judged, Claim, verdict_in}
 use Rattle.walk_definitions.specs.Walker.{Pending, Walker, Unchecked, open_question, passed, pending_after, answered}
@@ -222,9 +222,9 @@ module _ (w : Walker) (s : State) (opening : Basis) (steps : List Basis) (card :
       LandsSo : Judged PathEnd → Type 0
       LandsSo j = Lands (own (Reached bases verdict check)) more (answered checker_of_128_bits w question sheet go j)
 
-      read : verdict_in checker_of_128_bits sheet solver w.rest ≡ Some ((verdict, check), more)
+      read : verdict_in (fraction_in checker_of_128_bits) sheet solver w.rest ≡ Some ((verdict, check), more)
       read =
-          ap (verdict_in checker_of_128_bits sheet solver) (given.text ∙ ap (λ (g : Gain). gain_text g ++ more) gain)
+          ap (verdict_in (fraction_in checker_of_128_bits) sheet solver) (given.text ∙ ap (λ (g : Gain). gain_text g ++ more) gain)
           ∙ verdict_read sheet check fits.1 more solver verdict ended.is_readable (verdict_printed sheet (last_of (present_basis present) bases) ended.tableau (length bases) ended.ending verdict ended.is_of ended.is_verdict.is_verdict) fits.0 given.plain
 
       passes : Passes (verdict_test checker_of_128_bits sheet verdict check)

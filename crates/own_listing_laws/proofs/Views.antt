@@ -33,7 +33,7 @@ use Rattle.run_definitions.specs.Run.{counted}
 use Rattle.soundness_laws.proofs.Runs.{knows_linear_programming}
 use Rattle.soundness_laws.proofs.Ends.{IsProvedBest}
 use Rattle.control_definitions.specs.Cells.{steps_allowed}
-use Rattle.walk_definitions.specs.Words.{Parsed, max_count}
+use Rattle.walk_definitions.specs.Words.{Parsed, max_count, fraction_in}
 use Rattle.walk_definitions.specs.Tables.{column_of}
 use Rattle.walk_definitions.specs.Checkers.{says_checked, checker_of_128_bits}
 use Rattle.walk_definitions.specs.Tests.{point_of, prices_of, slacks_of, slack_steps, solution_test}
@@ -151,8 +151,8 @@ module _ (w : Walker) (s : State) (opening : Basis) (steps : List Basis) (card :
       LandsSo : Judged SolutionLines → Type 0
       LandsSo j = Lands (own lines) more (answered checker_of_128_bits w (OfSolution mark) sheet go j)
 
-      read : solution_in checker_of_128_bits sheet mark w.rest ≡ Some (lines, more)
-      read = ap (solution_in checker_of_128_bits sheet mark) given.text ∙ reported_read sheet (present_basis present) t mark more given.fits.0 given.fits.1
+      read : solution_in (fraction_in checker_of_128_bits) sheet mark w.rest ≡ Some (lines, more)
+      read = ap (solution_in (fraction_in checker_of_128_bits) sheet mark) given.text ∙ reported_read sheet (present_basis present) t mark more given.fits.0 given.fits.1
 
       -- the run goes on, and this is pending
       goes_on : (pending : Option Pending) → WaitsAt pending s → Lands (own lines) more (follows (record (passed more 1 w) { pending = pending }) (go lines))

@@ -27,6 +27,7 @@ use Rattle.soundness_laws.specs.ParametricRuns.{ChangesFreely}
 use Rattle.answer_definitions.specs.Real.{linear_programming}
 use Rattle.run_definitions.specs.Answer.{IsJobRun}
 use Rattle.walk_definitions.specs.Checkers.{checker_of_128_bits}
+use Rattle.walk_definitions.specs.Words.{fraction_in}
 use Rattle.walk_definitions.specs.Tests.{verdict_test, solution_test}
 use Rattle.walk_definitions.specs.Tables.{begins_table_line}
 use Rattle.walk_definitions.specs.Reading.{Judged, Fails, verdict_in, solution_in, interval_in, close_in, judged}
@@ -58,13 +59,13 @@ IsNotWrong found = Unit {0}
 -- lines of a ray are read as far as table lines go, so none may follow.
 pub record ReadsBack : Type 0 where
   pub verdict : (sheet : Sheet) (solver : Solver) (verdict : PathVerdict) (check : Check) (after : List ℕ) → IsReadable solver verdict → IsPrinted sheet verdict →
-      VerdictFits verdict → CheckFits check → begins_table_line after ≡ false → verdict_in checker_of_128_bits sheet solver (verdict_text solver verdict check ++ after) ≡ Some ((verdict, check), after)
+      VerdictFits verdict → CheckFits check → begins_table_line after ≡ false → verdict_in (fraction_in checker_of_128_bits) sheet solver (verdict_text solver verdict check ++ after) ≡ Some ((verdict, check), after)
   pub solution : (sheet : Sheet) (s : Basis) (t : Tableau) (mark : Mark) (after : List ℕ) → LinesFit (solution_lines sheet s t).rows → LinesFit (solution_lines sheet s t).columns →
-      solution_in checker_of_128_bits sheet mark (solution_text mark (solution_lines sheet s t) ++ after) ≡ Some (solution_lines sheet s t, after)
+      solution_in (fraction_in checker_of_128_bits) sheet mark (solution_text mark (solution_lines sheet s t) ++ after) ≡ Some (solution_lines sheet s t, after)
   pub interval : (sheet : Sheet) (number : ℕ) (part : Part) (after : List ℕ) → TermsFit part.to → LinesFit (interval_of sheet part).lines →
-      interval_in checker_of_128_bits sheet number part.from (interval_text (number, interval_of sheet part) ++ after) ≡ Some (interval_of sheet part, after)
+      interval_in (fraction_in checker_of_128_bits) sheet number part.from (interval_text (number, interval_of sheet part) ++ after) ≡ Some (interval_of sheet part, after)
   pub close : (sheet : Sheet) (solver : Solver) (end : ChainEnd) (after : List ℕ) → IsEndOf sheet solver end → EndFits end → begins_table_line after ≡ false →
-      close_in checker_of_128_bits sheet solver (chain_end_text solver end ++ after) ≡ Some (end, after)
+      close_in (fraction_in checker_of_128_bits) sheet solver (chain_end_text solver end ++ after) ≡ Some (end, after)
 
 -- A test of what a run prints never fails; an operation of it may be refused.
 pub record TestsPass : Type 0 where

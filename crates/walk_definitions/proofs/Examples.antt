@@ -1,10 +1,11 @@
 -- Worked words and lines, computed.
-use Rattle.std.specs.Prelude.{◌≡◌, refl, true, false, [], codes, Some, None, is_some, is_none}
+use Rattle.std.specs.Prelude.{◌≡◌, refl, ℕ, pos, true, false, List, [], ◌++◌, codes, Some, None, is_some, is_none}
+use Rattle.std.specs.List.{concat, replicate}
 use Rattle.divisors.specs.Gcd.{gcd}
 use Rattle.exact_values.specs.Rational.{fraction, whole, neg_ℚ}
 use Rattle.listing_definitions.specs.Numbers.{digits}
-use Rattle.walk_definitions.specs.Checkers.{checker_of_128_bits, checker_of_any_length}
-use Rattle.walk_definitions.specs.Words.{fraction_in, count_in, max_count}
+use Rattle.walk_definitions.specs.Checkers.{Checker, checker_of_128_bits, checker_of_any_length}
+use Rattle.walk_definitions.specs.Words.{fraction_in, form_in, count_in, max_count}
 use Rattle.walk_definitions.specs.Forms.{is_open_stop, is_ranges, is_punched, is_inserted}
 use Rattle.walk_definitions.specs.Tables.{begins_table_line}
 
@@ -62,6 +63,29 @@ too_long = refl
 of_any_length : is_some (fraction_in checker_of_any_length (codes "170141183460469231731687303715884105728")) ≡ true
 unfolding fraction_in fraction gcd digits whole
 of_any_length = refl
+
+-- 200 sevens are read, and where only 100 digits may be they stand for a number of that form
+sevens : List ℕ
+sevens = concat (replicate 200 (codes "7"))
+
+short : Checker
+short = record checker_of_any_length { most_digits = Some 100 }
+
+are_read : is_some (fraction_in checker_of_any_length sevens) ≡ true
+unfolding sevens fraction_in fraction gcd digits whole
+are_read = refl
+
+not_read : (fraction_in short (codes "-" ++ sevens) ≡ None) × (form_in short (codes "-" ++ sevens) ≡ Some (whole (pos 1)))
+unfolding sevens short fraction_in whole
+not_read = (refl, refl)
+
+below_the_line : form_in short (codes "2/" ++ sevens) ≡ Some (whole (pos 1))
+unfolding sevens short whole
+below_the_line = refl
+
+no_form : (form_in short (codes "0" ++ sevens) ≡ None) × (form_in short (codes "2/2/" ++ sevens) ≡ None)
+unfolding sevens short fraction_in fraction gcd digits whole
+no_form = (refl, refl)
 
 not_lowest_either : is_none (fraction_in checker_of_any_length (codes "10/4")) ≡ true
 unfolding fraction_in fraction gcd digits whole
