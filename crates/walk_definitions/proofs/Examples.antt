@@ -1,6 +1,5 @@
 -- Worked words and lines, computed.
-use Rattle.std.specs.Prelude.{◌≡◌, refl, ℕ, pos, true, false, List, [], ◌++◌, codes, Some, None, is_some, is_none}
-use Rattle.std.specs.List.{concat, replicate}
+use Rattle.std.specs.Prelude.{◌≡◌, refl, pos, true, false, [], codes, Some, None, is_some, is_none}
 use Rattle.divisors.specs.Gcd.{gcd}
 use Rattle.exact_values.specs.Rational.{fraction, whole, neg_ℚ}
 use Rattle.listing_definitions.specs.Numbers.{digits}
@@ -64,27 +63,24 @@ of_any_length : is_some (fraction_in checker_of_any_length (codes "1701411834604
 unfolding fraction_in fraction gcd digits whole
 of_any_length = refl
 
--- 200 sevens are read, and where only 100 digits may be they stand for a number of that form
-sevens : List ℕ
-sevens = concat (replicate 200 (codes "7"))
-
+-- where a number may have five digits above and below the line, one with six stands for a number of that form
 short : Checker
-short = record checker_of_any_length { most_digits = Some 100 }
+short = record checker_of_any_length { most_digits = Some 5 }
 
-are_read : is_some (fraction_in checker_of_any_length sevens) ≡ true
-unfolding sevens fraction_in fraction gcd digits whole
-are_read = refl
+five_digits : fraction_in short (codes "77777") ≡ fraction_in checker_of_any_length (codes "77777")
+unfolding short fraction_in
+five_digits = refl
 
-not_read : (fraction_in short (codes "-" ++ sevens) ≡ None) × (form_in short (codes "-" ++ sevens) ≡ Some (whole (pos 1)))
-unfolding sevens short fraction_in whole
-not_read = (refl, refl)
+six_digits : (fraction_in short (codes "-777777") ≡ None) × (form_in short (codes "-777777") ≡ Some (whole (pos 1)))
+unfolding short fraction_in whole
+six_digits = (refl, refl)
 
-below_the_line : form_in short (codes "2/" ++ sevens) ≡ Some (whole (pos 1))
-unfolding sevens short whole
+below_the_line : form_in short (codes "2/777777") ≡ Some (whole (pos 1))
+unfolding short whole
 below_the_line = refl
 
-no_form : (form_in short (codes "0" ++ sevens) ≡ None) × (form_in short (codes "2/2/" ++ sevens) ≡ None)
-unfolding sevens short fraction_in fraction gcd digits whole
+no_form : (form_in short (codes "0777777") ≡ None) × (form_in short (codes "2/2/777777") ≡ None)
+unfolding short fraction_in fraction gcd digits whole
 no_form = (refl, refl)
 
 not_lowest_either : is_none (fraction_in checker_of_any_length (codes "10/4")) ≡ true

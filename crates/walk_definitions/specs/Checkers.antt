@@ -1,8 +1,9 @@
--- Checkers of listings: by which arithmetic numbers are read and tested, how long a number may be, and which
--- words of checks may stand with a verdict.
+-- Checkers of listings: by which arithmetic numbers are read and tested, how long a number may be, and which words of checks may stand with
+-- a verdict.
 --     Checker                      what one checker does otherwise than another
 --     checker_of_128_bits          it reads and tests numbers as a run makes them, and a verdict is printed with the word CHECKED
---     checker_of_any_length        it reads and tests every number, and the verdict may be printed with either word
+--     checker_of_any_length        it reads and tests each number of up to 100,000 digits above and below the line, and refuses no operation
+--                                  on them; the verdict may be printed with either word
 use Rattle.std.specs.Prelude.{ℕ, Bool, true, false, Option, Some, None}
 use Rattle.check_definitions.specs.Steps.{Arithmetic, of_128_bits, of_any_length}
 use Rattle.listing_definitions.specs.Report.{Check}
@@ -10,12 +11,12 @@ use Rattle.listing_definitions.specs.Report as reports
 
 -- A verdict is printed with the word of its check: CHECKED, or UNCHECKED with the operation that was refused. A checker takes the word, or
 -- finds the verdict wrong by it, though the proof that is printed passes its test.
---
--- The time in which a number is read may grow faster than its digits. Where there is a most, a number with more digits than that above or
--- below the line isn't read for its value.
 pub record Checker : Type 0 where
+  -- which numbers are read, and which operations on them are refused
   pub arithmetic : Arithmetic
+  -- A number with more digits above or below the line isn't read for its value, since the time for that grows faster than its digits.
   pub most_digits : Option ℕ
+  -- which words may stand with a verdict
   pub takes : Check → Bool
 
 -- the word of a check that was made
