@@ -7,6 +7,7 @@
 --     IsRunAnswer status ..        what a run may be answered
 use Rattle.std.specs.Prelude.{◌≡◌, ℕ, ◌+◌, ◌-◌, ◌<◌, ◌≤◌, List, ◌++◌, Option, Result, Ok, Err, drop}
 use Rattle.std.specs.Io.KnownBytes.{Appends}
+use Rattle.job_devices.specs.States.{SinkState}
 use Rattle.job_devices.specs.declared.device.WriteStop.{WriteStop}
 use Rattle.job_devices.specs.declared.device.WriteStop.TheVariants.{Failed, NoMemory}
 use Rattle.job_devices.specs.Causes.{Rose}
@@ -92,26 +93,26 @@ module _ (S : Solving) (program : Program) (cards : List (List ℕ)) where
     print_wants_memory : print_wanted → status ≡ status_of Memory → IsCut punch_failed punch_wanted old new punch_old punch_new →
         IsRunAnswer print_failed print_wanted punch_failed punch_wanted status old new punch_old punch_new
 
-  module _ {P U : Type 0} (written stopped_at : P → Option (List ℕ)) (faults refusals : P → ℕ) (print_old print_new : P) (punch_written punch_stopped_at : U → Option (List ℕ)) (punch_faults punch_refusals : U → ℕ) (punch_old punch_new : U) where
+  module _ (print_old print_new punch_old punch_new : SinkState) where
     -- with some gain, which is printed and punched, the statement leads there
     pub record Turns (executed : ℕ) (state : State) (new : Machine) (turn : AfterStatement) : Type 0 where
       pub gain : Gain
       pub leads : Leads executed state new gain turn
-      pub prints : Writes {T = Unit {0}} written stopped_at faults refusals print_old print_new (Ok tt) (gain_text gain)
-      pub punches : Writes {T = Unit {0}} punch_written punch_stopped_at punch_faults punch_refusals punch_old punch_new (Ok tt) (gain_cards gain)
+      pub prints : Writes {T = Unit {0}} print_old print_new (Ok tt) (gain_text gain)
+      pub punches : Writes {T = Unit {0}} punch_old punch_new (Ok tt) (gain_cards gain)
 
     -- the statement leads somewhere, and the print stops before all that it gains is printed
     pub record IsStepCut (state : State) (stop : WriteStop) : Type 0 where
       pub outcome : StatementOutcome
       pub step : Step S program state outcome
-      pub prints : Writes {T = Unit {0}} written stopped_at faults refusals print_old print_new (Err stop) (gain_text (gain_of outcome))
-      pub punches : Writes {T = Unit {0}} punch_written punch_stopped_at punch_faults punch_refusals punch_old punch_new (Ok tt) (gain_cards (gain_of outcome))
+      pub prints : Writes {T = Unit {0}} print_old print_new (Err stop) (gain_text (gain_of outcome))
+      pub punches : Writes {T = Unit {0}} punch_old punch_new (Ok tt) (gain_cards (gain_of outcome))
 
     -- the statement would punch this deck, and the punch stops before all of it is punched; nothing is printed
     pub record IsDeckCut (state : State) (stop : WriteStop) : Type 0 where
       pub deck : List (List ℕ)
       pub punching : IsPunching S program state deck
-      pub punches : Writes {T = Unit {0}} punch_written punch_stopped_at punch_faults punch_refusals punch_old punch_new (Err stop) (card_text deck)
+      pub punches : Writes {T = Unit {0}} punch_old punch_new (Err stop) (card_text deck)
       pub is_quiet : print_new ≡ print_old
 
     -- What executing the statement at a position does from each state that the machine showed. Where there is no memory, nothing is
@@ -124,16 +125,16 @@ module _ (S : Solving) (program : Program) (cards : List (List ℕ)) where
 
     -- how the run can end, where the punch has failed or run out of memory only as its counts say
     abbrev pub CanEndNow : List Report → List (List ℕ) → Ending → Type 0
-    CanEndNow = CanEnd (Rose (punch_faults punch_old) (punch_faults punch_new)) (Rose (punch_refusals punch_old) (punch_refusals punch_new))
+    CanEndNow = CanEnd (Rose punch_old.faults punch_new.faults) (Rose punch_old.refusals punch_new.refusals)
 
     -- the reports are printed up to this end, and the decks are punched, where the last write to the punch came to this result
     pub record RunsTo (result : Result (Unit {0}) WriteStop) (ending : Ending) : Type 0 where
       pub reports : List Report
       pub punched : List (List ℕ)
       pub can_end : CanEndNow reports punched ending
-      pub prints : Writes {T = Unit {0}} written stopped_at faults refusals print_old print_new (Ok tt) (reports_text reports)
-      pub gains : GainsBy ending (punch_written punch_old) (punch_written punch_new) (card_text punched)
-      pub leaves : Leaves punch_written punch_stopped_at punch_faults punch_refusals punch_old punch_new result
+      pub prints : Writes {T = Unit {0}} print_old print_new (Ok tt) (reports_text reports)
+      pub gains : GainsBy ending punch_old.written punch_new.written (card_text punched)
+      pub leaves : Leaves punch_old punch_new result
 
     -- the print stops in what a statement prints, to which the run has come
     pub record IsRunCut (stop : WriteStop) : Type 0 where
@@ -145,9 +146,9 @@ module _ (S : Solving) (program : Program) (cards : List (List ℕ)) where
       pub step : Step S program state outcome
       pub part : List ℕ
       pub is_part : IsPrefix part (reports_text (printed_by (gain_of outcome)))
-      pub gains : Appends (written print_old) (written print_new) (reports_text reports ++ part)
-      pub leaves : Leaves written stopped_at faults refusals print_old print_new (Err stop)
-      pub punches : Writes {T = Unit {0}} punch_written punch_stopped_at punch_faults punch_refusals punch_old punch_new (Ok tt) (card_text (punched ++ punched_by (gain_of outcome)))
+      pub gains : Appends print_old.written print_new.written (reports_text reports ++ part)
+      pub leaves : Leaves print_old print_new (Err stop)
+      pub punches : Writes {T = Unit {0}} punch_old punch_new (Ok tt) (card_text (punched ++ punched_by (gain_of outcome)))
 
     -- The run ends; or the print stops it; or the punch stops it, since it has failed or has found no memory; or there is no memory.
     abbrev pub Runs : Result End Halt → Type 0

@@ -47,8 +47,7 @@ fn run_statements<E: Engine, P: Sink, U: Sink>(
     requires start { Represents input.cards.now machine.old 1 0
         (start (decks_after input.program.now input.cards.now)) }
     ensures { Runs linear_programming input.entry.program.now input.entry.cards.now
-        P.written P.stopped_at P.faults P.refusals print.old print.new U.written U.stopped_at U.faults U.refusals
-        punch.old punch.new
+        (P.taken print.old) (P.taken print.new) (U.taken punch.old) (U.taken punch.new)
         result }
 {
     let mut position = 1;
@@ -75,8 +74,7 @@ fn run<E: Engine, P: Sink, U: Sink>(
     punch: &mut U,
 ) -> Result<End, Halt>
     ensures { Runs linear_programming input.entry.program.now input.entry.cards.now
-        P.written P.stopped_at P.faults P.refusals print.old print.new U.written U.stopped_at U.faults U.refusals
-        punch.old punch.new
+        (P.taken print.old) (P.taken print.new) (U.taken punch.old) (U.taken punch.new)
         result }
 {
     let first = first_after(input.program, input.cards);
@@ -99,8 +97,7 @@ pub fn run_on<E: Engine, P: Sink, U: Sink>(
     punch: &mut U,
 ) -> RunStatus
     ensures { IsEndOfRun linear_programming program.now cards.now
-        P.written P.stopped_at P.faults P.refusals print.old print.new U.written U.stopped_at U.faults U.refusals
-        punch.old punch.new
+        (P.taken print.old) (P.taken print.new) (U.taken punch.old) (U.taken punch.new)
         result }
 {
     match run::<E, P, U>(alloc, RunInput { program, cards }, print, punch) {
@@ -118,8 +115,7 @@ pub fn run_program<P: Sink, U: Sink>(
     punch: &mut U,
 ) -> RunStatus
     ensures { IsEndOfRun linear_programming program.now cards.now
-        P.written P.stopped_at P.faults P.refusals print.old print.new U.written U.stopped_at U.faults U.refusals
-        punch.old punch.new
+        (P.taken print.old) (P.taken print.new) (U.taken punch.old) (U.taken punch.new)
         result }
 {
     run_on::<RunEngine, P, U>(alloc, program, cards, print, punch)
