@@ -1,7 +1,7 @@
 """Solves an MPS file, or runs a job, and says the answer in the names of the file, with decimals beside the exact fractions.
 
-usage: solve [--json | --csv | --html FILE] [--basis FILE [--from WRITER]] [--names MAP] [--keep FOLDER] [--life S] [--max | --min] [--ranging]
-             [..] MODEL
+usage: solve [--json | --csv | --html FILE] [--basis FILE [--from WRITER]] [--with SOLVER,..|none] [--only ROUTE] [--seconds S] [--names MAP]
+             [--keep FOLDER] [--write-basis FILE] [--solution FILE] [--life S] [--max | --min] [--ranging] [..] MODEL
 
   --json         JSON on standard output, in place of a text (docs/listing.schema.json has its fields)
   --csv          CSV: the plan with its rows; where there is no best plan, the ray or the direction
@@ -9,33 +9,42 @@ usage: solve [--json | --csv | --html FILE] [--basis FILE [--from WRITER]] [--na
   --basis FILE   the run begins at a basis of this model that another solver wrote (prove --help has more)
   --from WRITER  which solver wrote it, where the file doesn't tell
   --keep FOLDER  the job, its listing (which is what is proved) and the table of names stay in FOLDER
+  --with SOLVER,..    who may be asked for a basis where PRIMAL has no end in 5 s or a number doesn't fit, of highs, clp, esolver, glpsol and
+                 lp_solve, in this order; none for nobody. Without it those that are installed
+  --only ROUTE   primal (from the opening basis), basis (of a solver), or exact (esolver's exact answer, attested by the checker), alone
+  --seconds S    bounds all of it; without it PRIMAL goes on until it ends
+  --write-basis FILE  the basis of the answer goes to FILE, as an MPS basis file, which clp, esolver and others begin at
+  --solution FILE     the solution goes to FILE as glpsol -w writes one, or by --solution-form highs as HiGHS does
   --names MAP    where MODEL is a job: the table of names that mps2job.py wrote for it
   --life S       the first line of life on standard error after S seconds (5), the next after twice as long each time; 0 for none
   --program FILE another program than scripts/mps360: it gets the job on standard input. What it prints is called unproved
+  --checker FILE another checker than scripts/mps360check
 
-MODEL is an MPS file or a job (it begins with PROGRAM), or - for standard input. --max and --min go before what the file says, --ranging asks how
+No solver is believed: what each gives is where PRIMAL begins, or goes to the checker, and the answer says by which route it came. MODEL is an MPS file or a job (it begins with PROGRAM), or - for standard input. --max and --min go before what the file says, --ranging asks how
 far each number may move; every other word that begins with - is handed to mps2job.py as it stands, its value after a =, as
 --negative-up=free (mps2job.py --help has them).
 
 It ends with the status of the run: 0, 1 no plan, 2 no bound, more in docs/FAULTS.md; or with 64 for wrong use, 65 where MODEL is refused, 66
-where it can't be read, 70 where there is no program, 73 where a file can't be written, 130 after Ctrl-C or a TERM signal: then
-what stands is said. A deck that is punched goes to the file PUNCH of this folder."""
-import argparse, contextlib, io, json, os, pathlib, re, signal, subprocess, sys, threading, time
+where it can't be read, 70 where there is no program or no solver, 73 where a file can't be written, 124 where there is no end in S seconds, 130
+after Ctrl-C or a TERM signal: then what stands is said. A deck that is punched goes to the file PUNCH of this folder."""
+import argparse, hashlib, io, json, os, pathlib, re, signal, sys
 from mps360.cli import mps2job
+from fractions import Fraction
 from mps360.listings import read as listing2json
-from mps360 import errors
-from mps360 import mps
+from mps360 import at_hand, errors, life, mps, routes, runs, solvers
+from mps360.cli.options import add_routes, check_routes, plan_of
+from mps360.provenance import Provenance
 from mps360.jobs.write import job_of
 from mps360.listings import made as made_listing
 from mps360.text import marked_decimal
 from mps360.text import as_text
 
 NAME = "solve"
-PRINTING = {"TITLE", "CONVERT", "REVISE", "SETUP", "PRIMAL", "DUAL", "SOLUTION", "RANGE", "PARAOBJ", "PARARHS", "BCDOUT",
-            "PUNCH", "INSERT"}
-FIRST_LIFE, MOST_LIFE, SILENT, GRACE = 5.0, 60.0, 8.0, 3.0
 MOST_LINES = 40
 WRITERS = ("clp", "esolver", "lp_solve", "glpsol", "activity")
+FORMS = ("glpsol", "highs")
+# the words that a job doesn't go with, and the options that they are
+MODEL_WORDS = {"--basis": "basis", "--with": "solvers", "--only": "only", "--write-basis": "write_basis", "--solution": "solution", "--checker": "checker"}
 
 
 class Ended(Exception):
@@ -62,7 +71,7 @@ class Model:
     "a model, as the job that is run and the table of its names"
     def __init__(self, options, passed):
         self.path, self.notes, self.names, self.table, self.converted = options.model, [], listing2json.NO_NAMES, b"", None
-        self.has_basis = bool(options.basis)
+        self.basis, self.has_basis = None, False
         try:
             content = sys.stdin.buffer.read() if options.model == "-" else pathlib.Path(options.model).read_bytes()
             if options.names:
@@ -72,9 +81,10 @@ class Model:
             raise Ended(66, f"can't read {what}: {getattr(cause, 'strerror', None) or cause}")
         except listing2json.NoNames as cause:
             raise Ended(65, f"{options.names}: {cause}")
+        self.checksum = hashlib.sha256(content).hexdigest()
         if is_job(content):
-            if options.basis:
-                raise Ended(64, f"--basis goes with an MPS file, and {options.model} is a job")
+            if word := next((word for word in MODEL_WORDS if getattr(options, MODEL_WORDS[word]) is not None), None):
+                raise Ended(64, f"{word} goes with an MPS file, and {options.model} is a job")
             if passed:
                 raise Ended(64, f"{passed[0]} is a word for an MPS file, and {options.model} is a job")
             self.job = content
@@ -101,120 +111,28 @@ class Model:
         self.names, self.table = listing2json.names_of(table), (json.dumps(table, indent=1) + "\n").encode()
 
     def take_basis(self, options, job):
-        from mps360 import bases as basis_file
         from mps360.cli import basis2deck
         try:
-            basis = basis2deck.read_basis(options.basis, job.model, options.writer)
+            self.basis = basis2deck.read_basis(options.basis, job.model, options.writer)
         except basis2deck.Ended as ended:
             status, words = ended.args
             raise Ended(status, *words.split("\n"))
-        self.notes += basis.said
-        self.job = basis_file.with_insert(job, basis).encode("ascii")
+        self.notes += self.basis.said
 
-
-# ---- the run
-
-class Run:
-    "a run of a program over a job, which says on standard error that it lives"
-    def __init__(self, command, job, life):
-        self.command, self.job, self.life = command, job, life
-        self.listing, self.status, self.seconds, self.interrupted = b"", None, 0.0, False
-        self.shown, self.heard = 0, -MOST_LIFE
-
-    def run(self):
-        started = time.monotonic()
-        child = subprocess.Popen(self.command, stdin=subprocess.PIPE, stdout=subprocess.PIPE, stderr=subprocess.PIPE, start_new_session=True)
-        readers = [threading.Thread(target=self.take, args=(child.stdout,)), threading.Thread(target=self.relay, args=(child.stderr,)),
-                   threading.Thread(target=self.give, args=(child.stdin,))]
-        for reader in readers:
-            reader.start()
-        try:
-            self.watch(child, started)
-        except KeyboardInterrupt:
-            self.interrupted = True
-            self.end(child)
-        for reader in readers:
-            reader.join()
-        self.status, self.seconds = child.wait(), time.monotonic() - started
-        self.clear()
-
-    def end(self, child):
-        "ends the program and what it has started"
-        for word in (signal.SIGTERM, signal.SIGKILL):
-            with contextlib.suppress(ProcessLookupError, subprocess.TimeoutExpired):
-                os.killpg(child.pid, word)
-                child.wait(GRACE)
-
-    def give(self, stream):
-        "the job; a program that ends before it has read all of it has its reasons"
-        with contextlib.suppress(BrokenPipeError), stream:
-            stream.write(self.job)
-
-    def take(self, stream):
-        while part := os.read(stream.fileno(), 65536):
-            self.listing += part
-
-    def relay(self, stream):
-        for line in stream:
-            self.clear()
-            self.heard = time.monotonic()
-            print(as_text(line.decode("utf-8", "replace").rstrip("\n")), file=sys.stderr, flush=True)
-
-    def watch(self, child, started):
-        wait = self.life
-        due = started + min(wait, 1.0 if sys.stderr.isatty() else wait)
-        while child.poll() is None:
-            with contextlib.suppress(subprocess.TimeoutExpired):
-                child.wait(0.1)
-            says_so_itself = time.monotonic() - self.heard < SILENT
-            if self.life > 0 and child.returncode is None and time.monotonic() >= due and not says_so_itself:
-                self.live(time.monotonic() - started)
-                wait = min(2 * wait, MOST_LIFE)
-                due = time.monotonic() + (1.0 if sys.stderr.isatty() else wait)
-
-    def live(self, elapsed):
-        words = f"{NAME}: {elapsed:.0f} s, {self.waits_for()}"
-        if sys.stderr.isatty():
-            self.clear()
-            sys.stderr.write(words[:79])
-            sys.stderr.flush()
-            self.shown = len(words[:79])
-        else:
-            print(words, file=sys.stderr, flush=True)
-
-    def clear(self):
-        "the line of life goes from the terminal"
-        if self.shown:
-            sys.stderr.write("\r" + " " * self.shown + "\r")
-            self.shown = 0
-
-    def lines(self):
-        "the lines of the listing that are whole"
-        return self.listing.decode("latin-1").split("\n")[:-1]
-
-    def waits_for(self):
-        "what the run does now, as far as its listing and the job tell"
-        lines = self.lines()
-        if not lines:
-            return "waits for the program's first line"
-        return f"waits for {self.next_verb(lines) or 'the end'}; the listing has {len(lines)} lines so far"
-
-    def next_verb(self, lines):
-        "the statement after the one that printed last, by the order of the cards"
-        cards = [card[:72] for card in self.job.decode("latin-1").split("\n")]
-        verbs = [found[1] for card in cards[:next((k for k, card in enumerate(cards) if card.split()[-1:] == ["PEND"]), 0)]
-                 if (found := re.match(r"(?:[A-Z0-9]+)? +([A-Z]+)", card)) and found[1] in PRINTING]
-        printed = [word for line in lines if (word := line.split(" ")[0]) in PRINTING and not re.match(r"(PARAOBJ|PARARHS) (ENDS|\w+ PAST) ", line)]
-        return verbs[len(printed)] if verbs[:len(printed)] == printed and len(printed) < len(verbs) else None
+    def ran(self, attempt):
+        "the listing is that of this attempt's job"
+        if self.converted:
+            self.job, self.has_basis = attempt.job.encode("ascii"), attempt.basis is not None and not attempt.by_checker
+            self.ranging = self.ranging and not attempt.by_checker
 
 
 # ---- the answer
 
 class Answer:
     "what a run came to"
-    def __init__(self, model, run, program):
-        self.run, self.program, self.model = run, program, model
-        self.text = "".join(line + "\n" for line in run.lines()) if run.interrupted else run.listing.decode("latin-1")
+    def __init__(self, model, run, provenance):
+        self.run, self.provenance, self.model = run, provenance, model
+        self.text = run.listing.decode("latin-1")
         try:
             self.listing = listing2json.parse(self.text)
             self.objective = as_text(self.objective_of(self.listing["reports"]))
@@ -238,13 +156,26 @@ class Answer:
     def last(self, kind):
         return next((report for report in reversed(self.listing["reports"]) if report["report"] == kind), None)
 
+    def point(self):
+        "the best plan for other solvers, None where there is none or its tables aren't whole"
+        solution, model = self.last("solution"), self.model.converted.model
+        if self.result["verdict"] != "optimal" or not solution:
+            return None
+        from mps360 import solution_out
+        rows, columns = ([(line["at"], Fraction(line["activity"]), Fraction(line[price])) for line in solution.get(key, ())]
+                         for key, price in (("rows", "dual"), ("columns", "reduced")))
+        if (len(rows), len(columns)) != (len(model.rows), len(model.columns)):
+            return None
+        basis = self.run.basis if self.run.by_checker else None
+        return solution_out.point_of(model, rows, columns, basis=basis, has_basis=basis is not None or not self.run.by_checker)
+
     def printed_by(self):
-        return {"proved": "The proved program printed the listing.", "unproved": "An UNPROVED run of the program printed the listing.",
-                "other": "Another program than the proved one printed the listing."}[self.program]
+        "who printed the listing, by which route, and the checksums, as the page says it"
+        return " ".join(part for part in (self.provenance.page_sentence(), self.provenance.route_sentence(), self.provenance.checksum_sentence()) if part)
 
     def json(self):
-        run = {"model": self.model.path, "program": self.program, "seconds": round(self.run.seconds, 3), "interrupted": self.run.interrupted,
-               "notes": self.model.notes}
+        run = {"model": self.model.path, "program": self.provenance.kind, "seconds": round(self.run.seconds, 3), "interrupted": self.run.interrupted,
+               "notes": self.model.notes, **self.provenance.as_json()}
         whole = listing2json.document(self.listing, run)
         listing2json.add_decimals(whole)
         return listing2json.json_text(whole)
@@ -257,7 +188,7 @@ class Answer:
             listing2json.write_table(self.listing, "intervals", True, out)
         else:
             listing2json.write_table(self.listing, "rays" if self.result["verdict"] else "verdicts", True, out)
-        return out.getvalue()
+        return with_cells(out.getvalue(), self.provenance.cells())
 
     # ---- as a text
 
@@ -275,9 +206,8 @@ class Answer:
             yield f"The run ended with status {end['status']}, and has no verdict." if end else "The listing was cut off before a verdict."
         yield ""
         yield from (f"note: {as_text(note)}" for note in self.model.notes)
-        yield {"proved": "The proved program printed the listing, so its verdict and numbers are proved for the job's cards.",
-                      "unproved": "Not proved: the program ran unproved (scripts/build.sh builds the proved one).",
-               "other": "Not proved: another program printed this."}[self.program]
+        yield self.provenance.sentence()
+        yield from (part for part in (self.provenance.route_sentence(), self.provenance.checksum_sentence()) if part)
         yield f"Scripts, which are tested, {'made the job of the file and ' if self.model.converted else ''}put in names and decimals (rounded after ≈)."
 
     def sentence(self, verdict):
@@ -324,6 +254,15 @@ class Answer:
             yield f"({len(lines) - len(shown)} more have {'the activity' if which == 'activity' else 'the price'} 0)"
 
 
+def with_cells(text, cells):
+    "CSV with these columns behind the others, the same on each line"
+    import csv
+    head, *lines = csv.reader(io.StringIO(text))
+    out = io.StringIO()
+    csv.writer(out, lineterminator="\n").writerows([[*head, *cells], *([*line, *cells.values()] for line in lines)])
+    return out.getvalue()
+
+
 def both(number):
     "a number as a decimal, with the exact fraction beside it where it is another text"
     text = marked_decimal(number)
@@ -364,7 +303,27 @@ def stem_of(options):
     return pathlib.Path(options.model).name.removesuffix(".gz").rsplit(".", 1)[0] if options.model != "-" else "model"
 
 
+def write_solution(options, model, answer):
+    "the files for other solvers; why one isn't written is said"
+    wanted = [word for word in ("--write-basis", "--solution") if getattr(options, MODEL_WORDS[word])]
+    if not wanted:
+        return
+    from mps360 import solution_out
+    form, point, verdict = options.solution_form or "glpsol", answer.point(), answer.result["verdict"]
+    for word in wanted:
+        path = pathlib.Path(getattr(options, MODEL_WORDS[word]))
+        try:
+            if point is None and (word == "--write-basis" or form == "glpsol" or verdict not in ("infeasible", "unbounded")):
+                raise errors.Refused(f"there is no best plan, but {verdict.upper()}" if verdict else "there is no answer")
+            text = solution_out.basis_file(point) if word == "--write-basis" else solution_out.nothing_text(verdict) if point is None else \
+                solution_out.solution_file(point, form)
+            kept(path.parent, path.name, text.encode("utf-8"))
+        except errors.Refused as cause:
+            say(f"{word}: {path} isn't written: {cause}")
+
+
 def write_outputs(options, model, answer):
+    write_solution(options, model, answer)
     if options.keep:
         kept(pathlib.Path(options.keep), f"{stem_of(options)}.listing", answer.text.encode("latin-1"))
     if options.html:
@@ -382,34 +341,76 @@ def write_outputs(options, model, answer):
 
 
 def program_of(options):
-    "the command to run, and what it is"
-    if options.program:
-        return [options.program], "other"
-    from mps360 import programs
-    proved = not os.environ.get("MPS360_UNPROVED") and programs.proved_program()
-    return ([proved], "proved") if proved else ([programs.COMMANDS / "mps360"], "unproved")
+    "the program that runs; that it runs unproved is said"
+    try:
+        program = at_hand.solver_program(options.program)
+    except at_hand.NoProgram as cause:
+        raise Ended(70, str(cause))
+    if program.kind == "unproved" and not program.prepare:
+        print(f"mps360: running UNPROVED, by the program that was compiled of these sources before; {at_hand.PROVES}", file=sys.stderr, flush=True)
+    return program
+
+
+def checker_of(options):
+    "the checker of listings, or None"
+    try:
+        return at_hand.listing_checker(options.checker)
+    except at_hand.NoProgram as cause:
+        raise Ended(70, str(cause))
+
+
+def outcome_of(options, model, program, checker, life):
+    "what the run of a job, or the routes of an MPS file, came to"
+    observer = runs.Observer(say=life.say, going=life.say, heard=life.heard, tick=life.tick)
+    try:
+        if not model.converted:
+            return routes.Outcome(runs.run_alone(model.job, program, seconds=options.seconds, observer=observer), [])
+        way = routes.Routes(model.converted, program, plan_of(options), checker, observer)
+        if model.basis:
+            way.begin_at(model.basis, os.path.basename(options.basis))
+        return way.run()
+    except OSError as cause:
+        raise Ended(70, f"can't run {cause.filename or program.command[0]}: {cause.strerror}")
+    except runs.NoAnswer as cause:
+        raise Ended(cause.status, str(cause))
+    except solvers.NoBasis as cause:
+        raise Ended(70, str(cause))
+    finally:
+        life.clear()
+
+
+def say_interrupted(attempt):
+    "what stands after an interruption"
+    lines = attempt.lines()
+    stands = f"What was printed stands; its last line is: {lines[-1]}" if lines else "Nothing was printed."
+    waited = life.awaited(attempt.job, lines).replace("waits", "waited", 1).replace("has", "had", 1)
+    say(f"interrupted after {attempt.seconds:.0f} s, when it {waited}. {stands}")
+
+
+def keep(options, name, content):
+    if options.keep:
+        kept(pathlib.Path(options.keep), name, content)
 
 
 def solve(options, passed):
-    model = Model(options, passed)
-    if options.keep:
-        kept(pathlib.Path(options.keep), f"{stem_of(options)}.job", model.job)
-        if model.table:
-            kept(pathlib.Path(options.keep), f"{stem_of(options)}.names", model.table)
-    command, program = program_of(options)
-    run = Run(command, model.job, options.life)
-    try:
-        run.run()
-    except OSError as cause:
-        raise Ended(70, f"can't run {command[0]}: {cause.strerror}")
-    if run.interrupted:
-        lines = run.lines()
-        stands = f"What was printed stands; its last line is: {lines[-1]}" if lines else "Nothing was printed."
-        say(f"interrupted after {run.seconds:.0f} s, when it {run.waits_for().replace('waits', 'waited', 1).replace('has', 'had', 1)}. {stands}")
-    elif run.status >= 64 or run.status < 0 or not run.listing:
-        raise Ended(run.status if 64 <= run.status < 128 else 70, f"the program gave no answer (it ended with {run.status})")
-    write_outputs(options, model, Answer(model, run, program))
-    return 130 if run.interrupted else run.status
+    model, stem = Model(options, passed), stem_of(options)
+    keep(options, f"{stem}.job", model.job)
+    if model.table:
+        keep(options, f"{stem}.names", model.table)
+    program, checker = program_of(options), checker_of(options) if model.converted else None
+    outcome = outcome_of(options, model, program, checker, life.Life(NAME, options.life))
+    attempt = outcome.attempt
+    model.ran(attempt)
+    keep(options, f"{stem}.job", model.job)
+    if attempt.solver and attempt.written:
+        keep(options, f"{stem}.{attempt.solver.name}", attempt.written.encode("latin-1"))
+    provenance = Provenance.of(outcome, program, checker, model.checksum)
+    if attempt.interrupted:
+        say_interrupted(attempt)
+    elif model.converted:
+        say(provenance.line())
+    write_outputs(options, model, Answer(model, attempt, provenance))
+    return outcome.status
 
 
 def interrupt(*_):
@@ -425,16 +426,20 @@ def main(words):
     form = parser.add_mutually_exclusive_group()
     form.add_argument("--json", action="store_true")
     form.add_argument("--csv", action="store_true")
-    for word in ("--html", "--names", "--keep", "--program", "--basis"):
+    for word in ("--html", "--names", "--keep", "--program", "--checker", "--basis", "--write-basis", "--solution"):
         parser.add_argument(word)
+    parser.add_argument("--solution-form", choices=FORMS)
+    add_routes(parser)
     parser.add_argument("--from", dest="writer", choices=WRITERS)
-    parser.add_argument("--life", type=float, default=FIRST_LIFE)
+    parser.add_argument("--life", type=float, default=life.FIRST)
     parser.add_argument("model")
     options, passed = parser.parse_known_args(words)
     if unknown := [word for word in passed if not word.startswith("--")]:
         parser.error(f"one model at a time; what is {unknown[0]}?")
     if options.writer and not options.basis:
         parser.error("--from goes with --basis")
+    if fault := check_routes(options):
+        parser.error(fault)
     sys.stdout.reconfigure(encoding="utf-8")
     signal.signal(signal.SIGTERM, interrupt)
     try:
