@@ -1,5 +1,5 @@
 -- What a verdict tells by its form alone, as it is read after the name of a verb.
-use Rattle.std.proofs.Common.{◌≡◌, ℕ, List, ◌++◌, Some, None, arith, codes, nat_eq, option_map, IfSome}
+use Rattle.std.proofs.Common.{Option, ◌≡◌, ℕ, List, ◌++◌, Some, None, arith, codes, nat_eq, option_map, IfSome}
 use Rattle.std.specs.Prelude.{if◌then◌else◌}
 use Rattle.std.specs.Option.{option_or}
 use Rattle.std.proofs.lemmas.Bool.Decides.{nat_tests}

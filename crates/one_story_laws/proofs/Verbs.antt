@@ -119,13 +119,13 @@ module _ (C : Checker) (S : Solving) (Speaks : State → Report → Type 0) (Ope
       unless_fault C S Speaks Open _ _ card {X = Mark} VerbFault.NotSolved state.mark _ _ (λ mark m.
       unless_fault C S Speaks Open _ _ card {X = Mark} VerbFault.NotOptimal (if_optimal mark) _ _ (λ optimal o.
       unless_selection_fault C S Speaks Open _ _ card (selected problem (choice_of state.cells options)) _ _ (λ lp is.
-      may_stop C S Speaks Open _ _ card _ _ _ _ (asked S Speaks Open _ _ card OfRanges (record { problem = problem; lp = lp }) _ _ _ _ (λ x y right taken speaks says. absurd taken)))))
+      may_stop C S Speaks Open _ _ card _ _ _ _ (asked C S Speaks Open _ _ card OfRanges (record { problem = problem; lp = lp }) _ _ _ _ (λ x y right taken speaks says. absurd taken)))))
 
   punches_basis_alike : (left right : Option Present) → SameSetup left right → LeadsAlike left right (punches_basis card)
   punches_basis_alike _ _ no_setup = does C S Speaks Open (with_setup None) (with_setup None) card _ _ (tt, refl)
   punches_basis_alike _ _ (one_setup problem options opening other steps others) =
       selecting C S Speaks Open _ _ card problem (choice_of state.cells options) _ _ (λ lp is.
-      asked S Speaks Open _ _ card OfPunch (record { problem = problem; lp = lp }) _ _ _ _ (λ x y right taken speaks says. absurd taken))
+      asked C S Speaks Open _ _ card OfPunch (record { problem = problem; lp = lp }) _ _ _ _ (λ x y right taken speaks says. absurd taken))
 
   inserts_alike : (left right : Option Present) → SameSetup left right → LeadsAlike left right (inserts card)
   inserts_alike _ _ no_setup = does C S Speaks Open (with_setup None) (with_setup None) card _ _ (tt, refl)
@@ -133,7 +133,7 @@ module _ (C : Checker) (S : Solving) (Speaks : State → Report → Type 0) (Ope
       selecting C S Speaks Open _ _ card problem (choice_of state.cells options) _ _ (λ lp is.
       unless_fault C S Speaks Open _ _ card {X = List Card × List (List Card)} VerbFault.DeckNotFound (deck_taken state.cells.xdata state.decks) _ _ (λ taken t.
       unless_deck_fault C S Speaks Open _ _ card (basis_reading problem lp taken.0) _ _ (λ s read.
-      may_stop C S Speaks Open _ _ card _ _ _ _ (asked S Speaks Open _ _ card (OfInstall s) (record { problem = problem; lp = lp }) _ _ _ _ (λ x y right taken speaks says. absurd taken)))))
+      may_stop C S Speaks Open _ _ card _ _ _ _ (asked C S Speaks Open _ _ card (OfInstall s) (record { problem = problem; lp = lp }) _ _ _ _ (λ x y right taken speaks says. absurd taken)))))
 
   -- ---- each verb
 

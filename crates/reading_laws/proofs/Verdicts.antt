@@ -1,5 +1,5 @@
 -- Checks and verdicts tell their text.
-use Rattle.std.proofs.Common.{◌≡◌, ℕ, List, [], ◌∷◌, ◌++◌, codes, sym, append_assoc, append-nil}
+use Rattle.std.proofs.Common.{Option, ◌≡◌, ℕ, List, [], ◌∷◌, ◌++◌, codes, sym, append_assoc, append-nil}
 use Rattle.std.specs.Prelude.{nat_eq}
 use Rattle.frac128.specs.declared.Op.TheVariants.{Add, Sub, Mul, Div}
 use Rattle.lp_definitions.specs.LinearProgram.{variables, size}
@@ -10,6 +10,7 @@ use Rattle.listing_definitions.specs.Numbers.{digits, rational_text}
 use Rattle.listing_definitions.specs.Report.{OptimalAt, CrossedAt, InfeasibleBy, UnboundedBy, Check, Checked, Unchecked}
 use Rattle.listing_definitions.specs.Text.{operation_text, check_text, table_text, solver_text, verdict_head, verdict_lines, verdict_text}
 use Rattle.question_definitions.specs.Answers.{Sheet}
+use Rattle.exact_values.specs.Rational.{ℚ}
 use Rattle.walk_definitions.specs.Checkers.{checker_of_128_bits}
 use Rattle.walk_definitions.specs.Words.{Parsed, fraction_in, count_in, max_count}
 use Rattle.walk_definitions.specs.Forms.{all_operations}
