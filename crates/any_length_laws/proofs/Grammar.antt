@@ -1,9 +1,8 @@
 -- What is read of a listing with numbers read in one way is read alike in another way, where this reads all that the first reads.
-use Rattle.std.proofs.Common.{◌≡◌, ◌⊎◌, inl, inr, ℕ, Bool, true, false, List, [], ◌∷◌, ◌++◌, Option, Some, None, codes, if◌then◌else◌, refl, ap, ◌∙◌}
+use Rattle.std.proofs.Common.{◌≡◌, ◌⊎◌, inl, inr, ℕ, List, [], ◌∷◌, ◌++◌, Option, Some, None, codes, if◌then◌else◌, refl, ap, ◌∙◌}
 use Rattle.std.specs.Prelude.{option_map, option_and_then}
 use Rattle.std.specs.Option.{option_or}
-use Rattle.exact_values.specs.Rational.{ℚ, zero_ℚ}
-use Rattle.exact_values.specs.Tests.{eq_ℚ}
+use Rattle.exact_values.specs.Rational.{ℚ}
 use Rattle.frac128.specs.declared.Op.{Op}
 use Rattle.lp_definitions.specs.LinearProgram.{variables}
 use Rattle.card_definitions.specs.Words.{named}
@@ -11,14 +10,14 @@ use Rattle.listing_definitions.specs.declared.Mark.{Mark}
 use Rattle.listing_definitions.specs.declared.Solver.{Solver}
 use Rattle.listing_definitions.specs.declared.Solver.TheVariants.{Primal, Dual, Paraobj, Pararhs}
 use Rattle.listing_definitions.specs.Numbers.{digits, rational_text}
-use Rattle.listing_definitions.specs.Report.{Value, Line, Number, Check, Checked, Unchecked, PathVerdict, OptimalAt, InfeasibleBy, UnboundedBy, SolutionLines, ParametricInterval, ChainEnd, EndsAt, UnboundedPast, InfeasiblePast}
+use Rattle.listing_definitions.specs.Report.{Value, Line, Number, Check, Checked, Unchecked, OptimalAt, InfeasibleBy, UnboundedBy, SolutionLines, ChainEnd, EndsAt, UnboundedPast, InfeasiblePast}
 use Rattle.listing_definitions.specs.Text.{solver_text, mark_text}
 use Rattle.question_definitions.specs.Answers.{Sheet}
 use Rattle.answer_definitions.specs.Lines.{row_numbers, column_numbers}
 use Rattle.walk_definitions.specs.Checkers.{checker_of_128_bits}
 use Rattle.walk_definitions.specs.Words.{Parsed, left_after, with_text, with_word, fraction_in, count_in, max_count}
 use Rattle.walk_definitions.specs.Forms.{all_operations}
-use Rattle.walk_definitions.specs.Tables.{Slot, AnyCode, AnyNumber, Known, value_in, slot_in, then_more, values_in, number_at, begins_table_line, line_head, line_of, line_in, table_in, multiplier_in, ray_in, pair_slots, part_slots}
+use Rattle.walk_definitions.specs.Tables.{Slot, AnyCode, AnyNumber, Known, value_in, slot_in, then_more, values_in, begins_table_line, line_head, line_in, table_in, multiplier_in, ray_in, pair_slots, part_slots}
 use Rattle.walk_definitions.specs.Reading.{Claim, with_check, optimal_in, crossed_in, infeasible_in, unbounded_in, claim_in, verdict_in, row_slots, column_slots, solution_in, interval_in, close_in}
 use Rattle.walk_definitions.proofs.Texts.{is_text}
 use Rattle.any_length_laws.proofs.Readers.{Widens, same, after_text, after_word, mapped, gone_on, more, by_text, either, text_stands}
@@ -110,17 +109,17 @@ module _ (of other : List ℕ → Option ℚ) (means : (word : List ℕ) (x : �
 
     optimal_widens : Widens (optimal_in of sheet) (optimal_in other sheet)
     optimal_widens =
-        after_text (codes "OPTIMAL STEPS ") _ _ (after_word _ _ _ _ (λ word n e. e) (λ steps. after_text (codes " OBJECTIVE ") _ _ (after_word of other _ _ means (λ objective.
+        after_text (codes "OPTIMAL STEPS ") _ _ (after_word (count_in max_count) (count_in max_count) _ _ (λ word n e. e) (λ steps. after_text (codes " OBJECTIVE ") _ _ (after_word of other _ _ means (λ objective.
         after_text (codes " ") _ _ (check_widens _ _ (λ check. same (λ rest. Some ((OptimalAt steps objective, check), rest))))))))
 
     infeasible_widens : Widens (infeasible_in of sheet) (infeasible_in other sheet)
     infeasible_widens =
-        after_text (codes "INFEASIBLE STEPS ") _ _ (after_word _ _ _ _ (λ word n e. e) (λ steps. after_text (codes " RAY ") _ _ (check_widens _ _ (λ check.
+        after_text (codes "INFEASIBLE STEPS ") _ _ (after_word (count_in max_count) (count_in max_count) _ _ (λ word n e. e) (λ steps. after_text (codes " RAY ") _ _ (check_widens _ _ (λ check.
         mapped (λ got. ((InfeasibleBy steps got.0, check), got.1)) (ray_in of sheet (variables sheet.lp.matrix)) (ray_in other sheet (variables sheet.lp.matrix)) (ray_widens (variables sheet.lp.matrix))))))
 
     unbounded_widens : Widens (unbounded_in of sheet) (unbounded_in other sheet)
     unbounded_widens =
-        after_text (codes "UNBOUNDED STEPS ") _ _ (after_word _ _ _ _ (λ word n e. e) (λ steps. after_text (codes " OBJECTIVE ") _ _ (after_word of other _ _ means (λ objective.
+        after_text (codes "UNBOUNDED STEPS ") _ _ (after_word (count_in max_count) (count_in max_count) _ _ (λ word n e. e) (λ steps. after_text (codes " OBJECTIVE ") _ _ (after_word of other _ _ means (λ objective.
         after_text (codes " ") _ _ (check_widens _ _ (λ check.
         mapped (λ got. ((UnboundedBy steps objective got.0, check), got.1)) (table_in of sheet pair_slots (variables sheet.lp.matrix)) (table_in other sheet pair_slots (variables sheet.lp.matrix))
         (table_widens pair_slots (variables sheet.lp.matrix))))))))

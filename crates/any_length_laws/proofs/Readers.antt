@@ -1,6 +1,6 @@
 -- Readers of which the one reads all that the other reads, and reads it alike.
 --     Widens reads others          what the first reads, the second does
-use Rattle.std.proofs.Common.{◌≡◌, ℕ, Bool, true, false, List, [], ◌∷◌, ◌++◌, Option, Some, None, drop, length, if◌then◌else◌, refl, ap, ◌∙◌}
+use Rattle.std.proofs.Common.{◌≡◌, ℕ, List, ◌∷◌, Option, Some, None, drop, length, refl, ap, ◌∙◌}
 use Rattle.std.specs.Prelude.{option_map, option_and_then}
 use Rattle.std.specs.Option.{option_or}
 use Rattle.walk_definitions.specs.Words.{Parsed, left_after, with_text, word_in, with_word}

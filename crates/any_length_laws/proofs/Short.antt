@@ -1,5 +1,5 @@
 -- A fraction of 128 bits has no more digits than the checker of any length reads.
-use Rattle.std.proofs.Common.{◌≡◌, ℕ, zero, suc, ◌+◌, ◌*◌, ◌/◌, ◌^◌, ◌≤◌, ◌<◌, Bool, true, false, ◌&&◌, ◌||◌, ◌==◌, if◌then◌else◌, List, [], ◌∷◌, ◌++◌, length, take, drop, ℤ, pos, negsuc, unsigned_abs, Option, Some, None, refl, sym, ap, ap₂, ◌∙◌, arith, subst}
+use Rattle.std.proofs.Common.{◌≡◌, ℕ, zero, suc, ◌+◌, ◌*◌, ◌/◌, ◌^◌, ◌≤◌, ◌<◌, Bool, true, false, ◌&&◌, ◌||◌, ◌==◌, if◌then◌else◌, List, [], ◌∷◌, ◌++◌, length, take, drop, ℤ, pos, negsuc, unsigned_abs, Some, None, refl, ap, ap₂, ◌∙◌, arith}
 use Rattle.std.specs.Prelude.{nat_lt, bytes_eq, unwrap_or}
 use Rattle.std.specs.List.{position_or_len, before_first, after_first}
 use Rattle.std.proofs.lemmas.Bool.Decides.{nat_tests}
@@ -7,7 +7,7 @@ use Rattle.exact_values.specs.Rational.{ℚ}
 use Rattle.frac128.specs.Operations.{TermsFit}
 use Rattle.listing_definitions.specs.Numbers.{digits_within, digits, integer_text, rational_text}
 use Rattle.walk_definitions.specs.Checkers.{checker_of_128_bits, checker_of_any_length}
-use Rattle.walk_definitions.specs.Words.{left_after, is_slash, unsigned, has_number_form, is_longer, is_long, fraction_in}
+use Rattle.walk_definitions.specs.Words.{is_slash, unsigned, has_number_form, is_longer, is_long, fraction_in}
 use Rattle.walk_definitions.proofs.Numbers.{text_of_fraction, read_of_text}
 
 -- ---- lengths

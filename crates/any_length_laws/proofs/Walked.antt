@@ -2,7 +2,6 @@
 --     IsGood turn                  the walk goes on, or has attested the listing
 use Rattle.std.proofs.Common.{◌≡◌, ℕ, ◌-◌, Bool, true, false, List, Option, Some, None, if◌then◌else◌, nat_lt, refl, sym, ap, ◌∙◌, subst}
 use Rattle.std.specs.Prelude.{length, slice_get}
-use Rattle.std.specs.Option.{option_or}
 use Rattle.exact_values.specs.Rational.{ℚ}
 use Rattle.exact_values.specs.Tests.{eq_ℚ}
 use Rattle.card_definitions.specs.Cards.{Card}
@@ -12,15 +11,14 @@ use Rattle.listing_definitions.specs.Report.{Check}
 use Rattle.listing_definitions.specs.Report as reports
 use Rattle.listing_definitions.specs.Ending.{Ended, StatementLimit}
 use Rattle.question_definitions.specs.Answers.{Sheet, Question, OfPath, OfSolution, OfRanges, OfParametricRun, OfPunch, OfInstall, AnswerTo}
-use Rattle.run_definitions.specs.Moves.{StatementOutcome, StatementMove, Does, MayStop, Asks, gain_text, gain_of}
+use Rattle.run_definitions.specs.Moves.{StatementOutcome, StatementMove, Does, MayStop, Asks}
 use Rattle.run_definitions.specs.Verbs.{verb_move}
 use Rattle.run_definitions.specs.Run.{max_executed, counted}
 use Rattle.run_definitions.specs.Answer.{job_decks}
 use Rattle.walk_definitions.specs.Checkers.{checker_of_128_bits, checker_of_any_length}
-use Rattle.walk_definitions.specs.Words.{left_after}
 use Rattle.walk_definitions.specs.Tests.{point_of}
 use Rattle.walk_definitions.specs.Reading.{Judged, Right, Fails, Refuses, judged}
-use Rattle.walk_definitions.specs.Walker.{Pending, Walker, Found, Attested, Wrong, Open, Unchecked, WalkTurn, Walks, Finds, opened, refuses_selection, unless_found, closes, follows, passed, settles, settled, noted, settling, answered, due, walk_move, walk_statement, turn}
+use Rattle.walk_definitions.specs.Walker.{Pending, Walker, Found, Attested, Wrong, Unchecked, WalkTurn, Walks, Finds, opened, refuses_selection, unless_found, closes, follows, passed, settled, noted, settling, answered, due, walk_move, walk_statement, turn}
 use Rattle.walk_definitions.specs.Found.{Reaches, begun, walked, Comes, of_cards, of_control, of_walk}
 use Rattle.any_length_laws.specs.Laws.{Widens}
 use Rattle.any_length_laws.proofs.Judged.{judged_widens}

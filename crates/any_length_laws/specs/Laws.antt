@@ -2,10 +2,10 @@
 --     without_limit                the checker that reads each number for its value, however long it is
 --     NeverRefuses                 nothing is refused but for the length of a number
 --     Widens                       what the checker of 128 bits attests is attested
-use Rattle.std.specs.Prelude.{◌≡◌, ℕ, List, Option, Some, None}
+use Rattle.std.specs.Prelude.{◌≡◌, ℕ, List, None}
 use Rattle.question_definitions.specs.Answers.{Sheet, Question, AnswerTo}
 use Rattle.walk_definitions.specs.Checkers.{Checker, checker_of_128_bits, checker_of_any_length}
-use Rattle.walk_definitions.specs.Reading.{Judged, Right, Refuses, judged}
+use Rattle.walk_definitions.specs.Reading.{Right, Refuses, judged}
 use Rattle.walk_definitions.specs.Walker.{Attested}
 use Rattle.walk_definitions.specs.Found.{Comes}
 
