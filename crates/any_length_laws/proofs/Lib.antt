@@ -1,0 +1,7 @@
+mod Short
+mod Readers
+mod Grammar
+mod Tests
+mod Judged
+mod Walked
+mod Never
