@@ -171,7 +171,7 @@ face_kind sheet (Set name) theta s end face = subst (IsKindOf (Set name)) face.4
 
 pub close_passes : (problem : Problem ℕ) (lp : LinearProgram) (changing : Changing) → IsLinearProgram lp → ChangesFreely (record { problem = problem; lp = lp }) changing → (start max last : ℚ) (v : Vector) →
     IsBest (family_of (record { problem = problem; lp = lp }) changing last) v → (past : PastBreakpoint) → IsKind changing past → IsTrueEnd (family_of (record { problem = problem; lp = lp }) changing) max last past →
-    Passes (close_test (record { problem = problem; lp = lp }) changing max last (end_of (sheet_at (record { problem = problem; lp = lp }) changing start) max past))
+    Passes (close_test checker_of_128_bits (record { problem = problem; lp = lp }) changing max last (end_of (sheet_at (record { problem = problem; lp = lp }) changing start) max past))
 close_passes problem lp (Row name) lawful free start max last v best AtMax kind is =
     (pass_then (asked (eq_ℚ max last)) _ (passes_asked _ (test_from_same max last (sym is))) (pass_then (asked (eq_ℚ max max)) [] (passes_asked _ (test_from_same max max refl)) pass_none)).passes
 close_passes problem lp (Set name) lawful free start max last v best AtMax kind is =
