@@ -3,14 +3,16 @@
     model = read_file(PATH, Reading(..))      a Model, or Refused, which names the line and shows the word; OSError where PATH can't be read
     model = read_text(TEXT, Reading(..))      the same of a text
 
-Reading says how a file is read where programs differ, and which numbers are taken: "exact" takes every decimal number and any size, "job"
-refuses what a job can't hold, "round" rounds to the nearest number that 12 columns hold. PATH may be gzipped, or - for standard input."""
+Reading says how a file is read where programs differ, and which numbers are taken: "exact" takes every decimal number, "job" refuses
+one that a job can't hold, "round" rounds to the nearest number that 12 columns hold. PATH may be gzipped, or - for standard input."""
 import codecs, re, sys
 from dataclasses import dataclass, replace
 from fractions import Fraction
+from mps360.commands import called
 from mps360.errors import Refused
-from mps360.model import MOST, Limits, Model
-from mps360.numbers import NUMBER, decimal_text, has_text, nearest, number, text_of
+from mps360.model import MOST, Limits, Model, Place
+from mps360.model_checks import Choices, warnings
+from mps360.numbers import NUMBER, decimal_text, has_text, nearest, number, shortest_double, text_of
 from mps360.text import counted, lines_text, some_of
 
 FIELDS = ((1, 3), (4, 12), (14, 22), (24, 36), (39, 47), (49, 61))
@@ -28,6 +30,8 @@ BOUNDS = {"UP": ("upper", True, False), "LO": ("lower", True, False), "FX": ("bo
 FIRST_REMARK = {"ROWS": 2, "COLUMNS": 1, "RHS": 1, "RANGES": 1, "BOUNDS": 2}
 # the NAME line of a free deck of a job; the name stands in columns 15 to 22
 FREE_DECK = re.compile(r"NAME.{18}  FREE")
+# the first word behind the remarks of an MPS file and the comments of an LP file
+FIRST_WORD = re.compile(r"(?:\s|(?:(?<=\n)|^)\*[^\n]*\n?|\\[^\n]*\n?)*([^\s\\:]+)")
 WORDS = re.compile(r"[^ \t]+")
 # a line of fixed fields, which is filled up with blanks to its last column
 BY_COLUMNS = re.compile(r" ([^\t]{2}) ([^\t]{8})  ([^\t]{8})  ([^\t]{12})   ([^\t]{8})  ([^\t]{12})[^\t]*")
@@ -38,6 +42,7 @@ class Reading:
     "how a file is read"
     form: str = "either"             # fields are words, unless their columns say otherwise; "free": words; "fixed": by their columns
     numbers: str = "job"             # "exact", "job" or "round"
+    doubles: bool = False            # a number of 16 or 17 digits is the shortest decimal that is the same double
     relax: bool = False              # columns of whole numbers are taken as columns of any numbers
     marker_upper: str | None = None  # the upper limit of such a column between markers that has no bound: "1" or "none"
     negative_up: str | None = None   # "keep" leaves the lower limit of a negative UP at 0, "free" takes it away
@@ -209,6 +214,8 @@ class Reader:
             if rest:
                 self.take_word(line, 1 if len(line.words) > 1 else 0, rest[0])
             return
+        elif section in ("VAR", "PARAM", "SET") and not self.named and self.section is None:
+            raise Refused(MATHPROG, 0)
         elif section not in (*SECTIONS, "ENDATA"):
             raise Refused(f"the section {section[:30]} can't be kept", 0)
         elif rest:
@@ -225,13 +232,13 @@ class Reader:
         elif self.section == "OBJSENSE":
             raise Refused(f"OBJSENSE is MAX or MIN, not {word[:30]}", place)
         elif word == "PROGRAM":
-            raise Refused("this is a job already, and no MPS file: scripts/mps360 runs it", place)
+            raise Refused(f"this is a job already, and no MPS file: {called('mps360')} runs it, {called('solve')} too", place)
         else:
             raise Refused("a data line where no section takes one", place)
         self.section = None
 
     def most(self, what, count):
-        if not self.exact and count >= MOST[what]:
+        if count >= MOST[what]:
             raise Refused(f"a job holds at most {MOST[what]:,} {what}")
 
     def value(self, place, line):
@@ -239,9 +246,14 @@ class Reader:
         word = line.words[place]
         try:
             value = number(word)
+            if self.reading.doubles and (short := shortest_double(word)) is not None:
+                self.model.doubles.append((self.line, word, short))
+                word, value = short, number(short)
         except Refused as cause:
             cause.word = place
             raise
+        if self.exact and not has_text(word):
+            self.model.long.setdefault(value, Place(word, self.line, line.text, line.spans[place]))
         if self.exact or has_text(word) or self.section not in ("ROWS", "COLUMNS") and abs(value) >= self.reading.infinity:
             return value
         if self.section == "RHS" and self.model.rows[line.words[place - 1]] == "N":
@@ -409,8 +421,9 @@ class Reader:
         if self.model.rows[row] == "N" and isinstance(value, float):
             raise Refused("a constant can't be infinite", at)
         if self.model.rows[row] != "N" and abs(value) >= self.reading.infinity:
+            also = " (or say --infinity NUMBER, of more than it)" if not isinstance(value, float) and nearest(value) is not None else ""
             raise Refused(f"a right-hand side of {decimal_text(self.reading.infinity)} and more is infinite in some programs; "
-                          "make the row an N row, or leave it out (or say --infinity)", at)
+                          f"make the row an N row, or leave it out{also}", at)
         items[row] = value
 
     def take_range(self, items, row, at, line):
@@ -491,6 +504,8 @@ class Reader:
         self.end_markers()
         self.choose()
         self.tell()
+        self.model.warned = warnings(self.model, self.choices())
+        self.model.said += self.model.warned
 
     def end_bounds(self):
         for items in self.model.bounds.values():
@@ -541,6 +556,13 @@ class Reader:
                 raise Refused(f"no set of {what} is named {wanted[:30]}")
             setattr(model, attribute, wanted if wanted is not None else next(iter(sets), None))
 
+    def choices(self):
+        "what the file or the reading says, so that nothing was chosen here"
+        reading = self.reading
+        named = {"RHS": reading.rhs_set, "RANGES": reading.range_set, "BOUNDS": reading.bound_set}
+        return Choices((reading.sense or self.said_sense) is not None, (reading.objective or self.said_objective) is not None,
+                       frozenset(what for what, name in named.items() if name is not None))
+
     def tell(self):
         model, told = self.model, self.model.said
         sentences = {"after": "what follows ENDATA isn't read", "header": "what follows the name of a section isn't read",
@@ -559,29 +581,61 @@ class Reader:
             told.append(f"{counted(len(model.relaxed), 'column')} should have whole numbers ({some_of(model.relaxed)}): any numbers are allowed here")
         taken = {"RHS": model.rhs_set, "RANGES": model.range_set, "BOUNDS": model.bound_set}
         for what, sets in self.sets.items():
-            if len(sets) > 1:
+            if len(sets) > 1 and what in self.choices().sets:
                 told.append(f"{what} has {len(sets)} sets; {taken[what] or 'the one without a name'} is taken")
         others = [row for row, kind in model.rows.items() if kind == "N"]
-        if len(others) > 1:
+        if len(others) > 1 and self.choices().objective:
             told.append(f"there are {len(others)} N rows; the objective is {model.objective}")
-        if model.rounded:
-            self.tell_rounding()
+        told += numbers_told(model)
 
-    def tell_rounding(self):
-        exact = [(line, word, near, number(word)) for line, word, near in self.model.rounded]
+
+def numbers_told(model):
+    "a sentence for the numbers that were rounded, and one for those that were taken as doubles"
+    if model.doubles:
+        line, word, short = model.doubles[0]
+        yield (f"{counted(len(model.doubles), 'number', 'of 16 or 17 digits was', 'of 16 or 17 digits were')} taken as the shortest decimal that is the same double, as {short} for "
+               f"{word[:40]} in line {line}")
+    if model.rounded:
+        exact = [(line, word, near, number(word)) for line, word, near in model.rounded]
         changes = [(abs(near - value), abs(near / value - 1), line, word) for line, word, near, value in exact]
         most, least = max(changes), max(changes, key=lambda change: change[1])
         told = f"{counted(len(changes), 'number', 'was', 'were')} rounded to 12 columns; "
         told += f"the greatest change is {decimal_text(most[0])}, of {most[3][:40]} in line {most[2]}"
         told += f", and the greatest relative change {decimal_text(least[1])}, of {least[3][:40]} in line {least[2]}"
-        self.model.said.append(told)
+        yield told
 
 
-def read_text(text, reading=Reading()):
+# forms that files of models come in, and what helps
+COMPRESSED = ((b"\xfd7zXZ\0", "xz", "unxz"), (b"BZh", "bzip2", "bunzip2"), (b"\x28\xb5\x2f\xfd", "zstd", "unzstd"), (b"PK\x03\x04", "zip", "unzip"))
+MATHPROG = "it is a model in the language MathProg or AMPL: glpsol --check -m MODEL.mod --wfreemps MODEL.mps makes an MPS file of a MathProg model"
+
+
+def is_lp(text, name=""):
+    "whether a text is a CPLEX LP file: by its first word, or by its name where that word begins no MPS file either"
+    found = FIRST_WORD.match(text)
+    word = found[1].upper() if found else ""
+    is_named = name.lower().removesuffix(".gz").endswith(".lp")
+    return word in SENSES or is_named and word not in ("NAME", "OBJSENSE", "OBJNAME", *SECTIONS)
+
+
+def read_text(text, reading=Reading(), name=""):
+    if is_lp(text, name):
+        from mps360 import lp_file
+        return lp_file.read_text(text, reading)
     return Reader(reading).read(text)
 
 
-def read_bytes(data, reading=Reading()):
+def refuse_other_forms(data, name):
+    "refuses what is compressed otherwise than by gzip, and models in another language, and says what makes an MPS file of it"
+    for begin, how, unpacks in COMPRESSED:
+        if data.startswith(begin):
+            raise Refused(f"it is compressed by {how}: {unpacks} unpacks it (what gzip has compressed is read as it is)")
+    if name.lower().endswith(".mod"):
+        raise Refused(MATHPROG)
+
+
+def read_bytes(data, reading=Reading(), name=""):
+    refuse_other_forms(data, name)
     if data[:2] == b"\x1f\x8b":
         import gzip, io, zlib
         try:
@@ -594,11 +648,11 @@ def read_bytes(data, reading=Reading()):
     if data[:2] in (codecs.BOM_UTF16_LE, codecs.BOM_UTF16_BE):
         raise Refused("it is UTF-16; save it as UTF-8")
     try:
-        return read_text(data.decode("utf-8-sig"), reading)
+        return read_text(data.decode("utf-8-sig"), reading, name)
     except UnicodeDecodeError as cause:
         if data.startswith(codecs.BOM_UTF8):
             raise Refused("it begins as UTF-8, and has a byte that isn't", line=cause.object[:cause.start].count(b"\n") + 1)
-        model = read_text(data.decode("latin-1"), reading)
+        model = read_text(data.decode("latin-1"), reading, name)
     model.said.append("the file isn't UTF-8: its letters are read as Latin-1")
     return model
 
@@ -607,4 +661,4 @@ def read_file(path, reading=Reading()):
     if str(path) == "-":
         return read_bytes(sys.stdin.buffer.read(), reading)
     with open(path, "rb") as source:
-        return read_bytes(source.read(), reading)
+        return read_bytes(source.read(), reading, str(path))

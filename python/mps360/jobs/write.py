@@ -5,12 +5,18 @@
 A Job has text; rows, columns and sets {name: name in the job}; problem, the problem's name in it; name_map(), a table for JSON by which
 listing2json.py puts the file's names back: the names that were changed by those in the job, the objective, the sense, the sets taken, the
 constants, the rounded numbers, the relaxed columns, and all that was said."""
+from __future__ import annotations
+
 import re
 from dataclasses import dataclass, field
+from typing import TYPE_CHECKING
 from mps360.errors import Refused
 from mps360.model import MOST, Model
 from mps360.numbers import text_of
 from mps360.text import counted, some_of
+
+if TYPE_CHECKING:
+    from mps360.long_numbers import Split
 
 
 class Names:
@@ -47,13 +53,26 @@ class Job:
     sets: dict = field(default_factory=dict)
     rhs_on_objective: str | None = None  # the number of the objective in RHS, where the deck has it
     said: list = field(default_factory=list)
+    # those of said which are for a reader of the table of names, or of the listing, alone
+    of_table: list = field(default_factory=list)
+    of_listing: list = field(default_factory=list)
+    split: Split | None = None  # where the model is one of short numbers, made of the file's
+
+    @property
+    def file(self):
+        "the model as the file has it, with its long numbers"
+        return self.split.file if self.split else self.model
+
+    def said_without(self, *unread):
+        "what was said, without these, as no such reader is there"
+        return [sentence for sentence in self.said if not any(sentence in sentences for sentences in unread)]
 
     @property
     def renamed(self):
         return any(name != short for names in (self.rows, self.columns, self.sets) for name, short in names.items())
 
     def name_map(self):
-        model = self.model
+        model, file = self.model, self.file
         changed = {key: {short: name for name, short in getattr(self, key).items() if name != short} for key in ("rows", "columns", "sets")}
         taken = {"RHS": model.rhs_set, "RANGES": model.range_set, "BOUNDS": model.bound_set}
         return {"problem": {self.problem: model.name} if self.problem != model.name else {}, **changed, "sense": model.sense,
@@ -62,13 +81,19 @@ class Job:
                 "constants": {self.sets[name]: {self.rows[row]: str(model.constant_of(name, row)) for row in items if model.rows[row] == "N"}
                               for name, items in model.rhs.items()},
                 "relaxed": [self.columns[name] for name in model.relaxed],
-                "rounded": [{"line": line, "from": word, "to": text_of(near)} for line, word, near in model.rounded], "said": self.said}
+                "rounded": [{"line": line, "from": word, "to": text_of(near)} for line, word, near in model.rounded], "said": self.said,
+                **({"doubles": [{"line": line, "from": word, "to": short} for line, word, short in file.doubles]} if file.doubles else {}),
+                **({"long": self.split.table(self)} if self.split else {})}
+
+
+class TooLong(Refused):
+    "a number that 12 columns don't hold"
 
 
 def card_number(value):
     text = text_of(value)
     if text is None:
-        raise Refused(f"the number {value} has no exact form of 12 columns")
+        raise TooLong(f"the number {value} has no exact form of 12 columns")
     return text
 
 
@@ -100,9 +125,10 @@ def name_all(job):
     job.said = list(model.said)
     if shown := [counted(count, what) for count, what in renamed if count]:
         verb = "has another name" if sum(count for count, _ in renamed) == 1 else "have other names"
-        job.said.append(f"{', '.join(shown)} {verb} in the job; the table of names has them")
+        job.of_table.append(f"{', '.join(shown)} {verb} in the job; the table of names has them")
     if not lawful:
-        job.said.append(f"the problem's name is {job.problem} in the job")
+        job.of_table.append(f"the problem's name is {job.problem} in the job")
+    job.said += job.of_table
 
 
 def rhs_cards(job, item):
@@ -119,8 +145,8 @@ def rhs_cards(job, item):
             cards.append(item(job.sets[name], job.rows[row], text))
     if model.constant:
         sign = "" if model.constant_sign > 0 else "the negative of "
-        job.said.append(f"the objective's constant is {model.constant}, {sign}its number in RHS: it isn't in OBJECTIVE and ACTIVITY of "
-                        "the listing, add it there (listing2json.py --names does)")
+        job.of_listing.append("the objective's constant isn't in OBJECTIVE and ACTIVITY of the listing: add it there (listing2json.py --names does)")
+        job.said += [f"the objective's constant is {model.constant}, {sign}its number in RHS", *job.of_listing]
     return cards
 
 

@@ -10,6 +10,7 @@ from dataclasses import dataclass, field
 from fractions import Fraction
 from math import lcm
 
+from mps360.model import Sums
 from mps360.numbers import text_of
 
 GREATEST = 2 ** 127 - 1
@@ -58,7 +59,8 @@ class Writer:
         self.names, self.m = self.row_names + self.column_names, len(job.rows)
         place = {row: k for k, row in enumerate(model.rows)}
         self.objective = place[model.objective]
-        self.columns = [{place[row]: value for row, value in model.numbers_of(column).items()} for column in model.columns]
+        self.sums = Sums(model)
+        self.columns = [{place[row]: value for row, value in self.sums.of(column).items()} for column in model.columns]
         self.limits = [self.row_limits(row) for row in model.rows] + [model.column_limits(column) for column in model.columns]
         values = model.rhs.get(model.rhs_set, {})
         self.rhs = [ZERO if text_of(value) is None else value for value in (values.get(row, ZERO) for row in model.rows)]
@@ -82,10 +84,10 @@ class Writer:
     def check_sums(self):
         model = self.job.model
         for column in model.columns:
-            numbers = model.numbers_of(column)
-            for row, parts in model.parts.items():
+            numbers = self.sums.of(column)
+            for row in numbers:
                 total = ZERO
-                for part, times in parts.items():
+                for part, times in model.parts.get(row, {}).items():
                     if part in numbers:
                         self.check_added(times * numbers[part], ZERO)
                         self.check_added(total, times * numbers[part])
