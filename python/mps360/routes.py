@@ -23,6 +23,7 @@ from mps360.bases import Basis
 from mps360.errors import Refused
 from mps360.jobs.write import Job
 from mps360.listings import write
+from mps360.long_answers import listing_of
 from mps360.plain import Plain
 from mps360.processes import Process, Processes
 from mps360.runs import NO_END, Attempt, NoAnswer, Observer, shown, waits_for
@@ -271,7 +272,7 @@ class Routes:
         self.note(attempt, cause)
 
     def plain_form(self) -> Plain:
-        self.plain = self.plain or Plain(self.job.model)
+        self.plain = self.plain or Plain(self.job.file)
         return self.plain
 
     def asked(self, ask: Callable[[], Request], solver: Solver) -> Request:
@@ -325,12 +326,8 @@ class Routes:
 
     def listing_of(self, text: str) -> str:
         "the listing of a solution that esolver wrote of the plain model"
-        plain, job = self.plain_form(), self.job
-        answer = plain.answer_back(solutions.read_bytes(text.encode("latin-1"), plain.model))
-        named = write.Answer("optimal", columns={job.columns[name]: value for name, value in answer.columns.items()},
-                             prices={job.rows[name]: value for name, value in answer.prices.items()},
-                             reduced=None if answer.reduced is None else {job.columns[name]: value for name, value in answer.reduced.items()})
-        return write.listing_of(job, named)
+        plain = self.plain_form()
+        return listing_of(self.job, plain.answer_back(solutions.read_bytes(text.encode("latin-1"), plain.model)))
 
     def attest(self, attempt: Attempt) -> None:
         "asks the checker of listings; NoBasis where it doesn't attest"

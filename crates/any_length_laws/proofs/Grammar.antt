@@ -25,16 +25,16 @@ use Rattle.any_length_laws.proofs.Readers.{Widens, same, after_text, after_word,
 -- ---- the word of a check is read alike, whatever is read behind it
 
 module _ {X : Type 0} where
-  abbrev after_right : (Check → List ℕ → Option X) → Op → ℚ → ℚ → List ℕ → Option X
+  abbrev pub after_right : (Check → List ℕ → Option X) → Op → ℚ → ℚ → List ℕ → Option X
   after_right reads op left right = with_text (codes "\n") (reads (Unchecked (record { op = op; left = left; right = right })))
 
-  abbrev after_left : (Check → List ℕ → Option X) → Op → ℚ → List ℕ → Option X
+  abbrev pub after_left : (Check → List ℕ → Option X) → Op → ℚ → List ℕ → Option X
   after_left reads op left = with_text (codes " ") (with_word (fraction_in checker_of_128_bits) (after_right reads op left))
 
-  abbrev after_operation : (Check → List ℕ → Option X) → Op → List ℕ → Option X
+  abbrev pub after_operation : (Check → List ℕ → Option X) → Op → List ℕ → Option X
   after_operation reads op = with_text (codes " ") (with_word (fraction_in checker_of_128_bits) (after_left reads op))
 
-  abbrev after_unchecked : (Check → List ℕ → Option X) → List ℕ → Option X
+  abbrev pub after_unchecked : (Check → List ℕ → Option X) → List ℕ → Option X
   after_unchecked reads = with_word (named all_operations) (after_operation reads)
 
   abbrev unchecked_in : (Check → List ℕ → Option X) → List ℕ → Option X
@@ -91,14 +91,14 @@ module _ (of other : List ℕ → Option ℚ) (means : (word : List ℕ) (x : �
         gone_on _ _ (with_text (line_head sheet k) (values_in of slots)) (with_text (line_head sheet k) (values_in other slots))
         (after_text (line_head sheet k) (values_in of slots) (values_in other slots) (values_widen slots)) (λ got line e. e)
 
-    table_widens : (slots : ℕ → List Slot) (ks : List ℕ) → Widens (table_in of sheet slots ks) (table_in other sheet slots ks)
+    pub table_widens : (slots : ℕ → List Slot) (ks : List ℕ) → Widens (table_in of sheet slots ks) (table_in other sheet slots ks)
     table_widens slots [] = same (λ rest. Some ([], rest))
     table_widens slots (k ∷ ks) = more (line_in of sheet (slots k) k) (line_in other sheet (slots k) k) (table_in of sheet slots ks) (table_in other sheet slots ks) (line_widens (slots k) k) (table_widens slots ks)
 
     multiplier_widens : (k : ℕ) → Widens (multiplier_in of sheet k) (multiplier_in other sheet k)
     multiplier_widens k = gone_on _ _ (line_in of sheet (AnyNumber ∷ []) k) (line_in other sheet (AnyNumber ∷ []) k) (line_widens (AnyNumber ∷ []) k) (λ got line e. e)
 
-    ray_widens : (ks : List ℕ) → Widens (ray_in of sheet ks) (ray_in other sheet ks)
+    pub ray_widens : (ks : List ℕ) → Widens (ray_in of sheet ks) (ray_in other sheet ks)
     ray_widens [] = same (λ rest. if begins_table_line rest then None else Some ([], rest))
     ray_widens (k ∷ ks) =
         by_text (left_after (line_head sheet k)) (ray_in of sheet ks) (λ rest. then_more (multiplier_in of sheet k rest) (ray_in of sheet ks))
@@ -107,12 +107,12 @@ module _ (of other : List ℕ → Option ℚ) (means : (word : List ℕ) (x : �
 
     -- ---- verdicts
 
-    optimal_widens : Widens (optimal_in of sheet) (optimal_in other sheet)
+    pub optimal_widens : Widens (optimal_in of sheet) (optimal_in other sheet)
     optimal_widens =
         after_text (codes "OPTIMAL STEPS ") _ _ (after_word (count_in max_count) (count_in max_count) _ _ (λ word n e. e) (λ steps. after_text (codes " OBJECTIVE ") _ _ (after_word of other _ _ means (λ objective.
         after_text (codes " ") _ _ (check_widens _ _ (λ check. same (λ rest. Some ((OptimalAt steps objective, check), rest))))))))
 
-    infeasible_widens : Widens (infeasible_in of sheet) (infeasible_in other sheet)
+    pub infeasible_widens : Widens (infeasible_in of sheet) (infeasible_in other sheet)
     infeasible_widens =
         after_text (codes "INFEASIBLE STEPS ") _ _ (after_word (count_in max_count) (count_in max_count) _ _ (λ word n e. e) (λ steps. after_text (codes " RAY ") _ _ (check_widens _ _ (λ check.
         mapped (λ got. ((InfeasibleBy steps got.0, check), got.1)) (ray_in of sheet (variables sheet.lp.matrix)) (ray_in other sheet (variables sheet.lp.matrix)) (ray_widens (variables sheet.lp.matrix))))))
@@ -208,7 +208,7 @@ module _ (of other : List ℕ → Option ℚ) (means : (word : List ℕ) (x : �
     abbrev ends_by : (List ℕ → Option ℚ) → List ℕ → Parsed ChainEnd
     ends_by reader = with_text (codes " ENDS AT ") (with_word reader (λ t. with_text (codes "\n") (λ after. Some (EndsAt t, after))))
 
-    ends_widen : Widens (ends_by of) (ends_by other)
+    pub ends_widen : Widens (ends_by of) (ends_by other)
     ends_widen = after_text (codes " ENDS AT ") _ _ (after_word of other _ _ means (λ t. after_text (codes "\n") _ _ (same (λ after. Some (EndsAt t, after)))))
 
     abbrev unbounded_by : (List ℕ → Option ℚ) → List ℕ → Parsed ChainEnd

@@ -5,3 +5,6 @@ mod Tests
 mod Judged
 mod Walked
 mod Never
+mod Longer
+mod LongGrammar
+mod Refused

@@ -25,6 +25,8 @@ from fractions import Fraction
 from mps360.listings import read as listing2json
 from mps360 import programs
 from mps360 import text as strangers_text
+from mps360.commands import here
+from mps360.output import CantWrite, command
 from mps360 import unproved
 
 ENDINGS = (".job", ".mps", ".mps.gz")
@@ -326,16 +328,21 @@ def done_before(summary, runs, files):
     return kept
 
 
-def tell(record):
-    status = "none" if record["status"] is None else record["status"]
-    try:
-        print(f"{status:>4}  {record['name']:<24} {record['end']}", flush=True)
-    except BrokenPipeError:
-        # (nobody reads the lines; the results are kept all the same)
-        sys.stdout = open(os.devnull, "w")
+class Lines:
+    "the line of each result on standard output; the results are kept also where it can't be written, which is told in the end"
+    def __init__(self):
+        self.fault = None
+
+    def tell(self, record):
+        status = "none" if record["status"] is None else record["status"]
+        try:
+            if self.fault is None:
+                print(f"{status:>4}  {record['name']:<24} {record['end']}", flush=True)
+        except CantWrite as cause:
+            self.fault = cause
 
 
-def work_off(files, runs, summary, at_once, signals):
+def work_off(files, runs, summary, at_once, signals, lines):
     "runs what isn't done, and takes each result as it comes, until all are done or a signal came"
     told = begun = time.monotonic()
     total = len(files) + len(summary.records)
@@ -347,7 +354,7 @@ def work_off(files, runs, summary, at_once, signals):
                 for future in done:
                     record = future.result()
                     summary.add(record)
-                    tell(record)
+                    lines.tell(record)
                 now = time.monotonic()
                 if now - told >= LINE_EACH:
                     told = now
@@ -373,14 +380,16 @@ def batch(options, signals):
         summary.begin(kept)
         if options.resume:
             say(f"{len(kept)} of {len(files)} are done already")
-        signals.is_noted = True
-        work_off({name: path for name, path in files.items() if name not in kept}, runs, summary, options.at_once, signals)
+        signals.is_noted, lines = True, Lines()
+        work_off({name: path for name, path in files.items() if name not in kept}, runs, summary, options.at_once, signals, lines)
         summary.end(files)
     except OSError as cause:
         raise Wrong(73, f"can't write {cause.filename or out}: {cause.strerror}") from None
     if len(summary.records) < len(files):
         say(f"interrupted: {len(summary.records)} of {len(files)} are done and stand in {out}; the others are not, and --resume goes on with them")
         return 128 + signals.number
+    if lines.fault:
+        raise lines.fault
     return 0 if all(record["state"] == "ended" for record in summary.records.values()) else 1
 
 
@@ -392,10 +401,11 @@ def positive(kind):
     return read
 
 
+@command("mps360-batch")
 def main(words):
     strangers_text.guard()
     if any(word in ("-h", "--help") for word in words):
-        print(__doc__)
+        print(here(__doc__))
         return 0
     parser = argparse.ArgumentParser(add_help=False, allow_abbrev=False)
     parser.error = lambda message: (print(f"{USAGE}: {message}", file=sys.stderr), sys.exit(64))
