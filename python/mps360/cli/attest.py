@@ -18,7 +18,7 @@ from fractions import Fraction
 from mps360.cli import mps2job
 from mps360.cli import solution2listing
 from mps360.cli.words import taken
-from mps360 import notes, programs
+from mps360 import notes, programs, solution_checks
 from mps360.commands import here
 from mps360.output import command, make_folder, write_file
 from mps360.cli.solution2listing import Ended
@@ -64,12 +64,13 @@ def answer_of(command, job, listing):
     return ended.returncode, int(answer[1]) if answer and answer[1] else None
 
 
-def outcome(status, number, listing, model):
+def outcome(status, number, listing, model, answer):
     "what the answer is, or why it isn't attested"
     if status:
         lines = listing.split("\n")
         place = f": line {number} of the listing, {lines[number - 1][:60]}" if number and number <= len(lines) else ""
-        return "not attested: " + REFUSED.get(status, f"the checker ended with {status}") + place
+        fault = solution_checks.first_fault(model, answer) if status == 40 else None
+        return "not attested: " + REFUSED.get(status, f"the checker ended with {status}") + (f": {fault} ({place[2:]})" if fault else place)
     verdict, objective = VERDICT.search(listing).groups()
     changed = notes.after_verdict(model)
     if verdict != "OPTIMAL":
@@ -98,13 +99,13 @@ def run(words):
     if options.job or options.names:
         raise Ended(64, "--keep FOLDER keeps the job and the table of names")
     command, which = checker_of(program)
-    job, listing = solution2listing.made(options, words[-1])
+    job, answer, listing = solution2listing.answered(options, words[-1])
     for sentence in job.said if keep else job.said_without(job.of_table, job.of_listing):
         told(sentence)
     if keep:
         kept(keep, job, listing, (options.file, words[-1]))
     status, number = answer_of(command, job.text.encode(), listing.encode())
-    print(("" if status else BEFORE[which]) + as_text(outcome(status, number, listing, job.file)))
+    print(("" if status else BEFORE[which]) + as_text(outcome(status, number, listing, job.file, answer)))
     return status
 
 

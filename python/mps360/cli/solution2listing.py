@@ -59,6 +59,12 @@ def own_words(words):
 
 def made(options, solution):
     "the job, and the listing of the solution"
+    job, _, listing = answered(options, solution)
+    return job, listing
+
+
+def answered(options, solution):
+    "the job, the answer of the solution by the file's names, and its listing"
     try:
         model = mps.read_file(options.file, mps2job.reading_of(options))
         job = exact_job(model, False, model.name or os.path.basename(options.file))
@@ -68,7 +74,7 @@ def made(options, solution):
         raise Ended(65, f"{options.file}: {cause}") from None
     try:
         answer = solution_file.read_file(solution, model)
-        return job, listing_of(job, answer)
+        return job, answer, listing_of(job, answer)
     except OSError as cause:
         raise Ended(66, f"can't read {solution}: {cause.strerror}") from None
     except (solution_file.NoSolution, answer_listing.Refused) as cause:

@@ -13,6 +13,7 @@ usage: solve [--json | --csv | --html FILE] [--basis FILE [--from WRITER]] [--wi
                  lp_solve, in this order; none for nobody. Without it those that are installed
   --only ROUTE   primal (from the opening basis), basis (of a solver), or exact (esolver's exact answer, attested by the checker), alone
   --seconds S    bounds all of it; without it PRIMAL goes on until it ends
+  --processors N how many may be used; from 2 on PRIMAL goes on while a solver is asked. Without it those that are there
   --write-basis FILE  the basis of the answer goes to FILE, as an MPS basis file, which clp, esolver and others begin at
   --solution FILE     the solution goes to FILE as glpsol -w writes one, or by --solution-form highs as HiGHS does
   --names MAP    where MODEL is a job: the table of names that mps2job.py wrote for it
@@ -426,7 +427,7 @@ def outcome_of(options, model, program, checker, life):
     observer = runs.Observer(say=life.say, going=life.say, heard=life.heard, tick=life.tick)
     try:
         if not model.converted:
-            return routes.Outcome(runs.run_alone(model.job, program, seconds=options.seconds, observer=observer), [])
+            return routes.Outcome(runs.run_alone(model.job, program, seconds=options.seconds, begun=options.begun, observer=observer), [])
         way = routes.Routes(model.converted, program, plan_of(options), checker, observer)
         if model.basis:
             way.begin_at(model.basis, os.path.basename(options.basis))
@@ -467,11 +468,12 @@ def solve(options, passed):
     if attempt.solver and attempt.written:
         keep(options, f"{stem}.{attempt.solver.name}", attempt.written.encode("latin-1"))
     provenance = Provenance.of(outcome, program, checker, model.checksum)
+    answer = Answer(model, attempt, provenance)
     if attempt.interrupted:
         say_interrupted(attempt)
-    elif model.converted:
-        say(provenance.line())
-    write_outputs(options, model, Answer(model, attempt, provenance))
+    elif model.converted or attempt.why:
+        say(provenance.line() if model.converted else attempt.why)
+    write_outputs(options, model, answer)
     return outcome.status
 
 
@@ -501,6 +503,8 @@ def main(words):
         parser.error(f"one model at a time; what is {unknown[0]}?")
     if options.writer and not options.basis:
         parser.error("--from goes with --basis")
+    if options.solution_form and not options.solution:
+        parser.error("--solution-form goes with --solution")
     if fault := check_routes(options):
         parser.error(fault)
     sys.stdout.reconfigure(encoding="utf-8")
