@@ -1,7 +1,8 @@
 -- The headline of a job: what it is answered, and that each report of this answer holds of the state in which it was made. Such an
--- answer is complete and decided.
+-- answer is decided by the job's own run.
 use Rattle.std.proofs.Common.{◌≡◌, ℕ, List, Option, None, Some, refl, subst}
 use Rattle.std.specs.Io.KnownBytes.{Appends}
+use Rattle.job_devices.specs.States.{SinkState}
 use Rattle.job_devices.specs.Causes.{Rose}
 use Rattle.answer_definitions.specs.Real.{linear_programming}
 use Rattle.deck_definitions.specs.Transport.{made_job}
@@ -9,9 +10,10 @@ use Rattle.run_definitions.specs.Answer.{Job, WithoutBytes, Read, Made, Failures
 use Rattle.soundness_laws.specs.Headline.{IsTrueAnswer}
 use Rattle.soundness_laws.proofs.Runs.{knows_linear_programming, answer_holds}
 use Rattle.determinism_laws.specs.Laws.{IsFunction}
-use Rattle.determinism_laws.specs.Complete.{IsComplete, IsDecided}
 use Rattle.determinism_laws.proofs.Runs.{is_function, answers_once}
-use Rattle.determinism_laws.proofs.Complete.{answer_is_complete, answer_is_decided}
+use Rattle.one_run_laws.specs.Laws.{IsAnsweredOnce}
+use Rattle.one_run_laws.proofs.AnsweredOnce.{answered_once}
+use Rattle.one_run_laws.proofs.OwnRuns.{own_runs}
 use Rattle.command_line.specs.declared.request.Request.{Request}
 use Rattle.command_line.specs.declared.request.Request.TheVariants as request
 use Rattle.control_run.specs.declared.status.RunStatus.{RunStatus}
@@ -41,17 +43,12 @@ true_answer is = record {
   each_holds = answer_holds linear_programming knows_linear_programming is.4;
 }
 
--- a true answer is complete
-pub complete_answer : {job : Job} {failures : Failures} {status : ℕ} {PrintGains PunchGains : List ℕ → Type 0} → IsTrueAnswer linear_programming job failures status PrintGains PunchGains →
-    IsComplete linear_programming job failures status PrintGains PunchGains
-complete_answer {job} {failures} {status} {PrintGains} {PunchGains} is =
-    answer_is_complete linear_programming job failures status PrintGains PunchGains is.printed is.punched runs_are_functions is.print_gains is.punch_gains is.is_answer
-
--- and decided
-pub decided_answer : {job : Job} {failures : Failures} {status : ℕ} {PrintGains PunchGains : List ℕ → Type 0} → IsTrueAnswer linear_programming job failures status PrintGains PunchGains →
-    IsDecided linear_programming job failures status PrintGains PunchGains
-decided_answer {job} {failures} {status} {PrintGains} {PunchGains} is =
-    answer_is_decided linear_programming job failures status PrintGains PunchGains is.printed is.punched runs_are_functions is.print_gains is.punch_gains is.is_answer
+-- a true answer is that of the job's own run, or the run was broken off, or cut off
+pub once_answer : {job : Job} {failures : Failures} {status : ℕ} {PrintGains PunchGains : List ℕ → Type 0} → IsTrueAnswer linear_programming job failures status PrintGains PunchGains →
+    IsAnsweredOnce linear_programming job failures status PrintGains PunchGains
+once_answer {job} {failures} {status} {PrintGains} {PunchGains} is =
+    answered_once linear_programming runs_are_functions own_runs job failures status PrintGains PunchGains
+    (is.printed, (is.punched, (is.print_gains, (is.punch_gains, is.is_answer))))
 
 -- ---- the job that is asked for
 
@@ -74,24 +71,24 @@ module _ (P : Job → Type 0) (asked : Option Request) (reported : Option (List 
 -- ---- the four ways in which a job goes
 
 module _ (asked : Option Request) (reported : Option (List ℕ)) (status : RunStatus) where
-  module _ {P : Type 0} (written stopped_at : P → Option (List ℕ)) (faults refusals : P → ℕ) {old new : P} (read_failed punch_failed : Type 0) (punch : Option (List ℕ)) where
+  module _ {old new : SinkState} (read_failed punch_failed : Type 0) (punch : Option (List ℕ)) where
     -- the words are refused
-    words_headline : asked ≡ None → EndsWith written stopped_at faults refusals old new Words status → (job : Job) → IsAsked asked reported job →
-        IsTrueAnswer linear_programming job (record { read = read_failed; print = Rose (faults old) (faults new); punch = punch_failed; memory = Rose (refusals old) (refusals new) })
-        (code_of status) (Appends (written old) (written new)) (Appends punch punch)
+    words_headline : asked ≡ None → EndsWith old new Words status → (job : Job) → IsAsked asked reported job →
+        IsTrueAnswer linear_programming job (record { read = read_failed; print = Rose old.faults new.faults; punch = punch_failed; memory = Rose old.refusals new.refusals })
+        (code_of status) (Appends old.written new.written) (Appends punch punch)
     words_headline none ends =
-        by_words _ asked reported none (true_answer (ending_answer linear_programming WithoutBytes _ Words (words_refused refl) written stopped_at faults refusals punch status (λ e. e) (λ e. e) ends))
+        by_words _ asked reported none (true_answer (ending_answer linear_programming WithoutBytes _ Words (words_refused refl) punch status (λ e. e) (λ e. e) ends))
 
     -- memory runs out while the words are read
-    memory_headline : EndsWith written stopped_at faults refusals old new Memory status → (job : Job) → IsAsked asked reported job →
-        IsTrueAnswer linear_programming job (record { read = read_failed; print = Rose (faults old) (faults new); punch = punch_failed; memory = Rose (refusals old) (refusals new) })
-        (code_of status) (Appends (written old) (written new)) (Appends punch punch)
-    memory_headline ends job is = true_answer (ending_answer linear_programming job _ Memory memory_at_start written stopped_at faults refusals punch status (λ e. e) (λ e. e) ends)
+    memory_headline : EndsWith old new Memory status → (job : Job) → IsAsked asked reported job →
+        IsTrueAnswer linear_programming job (record { read = read_failed; print = Rose old.faults new.faults; punch = punch_failed; memory = Rose old.refusals new.refusals })
+        (code_of status) (Appends old.written new.written) (Appends punch punch)
+    memory_headline ends job is = true_answer (ending_answer linear_programming job _ Memory memory_at_start punch status (λ e. e) (λ e. e) ends)
 
     -- the words ask for nothing
-    pub stopped_headline : (stop : WordsStop) → (stop ≡ stops.Refused → asked ≡ None) → EndsWith written stopped_at faults refusals old new (stop_of_words stop) status → (job : Job) → IsAsked asked reported job →
-        IsTrueAnswer linear_programming job (record { read = read_failed; print = Rose (faults old) (faults new); punch = punch_failed; memory = Rose (refusals old) (refusals new) })
-        (code_of status) (Appends (written old) (written new)) (Appends punch punch)
+    pub stopped_headline : (stop : WordsStop) → (stop ≡ stops.Refused → asked ≡ None) → EndsWith old new (stop_of_words stop) status → (job : Job) → IsAsked asked reported job →
+        IsTrueAnswer linear_programming job (record { read = read_failed; print = Rose old.faults new.faults; punch = punch_failed; memory = Rose old.refusals new.refusals })
+        (code_of status) (Appends old.written new.written) (Appends punch punch)
     stopped_headline stops.Refused are_refused ends = words_headline (are_refused refl) ends
     stopped_headline stops.NoMemory are_refused ends = memory_headline ends
 

@@ -24,8 +24,8 @@ from mps360.commands import here
 from mps360.errors import Refused
 from mps360.explain import explain
 from mps360.explain.stops import MOST_SHOWN, more_than
-from mps360.jobs.write import job_of
 from mps360.listings.read import NoListing, parse
+from mps360.long_numbers import exact_job
 from mps360.output import command
 from mps360.text import guard
 
@@ -75,7 +75,7 @@ def job_text(data: bytes, words: list[str], name: str) -> tuple[str, dict[str, s
     "the job of a model's file, and the names that it has otherwise than the file"
     options = mps2job.parsed_options([*words, "--", name], mps2job.wrong_use)
     model = mps.read_bytes(data, mps2job.reading_of(options), name)
-    job = job_of(model, options.ranging, model.name or pathlib.Path(name).name)
+    job = exact_job(model, options.ranging, model.name or pathlib.Path(name).name)
     table = job.name_map()
     return job.text, {**table["rows"], **table["columns"], **table["sets"]}
 
