@@ -62,7 +62,6 @@ if command -v python3 >/dev/null; then
     # The page of faults is that of examples/faults, and the listings of examples/ are those that are worked out apart.
     python3 dev/faults.py --check || fail "dev/faults.py --write makes docs/FAULTS.md"
     bash dev/examples.sh --expected || fail "a listing of examples/"
-    python3 python/tests/check_decks.py || fail "free_deck.py changes a deck, or free decks are read otherwise than they are to be"
     # The six that take longest run side by side.
     python3 python/tests/check_installed.py &
     installed=$!
