@@ -98,8 +98,13 @@ def test_page_of_a_ray(tmp_path):
     text = LONG.replace("B NEED 3.141592653589793", "B NEED 300").replace("B LIM 100", "B LIM 1000").replace("ENDATA", " UP BND Y 1\nENDATA")
     ended = run(tmp_path, "solve", "--html", "page.html", "-", given=text)
     assert ended.returncode == 1 and re.findall(r"^(\S+) +-?[0-9]", ended.stdout, re.M) == ["NEED", "X", "Y"]
+    assert f"by these limits they are at most ≈-296.2817 = {X + 1 - 300}." in ended.stdout
     shown = (tmp_path / "page.html").read_text()
     assert f"exactly {X}" in shown and f"by these limits the sum is at most ≈-296.2817 (exactly {X + 1 - 300})" in shown
+    # of the job and its table of names
+    assert run(tmp_path, "solve", "--keep", "kept", "-", given=text).returncode == 1
+    again = run(tmp_path, "solve", "--names", "kept/model.names", "kept/model.job")
+    assert f"by these limits they are at most ≈-296.2817 = {X + 1 - 300}." in again.stdout
 
 
 def test_table_of_names(tmp_path):
