@@ -60,7 +60,8 @@ def script(folder, name, words):
 def run(folder, command, *words, given=None):
     "a command of scripts/ in this folder, whose program and checker are tested ones where no proved one is there"
     program = os.environ.get("MPS360_PROGRAM") or programs.proved_program() or script(folder, "program", "listing")
-    handed = {"solve": ["--program", program, "--with", "none"], "attest": ["--program", script(folder, "checker", "attesting --as-program")]}
+    alone = [] if any(word.endswith(".job") for word in words) else ["--with", "none"]
+    handed = {"solve": ["--program", program, *alone], "attest": ["--program", script(folder, "checker", "attesting --as-program")]}
     for name, text in (("long.mps", LONG), ("plan.lp", PLAN)):
         (folder / name).write_text(text)
     return subprocess.run([places.SCRIPTS / command, *handed.get(command, []), *words], cwd=folder, input=given, capture_output=True, text=True, timeout=120)
