@@ -1,4 +1,4 @@
-"""VIPR certificates (VER 1.0) of linear programs that were solved to their end: read, checked, made of a listing, and made a model and an answer.
+"""VIPR certificates (VER 1.0, and of VER 1.1 what has all multipliers) of linear programs that were solved to their end: read, checked, made of a listing, and made a model and an answer.
 The form is described in Cheung, Gleixner, Steffy: Verifying Integer Programming Results (IPCO 2017).
 
     certificate = read(TEXT)           a Certificate, or NoCertificate, which names the line
@@ -172,6 +172,8 @@ class Words:
         self.one_of("{")
         if (kind := self.take()) != "lin":
             raise self.refused(f"{one.name[:30]} is derived by {kind[:20]!r}; of a linear program all is derived by lin")
+        if self.peek() in ("weak", "incomplete"):
+            raise self.refused(f"{one.name[:30]} is {self.take()}, and leaves multipliers to a solver: viprcomp of VIPR writes them all")
         one.multipliers = self.sum(len(found.constraints) + len(found.derived))
         self.one_of("}")
         self.count(10 ** 9, -1)
@@ -182,7 +184,7 @@ def read(text: str) -> Certificate:
     "the certificate that a text is; NoCertificate where it is none, or has derivations other than by multipliers"
     words, found = Words(text), Certificate()
     words.one_of("VER")
-    words.one_of("1.0")
+    words.one_of("1.0", "1.1")
     words.one_of("VAR")
     found.variables = [words.take() for _ in range(words.count(MOST_COUNT))]
     words.one_of("INT")

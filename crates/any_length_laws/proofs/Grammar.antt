@@ -193,9 +193,9 @@ module _ (of other : List ℕ → Option ℚ) (means : (word : List ℕ) (x : �
         gone_on _ _ (with_text rows_head (table_in of sheet (row_slots sheet) (row_numbers sheet.lp))) (with_text rows_head (table_in other sheet (row_slots sheet) (row_numbers sheet.lp)))
         (after_text rows_head _ _ (table_widens (row_slots sheet) (row_numbers sheet.lp)))
         (λ got.
-          (mapped {X = List Line × List ℕ} {Y = SolutionLines × List ℕ} (λ later. (record { rows = got.0; columns = later.0 }, later.1))
-          (with_text columns_head (table_in of sheet (column_slots sheet) (column_numbers sheet.lp))) (with_text columns_head (table_in other sheet (column_slots sheet) (column_numbers sheet.lp)))
-          (after_text columns_head _ _ (table_widens (column_slots sheet) (column_numbers sheet.lp)))).by got.1)
+        (mapped {X = List Line × List ℕ} {Y = SolutionLines × List ℕ} (λ later. (record { rows = got.0; columns = later.0 }, later.1))
+        (with_text columns_head (table_in of sheet (column_slots sheet) (column_numbers sheet.lp))) (with_text columns_head (table_in other sheet (column_slots sheet) (column_numbers sheet.lp)))
+        (after_text columns_head _ _ (table_widens (column_slots sheet) (column_numbers sheet.lp)))).by got.1)
 
     -- ---- parametric runs
 

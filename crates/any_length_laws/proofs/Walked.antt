@@ -69,9 +69,11 @@ answered_follows w question sheet go = by (judged checker_of_128_bits question s
         Follows (answered checker_of_128_bits w question sheet go j) (answered checker_of_any_length w question sheet go (judged checker_of_any_length question sheet w.rest))
     by Fails is = not_good (Wrong w.rest) _ (λ bad. bad)
     by Refuses is = not_good (Unchecked w.rest) _ (λ bad. bad)
-    by (Right answer rest) is = record { by = λ turn good e.
-        ap (answered checker_of_any_length w question sheet go) (judged_widens question sheet w.rest rest answer is)
-        ∙ (settling_follows w question sheet answer (follows (record (passed rest 1 w) { pending = noted w question sheet answer }) (go answer))).by turn good e }
+    by (Right answer rest) is = record {
+      by = λ turn good e.
+          ap (answered checker_of_any_length w question sheet go) (judged_widens question sheet w.rest rest answer is)
+          ∙ (settling_follows w question sheet answer (follows (record (passed rest 1 w) { pending = noted w question sheet answer }) (go answer))).by turn good e;
+    }
 
 due_follows : (w : Walker) (move : StatementMove) → Follows (due checker_of_128_bits w move) (due checker_of_any_length w move)
 due_follows w (Does outcome) = same _

@@ -1,6 +1,7 @@
-"""Runs many jobs and MPS files, each in a folder of its own, writes each result at once, and prints a line for each.
+"""Runs many jobs, MPS files and LP files, each in a folder of its own, writes each result at once, and prints a line for each.
 
-usage: mps360-batch [options] FOLDER [OUT]        the jobs (*.job) and MPS files (*.mps, *.mps.gz) of a folder; OUT is FOLDER/listings
+usage: mps360-batch [options] FOLDER [OUT]        the jobs (*.job), MPS files (*.mps, *.mps.gz) and LP files (*.lp, *.lp.gz) of a
+                                                 folder; OUT is FOLDER/listings
        mps360-batch [options] --out OUT FILE..    these files
 
   -j N               N at once; without it one after the other
@@ -13,7 +14,7 @@ usage: mps360-batch [options] FOLDER [OUT]        the jobs (*.job) and MPS files
   --mps2job WORDS    words for mps2job.py, in one: --mps2job='--negative-up free'
   --old-codes        ends with 1 in place of 3 where a file came to no answer, as it did before
 
-An MPS file is solved as solve does it, by its routes; a job has its own statements. In OUT there come NAME.listing, NAME.punch where a deck
+An MPS file or LP file is solved as solve does it, by its routes; a job has its own statements. In OUT there come NAME.listing, NAME.punch where a deck
 is punched, of an MPS file NAME.job and NAME.names as well, and what was changed is said on standard error; and summary.csv, which has a line
 for each file as soon as it is done, and in the end summary.json: name, file, state, status, objective (of an MPS file with its constant),
 seconds, proved, how it ended, a checksum, and of an MPS file the route, who proved it (program, checker or none) and the notes. The state is
@@ -54,7 +55,7 @@ from mps360.commands import here
 from mps360.output import CantWrite, command
 from mps360 import unproved
 
-ENDINGS = (".job", ".mps", ".mps.gz")
+ENDINGS = (".job", ".mps", ".mps.gz", ".lp", ".lp.gz")
 OLD_COLUMNS = ("name", "file", "state", "status", "objective", "seconds", "proved", "end", "sum")
 COLUMNS = (*OLD_COLUMNS, "route", "proved_by", "notes")
 TEXT_COLUMNS = ("name", "file", "end", "route", "notes")
@@ -141,7 +142,7 @@ def files_of(options):
     except OSError as cause:
         raise Wrong(66, f"can't read {cause.filename}: {cause.strerror}") from None
     if not paths:
-        raise Wrong(66, f"no job (*.job) and no MPS file (*.mps, *.mps.gz) in {folder}")
+        raise Wrong(66, f"no job (*.job), no MPS file (*.mps, *.mps.gz) and no LP file (*.lp, *.lp.gz) in {folder}")
     return named(paths), words[1] if len(words) == 2 else folder / "listings"
 
 
