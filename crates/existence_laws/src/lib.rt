@@ -4,6 +4,7 @@
 
 ghost use Rattle.existence_laws.specs.Bases.{BasisExistence};
 ghost use Rattle.existence_laws.specs.Intervals.{IntervalsExist};
+ghost use Rattle.existence_laws.specs.Ranges.{RangesExist};
 
 /// Each set of as many variables as there are rows is nonsingular and has rates, or a first column of it depends on those before it; each
 /// nonsingular basis has a tableau.
@@ -14,4 +15,9 @@ pub fn basis_existence()
 /// The numbers at which finitely many conditions hold are those between two ends.
 pub fn intervals_exist()
     ensures { IntervalsExist }
+{}
+
+/// Each optimal basis has the three lists of intervals that RANGE prints.
+pub fn ranges_exist()
+    ensures { RangesExist }
 {}
