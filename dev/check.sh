@@ -5,7 +5,10 @@
 set -u
 case ${1:-} in
     -h | --help)
-        sed -n '2,4s/^# //p' "$0"
+        sed -n '2,4s/^# //p' "$0" 2>/dev/null || {
+            echo "check.sh: can't write to standard output" >&2
+            exit 73
+        }
         exit 0
         ;;
 esac

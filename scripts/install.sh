@@ -5,9 +5,15 @@
 # The programs mps360 and mps360check have to be built before (scripts/build.sh). Ends with 64 for wrong use, 70 where one of them
 # isn't there, proved, and 73 where PREFIX can't be written.
 set -eu
+# a write that fails is no answer
+trap '' PIPE
+cant_write() {
+    echo "install.sh: can't write to standard output" >&2
+    exit 73
+}
 case ${1:-} in
     -h | --help)
-        sed -n '2,6s/^# //p' "$0"
+        sed -n '2,6s/^# //p' "$0" 2>/dev/null || cant_write
         exit 0
         ;;
 esac
@@ -58,4 +64,4 @@ install -m 644 "$scripts/share/mps360.1" "$scripts/share/mps360check.1" "$prefix
 for command in mps360 mps360check mps360-batch mps360-explain mps360-plot; do
     install -m 644 "$scripts/share/completion.bash" "$prefix/share/bash-completion/completions/$command"
 done
-echo "installed in $prefix: bin/mps360, bin/mps360check and what belongs to them"
+echo "installed in $prefix: bin/mps360, bin/mps360check and what belongs to them" 2>/dev/null || cant_write

@@ -1,12 +1,12 @@
 #!/usr/bin/env python3
-"""Checks a VIPR certificate (VER 1.0) of a linear program, by a reading of the format of its own: that its solution keeps each constraint,
-that each derived constraint follows by its multipliers, and that the last one proves what RTP states.
+"""Checks a VIPR certificate (VER 1.0, and of VER 1.1 what has all multipliers) of a linear program, by a reading of the format of its own: that
+its solution keeps each constraint, that each derived constraint follows by its multipliers, and that the last one proves what RTP states.
 
 usage: check_vipr.py CERTIFICATE      CERTIFICATE may be gzipped; - is standard input
 
 It prints what is proved, infeasible or the objective's bounds, and ends with 0; with 1 where something isn't so, with the place. Derivations
 by other means than multipliers (lin), as branching needs them, are refused. 65: it isn't such a certificate; 66: it can't be read."""
-import gzip, io, re, sys, zlib
+import errno, gzip, io, os, re, sys, zlib
 from dataclasses import dataclass, field
 from fractions import Fraction
 
@@ -113,7 +113,7 @@ class Reader:
 def parse(text):
     reader, found = Reader(text), Certificate()
     reader.literal("VER")
-    reader.literal("1.0")
+    reader.literal("1.0", "1.1")
     reader.literal("VAR")
     found.variables = [reader.word() for _ in range(reader.whole(0, 10 ** 7))]
     count = len(found.variables)
@@ -166,6 +166,8 @@ def derived(reader, found):
     kind = reader.word()
     if kind != "lin":
         raise reader.refuse(f"the derivation {one.name[:40]} is by {kind[:20]!r}, and of a linear program all are by lin")
+    if reader.at < len(reader.words) and (word := reader.words[reader.at][0]) in ("weak", "incomplete"):
+        raise reader.refuse(f"the derivation {one.name[:40]} is {word}, and leaves multipliers to a solver: viprcomp of VIPR writes them all")
     one.lin = reader.entries(len(found.constraints))
     reader.literal("}")
     reader.whole(-1, 10 ** 9)
@@ -249,15 +251,29 @@ def say(message):
     print("".join(letter if " " <= letter <= "~" else "?" for letter in f"check_vipr.py: {message}"), file=sys.stderr)
 
 
+def printed(text):
+    "the status of printing a text: 0, or 73 where standard output doesn't take all of it, which is said"
+    try:
+        if sys.stdout is None:
+            raise OSError(errno.EBADF, "it is closed")
+        print(text, flush=True)
+    except OSError as cause:
+        say(f"can't write to standard output: {cause.strerror}")
+        if sys.stdout:
+            # (nor is it tried again when Python ends)
+            os.dup2(os.open(os.devnull, os.O_WRONLY), sys.stdout.fileno())
+        return 73
+    return 0
+
+
 def main(words):
     if words and words[0] in ("-h", "--help"):
-        print(__doc__)
-        return 0
+        return printed(__doc__)
     if len(words) != 1:
         say("one certificate is due; --help says what there is")
         return 64
     try:
-        print(check(read_file(words[0])))
+        told = check(read_file(words[0]))
     except OSError as cause:
         say(f"can't read {words[0]}: {cause.strerror}")
         return 66
@@ -267,7 +283,7 @@ def main(words):
     except Wrong as cause:
         say(f"{words[0]}: {cause}")
         return 1
-    return 0
+    return printed(told)
 
 
 if __name__ == "__main__":

@@ -11,6 +11,8 @@ read."""
 import pathlib, re, sys
 from mps360.jobs import decks as job_decks
 from mps360 import text as strangers_text
+from mps360.commands import here
+from mps360.output import command
 from mps360.jobs.decks import ACTIONS, BOUNDS, FIELDS, NAMES, VALUED, DeckFault, is_skipped
 
 MEANS = {3: "an unknown row type", 8: "a number is faulty", 10: "an unknown bound type", 20: "something stands where a fixed card is to be blank",
@@ -179,10 +181,11 @@ def turned(data, is_free, say):
     return "\n".join(line if new == old else new + line[len(line.rstrip("\r")):] for line, old, new in zip(lines, cards, changed))
 
 
+@command("free_deck.py")
 def main(words):
     strangers_text.guard()
     if words and words[0] in ("-h", "--help"):
-        print(__doc__)
+        print(here(__doc__))
         return 0
     is_free = words[:1] != ["--fixed"]
     words = words if is_free else words[1:]
@@ -202,5 +205,5 @@ def main(words):
         return 65
     for line in said:
         print(f"free_deck.py: {line}", file=sys.stderr)
-    sys.__stdout__.buffer.write(text.encode("latin-1"))
+    sys.stdout.buffer.write(text.encode("latin-1"))
     return 0

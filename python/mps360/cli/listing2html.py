@@ -9,17 +9,19 @@ The page has each verdict in a sentence, the plan and the rows as tables with de
 RANGE beside them, a ray as the rows that conflict, a direction as what grows, and parametric runs as plots; the listing stands at its end.
 It ends with 0, with 64 for wrong use, 65 where the text isn't a listing, or is one of another job, 66 where a file can't be read, 73
 where the page can't be written."""
-import argparse, signal, sys
+import argparse, sys
 from mps360.listings.made import OtherJob
 from mps360.listings.read import NO_NAMES, NoListing, NoNames, read_names
+from mps360.commands import here
+from mps360.output import command, write_file
 from mps360.pages.html import page
 
 
+@command("listing2html.py")
 def main(words):
     if any(word in ("-h", "--help") for word in words):
-        print(__doc__)
+        print(here(__doc__))
         return 0
-    signal.signal(signal.SIGPIPE, signal.SIG_DFL)
     parser = argparse.ArgumentParser(add_help=False)
     parser.error = lambda message: (print(f"listing2html.py: {message}", file=sys.stderr), sys.exit(64))
     parser.add_argument("--names")
@@ -41,14 +43,9 @@ def main(words):
     except (NoListing, OtherJob, ZeroDivisionError, TypeError, ValueError) as cause:
         print(f"listing2html.py: no page of this: {cause}", file=sys.stderr)
         return 65
-    try:
-        if options.page:
-            with open(options.page, "w", encoding="utf-8") as out:
-                out.write(text)
-        else:
-            sys.stdout.reconfigure(encoding="utf-8")
-            sys.stdout.write(text)
-    except OSError as cause:
-        print(f"listing2html.py: can't write: {cause}", file=sys.stderr)
-        return 73
+    if options.page:
+        write_file(options.page, text)
+    else:
+        sys.stdout.reconfigure(encoding="utf-8")
+        sys.stdout.write(text)
     return 0

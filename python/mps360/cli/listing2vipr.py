@@ -13,6 +13,8 @@ where a file can't be read, 73 where one can't be written."""
 import argparse, json, pathlib, re, sys
 from fractions import Fraction
 
+from mps360.commands import here
+from mps360.output import command, write_file
 from oracle.attesting import UNCHECKED, WRONG, Found, Walk, cost, for_min
 
 NAME = "listing2vipr.py"
@@ -155,9 +157,10 @@ def say(message):
     print("".join(letter if " " <= letter <= "~" else "?" for letter in f"{NAME}: {message}"), file=sys.stderr)
 
 
+@command(NAME)
 def main(words):
     if any(word in ("-h", "--help") for word in words):
-        print(__doc__)
+        print(here(__doc__))
         return 0
     options = parsed_options(words)
     try:
@@ -175,12 +178,8 @@ def main(words):
         say(f"{options.listing}: {cause}")
         return 65
     text = "\n".join(lines) + "\n"
-    if not options.certificate:
+    if options.certificate:
+        write_file(options.certificate, text)
+    else:
         sys.stdout.write(text)
-        return 0
-    try:
-        pathlib.Path(options.certificate).write_text(text, encoding="ascii")
-    except OSError as cause:
-        say(f"can't write {cause.filename}: {cause.strerror}")
-        return 73
     return 0

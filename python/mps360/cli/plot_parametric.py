@@ -8,16 +8,19 @@ usage: plot_parametric.py [--svg] [--run K] [-o FILE] [LISTING]      without LIS
 
 The value at each parameter is the sum of price times activity over rows and columns, which for a best plan is its objective (with the
 parameter's share of the change row, in a run of PARAOBJ). It ends with 0, with 64 for wrong use, 65 where the text isn't a listing, or has
-no such run, 66 where a file can't be read or written."""
+no such run, 66 where a file can't be read, 73 where one can't be written."""
 import argparse, sys
 from mps360 import text as strangers_text
+from mps360.commands import here
+from mps360.output import command, write_file
 from mps360.listings import read as listing2json
 from mps360.pages.parametric import NoRun, in_letters, in_svg, points_of
 
 
+@command("plot_parametric.py")
 def main(words):
     if any(word in ("-h", "--help") for word in words):
-        print(__doc__)
+        print(here(__doc__))
         return 0
     strangers_text.guard()
     parser = argparse.ArgumentParser(add_help=False)
@@ -36,8 +39,7 @@ def main(words):
         report = runs[number - 1]
         picture = (in_svg if options.svg else in_letters)(report, points_of(report))
         if options.out:
-            with open(options.out, "w", encoding="utf-8") as file:
-                file.write(picture)
+            write_file(options.out, picture)
         else:
             sys.stdout.write(picture)
     except OSError as cause:
