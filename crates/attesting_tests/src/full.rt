@@ -17,13 +17,12 @@ impl Full {
 }
 
 impl Sink for Full {
-    ghost written = { λ _. Some [] };
-
-    ghost faults = { λ _. 0 };
-
-    ghost refusals = { λ sink. sink.refusals };
-
-    ghost stopped_at = { λ _. Some [] };
+    ghost taken = { λ sink. record {
+      written = Some [];
+      faults = 0;
+      refusals = sink.refusals;
+      stopped_at = Some [];
+    } };
 
     fn write(&mut self, _piece: &[u8]) -> Result<usize, WriteStop> {
         self.refusals = self.refusals.saturating_add(1);

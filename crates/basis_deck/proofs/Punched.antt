@@ -1,5 +1,5 @@
 -- What is left of a basis's deck after one more card.
-use Rattle.std.proofs.Common.{◌≡◌, ℕ, suc, ◌+◌, ◌-◌, ◌<◌, ◌≤◌, Bool, true, false, cond, not, List, [], ◌∷◌, ◌++◌, length, map, refl, sym, ap, ap₂, ◌∙◌, arith, Option, Ok, Err}
+use Rattle.std.proofs.Common.{◌≡◌, ℕ, suc, ◌+◌, ◌-◌, ◌<◌, ◌≤◌, Bool, true, false, cond, not, List, [], ◌∷◌, ◌++◌, length, map, refl, sym, ap, ap₂, ◌∙◌, arith, Ok, Err}
 use Rattle.std.specs.Prelude.{filter, zip, codes, IsErrOf}
 use Rattle.std.proofs.lemmas.List.{append_assoc, append-nil, length-append}
 use Rattle.std.proofs.lemmas.List.Concat.{flat_map-append}
@@ -9,6 +9,7 @@ use Rattle.lp_definitions.specs.declared.Status.{Status}
 use Rattle.problem_definitions.specs.Problem.{Problem}
 use Rattle.deck_definitions.specs.Written.{card_text, name_card}
 use Rattle.problem_definitions.specs.Names.{Name}
+use Rattle.job_devices.specs.States.{SinkState}
 use Rattle.job_devices.specs.declared.device.WriteStop.{WriteStop}
 use Rattle.job_devices.specs.declared.device.WriteStop.TheVariants.{Failed, NoMemory}
 use Rattle.job_devices.specs.Text.{Writes}
@@ -134,10 +135,10 @@ module _ (problem : Problem ℕ) (lp : LinearProgram) (s : List Status) where
       ap length deck_is ∙ omega (arith, length-append (exchanges ++ limits) last, length-append exchanges limits)
 
 -- what was written doesn't depend on the type of the answer
-pub writes_done : {P T U : Type 0} {written stopped_at : P → Option (List ℕ)} {faults refusals : P → ℕ} {a b : P} {x : List ℕ} {before : T} (done : U) → Writes written stopped_at faults refusals a b (Ok before) x → Writes written stopped_at faults refusals a b (Ok done) x
-writes_done {written = written} {stopped_at = stopped_at} {faults = faults} {refusals = refusals} {b = b} {x = x} done h = writes_same (append-nil x) (writes_then h (writes_nothing written stopped_at faults refusals b done))
+pub writes_done : {T U : Type 0} {a b : SinkState} {x : List ℕ} {before : T} (done : U) → Writes a b (Ok before) x → Writes a b (Ok done) x
+writes_done {b = b} {x = x} done h = writes_same (append-nil x) (writes_then h (writes_nothing b done))
 
-pub stops_so : {P T U : Type 0} {written stopped_at : P → Option (List ℕ)} {faults refusals : P → ℕ} {a b : P} {x : List ℕ} {stop : WriteStop} → Writes {T = T} written stopped_at faults refusals a b (Err stop) x → Writes {T = U} written stopped_at faults refusals a b (Err stop) x
+pub stops_so : {T U : Type 0} {a b : SinkState} {x : List ℕ} {stop : WriteStop} → Writes {T = T} a b (Err stop) x → Writes {T = U} a b (Err stop) x
 stops_so {T = T} {U = U} {stop = stop} h = record {
   bytes = h.bytes;
   cause = record {

@@ -76,7 +76,7 @@ fn put_exchange<U: Sink>(
     requires row { IsRow lp.now.matrix row }
     requires column { lp.now.rows < column }
     requires basis { length basis.now ≡ size lp.now.matrix }
-    ensures { Writes U.written U.stopped_at U.faults U.refusals sink.old sink.new result
+    ensures { Writes (U.taken sink.old) (U.taken sink.new) result
         (line (exchange_card problem.now lp.now basis.now (column, row))) }
 {
     let _size = lp.number_of_variables();
@@ -97,7 +97,7 @@ fn put_exchanges<U: Sink>(
     sink: &mut U,
 ) -> Result<u32, WriteStop>
     requires { length basis.now ≡ size lp.now.matrix }
-    ensures writes { Writes U.written U.stopped_at U.faults U.refusals sink.old sink.new result
+    ensures writes { Writes (U.taken sink.old) (U.taken sink.new) result
         (card_text (exchanges_from problem.now lp.now basis.now 0 0)) }
     ensures counted { IfOk result (λ count. count ≡ length (exchanges_from problem.now lp.now
         basis.now 0 0)) }
@@ -128,7 +128,7 @@ fn put_limit<U: Sink>(
     sink: &mut U,
 ) -> Result<(), WriteStop>
     requires { lp.now.rows < column }
-    ensures { Writes U.written U.stopped_at U.faults U.refusals sink.old sink.new result
+    ensures { Writes (U.taken sink.old) (U.taken sink.new) result
         (line (limit_card problem.now lp.now column)) }
 {
     let card = WrittenCard {
@@ -148,7 +148,7 @@ fn put_limits<U: Sink>(
     sink: &mut U,
 ) -> Result<u32, WriteStop>
     requires { length basis.now ≡ size lp.now.matrix }
-    ensures writes { Writes U.written U.stopped_at U.faults U.refusals sink.old sink.new result
+    ensures writes { Writes (U.taken sink.old) (U.taken sink.new) result
         (card_text (limits_from problem.now lp.now basis.now 0)) }
     ensures counted { IfOk result (λ count. count ≡ length (limits_from problem.now lp.now
         basis.now 0)) }
@@ -175,7 +175,7 @@ pub fn punch_basis<U: Sink>(
     sink: &mut U,
 ) -> Result<u32, WriteStop>
     requires { IsBasis lp.now basis.now }
-    ensures writes { Writes U.written U.stopped_at U.faults U.refusals sink.old sink.new result
+    ensures writes { Writes (U.taken sink.old) (U.taken sink.new) result
         (card_text (basis_deck problem.now lp.now basis.now)) }
     ensures counted { IfOk result (λ count. count ≡ min (length (basis_deck problem.now lp.now
         basis.now)) max_counted) }

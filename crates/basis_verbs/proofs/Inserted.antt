@@ -1,6 +1,7 @@
 -- What INSERT comes to.
 use Rattle.std.proofs.Common.{◌≡◌, ℕ, ◌+◌, ◌-◌, ◌≤◌, List, [], ◌∷◌, Option, Some, None, IfSome, Result, Ok, Err, inl, inr, refl, sym, ap, subst, ◌∙◌, arith, length, drop, All}
 use Rattle.exact_values.specs.Rational.{ℚ}
+use Rattle.job_devices.specs.States.{SinkState}
 use Rattle.job_devices.specs.declared.device.WriteStop.{WriteStop}
 use Rattle.job_devices.specs.Text.{Writes}
 use Rattle.card_definitions.specs.Cards.{Card, live, numbered_cards, cards_between}
@@ -243,22 +244,22 @@ nothing_solved cells file (Some mark) = tt
 pub sound_emptied : (cards : List (List ℕ)) (machine : Machine) (file : Filed) → IsSound cards machine → IsSound cards (record machine { setup = None; file = file })
 sound_emptied cards machine file s = record { first = s.first; last = s.last; demands = s.demands; ready = tt; solved = nothing_solved machine.cells file machine.mark }
 
-module _ (card : ℕ) {P : Type 0} (written stopped_at : P → Option (List ℕ)) (faults refusals : P → ℕ) (cards : List (List ℕ)) (machine : Machine) where
-  pub ends_quietly : (print : P) (new : Machine) (end : End) (ending : endings.Ending) → end_view end ≡ ending → EndsSo card cards machine ending →
-      Executes linear_programming Insert card written stopped_at faults refusals print print cards machine new (Ok (act.Ends end))
+module _ (card : ℕ) (cards : List (List ℕ)) (machine : Machine) where
+  pub ends_quietly : (print : SinkState) (new : Machine) (end : End) (ending : endings.Ending) → end_view end ≡ ending → EndsSo card cards machine ending →
+      Executes linear_programming Insert card print print cards machine new (Ok (act.Ends end))
   ends_quietly print new end ending is ends =
-      quietly IsPresent (Gives linear_programming) Insert card written stopped_at faults refusals cards machine print
+      quietly IsPresent (Gives linear_programming) Insert card cards machine print
       (λ position executed state s. subst (λ (e : endings.Ending). Gives linear_programming card (verb_move Insert card state) (stops e)) (sym is) (ends position executed state s))
 
   module _ (setup : Setup) (deck : Name) (basic next_card : ℕ) (i : IsInserted card cards machine setup deck basic next_card) where
-    pub inserted_done : {from to : P} → Writes {T = Unit {0}} written stopped_at faults refusals from to (Ok tt) (report_text (Inserted deck basic)) →
-        Executes linear_programming Insert card written stopped_at faults refusals from to cards machine (record machine { setup = Some setup; decks_from = next_card; mark = None }) (Ok act.Next)
-    inserted_done writes = loudly IsPresent (Gives linear_programming) Insert card written stopped_at faults refusals cards machine (Inserted deck basic) i.comes writes
+    pub inserted_done : {from to : SinkState} → Writes {T = Unit {0}} from to (Ok tt) (report_text (Inserted deck basic)) →
+        Executes linear_programming Insert card from to cards machine (record machine { setup = Some setup; decks_from = next_card; mark = None }) (Ok act.Next)
+    inserted_done writes = loudly IsPresent (Gives linear_programming) Insert card cards machine (Inserted deck basic) i.comes writes
 
-    pub inserted_cut : {from to : P} (new : Machine) (stop : WriteStop) → Writes {T = Unit {0}} written stopped_at faults refusals from to (Err stop) (report_text (Inserted deck basic)) →
-        Executes linear_programming Insert card written stopped_at faults refusals from to cards machine new (Err (halt.Print stop))
+    pub inserted_cut : {from to : SinkState} (new : Machine) (stop : WriteStop) → Writes {T = Unit {0}} from to (Err stop) (report_text (Inserted deck basic)) →
+        Executes linear_programming Insert card from to cards machine new (Err (halt.Print stop))
     inserted_cut new stop writes =
-        cut_off IsPresent (Gives linear_programming) Insert card written stopped_at faults refusals cards machine new stop (Inserted deck basic)
+        cut_off IsPresent (Gives linear_programming) Insert card cards machine new stop (Inserted deck basic)
         (λ position executed state s. let c = i.comes position executed state s in (next (Prints (Inserted deck basic)) c.0, c.1, refl)) writes
 
     pub sound_inserted : IsSound cards machine → IsSound cards (record machine { setup = Some setup; decks_from = next_card; mark = None })

@@ -1,7 +1,8 @@
 -- What PUNCH comes to.
-use Rattle.std.proofs.Common.{◌≡◌, ◌+◌, ℕ, List, Option, Some, None, Result, Ok, Err, inl, refl, sym, ap, ◌∙◌}
+use Rattle.std.proofs.Common.{◌≡◌, ◌+◌, ℕ, List, Some, None, Result, Ok, Err, inl, refl, sym, ap, ◌∙◌}
 use Rattle.std.specs.Prelude.{min, length}
 use Rattle.job_devices.proofs.TextLemmas.{writes_same}
+use Rattle.job_devices.specs.States.{SinkState}
 use Rattle.job_devices.specs.declared.device.WriteStop.{WriteStop}
 use Rattle.job_devices.specs.Text.{Writes}
 use Rattle.lp_definitions.specs.LinearProgram.{LinearProgram}
@@ -43,19 +44,19 @@ begins : (card : ℕ) (state : State) (outcome : StatementOutcome) → Gives lin
 unfolding linear_programming verb_move
 begins card state outcome g = g
 
-module _ (card : ℕ) {P U : Type 0} (written stopped_at : P → Option (List ℕ)) (faults refusals : P → ℕ) (punch_written punch_stopped_at : U → Option (List ℕ)) (punch_faults punch_refusals : U → ℕ) (cards : List (List ℕ)) (machine : Machine) where
-  pub no_setup : (print : P) (punch : U) → machine.setup ≡ None →
-      Performs linear_programming Punch card written stopped_at faults refusals print print punch_written punch_stopped_at punch_faults punch_refusals punch punch cards machine machine (refused_act card (Fault NoSetup))
+module _ (card : ℕ) (cards : List (List ℕ)) (machine : Machine) where
+  pub no_setup : (print punch : SinkState) → machine.setup ≡ None →
+      Performs linear_programming Punch card print print punch punch cards machine machine (refused_act card (Fault NoSetup))
   no_setup print punch none =
-      punches_nothing punch_written punch_stopped_at punch_faults punch_refusals punch IsPresent (Gives linear_programming) Punch card written stopped_at faults refusals print print cards machine machine (refused_act card (Fault NoSetup))
-      (without_setup Punch card go (begins card) written stopped_at faults refusals cards machine print none)
+      punches_nothing punch IsPresent (Gives linear_programming) Punch card print print cards machine machine (refused_act card (Fault NoSetup))
+      (without_setup Punch card go (begins card) cards machine print none)
 
   module _ (setup : Setup) (is_setup : machine.setup ≡ Some setup) (problem : Problem ℕ) (on_file : filed_under setup.name machine.file ≡ Some problem) where
-    pub not_selected : (print : P) (punch : U) (refusal : Refusal) → IsUnselected problem (choice_of machine.cells setup.options) refusal →
-        Performs linear_programming Punch card written stopped_at faults refusals print print punch_written punch_stopped_at punch_faults punch_refusals punch punch cards machine machine (refused_act card refusal)
+    pub not_selected : (print punch : SinkState) (refusal : Refusal) → IsUnselected problem (choice_of machine.cells setup.options) refusal →
+        Performs linear_programming Punch card print print punch punch cards machine machine (refused_act card refusal)
     not_selected print punch refusal u =
-        punches_nothing punch_written punch_stopped_at punch_faults punch_refusals punch IsPresent (Gives linear_programming) Punch card written stopped_at faults refusals print print cards machine machine (refused_act card refusal)
-        (unselected Punch card go (begins card) cards machine setup is_setup problem on_file written stopped_at faults refusals print refusal u)
+        punches_nothing punch IsPresent (Gives linear_programming) Punch card print print cards machine machine (refused_act card refusal)
+        (unselected Punch card go (begins card) cards machine setup is_setup problem on_file print refusal u)
 
     module _ (lp : LinearProgram) (ok : selected problem (choice_of machine.cells setup.options) ≡ Ok lp) where
       abbrev deck : List (List ℕ)
@@ -71,39 +72,39 @@ module _ (card : ℕ) {P U : Type 0} (written stopped_at : P → Option (List �
           (inl (deck, ap (λ (b : Basis). basis_deck problem lp b) (sym (viewed Punch card go (begins card) cards machine setup is_setup problem on_file s).reached), refl))
 
       -- the punch stops in the deck
-      pub deck_cut : (print : P) {punch_old punch_new : U} {T : Type 0} (stop : WriteStop) → Writes {T = T} punch_written punch_stopped_at punch_faults punch_refusals punch_old punch_new (Err stop) (card_text deck) →
-          Performs linear_programming Punch card written stopped_at faults refusals print print punch_written punch_stopped_at punch_faults punch_refusals punch_old punch_new cards machine machine (Err (halt.Punch stop))
+      pub deck_cut : (print : SinkState) {punch_old punch_new : SinkState} {T : Type 0} (stop : WriteStop) → Writes {T = T} punch_old punch_new (Err stop) (card_text deck) →
+          Performs linear_programming Punch card print print punch_old punch_new cards machine machine (Err (halt.Punch stop))
       deck_cut print stop punches = λ position executed state s. record {
         report = BasisOut problem.name (min (length deck) max_counted);
         deck = deck;
         after = record state { position = state.position + 1 };
         gives = gives s;
-        punches = stopped punch_written punch_stopped_at punch_faults punch_refusals stop (card_text deck) punches;
+        punches = stopped stop (card_text deck) punches;
         is_quiet = refl;
       }
 
-      module _ {print_old print_new : P} {punch_old punch_new : U} (name : Name) (is_name : name ≡ problem.name) (count : ℕ) (is_count : count ≡ min (length deck) max_counted)
-          (punches : Writes {T = ℕ} punch_written punch_stopped_at punch_faults punch_refusals punch_old punch_new (Ok count) (card_text deck)) where
+      module _ {print_old print_new punch_old punch_new : SinkState} (name : Name) (is_name : name ≡ problem.name) (count : ℕ) (is_count : count ≡ min (length deck) max_counted)
+          (punches : Writes {T = ℕ} punch_old punch_new (Ok count) (card_text deck)) where
         -- the line is that of the report
-        own_line : (result : Result (Unit {0}) WriteStop) → Writes {T = Unit {0}} written stopped_at faults refusals print_old print_new result (report_text (BasisOut name count)) →
-            Writes {T = Unit {0}} written stopped_at faults refusals print_old print_new result (report_text (BasisOut problem.name (min (length deck) max_counted)))
+        own_line : (result : Result (Unit {0}) WriteStop) → Writes {T = Unit {0}} print_old print_new result (report_text (BasisOut name count)) →
+            Writes {T = Unit {0}} print_old print_new result (report_text (BasisOut problem.name (min (length deck) max_counted)))
         own_line result prints = writes_same (ap (λ (n : Name). report_text (BasisOut n count)) is_name ∙ ap (λ (k : ℕ). report_text (BasisOut problem.name k)) is_count) prints
 
-        pub deck_punched : Writes {T = Unit {0}} written stopped_at faults refusals print_old print_new (Ok tt) (report_text (BasisOut name count)) →
-            Performs linear_programming Punch card written stopped_at faults refusals print_old print_new punch_written punch_stopped_at punch_faults punch_refusals punch_old punch_new cards machine machine (Ok Next)
+        pub deck_punched : Writes {T = Unit {0}} print_old print_new (Ok tt) (report_text (BasisOut name count)) →
+            Performs linear_programming Punch card print_old print_new punch_old punch_new cards machine machine (Ok Next)
         deck_punched prints = λ position executed state s. record {
           gain = Punches (BasisOut problem.name (min (length deck) max_counted)) deck;
           comes = (state, gives s, s);
           prints = own_line (Ok tt) prints;
-          punches = wrote punch_written punch_stopped_at punch_faults punch_refusals count (card_text deck) punches;
+          punches = wrote count (card_text deck) punches;
         }
 
         -- the deck is punched, and the print stops in its line
-        pub deck_line_cut : (stop : WriteStop) → Writes {T = Unit {0}} written stopped_at faults refusals print_old print_new (Err stop) (report_text (BasisOut name count)) →
-            Performs linear_programming Punch card written stopped_at faults refusals print_old print_new punch_written punch_stopped_at punch_faults punch_refusals punch_old punch_new cards machine machine (Err (halt.Print stop))
+        pub deck_line_cut : (stop : WriteStop) → Writes {T = Unit {0}} print_old print_new (Err stop) (report_text (BasisOut name count)) →
+            Performs linear_programming Punch card print_old print_new punch_old punch_new cards machine machine (Err (halt.Print stop))
         deck_line_cut stop prints = λ position executed state s. record {
           outcome = punched state;
           gives = gives s;
           prints = own_line (Err stop) prints;
-          punches = wrote punch_written punch_stopped_at punch_faults punch_refusals count (card_text deck) punches;
+          punches = wrote count (card_text deck) punches;
         }

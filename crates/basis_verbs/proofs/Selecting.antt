@@ -1,5 +1,6 @@
 -- A statement that needs a setup, and goes on with what is selected of it.
 use Rattle.std.proofs.Common.{◌≡◌, ℕ, List, Option, Some, None, Ok, Err, IfSome, inr, refl, sym, ap, subst, ◌∙◌}
+use Rattle.job_devices.specs.States.{SinkState}
 use Rattle.lp_definitions.specs.LinearProgram.{LinearProgram}
 use Rattle.lp_definitions.specs.declared.Evidence.{Evidence}
 use Rattle.problem_definitions.specs.Problem.{Problem}
@@ -38,10 +39,10 @@ module _ (verb : Verb ℕ) (card : ℕ) (go : State → Present → LinearProgra
   abbrev pub with_setup : State → Present → StatementMove
   with_setup state present = or_selection_fault card (selected present.problem (choice_of state.cells present.options)) (selecting_move state present)
 
-  pub without_setup : {P : Type 0} (written stopped_at : P → Option (List ℕ)) (faults refusals : P → ℕ) (cards : List (List ℕ)) (machine : Machine) (print : P) → machine.setup ≡ None →
-      Executes linear_programming verb card written stopped_at faults refusals print print cards machine machine (refused_act card (Fault NoSetup))
-  without_setup written stopped_at faults refusals cards machine print none =
-      quietly IsPresent (Gives linear_programming) verb card written stopped_at faults refusals cards machine print (λ position executed state s.
+  pub without_setup : (cards : List (List ℕ)) (machine : Machine) (print : SinkState) → machine.setup ≡ None →
+      Executes linear_programming verb card print print cards machine machine (refused_act card (Fault NoSetup))
+  without_setup cards machine print none =
+      quietly IsPresent (Gives linear_programming) verb card cards machine print (λ position executed state s.
       begins state (stops (endings.VerbStop (record { fault = NoSetup; card = card })))
       (gives_fault card NoSetup state.setup (with_setup state) (setup_gone cards machine none s)))
 
@@ -76,10 +77,10 @@ module _ (verb : Verb ℕ) (card : ℕ) (go : State → Present → LinearProgra
           (inr (e, None, (subst (λ (c : Cells). SelectionOverflows problem (choice_of c setup.options) e None) (sym s.cells) (h.is_refusal, refl)), refl))
 
     -- nothing is selected
-    pub unselected : {P : Type 0} (written stopped_at : P → Option (List ℕ)) (faults refusals : P → ℕ) (print : P) (refusal : Refusal) → IsUnselected problem (choice_of old.cells setup.options) refusal →
-        Executes linear_programming verb card written stopped_at faults refusals print print cards old old (refused_act card refusal)
-    unselected written stopped_at faults refusals print (Fault fault) u =
-        quietly IsPresent (Gives linear_programming) verb card written stopped_at faults refusals cards old print (λ position executed state s. fault_gives s fault u)
-    unselected written stopped_at faults refusals print (Overflow e) u =
-        quietly IsPresent (Gives linear_programming) verb card written stopped_at faults refusals cards old print (λ position executed state s. overflow_gives s e u)
-    unselected written stopped_at faults refusals print NoMemory u = refl
+    pub unselected : (print : SinkState) (refusal : Refusal) → IsUnselected problem (choice_of old.cells setup.options) refusal →
+        Executes linear_programming verb card print print cards old old (refused_act card refusal)
+    unselected print (Fault fault) u =
+        quietly IsPresent (Gives linear_programming) verb card cards old print (λ position executed state s. fault_gives s fault u)
+    unselected print (Overflow e) u =
+        quietly IsPresent (Gives linear_programming) verb card cards old print (λ position executed state s. overflow_gives s e u)
+    unselected print NoMemory u = refl

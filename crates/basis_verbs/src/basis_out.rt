@@ -27,9 +27,8 @@ pub fn punch_present<E: Engine, P: Sink, U: Sink>(
 ) -> Result<Act, Halt>
     requires { IfSome machine.now.setup (IsReady machine.now.file) }
     ensures { (cards : List (List ℕ)) →
-        Performs linear_programming program.Punch card P.written P.stopped_at P.faults P.refusals print.old
-        print.new U.written U.stopped_at U.faults U.refusals punch.old punch.new cards machine.now
-        machine.now result }
+        Performs linear_programming program.Punch card (P.taken print.old) (P.taken print.new)
+        (U.taken punch.old) (U.taken punch.new) cards machine.now machine.now result }
 {
     let Some(setup) = &machine.setup else {
         return Refusal::Fault(VerbFault::NoSetup).act(card);

@@ -293,8 +293,8 @@ pub fn insert_basis<E: Engine, P: Sink>(
     card: u32,
 ) -> Result<Act, Halt>
     requires { IsSound cards.now machine.old }
-    ensures acts { Executes linear_programming program.Insert card P.written P.stopped_at P.faults P.refusals
-        print.old print.new cards.now machine.old machine.new result }
+    ensures acts { Executes linear_programming program.Insert card (P.taken print.old)
+        (P.taken print.new) cards.now machine.old machine.new result }
     ensures sound { IsSound cards.now machine.new }
 {
     let found = find_basis(alloc, machine, cards, card)?;

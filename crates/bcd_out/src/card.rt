@@ -84,7 +84,7 @@ fn name_columns(name: &[u8]) -> Columns
 
 // Writes a card, up to its last byte that isn't blank.
 fn put_columns<P: Sink>(punch: &mut P, columns: &Columns) -> Result<(), WriteStop>
-    ensures { Writes P.written P.stopped_at P.faults P.refusals punch.old punch.new result
+    ensures { Writes (P.taken punch.old) (P.taken punch.new) result
         (line (without_trailing is_blank columns.now.items)) }
 {
     let card = without_trailing_blanks(columns.as_slice());
@@ -98,7 +98,7 @@ pub fn put_card<P: Sink>(punch: &mut P, card: WrittenCard<'_>) -> Result<(), Wri
     requires name1 { length card.name1.now ≤ 8 }
     requires name2 { length card.name2.now ≤ 8 }
     requires value { length card.value.now ≤ 12 }
-    ensures { Writes P.written P.stopped_at P.faults P.refusals punch.old punch.new result
+    ensures { Writes (P.taken punch.old) (P.taken punch.new) result
         (line (data_card card.entry.kind.now card.entry.name1.now card.entry.name2.now
         card.entry.value.now)) }
 {
@@ -108,7 +108,7 @@ pub fn put_card<P: Sink>(punch: &mut P, card: WrittenCard<'_>) -> Result<(), Wri
 /// Writes the card that a deck begins with.
 pub fn put_name<P: Sink>(punch: &mut P, name: &[u8]) -> Result<(), WriteStop>
     requires { length name.now ≤ 8 }
-    ensures { Writes P.written P.stopped_at P.faults P.refusals punch.old punch.new result
+    ensures { Writes (P.taken punch.old) (P.taken punch.new) result
         (line (without_trailing is_blank (codes "NAME          " ++ name.now))) }
 {
     put_columns(punch, &name_columns(name))

@@ -12,7 +12,7 @@ use job_devices::{Sink, WriteStop, put_all};
 use problem_file::Problem;
 
 fn put_deck<P: Sink>(problem: &Problem, punch: &mut P) -> Result<(), WriteStop>
-    ensures { Writes P.written P.stopped_at P.faults P.refusals punch.old punch.new result
+    ensures { Writes (P.taken punch.old) (P.taken punch.new) result
         (card_text (written (by_names problem.now))) }
 {
     let name = problem.name();
@@ -30,7 +30,7 @@ fn put_deck<P: Sink>(problem: &Problem, punch: &mut P) -> Result<(), WriteStop>
 /// Writes the cards of a problem's deck, and says how many there are: at most 4,294,967,295. At a stop a prefix of their
 /// text is written. It takes no memory of its own.
 pub fn deck_of<P: Sink>(problem: &Problem, punch: &mut P) -> Result<u32, WriteStop>
-    ensures text { Writes P.written P.stopped_at P.faults P.refusals punch.old punch.new result
+    ensures text { Writes (P.taken punch.old) (P.taken punch.new) result
         (card_text (written (by_names problem.now))) }
     ensures count { IfOk result (λ count. count ≡ min (length (written (by_names problem.now)))
         max_counted) }

@@ -68,7 +68,7 @@ pub fn column_name(columns: &[ColumnDecl], number: u32) -> &[u8]
 }
 
 fn put_plain_row<P: Sink>(punch: &mut P, kind: RowKind, name: Name) -> Result<(), WriteStop>
-    ensures { Writes P.written P.stopped_at P.faults P.refusals punch.old punch.new result (plain_line kind name) }
+    ensures { Writes (P.taken punch.old) (P.taken punch.new) result (plain_line kind name) }
 {
     let card = WrittenCard {
         kind: row_kind_word(kind),
@@ -81,7 +81,7 @@ fn put_plain_row<P: Sink>(punch: &mut P, kind: RowKind, name: Name) -> Result<()
 
 // A combination without parts.
 fn put_bare_combination<P: Sink>(punch: &mut P, kind: RowKind, name: Name) -> Result<(), WriteStop>
-    ensures { Writes P.written P.stopped_at P.faults P.refusals punch.old punch.new result
+    ensures { Writes (P.taken punch.old) (P.taken punch.new) result
         (line (data_card (combination_text kind) name [] [])) }
 {
     let card = WrittenCard {
@@ -100,7 +100,7 @@ fn put_part<P: Sink>(
     name: Name,
     part: DeckEntry,
 ) -> Result<(), WriteStop>
-    ensures { Writes P.written P.stopped_at P.faults P.refusals punch.old punch.new result
+    ensures { Writes (P.taken punch.old) (P.taken punch.new) result
         (part_line (map (λ row. row.name) rows.now) kind name part) }
 {
     let card = WrittenCard {
@@ -119,7 +119,7 @@ fn put_parts<P: Sink>(
     name: Name,
     parts: &[DeckEntry],
 ) -> Result<(), WriteStop>
-    ensures { Writes P.written P.stopped_at P.faults P.refusals punch.old punch.new result
+    ensures { Writes (P.taken punch.old) (P.taken punch.new) result
         (flat_map (part_line (map (λ row. row.name) rows.now) kind name) parts.now) }
 {
     for part in parts {
@@ -135,7 +135,7 @@ fn put_combination<P: Sink>(
     name: Name,
     parts: &[DeckEntry],
 ) -> Result<(), WriteStop>
-    ensures { Writes P.written P.stopped_at P.faults P.refusals punch.old punch.new result
+    ensures { Writes (P.taken punch.old) (P.taken punch.new) result
         (combination_lines (map (λ row. row.name) rows.now) kind name parts.now) }
 {
     if parts.is_empty() {
@@ -146,7 +146,7 @@ fn put_combination<P: Sink>(
 }
 
 fn put_row<P: Sink>(punch: &mut P, rows: &[RowDecl], row: &RowDecl) -> Result<(), WriteStop>
-    ensures { Writes P.written P.stopped_at P.faults P.refusals punch.old punch.new result
+    ensures { Writes (P.taken punch.old) (P.taken punch.new) result
         (row_lines (map (λ row. row.name) rows.now) row.now) }
 {
     match &row.parts {
@@ -156,7 +156,7 @@ fn put_row<P: Sink>(punch: &mut P, rows: &[RowDecl], row: &RowDecl) -> Result<()
 }
 
 fn put_row_cards<P: Sink>(punch: &mut P, rows: &[RowDecl]) -> Result<(), WriteStop>
-    ensures { Writes P.written P.stopped_at P.faults P.refusals punch.old punch.new result
+    ensures { Writes (P.taken punch.old) (P.taken punch.new) result
         (flat_map (row_lines (map (λ row. row.name) rows.now)) rows.now) }
 {
     for row in rows {
@@ -172,7 +172,7 @@ fn put_entry<P: Sink>(
     name: Name,
     entry: DeckEntry,
 ) -> Result<(), WriteStop>
-    ensures { Writes P.written P.stopped_at P.faults P.refusals punch.old punch.new result
+    ensures { Writes (P.taken punch.old) (P.taken punch.new) result
         (entry_line (map (λ row. row.name) rows.now) name entry) }
 {
     let card = WrittenCard {
@@ -190,7 +190,7 @@ fn put_entries<P: Sink>(
     name: Name,
     entries: &[DeckEntry],
 ) -> Result<(), WriteStop>
-    ensures { Writes P.written P.stopped_at P.faults P.refusals punch.old punch.new result
+    ensures { Writes (P.taken punch.old) (P.taken punch.new) result
         (flat_map (entry_line (map (λ row. row.name) rows.now) name) entries.now) }
 {
     for entry in entries {
@@ -208,7 +208,7 @@ pub fn plain_row(rows: &[RowDecl]) -> Option<&RowDecl>
 
 // The number 0 of a column on the first plain row, if there is one.
 fn put_zero<P: Sink>(punch: &mut P, rows: &[RowDecl], name: Name) -> Result<(), WriteStop>
-    ensures { Writes P.written P.stopped_at P.faults P.refusals punch.old punch.new result
+    ensures { Writes (P.taken punch.old) (P.taken punch.new) result
         (flat_map (zero_line name) (option_to_list (first_plain rows.now))) }
 {
     let Some(row) = plain_row(rows) else {
@@ -228,7 +228,7 @@ fn put_column<P: Sink>(
     rows: &[RowDecl],
     column: &ColumnDecl,
 ) -> Result<(), WriteStop>
-    ensures { Writes P.written P.stopped_at P.faults P.refusals punch.old punch.new result
+    ensures { Writes (P.taken punch.old) (P.taken punch.new) result
         (column_lines rows.now column.now) }
 {
     if column.entries.is_empty() {
@@ -243,7 +243,7 @@ fn put_column_cards<P: Sink>(
     rows: &[RowDecl],
     columns: &[ColumnDecl],
 ) -> Result<(), WriteStop>
-    ensures { Writes P.written P.stopped_at P.faults P.refusals punch.old punch.new result
+    ensures { Writes (P.taken punch.old) (P.taken punch.new) result
         (flat_map (column_lines rows.now) columns.now) }
 {
     for column in columns {
@@ -253,7 +253,7 @@ fn put_column_cards<P: Sink>(
 }
 
 fn put_value_set<P: Sink>(punch: &mut P, rows: &[RowDecl], set: &ValueSet) -> Result<(), WriteStop>
-    ensures { Writes P.written P.stopped_at P.faults P.refusals punch.old punch.new result
+    ensures { Writes (P.taken punch.old) (P.taken punch.new) result
         (entry_lines (map (λ row. row.name) rows.now) set.now) }
 {
     put_entries(punch, rows, set.name, &set.entries)
@@ -264,7 +264,7 @@ fn put_value_sets<P: Sink>(
     rows: &[RowDecl],
     sets: &[ValueSet],
 ) -> Result<(), WriteStop>
-    ensures { Writes P.written P.stopped_at P.faults P.refusals punch.old punch.new result
+    ensures { Writes (P.taken punch.old) (P.taken punch.new) result
         (flat_map (entry_lines (map (λ row. row.name) rows.now)) sets.now) }
 {
     for set in sets {
@@ -280,7 +280,7 @@ fn put_values_under<P: Sink>(
     rows: &[RowDecl],
     sets: &[ValueSet],
 ) -> Result<(), WriteStop>
-    ensures { Writes P.written P.stopped_at P.faults P.refusals punch.old punch.new result
+    ensures { Writes (P.taken punch.old) (P.taken punch.new) result
         (line word.now ++ flat_map (entry_lines (map (λ row. row.name) rows.now)) sets.now) }
 {
     put_each(punch, &[word, b"\n"])?;
@@ -293,7 +293,7 @@ fn put_bound<P: Sink>(
     name: Name,
     bound: BoundItem,
 ) -> Result<(), WriteStop>
-    ensures { Writes P.written P.stopped_at P.faults P.refusals punch.old punch.new result
+    ensures { Writes (P.taken punch.old) (P.taken punch.new) result
         (bound_line (group_names columns.now) name bound) }
 {
     let value = match &bound.value {
@@ -315,7 +315,7 @@ fn put_bounds<P: Sink>(
     name: Name,
     bounds: &[BoundItem],
 ) -> Result<(), WriteStop>
-    ensures { Writes P.written P.stopped_at P.faults P.refusals punch.old punch.new result
+    ensures { Writes (P.taken punch.old) (P.taken punch.new) result
         (flat_map (bound_line (group_names columns.now) name) bounds.now) }
 {
     for bound in bounds {
@@ -329,7 +329,7 @@ fn put_bound_set<P: Sink>(
     columns: &[ColumnDecl],
     set: &BoundSet,
 ) -> Result<(), WriteStop>
-    ensures { Writes P.written P.stopped_at P.faults P.refusals punch.old punch.new result
+    ensures { Writes (P.taken punch.old) (P.taken punch.new) result
         (bound_lines (group_names columns.now) set.now) }
 {
     put_bounds(punch, columns, set.name, &set.items)
@@ -340,7 +340,7 @@ fn put_bound_sets<P: Sink>(
     columns: &[ColumnDecl],
     sets: &[BoundSet],
 ) -> Result<(), WriteStop>
-    ensures { Writes P.written P.stopped_at P.faults P.refusals punch.old punch.new result
+    ensures { Writes (P.taken punch.old) (P.taken punch.new) result
         (flat_map (bound_lines (group_names columns.now)) sets.now) }
 {
     for set in sets {
@@ -355,7 +355,7 @@ fn put_bounds_under<P: Sink>(
     columns: &[ColumnDecl],
     sets: &[BoundSet],
 ) -> Result<(), WriteStop>
-    ensures { Writes P.written P.stopped_at P.faults P.refusals punch.old punch.new result
+    ensures { Writes (P.taken punch.old) (P.taken punch.new) result
         (line (codes "BOUNDS") ++ flat_map (bound_lines (group_names columns.now)) sets.now) }
 {
     put_all(punch, b"BOUNDS\n")?;
@@ -364,7 +364,7 @@ fn put_bounds_under<P: Sink>(
 
 /// Writes the section of the rows.
 pub fn put_rows<P: Sink>(punch: &mut P, rows: &[RowDecl]) -> Result<(), WriteStop>
-    ensures { Writes P.written P.stopped_at P.faults P.refusals punch.old punch.new result
+    ensures { Writes (P.taken punch.old) (P.taken punch.new) result
         (line (codes "ROWS") ++ flat_map (row_lines (map (λ row. row.name) rows.now)) rows.now) }
 {
     put_all(punch, b"ROWS\n")?;
@@ -377,7 +377,7 @@ pub fn put_columns<P: Sink>(
     rows: &[RowDecl],
     columns: &[ColumnDecl],
 ) -> Result<(), WriteStop>
-    ensures { Writes P.written P.stopped_at P.faults P.refusals punch.old punch.new result
+    ensures { Writes (P.taken punch.old) (P.taken punch.new) result
         (line (codes "COLUMNS") ++ flat_map (column_lines rows.now) columns.now) }
 {
     put_all(punch, b"COLUMNS\n")?;
@@ -391,7 +391,7 @@ pub fn put_value_section<P: Sink>(
     rows: &[RowDecl],
     sets: &[ValueSet],
 ) -> Result<(), WriteStop>
-    ensures { Writes P.written P.stopped_at P.faults P.refusals punch.old punch.new result
+    ensures { Writes (P.taken punch.old) (P.taken punch.new) result
         (section_lines word.now (entry_lines (map (λ row. row.name) rows.now)) sets.now) }
 {
     if sets.is_empty() {
@@ -406,7 +406,7 @@ pub fn put_bound_section<P: Sink>(
     columns: &[ColumnDecl],
     sets: &[BoundSet],
 ) -> Result<(), WriteStop>
-    ensures { Writes P.written P.stopped_at P.faults P.refusals punch.old punch.new result
+    ensures { Writes (P.taken punch.old) (P.taken punch.new) result
         (section_lines (codes "BOUNDS") (bound_lines (group_names columns.now)) sets.now) }
 {
     if sets.is_empty() {

@@ -3,6 +3,7 @@ use Rattle.std.proofs.Common.{◌≡◌, ℕ, ◌≤◌, List, ◌++◌, Option,
 use Rattle.std.specs.Prelude.{IfErr}
 use Rattle.std.specs.Io.KnownBytes.{Appends}
 use Rattle.job_devices.proofs.TextLemmas.{Appends-then, writes_then}
+use Rattle.job_devices.specs.States.{SinkState}
 use Rattle.job_devices.specs.Causes.{Rose}
 use Rattle.job_devices.specs.Text.{Writes}
 use Rattle.job_devices.specs.declared.device.WriteStop.{WriteStop}
@@ -36,31 +37,30 @@ apart code a b first second differ = differ (sym first ∙ second)
 
 -- ---- the end is printed
 
-module _ (S : Solving) (program : Program) (cards : List (List ℕ)) {P U : Type 0} (written stopped_at : P → Option (List ℕ)) (faults refusals : P → ℕ)
-    (punch_written punch_stopped_at : U → Option (List ℕ)) (punch_faults punch_refusals : U → ℕ) where
+module _ (S : Solving) (program : Program) (cards : List (List ℕ)) where
   -- the answer to a run, by what print and punch count and gain
-  abbrev IsAnswerNow : P → P → U → U → RunStatus → Type 0
+  abbrev IsAnswerNow : SinkState → SinkState → SinkState → SinkState → RunStatus → Type 0
   IsAnswerNow old new punch_old punch_new status =
-      IsRunAnswer S program cards (Rose (faults old) (faults new)) (Rose (refusals old) (refusals new)) (Rose (punch_faults punch_old) (punch_faults punch_new)) (Rose (punch_refusals punch_old) (punch_refusals punch_new))
-      (code_of status) (written old) (written new) (punch_written punch_old) (punch_written punch_new)
+      IsRunAnswer S program cards (Rose old.faults new.faults) (Rose old.refusals new.refusals) (Rose punch_old.faults punch_new.faults) (Rose punch_old.refusals punch_new.refusals)
+      (code_of status) old.written new.written punch_old.written punch_new.written
 
   -- the print has stopped in the lines of the end
-  ended_in : {old now later : P} {punch_old punch_now : U} {result : Result (Unit {0}) WriteStop} {ending : Ending} {stop : WriteStop} → RunsTo S program cards written stopped_at faults refusals old now punch_written punch_stopped_at punch_faults punch_refusals punch_old punch_now result ending →
-      Writes {T = Unit {0}} written stopped_at faults refusals now later (Err stop) (ending_text ending) →
-      IsCut S program cards (Rose (punch_faults punch_old) (punch_faults punch_now)) (Rose (punch_refusals punch_old) (punch_refusals punch_now)) (written old) (written later) (punch_written punch_old) (punch_written punch_now)
+  ended_in : {old now later punch_old punch_now : SinkState} {result : Result (Unit {0}) WriteStop} {ending : Ending} {stop : WriteStop} → RunsTo S program cards old now punch_old punch_now result ending →
+      Writes {T = Unit {0}} now later (Err stop) (ending_text ending) →
+      IsCut S program cards (Rose punch_old.faults punch_now.faults) (Rose punch_old.refusals punch_now.refusals) old.written later.written punch_old.written punch_now.written
   ended_in {old = old} {now = now} {later = later} r w =
       let part = w.bytes in
-      in_end part.0 r.can_end part.1 (Appends-then (written old) (written now) (written later) (reports_text r.reports) part.0 r.prints.bytes part.2) r.gains
+      in_end part.0 r.can_end part.1 (Appends-then old.written now.written later.written (reports_text r.reports) part.0 r.prints.bytes part.2) r.gains
 
   -- the end is printed after the reports
-  finished : {old now later : P} {punch_old punch_now : U} {result : Result (Unit {0}) WriteStop} {ending : Ending} {status : RunStatus} → RunsTo S program cards written stopped_at faults refusals old now punch_written punch_stopped_at punch_faults punch_refusals punch_old punch_now result ending →
-      Finishes written stopped_at faults refusals now later ending status → IsAnswerNow old later punch_old punch_now status
+  finished : {old now later punch_old punch_now : SinkState} {result : Result (Unit {0}) WriteStop} {ending : Ending} {status : RunStatus} → RunsTo S program cards old now punch_old punch_now result ending →
+      Finishes now later ending status → IsAnswerNow old later punch_old punch_now status
   finished r (printed e w) = whole r.can_end e (writes_then r.prints w).bytes r.gains
   finished r (cut_off Failed e w) = print_fails ((writes_then r.prints w).cause.failed refl) (ap code_of e) (ended_in r w)
   finished r (cut_off NoMemory e w) = print_wants_memory ((writes_then r.prints w).cause.no_memory refl) (ap code_of e) (ended_in r w)
 
   -- the print stops in a report
-  cut_short : {old new : P} {punch_old punch_now : U} (stop : WriteStop) → IsRunCut S program cards written stopped_at faults refusals old new punch_written punch_stopped_at punch_faults punch_refusals punch_old punch_now stop →
+  cut_short : {old new punch_old punch_now : SinkState} (stop : WriteStop) → IsRunCut S program cards old new punch_old punch_now stop →
       IsAnswerNow old new punch_old punch_now (cut_status stop)
   cut_short Failed r = print_fails (r.leaves.cause.failed refl) refl (in_report r.outcome r.part r.reaches r.step r.is_part r.gains r.punches.bytes)
   cut_short NoMemory r = print_wants_memory (r.leaves.cause.no_memory refl) refl (in_report r.outcome r.part r.reaches r.step r.is_part r.gains r.punches.bytes)
@@ -82,7 +82,7 @@ module _ (S : Solving) (program : Program) (cards : List (List ℕ)) {P U : Type
   no_fault Memory code low high e = omega (arith, low, high, e)
 
   -- the print stops in a report with 25 where it fails, and never with 26
-  print_cut_rose : {old now : P} {punch_old punch_now : U} (stop : WriteStop) → IsRunCut S program cards written stopped_at faults refusals old now punch_written punch_stopped_at punch_faults punch_refusals punch_old punch_now stop → cut_status stop ≡ PrintFault → Rose (faults old) (faults now)
+  print_cut_rose : {old now punch_old punch_now : SinkState} (stop : WriteStop) → IsRunCut S program cards old now punch_old punch_now stop → cut_status stop ≡ PrintFault → Rose old.faults now.faults
   print_cut_rose Failed r is = r.leaves.cause.failed refl
   print_cut_rose NoMemory r is = absurd (apart 28 28 25 refl (ap code_of is) (λ n. omega (arith, n)))
 
@@ -95,13 +95,13 @@ module _ (S : Solving) (program : Program) (cards : List (List ℕ)) {P U : Type
   code_at (Ok done) ending status ends e = tt
   code_at (Err stop) ending status ends e = e ∙ ap status_of ends
 
-  print_rose : {old now later : P} {punch_old punch_now : U} {result : Result (Unit {0}) WriteStop} {ending : Ending} {status : RunStatus} → RunsTo S program cards written stopped_at faults refusals old now punch_written punch_stopped_at punch_faults punch_refusals punch_old punch_now result ending →
-      Finishes written stopped_at faults refusals now later ending status → (status_of ending ≡ 25 → ⊥) → status ≡ PrintFault → Rose (faults old) (faults later)
+  print_rose : {old now later punch_old punch_now : SinkState} {result : Result (Unit {0}) WriteStop} {ending : Ending} {status : RunStatus} → RunsTo S program cards old now punch_old punch_now result ending →
+      Finishes now later ending status → (status_of ending ≡ 25 → ⊥) → status ≡ PrintFault → Rose old.faults later.faults
   print_rose r (printed e w) other is = absurd (other (sym e ∙ ap code_of is))
   print_rose r (cut_off Failed e w) other is = (writes_then r.prints w).cause.failed refl
   print_rose {status = status} r (cut_off NoMemory e w) other is = absurd (apart (code_of status) 28 25 (ap code_of e) (ap code_of is) (λ n. omega (arith, n)))
 
-  no_punch_fault : {now later : P} {ending : Ending} {status : RunStatus} → Finishes written stopped_at faults refusals now later ending status → (status_of ending ≡ 26 → ⊥) → status ≡ PunchFault → ⊥
+  no_punch_fault : {now later : SinkState} {ending : Ending} {status : RunStatus} → Finishes now later ending status → (status_of ending ≡ 26 → ⊥) → status ≡ PunchFault → ⊥
   no_punch_fault (printed e w) other is = other (sym e ∙ ap code_of is)
   no_punch_fault {status = status} (cut_off Failed e w) other is = apart (code_of status) 25 26 (ap code_of e) (ap code_of is) (λ n. omega (arith, n))
   no_punch_fault {status = status} (cut_off NoMemory e w) other is = apart (code_of status) 28 26 (ap code_of e) (ap code_of is) (λ n. omega (arith, n))
@@ -109,17 +109,17 @@ module _ (S : Solving) (program : Program) (cards : List (List ℕ)) {P U : Type
   -- ---- by what the run's result is
 
   -- how often print and punch have failed or found no memory; no job is read
-  abbrev counted : P → U → Counts
-  counted print punch = counts faults refusals punch_faults punch_refusals 0 print punch
+  abbrev counted : SinkState → SinkState → Counts
+  counted print punch = counts 0 print punch
 
   -- the status reports what has failed, and nothing was written after
-  pub record IsNoted (old later : P) (punch_old punch_now : U) (status : RunStatus) : Type 0 where
+  pub record IsNoted (old later punch_old punch_now : SinkState) (status : RunStatus) : Type 0 where
     pub reported : IsReported (counted old punch_old) (counted later punch_now) (code_of status)
-    pub print_still : IsStill written stopped_at faults refusals old later
-    pub punch_still : IsStill punch_written punch_stopped_at punch_faults punch_refusals punch_old punch_now
+    pub print_still : IsStill old later
+    pub punch_still : IsStill punch_old punch_now
 
-  noted_by_end : {old now later : P} {punch_old punch_now : U} (result : Result (Unit {0}) WriteStop) {ending : Ending} {status : RunStatus} → IfErr result (λ stop. ending ≡ punch_end stop) →
-      RunsTo S program cards written stopped_at faults refusals old now punch_written punch_stopped_at punch_faults punch_refusals punch_old punch_now result ending → Finishes written stopped_at faults refusals now later ending status → IsNoted old later punch_old punch_now status
+  noted_by_end : {old now later punch_old punch_now : SinkState} (result : Result (Unit {0}) WriteStop) {ending : Ending} {status : RunStatus} → IfErr result (λ stop. ending ≡ punch_end stop) →
+      RunsTo S program cards old now punch_old punch_now result ending → Finishes now later ending status → IsNoted old later punch_old punch_now status
   noted_by_end {old = old} {later = later} {punch_old = punch_old} {punch_now = punch_now} result {ending = ending} {status = status} ends r (printed e w) =
       let l = left (writes_then r.prints w) in
       record {
@@ -135,24 +135,24 @@ module _ (S : Solving) (program : Program) (cards : List (List ℕ)) {P U : Type
         punch_still = stands_still result r.leaves;
       }
 
-  noted_by_cut : {old now : P} (later : P) {punch_old punch_now : U} (stop : WriteStop) {status : RunStatus} → IsRunCut S program cards written stopped_at faults refusals old now punch_written punch_stopped_at punch_faults punch_refusals punch_old punch_now stop →
+  noted_by_cut : {old now : SinkState} (later : SinkState) {punch_old punch_now : SinkState} (stop : WriteStop) {status : RunStatus} → IsRunCut S program cards old now punch_old punch_now stop →
       status ≡ cut_status stop → later ≡ now → IsNoted old later punch_old punch_now status
   noted_by_cut {old = old} {now = now} later {punch_old = punch_old} {punch_now = punch_now} stop {status = status} r e same =
-      subst (λ (p : P). IsNoted old p punch_old punch_now status) (sym same)
+      subst (λ (p : SinkState). IsNoted old p punch_old punch_now status) (sym same)
       (record {
         reported = reported_print (counted old punch_old) (counted now punch_now) stop (code_of status) (ap code_of e) r.leaves.cause;
         print_still = stands_still (Err stop) r.leaves;
         punch_still = stands_still (Ok tt) (left r.punches);
       })
 
-  pub record IsFinished (old later : P) (punch_old punch_now : U) (status : RunStatus) : Type 0 where
+  pub record IsFinished (old later punch_old punch_now : SinkState) (status : RunStatus) : Type 0 where
     pub answer : IsAnswerNow old later punch_old punch_now status
-    pub print_fault : status ≡ PrintFault → Rose (faults old) (faults later)
-    pub punch_fault : status ≡ PunchFault → Rose (punch_faults punch_old) (punch_faults punch_now)
+    pub print_fault : status ≡ PrintFault → Rose old.faults later.faults
+    pub punch_fault : status ≡ PunchFault → Rose punch_old.faults punch_now.faults
     pub noted : IsNoted old later punch_old punch_now status
 
-  pub finished_by_end : {old now later : P} {punch_old punch_now : U} (end : End) {status : RunStatus} → RunsTo S program cards written stopped_at faults refusals old now punch_written punch_stopped_at punch_faults punch_refusals punch_old punch_now (Ok tt) (end_view end) →
-      Finishes written stopped_at faults refusals now later (end_view end) status → IsFinished old later punch_old punch_now status
+  pub finished_by_end : {old now later punch_old punch_now : SinkState} (end : End) {status : RunStatus} → RunsTo S program cards old now punch_old punch_now (Ok tt) (end_view end) →
+      Finishes now later (end_view end) status → IsFinished old later punch_old punch_now status
   finished_by_end end r f = record {
     answer = finished r f;
     print_fault = print_rose r f (no_fault end 25 (omega arith) (omega arith));
@@ -160,10 +160,10 @@ module _ (S : Solving) (program : Program) (cards : List (List ℕ)) {P U : Type
     noted = noted_by_end (Ok tt) tt r f;
   }
 
-  pub finished_by_halt : {old : P} (now : P) {later : P} {punch_old punch_now : U} (h : Halt) {status : RunStatus} → Runs S program cards written stopped_at faults refusals old now punch_written punch_stopped_at punch_faults punch_refusals punch_old punch_now (Err h) →
-      FinishesHalted written stopped_at faults refusals now later h status → IsFinished old later punch_old punch_now status
+  pub finished_by_halt : {old : SinkState} (now : SinkState) {later punch_old punch_now : SinkState} (h : Halt) {status : RunStatus} → Runs S program cards old now punch_old punch_now (Err h) →
+      FinishesHalted now later h status → IsFinished old later punch_old punch_now status
   finished_by_halt {old = old} now {later = later} {punch_old = punch_old} {punch_now = punch_now} (halt.Print stop) {status = status} r f = record {
-    answer = subst (λ (s : RunStatus). IsAnswerNow old later punch_old punch_now s) (sym f.0) (subst (λ (p : P). IsAnswerNow old p punch_old punch_now (cut_status stop)) (sym f.1) (cut_short stop r));
+    answer = subst (λ (s : RunStatus). IsAnswerNow old later punch_old punch_now s) (sym f.0) (subst (λ (p : SinkState). IsAnswerNow old p punch_old punch_now (cut_status stop)) (sym f.1) (cut_short stop r));
     print_fault = λ is. rw f.1 (print_cut_rose stop r (sym f.0 ∙ is));
     punch_fault = λ is. absurd (no_punch_cut stop (sym f.0 ∙ is));
     noted = noted_by_cut later stop r f.0 f.1;
@@ -190,7 +190,7 @@ module _ (S : Solving) (program : Program) (cards : List (List ℕ)) {P U : Type
 -- ---- the job
 
 module _ (S : Solving) (program : Program) (job : Job) (failures : Failures) (bytes : List ℕ) (of_job : bytes_of job ≡ Some bytes) (is_program : IsProgramOf bytes program) (punch_failed punch_wanted : Type 0) (punch_fails_too : punch_failed → failures.punch) where
-  may_end : {reports : List Report} {punched : List (List ℕ)} {ending : Ending} → CanEnd S program (cards_of bytes) punch_failed punch_wanted reports punched ending → MayEnd S job failures reports punched ending
+  may_end : {reports : List Report} {punched deck : List (List ℕ)} {ending : Ending} → CanEnd S program (cards_of bytes) punch_failed punch_wanted reports punched deck ending → MayEnd S job failures reports punched deck ending
   may_end (by_itself is_run) = ends_by_itself bytes of_job (run program is_program is_run)
   may_end (for_memory {state = state} reaches) = memory_in_run bytes program state of_job (record { is_program = is_program; reaches = reaches })
   may_end (for_memory_of_punch {state = state} deck wanted reaches punching) = memory_at_punch bytes program state deck of_job (record { is_program = is_program; reaches = reaches }) punching
@@ -209,7 +209,7 @@ module _ (S : Solving) (program : Program) (job : Job) (failures : Failures) (by
       punch_gains,
       answers.in_report bytes program state outcome part of_job (record { is_program = is_program; reaches = reaches }) step is_part refl refl,
     )
-    cut status (in_end {reports} {punched} {ending} part can is_part gains punch_gains) =
+    cut status (in_end {reports} {punched} {deck} {ending} part can is_part gains punch_gains) =
         (reports_text reports ++ part, punch_gains.0, gains, punch_gains.1, answers.in_end ending part (may_end can) is_part refl punch_gains.2)
 
     answer_of : {failed wanted : Type 0} {status : ℕ} → (failed → failures.print) → (wanted → failures.memory) →
@@ -234,13 +234,12 @@ job_answered S program cards failures {failed = failed} {wanted = wanted} {punch
 
 -- ---- the end of the run
 
-module _ (S : Solving) (program : Program) (cards : List (List ℕ)) {P U : Type 0} (written stopped_at : P → Option (List ℕ)) (faults refusals : P → ℕ)
-    (punch_written punch_stopped_at : U → Option (List ℕ)) (punch_faults punch_refusals : U → ℕ) where
-  ended : {old later : P} {punch_old punch_now : U} {status : RunStatus} → IsFinished S program cards written stopped_at faults refusals punch_written punch_stopped_at punch_faults punch_refusals old later punch_old punch_now status →
-      IsStatusOfRun status → IsEndOfRun S program cards written stopped_at faults refusals old later punch_written punch_stopped_at punch_faults punch_refusals punch_old punch_now status
+module _ (S : Solving) (program : Program) (cards : List (List ℕ)) where
+  ended : {old later punch_old punch_now : SinkState} {status : RunStatus} → IsFinished S program cards old later punch_old punch_now status →
+      IsStatusOfRun status → IsEndOfRun S program cards old later punch_old punch_now status
   ended {old = old} {later = later} {punch_old = punch_old} {punch_now = punch_now} f own = record {
     run = f.answer;
-    answer = job_answered S program cards (failures_in_run (Rose (faults old) (faults later)) (Rose (punch_faults punch_old) (punch_faults punch_now)) (Rose (refusals old) (refusals later)))
+    answer = job_answered S program cards (failures_in_run (Rose old.faults later.faults) (Rose punch_old.faults punch_now.faults) (Rose old.refusals later.refusals))
         (λ h. h) (λ h. h) (λ h. h) f.answer;
     print_fault = f.print_fault;
     punch_fault = f.punch_fault;
@@ -249,12 +248,12 @@ module _ (S : Solving) (program : Program) (cards : List (List ℕ)) {P U : Type
     own = own;
   }
 
-  pub ended_by_end : {old now later : P} {punch_old punch_now : U} (end : End) {status : RunStatus} → RunsTo S program cards written stopped_at faults refusals old now punch_written punch_stopped_at punch_faults punch_refusals punch_old punch_now (Ok tt) (end_view end) →
-      Finishes written stopped_at faults refusals now later (end_view end) status → IsStatusOfRun status →
-      IsEndOfRun S program cards written stopped_at faults refusals old later punch_written punch_stopped_at punch_faults punch_refusals punch_old punch_now status
-  ended_by_end end r f own = ended (finished_by_end S program cards written stopped_at faults refusals punch_written punch_stopped_at punch_faults punch_refusals end r f) own
+  pub ended_by_end : {old now later punch_old punch_now : SinkState} (end : End) {status : RunStatus} → RunsTo S program cards old now punch_old punch_now (Ok tt) (end_view end) →
+      Finishes now later (end_view end) status → IsStatusOfRun status →
+      IsEndOfRun S program cards old later punch_old punch_now status
+  ended_by_end end r f own = ended (finished_by_end S program cards end r f) own
 
-  pub ended_by_halt : {old : P} (now : P) {later : P} {punch_old punch_now : U} (h : Halt) {status : RunStatus} → Runs S program cards written stopped_at faults refusals old now punch_written punch_stopped_at punch_faults punch_refusals punch_old punch_now (Err h) →
-      FinishesHalted written stopped_at faults refusals now later h status → IsStatusOfRun status →
-      IsEndOfRun S program cards written stopped_at faults refusals old later punch_written punch_stopped_at punch_faults punch_refusals punch_old punch_now status
-  ended_by_halt now h r f own = ended (finished_by_halt S program cards written stopped_at faults refusals punch_written punch_stopped_at punch_faults punch_refusals now h r f) own
+  pub ended_by_halt : {old : SinkState} (now : SinkState) {later punch_old punch_now : SinkState} (h : Halt) {status : RunStatus} → Runs S program cards old now punch_old punch_now (Err h) →
+      FinishesHalted now later h status → IsStatusOfRun status →
+      IsEndOfRun S program cards old later punch_old punch_now status
+  ended_by_halt now h r f own = ended (finished_by_halt S program cards now h r f) own

@@ -1,6 +1,7 @@
 -- What PARAOBJ and PARARHS do by what they find.
 use Rattle.std.proofs.Common.{◌≡◌, ℕ, inl, inr, List, [], Option, None, Some, Ok, Err, refl, sym, ap, subst, ◌∙◌, option_map}
 use Rattle.std.specs.Prelude.{option_and_then}
+use Rattle.job_devices.specs.States.{SinkState}
 use Rattle.exact_values.specs.Rational.{ℚ}
 use Rattle.lp_definitions.specs.LinearProgram.{LinearProgram}
 use Rattle.lp_definitions.specs.declared.Evidence.{Evidence}
@@ -108,10 +109,10 @@ unfolding linear_programming verb_move
 parametric_run_gives Paraobj card state outcome g = g
 parametric_run_gives Pararhs card state outcome g = g
 
-pub parametric_run_no_setup : (verb : ParametricVerb) (card : ℕ) {P : Type 0} (written stopped_at : P → Option (List ℕ)) (faults refusals : P → ℕ) (cards : List (List ℕ)) (machine : Machine) (print : P) → machine.setup ≡ None →
-    Executes linear_programming (verb_of verb) card written stopped_at faults refusals print print cards machine machine (refused_act card (Fault NoSetup))
-parametric_run_no_setup verb card written stopped_at faults refusals cards machine print none =
-    quietly IsPresent (Gives linear_programming) (verb_of verb) card written stopped_at faults refusals cards machine print (λ position executed state s.
+pub parametric_run_no_setup : (verb : ParametricVerb) (card : ℕ) (cards : List (List ℕ)) (machine : Machine) (print : SinkState) → machine.setup ≡ None →
+    Executes linear_programming (verb_of verb) card print print cards machine machine (refused_act card (Fault NoSetup))
+parametric_run_no_setup verb card cards machine print none =
+    quietly IsPresent (Gives linear_programming) (verb_of verb) card cards machine print (λ position executed state s.
     parametric_run_gives verb card state (stops (endings.VerbStop (record { fault = NoSetup; card = card })))
     (gives_fault card NoSetup state.setup (with_setup verb card state) (subst (λ (kept : Option Setup). ShowsSetup machine.file kept state.setup) none s.setup)))
 
@@ -216,24 +217,24 @@ module _ (verb : ParametricVerb) (card : ℕ) (cards : List (List ℕ)) (old : M
       subst (λ (c : Cells). Gives linear_programming card (verb_move (verb_of verb) card state) (stops (endings.LimitStop (record { limit = steps_allowed c; card = card })))) s.cells (run_through_gives lp ok parametric_run a ParametricRunLimit right)
   found_comes _ _ (run_through {lp = lp} {parametric_run = parametric_run} ok a same_name same_options (overflows {e = e} {place = place} h)) = overflow_gives lp ok parametric_run a e (option_map place_view place) h
 
-module _ (verb : ParametricVerb) (card : ℕ) {P : Type 0} (written stopped_at : P → Option (List ℕ)) (faults refusals : P → ℕ) (print_old print_new : P) (cards : List (List ℕ)) (old : Machine) (setup new : Setup) (is_setup : old.setup ≡ Some setup)
+module _ (verb : ParametricVerb) (card : ℕ) (print_old print_new : SinkState) (cards : List (List ℕ)) (old : Machine) (setup new : Setup) (is_setup : old.setup ≡ Some setup)
     (ready : IsReady old.file setup) (demands : AreDemands old.cells) where
   abbrev left_by : Finding → Machine
   left_by finding = record old { setup = Some new; mark = None; cells = cells_left finding old.cells }
 
   pub parametric_run_found : (finding : Finding) (cells : Cells) (then : Act) → cells ≡ cells_left finding old.cells → then ≡ act_of cells card finding →
-      ReportsFinding (ParametricRuns ready.problem old.cells verb setup new) written stopped_at faults refusals print_old print_new (Ok finding) →
-      Executes linear_programming (verb_of verb) card written stopped_at faults refusals print_old print_new cards old (record old { setup = Some new; mark = None; cells = cells }) (Ok then)
+      ReportsFinding (ParametricRuns ready.problem old.cells verb setup new) print_old print_new (Ok finding) →
+      Executes linear_programming (verb_of verb) card print_old print_new cards old (record old { setup = Some new; mark = None; cells = cells }) (Ok then)
   parametric_run_found finding cells then e f t =
-      subst (λ (a : Act). Executes linear_programming (verb_of verb) card written stopped_at faults refusals print_old print_new cards old (record old { setup = Some new; mark = None; cells = cells }) (Ok a)) (sym f)
-      (subst (λ (c : Cells). Executes linear_programming (verb_of verb) card written stopped_at faults refusals print_old print_new cards old (record old { setup = Some new; mark = None; cells = c }) (Ok (act_of c card finding))) (sym e)
-      (reported_executes (verb_of verb) card written stopped_at faults refusals cards old (ParametricRuns ready.problem old.cells verb setup new) left_by (λ found. act_of (cells_left found old.cells) card found)
+      subst (λ (a : Act). Executes linear_programming (verb_of verb) card print_old print_new cards old (record old { setup = Some new; mark = None; cells = cells }) (Ok a)) (sym f)
+      (subst (λ (c : Cells). Executes linear_programming (verb_of verb) card print_old print_new cards old (record old { setup = Some new; mark = None; cells = c }) (Ok (act_of c card finding))) (sym e)
+      (reported_executes (verb_of verb) card cards old (ParametricRuns ready.problem old.cells verb setup new) left_by (λ found. act_of (cells_left found old.cells) card found)
       (no_cards_by ready.problem old.cells verb setup new)
       (λ gain found h position executed state s. found_comes verb card cards old setup new is_setup ready.problem ready.on_file demands position executed state s gain found h) print_old print_new finding t))
 
-  pub parametric_run_cut : (any : Machine) (h : Halt) → ReportsFinding (ParametricRuns ready.problem old.cells verb setup new) written stopped_at faults refusals print_old print_new (Err h) →
-      Executes linear_programming (verb_of verb) card written stopped_at faults refusals print_old print_new cards old any (Err h)
+  pub parametric_run_cut : (any : Machine) (h : Halt) → ReportsFinding (ParametricRuns ready.problem old.cells verb setup new) print_old print_new (Err h) →
+      Executes linear_programming (verb_of verb) card print_old print_new cards old any (Err h)
   parametric_run_cut any h t =
-      cut_executes (verb_of verb) card written stopped_at faults refusals cards old (ParametricRuns ready.problem old.cells verb setup new) left_by (λ found. act_of (cells_left found old.cells) card found)
+      cut_executes (verb_of verb) card cards old (ParametricRuns ready.problem old.cells verb setup new) left_by (λ found. act_of (cells_left found old.cells) card found)
       (no_cards_by ready.problem old.cells verb setup new)
       (λ gain found h position executed state s. found_comes verb card cards old setup new is_setup ready.problem ready.on_file demands position executed state s gain found h) print_old print_new any h t

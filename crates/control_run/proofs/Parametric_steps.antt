@@ -7,6 +7,7 @@ use Rattle.std.proofs.lemmas.List.{length-map}
 use Rattle.std.proofs.lemmas.List.FromFn.{length-enumerate_from}
 use Rattle.exact_values.specs.Rational.{ℚ}
 use Rattle.frac128.specs.declared.Refused.{Refused as RefusedOperation}
+use Rattle.job_devices.specs.States.{SinkState}
 use Rattle.job_devices.specs.declared.device.WriteStop.{WriteStop}
 use Rattle.job_devices.specs.Text.{Writes}
 use Rattle.lp_definitions.specs.LinearProgram.{LinearProgram}
@@ -82,13 +83,13 @@ module _ (sheet : OwnSheet) (parametric_run : ParametricRun) (s now : Basis) (be
         subst (λ (b : Solver). Finds (Prints (Solved b (verdict_view sheet outcome) (check_view refused))) (Ended (mark_of (verdict_view sheet outcome)))) (sym named)
         (opened {bases = a.bases} (record { reaches = a.run_through; leads = a.leads; lie = a.lie }))
 
-    module _ {P : Type 0} (written stopped_at : P → Option (List ℕ)) (faults refusals : P → ℕ) (print_old print_new : P) where
-      pub opening_reported : (mark : Mark) → mark ≡ mark_of (verdict_view sheet outcome) → Writes {T = Unit {0}} written stopped_at faults refusals print_old print_new (Ok tt) (report_text (Solved by (verdict_view sheet outcome) (check_view refused))) →
-          ReportsFinding Finds written stopped_at faults refusals print_old print_new (Ok (Ended mark))
+    module _ (print_old print_new : SinkState) where
+      pub opening_reported : (mark : Mark) → mark ≡ mark_of (verdict_view sheet outcome) → Writes {T = Unit {0}} print_old print_new (Ok tt) (report_text (Solved by (verdict_view sheet outcome) (check_view refused))) →
+          ReportsFinding Finds print_old print_new (Ok (Ended mark))
       opening_reported mark e writes = record { gain = verdict; holds = subst (λ (m : Mark). Finds verdict (Ended m)) (sym e) opening_found; writes = writes }
 
-      pub opening_cut : (stop : WriteStop) → Writes {T = Unit {0}} written stopped_at faults refusals print_old print_new (Err stop) (report_text (Solved by (verdict_view sheet outcome) (check_view refused))) →
-          ReportsFinding Finds written stopped_at faults refusals print_old print_new (Err (halt.Print stop))
+      pub opening_cut : (stop : WriteStop) → Writes {T = Unit {0}} print_old print_new (Err stop) (report_text (Solved by (verdict_view sheet outcome) (check_view refused))) →
+          ReportsFinding Finds print_old print_new (Err (halt.Print stop))
       opening_cut stop writes = record { gain = verdict; finding = Ended (mark_of (verdict_view sheet outcome)); holds = opening_found; writes = writes }
 
   -- the intervals and their end
@@ -118,18 +119,18 @@ module _ (sheet : OwnSheet) (parametric_run : ParametricRun) (s now : Basis) (be
         (subst (λ (b : Solver). Finds (Prints (Parametric b whole)) (RanThrough (last_value (end_of (sheet_view sheet) parametric_run.to (calls.end_of run.end))))) (sym named)
         (chained {bases = a.bases} (record { reaches = a.run_through; leads = a.leads; lie = a.lie }))))
 
-    module _ {P : Type 0} (written stopped_at : P → Option (List ℕ)) (faults refusals : P → ℕ) (print_old print_new : P) where
-      pub chain_reported : (value : ℚ) → value ≡ value_left to run.end → Writes {T = Unit {0}} written stopped_at faults refusals print_old print_new (Ok tt) (report_text (Parametric by (chain_view sheet change from to run))) →
-          ReportsFinding Finds written stopped_at faults refusals print_old print_new (Ok (RanThrough value))
+    module _ (print_old print_new : SinkState) where
+      pub chain_reported : (value : ℚ) → value ≡ value_left to run.end → Writes {T = Unit {0}} print_old print_new (Ok tt) (report_text (Parametric by (chain_view sheet change from to run))) →
+          ReportsFinding Finds print_old print_new (Ok (RanThrough value))
       chain_reported value e writes = record { gain = intervals; holds = chain_found value e; writes = writes }
 
-      pub chain_cut : (stop : WriteStop) → Writes {T = Unit {0}} written stopped_at faults refusals print_old print_new (Err stop) (report_text (Parametric by (chain_view sheet change from to run))) →
-          ReportsFinding Finds written stopped_at faults refusals print_old print_new (Err (halt.Print stop))
+      pub chain_cut : (stop : WriteStop) → Writes {T = Unit {0}} print_old print_new (Err stop) (report_text (Parametric by (chain_view sheet change from to run))) →
+          ReportsFinding Finds print_old print_new (Err (halt.Print stop))
       chain_cut stop writes = record { gain = intervals; finding = RanThrough (value_left to run.end); holds = chain_found (value_left to run.end) refl; writes = writes }
 
 -- ---- where a run stops
 
-module _ {P : Type 0} (written stopped_at : P → Option (List ℕ)) (faults refusals : P → ℕ) (sheet : OwnSheet) (parametric_run : ParametricRun) (s now : Basis) (before after : List Basics) (e : Evidence)
+module _ (sheet : OwnSheet) (parametric_run : ParametricRun) (s now : Basis) (before after : List Basics) (e : Evidence)
     (o : RunOverflowsThere sheet parametric_run s now before after e ⊎ LimitOverflows sheet parametric_run s now before after e) where
   abbrev Stops : Gain → Finding → Type 0
   Stops = ParametricRunFinds (sheet_view sheet) s now parametric_run before after
@@ -157,12 +158,12 @@ module _ {P : Type 0} (written stopped_at : P → Option (List ℕ)) (faults ref
       by (inl there) = overflows (λ earlier lie. subst (λ (p : endings.Place). OverflowsAt (OfParametricRun parametric_run) (sheet_view sheet) (earlier ++ s ∷ []) e (Some p)) (sym is) (there.overflows earlier lie))
       by (inr limit) = absurd (other (unplaced_limit (sheet_view sheet) (s ∷ []) parametric_run e (limit.overflows [])))
 
-  pub run_overflow_tells : (print : P) (result : Result Finding Halt) → IsRunOverflow now after e result → ReportsFinding Stops written stopped_at faults refusals print print result
+  pub run_overflow_tells : (print : SinkState) (result : Result Finding Halt) → IsRunOverflow now after e result → ReportsFinding Stops print print result
   run_overflow_tells print result reported = by (ℕ_discrete e.formula 13)
     where
-      by : Dec (e.formula ≡ 13) → ReportsFinding Stops written stopped_at faults refusals print print result
-      by (yes is) = subst (λ (r : Result Finding Halt). ReportsFinding Stops written stopped_at faults refusals print print r) (sym (reported.0 is)) (tells_quietly written stopped_at faults refusals Stops print (Ok (Overflow e None)) (at_limit_formula is))
-      by (no other) = overflow_tells written stopped_at faults refusals Stops print now after e result (reported.1 other) (at_place other)
+      by : Dec (e.formula ≡ 13) → ReportsFinding Stops print print result
+      by (yes is) = subst (λ (r : Result Finding Halt). ReportsFinding Stops print print r) (sym (reported.0 is)) (tells_quietly Stops print (Ok (Overflow e None)) (at_limit_formula is))
+      by (no other) = overflow_tells Stops print now after e result (reported.1 other) (at_place other)
 
 -- ---- what is asked for can be run
 
@@ -185,12 +186,12 @@ asked_of verb problem cells request run limit is viewed asked = subst (IsAsked v
 -- ---- what is found with a setup
 
 -- The setup that code has opened, which is the one that is spoken of, and what is left of it.
-module _ {P : Type 0} (written stopped_at : P → Option (List ℕ)) (faults refusals : P → ℕ) (verb : ParametricVerb) (cells : Cells) (file : Filed) {setup old : Setup} (is_old : setup ≡ old) (new : Setup) (there : Problem ℕ) (is_there : filed_under setup.name file ≡ Some there) where
-  at_problem : (print_old print_new : P) (result : Result Finding Halt) → ReportsFinding (ParametricRuns there cells verb setup new) written stopped_at faults refusals print_old print_new result →
-      (problem : Problem ℕ) → filed_under old.name file ≡ Some problem → ReportsFinding (ParametricRuns problem cells verb old new) written stopped_at faults refusals print_old print_new result
+module _ (verb : ParametricVerb) (cells : Cells) (file : Filed) {setup old : Setup} (is_old : setup ≡ old) (new : Setup) (there : Problem ℕ) (is_there : filed_under setup.name file ≡ Some there) where
+  at_problem : (print_old print_new : SinkState) (result : Result Finding Halt) → ReportsFinding (ParametricRuns there cells verb setup new) print_old print_new result →
+      (problem : Problem ℕ) → filed_under old.name file ≡ Some problem → ReportsFinding (ParametricRuns problem cells verb old new) print_old print_new result
   at_problem print_old print_new result t problem on_file =
-      subst (λ (s : Setup). ReportsFinding (ParametricRuns problem cells verb s new) written stopped_at faults refusals print_old print_new result) is_old
-      (subst (λ (q : Problem ℕ). ReportsFinding (ParametricRuns q cells verb setup new) written stopped_at faults refusals print_old print_new result)
+      subst (λ (s : Setup). ReportsFinding (ParametricRuns problem cells verb s new) print_old print_new result) is_old
+      (subst (λ (q : Problem ℕ). ReportsFinding (ParametricRuns q cells verb setup new) print_old print_new result)
       (one_problem file setup there problem is_there (ap (λ (s : Setup). filed_under s.name file) is_old ∙ on_file)) t)
 
   refusal_found : (why : Refusal) → IsUnselected there (choice_of cells setup.options) why → MatchResult (refused_finding why) (ParametricRuns there cells verb setup new Nothing) (λ h. h ≡ halt.NoMemory)
@@ -198,38 +199,38 @@ module _ {P : Type 0} (written stopped_at : P → Option (List ℕ)) (faults ref
   refusal_found (refusal.Overflow e) u = too_large u
   refusal_found NoMemory u = refl
 
-  pub unselected_reported : (print : P) (why : Refusal) → IsUnselected there (choice_of cells setup.options) why →
-      (problem : Problem ℕ) → filed_under old.name file ≡ Some problem → ReportsFinding (ParametricRuns problem cells verb old new) written stopped_at faults refusals print print (refused_finding why)
+  pub unselected_reported : (print : SinkState) (why : Refusal) → IsUnselected there (choice_of cells setup.options) why →
+      (problem : Problem ℕ) → filed_under old.name file ≡ Some problem → ReportsFinding (ParametricRuns problem cells verb old new) print print (refused_finding why)
   unselected_reported print why u =
-      at_problem print print (refused_finding why) (tells_quietly written stopped_at faults refusals (ParametricRuns there cells verb setup new) print (refused_finding why) (refusal_found why u))
+      at_problem print print (refused_finding why) (tells_quietly (ParametricRuns there cells verb setup new) print (refused_finding why) (refusal_found why u))
 
   module _ (lp : LinearProgram) (ok : selected there (choice_of cells setup.options) ≡ Ok lp) where
     unasked_found : (why : RequestStop) → IsNotAsked verb there cells why → MatchResult (refused_finding (refusal_of why)) (ParametricRuns there cells verb setup new Nothing) (λ h. h ≡ halt.NoMemory)
     unasked_found (stops.Fault fault) u = not_asked ok u
     unasked_found stops.NoMemory u = refl
 
-    pub unasked_reported : (print : P) (why : RequestStop) → IsNotAsked verb there cells why →
-        (problem : Problem ℕ) → filed_under old.name file ≡ Some problem → ReportsFinding (ParametricRuns problem cells verb old new) written stopped_at faults refusals print print (refused_finding (refusal_of why))
+    pub unasked_reported : (print : SinkState) (why : RequestStop) → IsNotAsked verb there cells why →
+        (problem : Problem ℕ) → filed_under old.name file ≡ Some problem → ReportsFinding (ParametricRuns problem cells verb old new) print print (refused_finding (refusal_of why))
     unasked_reported print why u =
-        at_problem print print (refused_finding (refusal_of why)) (tells_quietly written stopped_at faults refusals (ParametricRuns there cells verb setup new) print (refused_finding (refusal_of why)) (unasked_found why u))
+        at_problem print print (refused_finding (refusal_of why)) (tells_quietly (ParametricRuns there cells verb setup new) print (refused_finding (refusal_of why)) (unasked_found why u))
 
-    pub run_reported : (parametric_run : ParametricRun) → IsAsked verb there cells parametric_run → (print_old print_new : P) (result : Result Finding Halt) → new.name ≡ setup.name → new.options ≡ setup.options →
-        ReportsFinding (ParametricRunFinds (record { problem = there; lp = lp }) setup.basis new.basis parametric_run setup.engine.waypoints new.engine.waypoints) written stopped_at faults refusals print_old print_new result →
-        (problem : Problem ℕ) → filed_under old.name file ≡ Some problem → ReportsFinding (ParametricRuns problem cells verb old new) written stopped_at faults refusals print_old print_new result
+    pub run_reported : (parametric_run : ParametricRun) → IsAsked verb there cells parametric_run → (print_old print_new : SinkState) (result : Result Finding Halt) → new.name ≡ setup.name → new.options ≡ setup.options →
+        ReportsFinding (ParametricRunFinds (record { problem = there; lp = lp }) setup.basis new.basis parametric_run setup.engine.waypoints new.engine.waypoints) print_old print_new result →
+        (problem : Problem ℕ) → filed_under old.name file ≡ Some problem → ReportsFinding (ParametricRuns problem cells verb old new) print_old print_new result
     run_reported parametric_run a print_old print_new result same_name same_options t =
         at_problem print_old print_new result
-        (tells_more written stopped_at faults refusals (ParametricRunFinds (record { problem = there; lp = lp }) setup.basis new.basis parametric_run setup.engine.waypoints new.engine.waypoints) (ParametricRuns there cells verb setup new) print_old print_new
+        (tells_more (ParametricRunFinds (record { problem = there; lp = lp }) setup.basis new.basis parametric_run setup.engine.waypoints new.engine.waypoints) (ParametricRuns there cells verb setup new) print_old print_new
         (λ gain finding f. run_through ok a same_name same_options f) result t)
 
 -- The run of a setup of whose problem was selected again.
-module _ {P : Type 0} (written stopped_at : P → Option (List ℕ)) (faults refusals : P → ℕ) (verb : ParametricVerb) (cells : Cells) (file : Filed) (setup : Setup) {given mid : Setup} (seen : mid ≡ given)
+module _ (verb : ParametricVerb) (cells : Cells) (file : Filed) (setup : Setup) {given mid : Setup} (seen : mid ≡ given)
     (others : given ≡ record setup { objective = given.objective; rhs = given.rhs; lp = given.lp }) (problem : Problem ℕ) (on_file : filed_under setup.name file ≡ Some problem)
     (ok : selected problem (choice_of cells setup.options) ≡ Ok given.lp) where
-  pub again_reported : (new : Setup) → new.name ≡ mid.name → new.options ≡ mid.options → (parametric_run : ParametricRun) → IsAsked verb problem cells parametric_run → (print_old print_new : P) (result : Result Finding Halt) →
-      ReportsFinding (ParametricRunFinds (record { problem = problem; lp = mid.lp }) mid.basis new.basis parametric_run mid.engine.waypoints new.engine.waypoints) written stopped_at faults refusals print_old print_new result →
-      (filed : Problem ℕ) → filed_under setup.name file ≡ Some filed → ReportsFinding (ParametricRuns filed cells verb setup new) written stopped_at faults refusals print_old print_new result
+  pub again_reported : (new : Setup) → new.name ≡ mid.name → new.options ≡ mid.options → (parametric_run : ParametricRun) → IsAsked verb problem cells parametric_run → (print_old print_new : SinkState) (result : Result Finding Halt) →
+      ReportsFinding (ParametricRunFinds (record { problem = problem; lp = mid.lp }) mid.basis new.basis parametric_run mid.engine.waypoints new.engine.waypoints) print_old print_new result →
+      (filed : Problem ℕ) → filed_under setup.name file ≡ Some filed → ReportsFinding (ParametricRuns filed cells verb setup new) print_old print_new result
   again_reported new name options parametric_run asked print_old print_new result t =
-      run_reported written stopped_at faults refusals verb cells file refl new problem on_file mid.lp (now_is setup seen others file problem cells ok) parametric_run asked print_old print_new result
+      run_reported verb cells file refl new problem on_file mid.lp (now_is setup seen others file problem cells ok) parametric_run asked print_old print_new result
       (name ∙ name_kept setup seen others) (options ∙ options_kept setup seen others)
-      (subst (λ (b : Basis). ReportsFinding (ParametricRunFinds (record { problem = problem; lp = mid.lp }) b new.basis parametric_run setup.engine.waypoints new.engine.waypoints) written stopped_at faults refusals print_old print_new result) (basis_kept setup seen others)
-      (subst (λ (e : Engine). ReportsFinding (ParametricRunFinds (record { problem = problem; lp = mid.lp }) mid.basis new.basis parametric_run e.waypoints new.engine.waypoints) written stopped_at faults refusals print_old print_new result) (engine_kept setup seen others) t))
+      (subst (λ (b : Basis). ReportsFinding (ParametricRunFinds (record { problem = problem; lp = mid.lp }) b new.basis parametric_run setup.engine.waypoints new.engine.waypoints) print_old print_new result) (basis_kept setup seen others)
+      (subst (λ (e : Engine). ReportsFinding (ParametricRunFinds (record { problem = problem; lp = mid.lp }) mid.basis new.basis parametric_run e.waypoints new.engine.waypoints) print_old print_new result) (engine_kept setup seen others) t))

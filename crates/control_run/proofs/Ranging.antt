@@ -1,6 +1,7 @@
 -- What RANGE comes to.
 use Rattle.std.proofs.Common.{◌≡◌, ℕ, List, [], ◌∷◌, ◌++◌, Option, None, Some, Result, Ok, Err, option_map, refl, sym, ap, subst, inl, inr, ◌∙◌}
 use Rattle.std.proofs.lemmas.Option.{same_Some}
+use Rattle.job_devices.specs.States.{SinkState}
 use Rattle.job_devices.specs.declared.device.WriteStop.{WriteStop}
 use Rattle.job_devices.specs.Text.{Writes}
 use Rattle.lp_model.specs.declared.reports.RangeReport.{RangeReport}
@@ -58,18 +59,18 @@ use Rattle.run_setup.proofs.Present.{IsPresentOf, lie_up_to, one_problem, presen
 -- ---- the intervals of a basis
 
 -- they are printed or broken off
-module _ {P : Type 0} (written stopped_at : P → Option (List ℕ)) (faults refusals : P → ℕ) {print_old print_new : P} (sheet : OwnSheet) (s : Basis) (before : List Basics) (point : List ℚ) (report : RangeReport)
+module _ {print_old print_new : SinkState} (sheet : OwnSheet) (s : Basis) (before : List Basics) (point : List ℚ) (report : RangeReport)
     (is_ranged : IsRanged (sheet_view sheet) s (range_lines sheet.lp.now s point report sheet.problem.now)) where
-  pub ranges_reported : Writes {T = Unit {0}} written stopped_at faults refusals print_old print_new (Ok tt) (report_text (Ranges (range_lines sheet.lp.now s point report sheet.problem.now))) →
-      ReportsFinding (RangesFound (sheet_view sheet) s before) written stopped_at faults refusals print_old print_new (Ok Printed)
+  pub ranges_reported : Writes {T = Unit {0}} print_old print_new (Ok tt) (report_text (Ranges (range_lines sheet.lp.now s point report sheet.problem.now))) →
+      ReportsFinding (RangesFound (sheet_view sheet) s before) print_old print_new (Ok Printed)
   ranges_reported writes = record {
     gain = Prints (Ranges (range_lines sheet.lp.now s point report sheet.problem.now));
     holds = ranged is_ranged;
     writes = writes;
   }
 
-  pub ranges_cut : (stop : WriteStop) → Writes {T = Unit {0}} written stopped_at faults refusals print_old print_new (Err stop) (report_text (Ranges (range_lines sheet.lp.now s point report sheet.problem.now))) →
-      ReportsFinding (RangesFound (sheet_view sheet) s before) written stopped_at faults refusals print_old print_new (Err (halt.Print stop))
+  pub ranges_cut : (stop : WriteStop) → Writes {T = Unit {0}} print_old print_new (Err stop) (report_text (Ranges (range_lines sheet.lp.now s point report sheet.problem.now))) →
+      ReportsFinding (RangesFound (sheet_view sheet) s before) print_old print_new (Err (halt.Print stop))
   ranges_cut stop writes = record {
     gain = Prints (Ranges (range_lines sheet.lp.now s point report sheet.problem.now));
     finding = Printed;
@@ -83,12 +84,12 @@ ranges_overflow sheet s before after e o place is =
     stopped (λ earlier lie. subst (λ (p : endings.Place). IsEvidence (RangeStatement sheet.lp.now) None 0 (earlier ++ s ∷ []) [] e (Some p)) (sym is) (o.shows earlier lie))
 
 -- the setup that code has opened, which is the one that is spoken of
-module _ {P : Type 0} (written stopped_at : P → Option (List ℕ)) (faults refusals : P → ℕ) (file : Filed) {setup old : Setup} (is_old : setup ≡ old) (there : Problem ℕ) (is_there : filed_under setup.name file ≡ Some there) where
-  pub ranges_at : (print_old print_new : P) (result : Result Finding Halt) → ReportsFinding (ShowsRanges there setup) written stopped_at faults refusals print_old print_new result →
-      (problem : Problem ℕ) → filed_under old.name file ≡ Some problem → ReportsFinding (ShowsRanges problem old) written stopped_at faults refusals print_old print_new result
+module _ (file : Filed) {setup old : Setup} (is_old : setup ≡ old) (there : Problem ℕ) (is_there : filed_under setup.name file ≡ Some there) where
+  pub ranges_at : (print_old print_new : SinkState) (result : Result Finding Halt) → ReportsFinding (ShowsRanges there setup) print_old print_new result →
+      (problem : Problem ℕ) → filed_under old.name file ≡ Some problem → ReportsFinding (ShowsRanges problem old) print_old print_new result
   ranges_at print_old print_new result t problem on_file =
-      subst (λ (s : Setup). ReportsFinding (ShowsRanges problem s) written stopped_at faults refusals print_old print_new result) is_old
-      (subst (λ (q : Problem ℕ). ReportsFinding (ShowsRanges q setup) written stopped_at faults refusals print_old print_new result)
+      subst (λ (s : Setup). ReportsFinding (ShowsRanges problem s) print_old print_new result) is_old
+      (subst (λ (q : Problem ℕ). ReportsFinding (ShowsRanges q setup) print_old print_new result)
       (one_problem file setup there problem is_there (ap (λ (s : Setup). filed_under s.name file) is_old ∙ on_file)) t)
 
 -- without a fault the mark is OPTIMAL
@@ -148,10 +149,10 @@ module _ (card : ℕ) (state : State) where
       (gives_found card verb_fault.NotSolved state.mark (go_marked present) Unbounded (stops (endings.VerbStop (record { fault = verb_fault.NotOptimal; card = card }))) is
       (gives_fault card verb_fault.NotOptimal (if_optimal Unbounded) (go_optimal present) refl))
 
-pub ranges_no_setup : (card : ℕ) {P : Type 0} (written stopped_at : P → Option (List ℕ)) (faults refusals : P → ℕ) (cards : List (List ℕ)) (machine : Machine) (print : P) → machine.setup ≡ None →
-    Executes linear_programming Ranging card written stopped_at faults refusals print print cards machine machine (refused_act card (Fault verb_fault.NoSetup))
-ranges_no_setup card written stopped_at faults refusals cards machine print none =
-    quietly IsPresent (Gives linear_programming) Ranging card written stopped_at faults refusals cards machine print (λ position executed state s.
+pub ranges_no_setup : (card : ℕ) (cards : List (List ℕ)) (machine : Machine) (print : SinkState) → machine.setup ≡ None →
+    Executes linear_programming Ranging card print print cards machine machine (refused_act card (Fault verb_fault.NoSetup))
+ranges_no_setup card cards machine print none =
+    quietly IsPresent (Gives linear_programming) Ranging card cards machine print (λ position executed state s.
     gives_no_setup card state (subst (λ (kept : Option Setup). ShowsSetup machine.file kept state.setup) none s.setup))
 
 module _ (card : ℕ) (cards : List (List ℕ)) (old : Machine) (setup : Setup) (is_setup : old.setup ≡ Some setup) (problem : Problem ℕ) (on_file : filed_under setup.name old.file ≡ Some problem) where
@@ -192,21 +193,21 @@ module _ (card : ℕ) (cards : List (List ℕ)) (old : Machine) (setup : Setup) 
             refl,
           ))
 
-  module _ {P : Type 0} (written stopped_at : P → Option (List ℕ)) (faults refusals : P → ℕ) where
-    pub ranges_refused : (print : P) (any : Machine) (fault : VerbFault) → range_fault old.mark ≡ Some fault → Executes linear_programming Ranging card written stopped_at faults refusals print print cards old any (refused_act card (Fault fault))
+  module _ where
+    pub ranges_refused : (print : SinkState) (any : Machine) (fault : VerbFault) → range_fault old.mark ≡ Some fault → Executes linear_programming Ranging card print print cards old any (refused_act card (Fault fault))
     ranges_refused print any fault is =
-        quietly IsPresent (Gives linear_programming) Ranging card written stopped_at faults refusals cards old print {new = any} (λ position executed state s. not_optimal position executed state s fault is)
+        quietly IsPresent (Gives linear_programming) Ranging card cards old print {new = any} (λ position executed state s. not_optimal position executed state s fault is)
 
-    module _ (print_old print_new : P) (new : Setup) (is_mark : old.mark ≡ Some Optimal) (ok : selected problem (choice_of old.cells setup.options) ≡ Ok setup.lp) (k : IsSameSetup setup new) where
-      pub ranges_found : (finding : Finding) (then : Act) → then ≡ act_of old.cells card finding → ReportsFinding (ShowsRanges problem setup) written stopped_at faults refusals print_old print_new (Ok finding) →
-          Executes linear_programming Ranging card written stopped_at faults refusals print_old print_new cards old (record old { setup = Some new }) (Ok then)
+    module _ (print_old print_new : SinkState) (new : Setup) (is_mark : old.mark ≡ Some Optimal) (ok : selected problem (choice_of old.cells setup.options) ≡ Ok setup.lp) (k : IsSameSetup setup new) where
+      pub ranges_found : (finding : Finding) (then : Act) → then ≡ act_of old.cells card finding → ReportsFinding (ShowsRanges problem setup) print_old print_new (Ok finding) →
+          Executes linear_programming Ranging card print_old print_new cards old (record old { setup = Some new }) (Ok then)
       ranges_found finding then e t =
-          subst (λ (a : Act). Executes linear_programming Ranging card written stopped_at faults refusals print_old print_new cards old (record old { setup = Some new }) (Ok a)) (sym e)
-          (reported_executes Ranging card written stopped_at faults refusals cards old (ShowsRanges problem setup) (λ found. record old { setup = Some new }) (act_of old.cells card) (no_cards_by problem setup)
+          subst (λ (a : Act). Executes linear_programming Ranging card print_old print_new cards old (record old { setup = Some new }) (Ok a)) (sym e)
+          (reported_executes Ranging card cards old (ShowsRanges problem setup) (λ found. record old { setup = Some new }) (act_of old.cells card) (no_cards_by problem setup)
           (λ gain found h position executed state s. ranged_comes position executed state s new is_mark ok k gain found h) print_old print_new finding t)
 
-      pub ranges_broken : (any : Machine) (h : Halt) → ReportsFinding (ShowsRanges problem setup) written stopped_at faults refusals print_old print_new (Err h) →
-          Executes linear_programming Ranging card written stopped_at faults refusals print_old print_new cards old any (Err h)
+      pub ranges_broken : (any : Machine) (h : Halt) → ReportsFinding (ShowsRanges problem setup) print_old print_new (Err h) →
+          Executes linear_programming Ranging card print_old print_new cards old any (Err h)
       ranges_broken any h t =
-          cut_executes Ranging card written stopped_at faults refusals cards old (ShowsRanges problem setup) (λ found. record old { setup = Some new }) (act_of old.cells card) (no_cards_by problem setup)
+          cut_executes Ranging card cards old (ShowsRanges problem setup) (λ found. record old { setup = Some new }) (act_of old.cells card) (no_cards_by problem setup)
           (λ gain found h position executed state s. ranged_comes position executed state s new is_mark ok k gain found h) print_old print_new any h t

@@ -1,6 +1,7 @@
 -- What the status reports of the devices, and what stands in them.
-use Rattle.std.proofs.Common.{◌≡◌, inl, inr, ℕ, ◌<◌, List, Option, Result, Ok, Err, refl, sym, arith}
+use Rattle.std.proofs.Common.{◌≡◌, inl, inr, ℕ, ◌<◌, List, Result, Ok, Err, refl, sym, arith}
 use Rattle.std.specs.Prelude.{IfErr}
+use Rattle.job_devices.specs.States.{SinkState}
 use Rattle.job_devices.specs.declared.device.WriteStop.{WriteStop}
 use Rattle.job_devices.specs.declared.device.WriteStop.TheVariants.{Failed, NoMemory}
 use Rattle.job_devices.specs.Causes.{HasWriteCause}
@@ -15,26 +16,26 @@ use Rattle.control_run.specs.Running.{punch_end}
 pub none_more : {A : Type 0} (before now : ℕ) → now ≡ before → before < now → A
 none_more before now same more = absurd (omega (arith, same, more))
 
-module _ {P : Type 0} {written stopped_at : P → Option (List ℕ)} {faults refusals : P → ℕ} {old new : P} where
+module _ {old new : SinkState} where
   -- what a call that writes a text leaves
-  pub left : {result : Result (Unit {0}) WriteStop} {text : List ℕ} → Writes written stopped_at faults refusals old new result text → Leaves written stopped_at faults refusals old new result
+  pub left : {result : Result (Unit {0}) WriteStop} {text : List ℕ} → Writes old new result text → Leaves old new result
   left w = record { cause = w.cause; stopped = w.stopped }
 
   -- after a stop nothing was written
-  pub stands_still : (result : Result (Unit {0}) WriteStop) → Leaves written stopped_at faults refusals old new result →
-      IsStill written stopped_at faults refusals old new
+  pub stands_still : (result : Result (Unit {0}) WriteStop) → Leaves old new result →
+      IsStill old new
   stands_still (Ok done) l = record {
-    after_fault = λ more. none_more (faults old) (faults new) l.cause.no_fault more;
-    after_refusal = λ more. none_more (refusals old) (refusals new) l.cause.no_refusal more;
+    after_fault = λ more. none_more old.faults new.faults l.cause.no_fault more;
+    after_refusal = λ more. none_more old.refusals new.refusals l.cause.no_refusal more;
   }
   stands_still (Err stop) l = record { after_fault = λ more. sym l.stopped; after_refusal = λ more. sym l.stopped }
 
 -- nothing was written at all
-pub still_as_before : {P : Type 0} (written stopped_at : P → Option (List ℕ)) (faults refusals : P → ℕ) (device : P) →
-    IsStill written stopped_at faults refusals device device
-still_as_before written stopped_at faults refusals device = record {
-  after_fault = λ more. none_more (faults device) (faults device) refl more;
-  after_refusal = λ more. none_more (refusals device) (refusals device) refl more;
+pub still_as_before : (device : SinkState) →
+    IsStill device device
+still_as_before device = record {
+  after_fault = λ more. none_more device.faults device.faults refl more;
+  after_refusal = λ more. none_more device.refusals device.refusals refl more;
 }
 
 -- ---- by what stopped the job

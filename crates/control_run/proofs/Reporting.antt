@@ -1,7 +1,8 @@
 -- What is found, with its report, and what a statement comes to by it.
-use Rattle.std.proofs.Common.{◌≡◌, ℕ, List, [], Option, Some, Result, Ok, Err, refl, sym, subst}
+use Rattle.std.proofs.Common.{◌≡◌, ℕ, List, [], Some, Result, Ok, Err, refl, sym, subst}
 use Rattle.std.specs.Prelude.{MatchResult}
 use Rattle.job_devices.proofs.TextLemmas.{writes_nothing}
+use Rattle.job_devices.specs.States.{SinkState}
 use Rattle.job_devices.specs.Text.{Writes}
 use Rattle.lp_definitions.specs.Basis.{Basics, basics_of}
 use Rattle.lp_definitions.specs.Waypoints.{waypoint}
@@ -26,17 +27,17 @@ use Rattle.run_setup.specs.Statements.{Comes, Executes, Follows}
 use Rattle.run_machine.specs.Findings.{ReportsFinding}
 use Rattle.run_setup.specs.Overflows.{IsOverflowAt, reported, no_memory}
 
-module _ {P : Type 0} (written stopped_at : P → Option (List ℕ)) (faults refusals : P → ℕ) where
-  pub tells_more : (F G : Gain → Finding → Type 0) (print_old print_new : P) → ((gain : Gain) (finding : Finding) → F gain finding → G gain finding) → (result : Result Finding Halt) →
-      ReportsFinding F written stopped_at faults refusals print_old print_new result → ReportsFinding G written stopped_at faults refusals print_old print_new result
+module _ where
+  pub tells_more : (F G : Gain → Finding → Type 0) (print_old print_new : SinkState) → ((gain : Gain) (finding : Finding) → F gain finding → G gain finding) → (result : Result Finding Halt) →
+      ReportsFinding F print_old print_new result → ReportsFinding G print_old print_new result
   tells_more F G print_old print_new more (Ok finding) t = record { gain = t.gain; holds = more t.gain finding t.holds; writes = t.writes }
   tells_more F G print_old print_new more (Err (halt.Print stop)) t = record { gain = t.gain; finding = t.finding; holds = more t.gain t.finding t.holds; writes = t.writes }
   tells_more F G print_old print_new more (Err (halt.Punch stop)) t = absurd t
   tells_more F G print_old print_new more (Err halt.NoMemory) t = t
 
   -- what is found prints nothing, or there is no memory
-  pub tells_quietly : (F : Gain → Finding → Type 0) (print : P) (result : Result Finding Halt) → MatchResult result (F Nothing) (λ h. h ≡ halt.NoMemory) → ReportsFinding F written stopped_at faults refusals print print result
-  tells_quietly F print (Ok finding) t = record { gain = Nothing; holds = t; writes = writes_nothing written stopped_at faults refusals print tt }
+  pub tells_quietly : (F : Gain → Finding → Type 0) (print : SinkState) (result : Result Finding Halt) → MatchResult result (F Nothing) (λ h. h ≡ halt.NoMemory) → ReportsFinding F print print result
+  tells_quietly F print (Ok finding) t = record { gain = Nothing; holds = t; writes = writes_nothing print tt }
   tells_quietly F print (Err (halt.Print stop)) t = absurd (by t)
     where
       by : halt.Print stop ≡ halt.NoMemory → ⊥
@@ -48,9 +49,9 @@ module _ {P : Type 0} (written stopped_at : P → Option (List ℕ)) (faults ref
   tells_quietly F print (Err halt.NoMemory) t = refl
 
   -- an operation is refused, or there is no memory
-  pub overflow_tells : (F : Gain → Finding → Type 0) (print : P) (s : Basis) (after : List Basics) (e : Evidence) (result : Result Finding Halt) → IsOverflowAt s after e result →
-      ((place : OwnPlace) → place_view place ≡ record { basis = s; way = waypoint (basics_of s) after e.way } → F Nothing (Overflow e (Some place))) → ReportsFinding F written stopped_at faults refusals print print result
-  overflow_tells F print s after e _ (reported place is) holds = record { gain = Nothing; holds = holds place is; writes = writes_nothing written stopped_at faults refusals print tt }
+  pub overflow_tells : (F : Gain → Finding → Type 0) (print : SinkState) (s : Basis) (after : List Basics) (e : Evidence) (result : Result Finding Halt) → IsOverflowAt s after e result →
+      ((place : OwnPlace) → place_view place ≡ record { basis = s; way = waypoint (basics_of s) after e.way } → F Nothing (Overflow e (Some place))) → ReportsFinding F print print result
+  overflow_tells F print s after e _ (reported place is) holds = record { gain = Nothing; holds = holds place is; writes = writes_nothing print tt }
   overflow_tells F print s after e _ no_memory holds = refl
 
 -- the outcome of a statement that comes to an act
@@ -61,12 +62,12 @@ outcome_by card move cards new position executed gain (act.Jump to) f = (jump ga
 outcome_by card move cards new position executed gain (act.Ends end) f = (EndsRun gain (end_view end), f, refl)
 
 -- what is found decides what the statement comes to
-module _ (verb : Verb ℕ) (card : ℕ) {P : Type 0} (written stopped_at : P → Option (List ℕ)) (faults refusals : P → ℕ) (cards : List (List ℕ)) (old : Machine) (F : Gain → Finding → Type 0)
+module _ (verb : Verb ℕ) (card : ℕ) (cards : List (List ℕ)) (old : Machine) (F : Gain → Finding → Type 0)
     (new : Finding → Machine) (then : Finding → Act) (no_cards : (gain : Gain) (finding : Finding) → F gain finding → punched_by gain ≡ [])
     (comes : (gain : Gain) (finding : Finding) → F gain finding → (position executed : ℕ) (state : State) → Represents cards old position executed state →
     Comes linear_programming verb card cards position executed state (new finding) gain (then finding)) where
-  pub reported_executes : (print_old print_new : P) (finding : Finding) → ReportsFinding F written stopped_at faults refusals print_old print_new (Ok finding) →
-      Executes linear_programming verb card written stopped_at faults refusals print_old print_new cards old (new finding) (Ok (then finding))
+  pub reported_executes : (print_old print_new : SinkState) (finding : Finding) → ReportsFinding F print_old print_new (Ok finding) →
+      Executes linear_programming verb card print_old print_new cards old (new finding) (Ok (then finding))
   reported_executes print_old print_new finding t = λ position executed state s. record {
     gain = t.gain;
     no_cards = no_cards t.gain finding t.holds;
@@ -74,15 +75,15 @@ module _ (verb : Verb ℕ) (card : ℕ) {P : Type 0} (written stopped_at : P →
     writes = t.writes;
   }
 
-  pub cut_executes : (print_old print_new : P) (any : Machine) (h : Halt) → ReportsFinding F written stopped_at faults refusals print_old print_new (Err h) →
-      Executes linear_programming verb card written stopped_at faults refusals print_old print_new cards old any (Err h)
+  pub cut_executes : (print_old print_new : SinkState) (any : Machine) (h : Halt) → ReportsFinding F print_old print_new (Err h) →
+      Executes linear_programming verb card print_old print_new cards old any (Err h)
   cut_executes print_old print_new any (halt.Print stop) t = λ position executed state s.
       let o = outcome_by card (verb_move verb card state) cards (new t.finding) position executed t.gain (then t.finding) (comes t.gain t.finding t.holds position executed state s) in
       record {
         outcome = o.0;
         no_cards = subst (λ (g : Gain). punched_by g ≡ []) (sym o.2) (no_cards t.gain t.finding t.holds);
         gives = o.1;
-        writes = subst (λ (g : Gain). Writes {T = Unit {0}} written stopped_at faults refusals print_old print_new (Err stop) (gain_text g)) (sym o.2) t.writes;
+        writes = subst (λ (g : Gain). Writes {T = Unit {0}} print_old print_new (Err stop) (gain_text g)) (sym o.2) t.writes;
       }
   cut_executes print_old print_new any (halt.Punch stop) t = absurd t
   cut_executes print_old print_new any halt.NoMemory t = t

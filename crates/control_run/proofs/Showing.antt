@@ -1,5 +1,6 @@
 -- What SOLUTION comes to.
 use Rattle.std.proofs.Common.{◌≡◌, ℕ, List, [], ◌∷◌, ◌++◌, Option, None, Some, Result, Ok, Err, option_map, refl, sym, ap, subst, inl, inr, ◌∙◌}
+use Rattle.job_devices.specs.States.{SinkState}
 use Rattle.job_devices.specs.declared.device.WriteStop.{WriteStop}
 use Rattle.job_devices.specs.Text.{Writes}
 use Rattle.exact_values.specs.Rational.{ℚ}
@@ -55,23 +56,23 @@ use Rattle.run_setup.proofs.Present.{IsPresentOf, lie_up_to, one_problem, presen
 -- ---- the lines of a basis
 
 -- they are printed or broken off
-module _ {P : Type 0} (written stopped_at : P → Option (List ℕ)) (faults refusals : P → ℕ) {print_old print_new : P} (sheet : OwnSheet) (s : Basis) (before : List Basics) (mark : Mark) (point prices slack list : List ℚ) (same : list ≡ slack)
+module _ {print_old print_new : SinkState} (sheet : OwnSheet) (s : Basis) (before : List Basics) (mark : Mark) (point prices slack list : List ℚ) (same : list ≡ slack)
     (is_viewed : IsSolutionOf (sheet_view sheet) s (solution_lines sheet.problem.now sheet.lp.now s point prices slack)) where
-  pub lines_reported : Writes {T = Unit {0}} written stopped_at faults refusals print_old print_new (Ok tt) (report_text (Solution mark (solution_lines sheet.problem.now sheet.lp.now s point prices list))) →
-      ReportsFinding (LinesFound (sheet_view sheet) s before mark) written stopped_at faults refusals print_old print_new (Ok Printed)
+  pub lines_reported : Writes {T = Unit {0}} print_old print_new (Ok tt) (report_text (Solution mark (solution_lines sheet.problem.now sheet.lp.now s point prices list))) →
+      ReportsFinding (LinesFound (sheet_view sheet) s before mark) print_old print_new (Ok Printed)
   lines_reported writes = record {
     gain = Prints (Solution mark (solution_lines sheet.problem.now sheet.lp.now s point prices slack));
     holds = viewed is_viewed;
-    writes = subst (λ (xs : List ℚ). Writes {T = Unit {0}} written stopped_at faults refusals print_old print_new (Ok tt) (report_text (Solution mark (solution_lines sheet.problem.now sheet.lp.now s point prices xs)))) same writes;
+    writes = subst (λ (xs : List ℚ). Writes {T = Unit {0}} print_old print_new (Ok tt) (report_text (Solution mark (solution_lines sheet.problem.now sheet.lp.now s point prices xs)))) same writes;
   }
 
-  pub lines_cut : (stop : WriteStop) → Writes {T = Unit {0}} written stopped_at faults refusals print_old print_new (Err stop) (report_text (Solution mark (solution_lines sheet.problem.now sheet.lp.now s point prices list))) →
-      ReportsFinding (LinesFound (sheet_view sheet) s before mark) written stopped_at faults refusals print_old print_new (Err (halt.Print stop))
+  pub lines_cut : (stop : WriteStop) → Writes {T = Unit {0}} print_old print_new (Err stop) (report_text (Solution mark (solution_lines sheet.problem.now sheet.lp.now s point prices list))) →
+      ReportsFinding (LinesFound (sheet_view sheet) s before mark) print_old print_new (Err (halt.Print stop))
   lines_cut stop writes = record {
     gain = Prints (Solution mark (solution_lines sheet.problem.now sheet.lp.now s point prices slack));
     finding = Printed;
     holds = viewed is_viewed;
-    writes = subst (λ (xs : List ℚ). Writes {T = Unit {0}} written stopped_at faults refusals print_old print_new (Err stop) (report_text (Solution mark (solution_lines sheet.problem.now sheet.lp.now s point prices xs)))) same writes;
+    writes = subst (λ (xs : List ℚ). Writes {T = Unit {0}} print_old print_new (Err stop) (report_text (Solution mark (solution_lines sheet.problem.now sheet.lp.now s point prices xs)))) same writes;
   }
 
 pub lines_overflow : (sheet : OwnSheet) (s : Basis) (before after : List Basics) (mark : Mark) (e : Evidence) → SolutionRefused sheet.lp.now before s after e →
@@ -100,12 +101,12 @@ still_solved cells file setup new mark k h = record {
 }
 
 -- the setup that code has opened, which is the one that is spoken of
-module _ {P : Type 0} (written stopped_at : P → Option (List ℕ)) (faults refusals : P → ℕ) (file : Filed) {setup old : Setup} (is_old : setup ≡ old) (mark : Mark) (there : Problem ℕ) (is_there : filed_under setup.name file ≡ Some there) where
-  pub lines_at : (print_old print_new : P) (result : Result Finding Halt) → ReportsFinding (Shows there setup mark) written stopped_at faults refusals print_old print_new result →
-      (problem : Problem ℕ) → filed_under old.name file ≡ Some problem → ReportsFinding (Shows problem old mark) written stopped_at faults refusals print_old print_new result
+module _ (file : Filed) {setup old : Setup} (is_old : setup ≡ old) (mark : Mark) (there : Problem ℕ) (is_there : filed_under setup.name file ≡ Some there) where
+  pub lines_at : (print_old print_new : SinkState) (result : Result Finding Halt) → ReportsFinding (Shows there setup mark) print_old print_new result →
+      (problem : Problem ℕ) → filed_under old.name file ≡ Some problem → ReportsFinding (Shows problem old mark) print_old print_new result
   lines_at print_old print_new result t problem on_file =
-      subst (λ (s : Setup). ReportsFinding (Shows problem s mark) written stopped_at faults refusals print_old print_new result) is_old
-      (subst (λ (q : Problem ℕ). ReportsFinding (Shows q setup mark) written stopped_at faults refusals print_old print_new result)
+      subst (λ (s : Setup). ReportsFinding (Shows problem s mark) print_old print_new result) is_old
+      (subst (λ (q : Problem ℕ). ReportsFinding (Shows q setup mark) print_old print_new result)
       (one_problem file setup there problem is_there (ap (λ (s : Setup). filed_under s.name file) is_old ∙ on_file)) t)
 
 -- ---- the statement
@@ -140,10 +141,10 @@ module _ (card : ℕ) (state : State) where
   gives_set_up : (present : Present) (outcome : StatementOutcome) → state.setup ≡ Some present → Gives linear_programming card (go_set_up present) outcome → Gives linear_programming card (verb_move SolutionVerb card state) outcome
   gives_set_up present outcome e given = solution_gives outcome (gives_found card verb_fault.NoSetup state.setup go_set_up present outcome e given)
 
-pub solution_no_setup : (card : ℕ) {P : Type 0} (written stopped_at : P → Option (List ℕ)) (faults refusals : P → ℕ) (cards : List (List ℕ)) (machine : Machine) (print : P) → machine.setup ≡ None →
-    Executes linear_programming SolutionVerb card written stopped_at faults refusals print print cards machine machine (refused_act card (Fault verb_fault.NoSetup))
-solution_no_setup card written stopped_at faults refusals cards machine print none =
-    quietly IsPresent (Gives linear_programming) SolutionVerb card written stopped_at faults refusals cards machine print (λ position executed state s.
+pub solution_no_setup : (card : ℕ) (cards : List (List ℕ)) (machine : Machine) (print : SinkState) → machine.setup ≡ None →
+    Executes linear_programming SolutionVerb card print print cards machine machine (refused_act card (Fault verb_fault.NoSetup))
+solution_no_setup card cards machine print none =
+    quietly IsPresent (Gives linear_programming) SolutionVerb card cards machine print (λ position executed state s.
     gives_no_setup card state (subst (λ (kept : Option Setup). ShowsSetup machine.file kept state.setup) none s.setup))
 
 module _ (card : ℕ) (cards : List (List ℕ)) (old : Machine) (setup : Setup) (is_setup : old.setup ≡ Some setup) (problem : Problem ℕ) (on_file : filed_under setup.name old.file ≡ Some problem) where
@@ -206,21 +207,21 @@ module _ (card : ℕ) (cards : List (List ℕ)) (old : Machine) (setup : Setup) 
             refl,
           ))
 
-  module _ {P : Type 0} (written stopped_at : P → Option (List ℕ)) (faults refusals : P → ℕ) where
-    pub solution_not_solved : (print : P) (any : Machine) → old.mark ≡ None → Executes linear_programming SolutionVerb card written stopped_at faults refusals print print cards old any (refused_act card (Fault verb_fault.NotSolved))
+  module _ where
+    pub solution_not_solved : (print : SinkState) (any : Machine) → old.mark ≡ None → Executes linear_programming SolutionVerb card print print cards old any (refused_act card (Fault verb_fault.NotSolved))
     solution_not_solved print any none =
-        quietly IsPresent (Gives linear_programming) SolutionVerb card written stopped_at faults refusals cards old print {new = any} (λ position executed state s. not_solved position executed state s none)
+        quietly IsPresent (Gives linear_programming) SolutionVerb card cards old print {new = any} (λ position executed state s. not_solved position executed state s none)
 
-    module _ (print_old print_new : P) (new : Setup) (mark : Mark) (is_mark : old.mark ≡ Some mark) (ok : selected problem (choice_of old.cells setup.options) ≡ Ok setup.lp) (k : IsSameSetup setup new) where
-      pub solution_found : (finding : Finding) (then : Act) → then ≡ act_of old.cells card finding → ReportsFinding (Shows problem setup mark) written stopped_at faults refusals print_old print_new (Ok finding) →
-          Executes linear_programming SolutionVerb card written stopped_at faults refusals print_old print_new cards old (record old { setup = Some new }) (Ok then)
+    module _ (print_old print_new : SinkState) (new : Setup) (mark : Mark) (is_mark : old.mark ≡ Some mark) (ok : selected problem (choice_of old.cells setup.options) ≡ Ok setup.lp) (k : IsSameSetup setup new) where
+      pub solution_found : (finding : Finding) (then : Act) → then ≡ act_of old.cells card finding → ReportsFinding (Shows problem setup mark) print_old print_new (Ok finding) →
+          Executes linear_programming SolutionVerb card print_old print_new cards old (record old { setup = Some new }) (Ok then)
       solution_found finding then e t =
-          subst (λ (a : Act). Executes linear_programming SolutionVerb card written stopped_at faults refusals print_old print_new cards old (record old { setup = Some new }) (Ok a)) (sym e)
-          (reported_executes SolutionVerb card written stopped_at faults refusals cards old (Shows problem setup mark) (λ found. record old { setup = Some new }) (act_of old.cells card) (no_cards_by problem setup mark)
+          subst (λ (a : Act). Executes linear_programming SolutionVerb card print_old print_new cards old (record old { setup = Some new }) (Ok a)) (sym e)
+          (reported_executes SolutionVerb card cards old (Shows problem setup mark) (λ found. record old { setup = Some new }) (act_of old.cells card) (no_cards_by problem setup mark)
           (λ gain found h position executed state s. reported_comes position executed state s new mark is_mark ok k gain found h) print_old print_new finding t)
 
-      pub solution_cut : (any : Machine) (h : Halt) → ReportsFinding (Shows problem setup mark) written stopped_at faults refusals print_old print_new (Err h) →
-          Executes linear_programming SolutionVerb card written stopped_at faults refusals print_old print_new cards old any (Err h)
+      pub solution_cut : (any : Machine) (h : Halt) → ReportsFinding (Shows problem setup mark) print_old print_new (Err h) →
+          Executes linear_programming SolutionVerb card print_old print_new cards old any (Err h)
       solution_cut any h t =
-          cut_executes SolutionVerb card written stopped_at faults refusals cards old (Shows problem setup mark) (λ found. record old { setup = Some new }) (act_of old.cells card) (no_cards_by problem setup mark)
+          cut_executes SolutionVerb card cards old (Shows problem setup mark) (λ found. record old { setup = Some new }) (act_of old.cells card) (no_cards_by problem setup mark)
           (λ gain found h position executed state s. reported_comes position executed state s new mark is_mark ok k gain found h) print_old print_new any h t

@@ -1,5 +1,6 @@
 -- What PRIMAL and DUAL do by what they find.
 use Rattle.std.proofs.Common.{◌≡◌, ℕ, inl, inr, List, [], Option, None, Some, Ok, Err, refl, sym, ap, subst, ◌∙◌, option_map}
+use Rattle.job_devices.specs.States.{SinkState}
 use Rattle.lp_definitions.specs.LinearProgram.{LinearProgram}
 use Rattle.lp_definitions.specs.declared.Evidence.{Evidence}
 use Rattle.problem_definitions.specs.Problem.{Problem}
@@ -72,10 +73,10 @@ solving_without : (verb : SolvingVerb) (card : ℕ) (state : State) → state.se
 solving_without verb card state none =
     solving_gives verb card state (stops (endings.VerbStop (record { fault = NoSetup; card = card }))) (gives_fault card NoSetup state.setup (with_setup verb card state) none)
 
-pub solving_no_setup : (verb : SolvingVerb) (card : ℕ) {P : Type 0} (written stopped_at : P → Option (List ℕ)) (faults refusals : P → ℕ) (cards : List (List ℕ)) (machine : Machine) (print : P) → machine.setup ≡ None →
-    Executes linear_programming (verb_of verb) card written stopped_at faults refusals print print cards machine machine (refused_act card (Fault NoSetup))
-solving_no_setup verb card written stopped_at faults refusals cards machine print none =
-    quietly IsPresent (Gives linear_programming) (verb_of verb) card written stopped_at faults refusals cards machine print (λ position executed state s.
+pub solving_no_setup : (verb : SolvingVerb) (card : ℕ) (cards : List (List ℕ)) (machine : Machine) (print : SinkState) → machine.setup ≡ None →
+    Executes linear_programming (verb_of verb) card print print cards machine machine (refused_act card (Fault NoSetup))
+solving_no_setup verb card cards machine print none =
+    quietly IsPresent (Gives linear_programming) (verb_of verb) card cards machine print (λ position executed state s.
     solving_without verb card state (subst (λ (kept : Option Setup). ShowsSetup machine.file kept state.setup) none s.setup))
 
 -- with a setup, whose problem is on file
@@ -166,21 +167,21 @@ module _ (verb : SolvingVerb) (card : ℕ) (cards : List (List ℕ)) (old : Mach
       subst (λ (c : Cells). Gives linear_programming card (verb_move (verb_of verb) card state) (stops (endings.LimitStop (record { limit = steps_allowed c; card = card })))) s.cells (path_gives lp ok PathLimit right)
   found_comes _ _ (solved {lp = lp} ok same_name same_options (overflows {e = e} {place = place} h)) = overflow_gives lp ok e (option_map place_view place) h
 
-module _ (verb : SolvingVerb) (card : ℕ) {P : Type 0} (written stopped_at : P → Option (List ℕ)) (faults refusals : P → ℕ) (print_old print_new : P) (cards : List (List ℕ)) (old : Machine) (setup new : Setup) (is_setup : old.setup ≡ Some setup)
+module _ (verb : SolvingVerb) (card : ℕ) (print_old print_new : SinkState) (cards : List (List ℕ)) (old : Machine) (setup new : Setup) (is_setup : old.setup ≡ Some setup)
     (ready : IsReady old.file setup) (demands : AreDemands old.cells) where
   pub solving_found : (finding : Finding) (mark : Option Mark) (then : Act) → mark ≡ mark_left finding → then ≡ act_of old.cells card finding →
-      ReportsFinding (Finds verb ready.problem old.cells setup new) written stopped_at faults refusals print_old print_new (Ok finding) →
-      Executes linear_programming (verb_of verb) card written stopped_at faults refusals print_old print_new cards old (record old { setup = Some new; mark = mark }) (Ok then)
+      ReportsFinding (Finds verb ready.problem old.cells setup new) print_old print_new (Ok finding) →
+      Executes linear_programming (verb_of verb) card print_old print_new cards old (record old { setup = Some new; mark = mark }) (Ok then)
   solving_found finding mark then e f t =
-      subst (λ (m : Option Mark). Executes linear_programming (verb_of verb) card written stopped_at faults refusals print_old print_new cards old (record old { setup = Some new; mark = m }) (Ok then)) (sym e)
-      (subst (λ (a : Act). Executes linear_programming (verb_of verb) card written stopped_at faults refusals print_old print_new cards old (record old { setup = Some new; mark = mark_left finding }) (Ok a)) (sym f)
-      (reported_executes (verb_of verb) card written stopped_at faults refusals cards old (Finds verb ready.problem old.cells setup new) (λ found. record old { setup = Some new; mark = mark_left found }) (act_of old.cells card)
+      subst (λ (m : Option Mark). Executes linear_programming (verb_of verb) card print_old print_new cards old (record old { setup = Some new; mark = m }) (Ok then)) (sym e)
+      (subst (λ (a : Act). Executes linear_programming (verb_of verb) card print_old print_new cards old (record old { setup = Some new; mark = mark_left finding }) (Ok a)) (sym f)
+      (reported_executes (verb_of verb) card cards old (Finds verb ready.problem old.cells setup new) (λ found. record old { setup = Some new; mark = mark_left found }) (act_of old.cells card)
       (no_cards_by verb ready.problem old.cells setup new)
       (λ gain found h position executed state s. found_comes verb card cards old setup new is_setup ready.problem ready.on_file demands position executed state s gain found h) print_old print_new finding t))
 
-  pub solving_cut : (any : Machine) (h : Halt) → ReportsFinding (Finds verb ready.problem old.cells setup new) written stopped_at faults refusals print_old print_new (Err h) →
-      Executes linear_programming (verb_of verb) card written stopped_at faults refusals print_old print_new cards old any (Err h)
+  pub solving_cut : (any : Machine) (h : Halt) → ReportsFinding (Finds verb ready.problem old.cells setup new) print_old print_new (Err h) →
+      Executes linear_programming (verb_of verb) card print_old print_new cards old any (Err h)
   solving_cut any h t =
-      cut_executes (verb_of verb) card written stopped_at faults refusals cards old (Finds verb ready.problem old.cells setup new) (λ found. record old { setup = Some new; mark = mark_left found }) (act_of old.cells card)
+      cut_executes (verb_of verb) card cards old (Finds verb ready.problem old.cells setup new) (λ found. record old { setup = Some new; mark = mark_left found }) (act_of old.cells card)
       (no_cards_by verb ready.problem old.cells setup new)
       (λ gain found h position executed state s. found_comes verb card cards old setup new is_setup ready.problem ready.on_file demands position executed state s gain found h) print_old print_new any h t

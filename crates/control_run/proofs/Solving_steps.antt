@@ -1,6 +1,7 @@
 -- What PRIMAL and DUAL find.
 use Rattle.std.proofs.Common.{◌≡◌, ℕ, List, [], ◌∷◌, ◌++◌, Option, None, Some, Result, Ok, Err, length, refl, sym, ap, subst, ◌∙◌}
 use Rattle.std.specs.Prelude.{MatchResult, IfOk}
+use Rattle.job_devices.specs.States.{SinkState}
 use Rattle.job_devices.specs.declared.device.WriteStop.{WriteStop}
 use Rattle.job_devices.specs.Text.{Writes}
 use Rattle.lp_definitions.specs.LinearProgram.{LinearProgram, IsLinearProgram}
@@ -56,19 +57,19 @@ use Rattle.control_run.proofs.Selected_again.{name_kept, options_kept, basis_kep
 
 -- ---- the path
 
-module _ {P : Type 0} (written stopped_at : P → Option (List ℕ)) (faults refusals : P → ℕ) (solver : Solver) (sheet : Sheet) (s now : Basis) (limit : Option ℕ) (before after : List Basics) (bases : List Basis) (verdict : PathVerdict) (check : Check)
+module _ (solver : Solver) (sheet : Sheet) (s now : Basis) (limit : Option ℕ) (before after : List Basics) (bases : List Basis) (verdict : PathVerdict) (check : Check)
     (r : PathReaches solver sheet s now limit before after bases verdict check) where
   -- its verdict is printed or broken off
-  pub verdict_reported : (mark : Mark) {print_old print_new : P} → mark ≡ mark_of verdict → Writes {T = Unit {0}} written stopped_at faults refusals print_old print_new (Ok tt) (report_text (Solved solver verdict check)) →
-      ReportsFinding (PathFinds solver sheet s now limit before after) written stopped_at faults refusals print_old print_new (Ok (Ended mark))
+  pub verdict_reported : (mark : Mark) {print_old print_new : SinkState} → mark ≡ mark_of verdict → Writes {T = Unit {0}} print_old print_new (Ok tt) (report_text (Solved solver verdict check)) →
+      ReportsFinding (PathFinds solver sheet s now limit before after) print_old print_new (Ok (Ended mark))
   verdict_reported mark e writes = record {
     gain = Prints (Solved solver verdict check);
     holds = subst (λ (m : Mark). PathFinds solver sheet s now limit before after (Prints (Solved solver verdict check)) (Ended m)) (sym e) (reached r);
     writes = writes;
   }
 
-  pub verdict_cut : (stop : WriteStop) {print_old print_new : P} → Writes {T = Unit {0}} written stopped_at faults refusals print_old print_new (Err stop) (report_text (Solved solver verdict check)) →
-      ReportsFinding (PathFinds solver sheet s now limit before after) written stopped_at faults refusals print_old print_new (Err (halt.Print stop))
+  pub verdict_cut : (stop : WriteStop) {print_old print_new : SinkState} → Writes {T = Unit {0}} print_old print_new (Err stop) (report_text (Solved solver verdict check)) →
+      ReportsFinding (PathFinds solver sheet s now limit before after) print_old print_new (Err (halt.Print stop))
   verdict_cut stop writes = record { gain = Prints (Solved solver verdict check); finding = Ended (mark_of verdict); holds = reached r; writes = writes }
 
 -- only a limit is passed
@@ -140,40 +141,40 @@ solved_ends solver sheet s now limit before after _ _ lawful no_change from at (
 solved_ends solver sheet s now limit before after _ _ lawful no_change from at (overflows h) Fact gives = tt
 
 -- The setup that code has opened, which is the one that is spoken of, and what is left of it.
-module _ {P : Type 0} (written stopped_at : P → Option (List ℕ)) (faults refusals : P → ℕ) (verb : SolvingVerb) (cells : Cells) (file : Filed) {setup old : Setup} (is_old : setup ≡ old) (new : Setup) (there : Problem ℕ) (is_there : filed_under setup.name file ≡ Some there) where
-  at_problem : (print_old print_new : P) (result : Result Finding Halt) → ReportsFinding (Finds verb there cells setup new) written stopped_at faults refusals print_old print_new result →
-      (problem : Problem ℕ) → filed_under old.name file ≡ Some problem → ReportsFinding (Finds verb problem cells old new) written stopped_at faults refusals print_old print_new result
+module _ (verb : SolvingVerb) (cells : Cells) (file : Filed) {setup old : Setup} (is_old : setup ≡ old) (new : Setup) (there : Problem ℕ) (is_there : filed_under setup.name file ≡ Some there) where
+  at_problem : (print_old print_new : SinkState) (result : Result Finding Halt) → ReportsFinding (Finds verb there cells setup new) print_old print_new result →
+      (problem : Problem ℕ) → filed_under old.name file ≡ Some problem → ReportsFinding (Finds verb problem cells old new) print_old print_new result
   at_problem print_old print_new result t problem on_file =
-      subst (λ (s : Setup). ReportsFinding (Finds verb problem cells s new) written stopped_at faults refusals print_old print_new result) is_old
-      (subst (λ (q : Problem ℕ). ReportsFinding (Finds verb q cells setup new) written stopped_at faults refusals print_old print_new result)
+      subst (λ (s : Setup). ReportsFinding (Finds verb problem cells s new) print_old print_new result) is_old
+      (subst (λ (q : Problem ℕ). ReportsFinding (Finds verb q cells setup new) print_old print_new result)
       (one_problem file setup there problem is_there (ap (λ (s : Setup). filed_under s.name file) is_old ∙ on_file)) t)
 
-  pub refusal_reported : (print : P) (refusal : Refusal) → IsUnselected there (choice_of cells setup.options) refusal →
-      (problem : Problem ℕ) → filed_under old.name file ≡ Some problem → ReportsFinding (Finds verb problem cells old new) written stopped_at faults refusals print print (refused_finding refusal)
+  pub refusal_reported : (print : SinkState) (refusal : Refusal) → IsUnselected there (choice_of cells setup.options) refusal →
+      (problem : Problem ℕ) → filed_under old.name file ≡ Some problem → ReportsFinding (Finds verb problem cells old new) print print (refused_finding refusal)
   refusal_reported print refusal u =
-      at_problem print print (refused_finding refusal) (tells_quietly written stopped_at faults refusals (Finds verb there cells setup new) print (refused_finding refusal) (refusal_found verb there cells setup new refusal u))
+      at_problem print print (refused_finding refusal) (tells_quietly (Finds verb there cells setup new) print (refused_finding refusal) (refusal_found verb there cells setup new refusal u))
 
-  pub path_reported : (lp : LinearProgram) (limit : Option ℕ) (print_old print_new : P) (result : Result Finding Halt) → limit ≡ limit_of verb cells → selected there (choice_of cells setup.options) ≡ Ok lp →
+  pub path_reported : (lp : LinearProgram) (limit : Option ℕ) (print_old print_new : SinkState) (result : Result Finding Halt) → limit ≡ limit_of verb cells → selected there (choice_of cells setup.options) ≡ Ok lp →
       new.name ≡ setup.name → new.options ≡ setup.options →
-      ReportsFinding (PathFinds (solver_of verb) (record { problem = there; lp = lp }) setup.basis new.basis limit setup.engine.waypoints new.engine.waypoints) written stopped_at faults refusals print_old print_new result →
-      (problem : Problem ℕ) → filed_under old.name file ≡ Some problem → ReportsFinding (Finds verb problem cells old new) written stopped_at faults refusals print_old print_new result
+      ReportsFinding (PathFinds (solver_of verb) (record { problem = there; lp = lp }) setup.basis new.basis limit setup.engine.waypoints new.engine.waypoints) print_old print_new result →
+      (problem : Problem ℕ) → filed_under old.name file ≡ Some problem → ReportsFinding (Finds verb problem cells old new) print_old print_new result
   path_reported lp limit print_old print_new result within ok same_name same_options t =
       at_problem print_old print_new result
-      (tells_more written stopped_at faults refusals (PathFinds (solver_of verb) (record { problem = there; lp = lp }) setup.basis new.basis limit setup.engine.waypoints new.engine.waypoints) (Finds verb there cells setup new) print_old print_new
+      (tells_more (PathFinds (solver_of verb) (record { problem = there; lp = lp }) setup.basis new.basis limit setup.engine.waypoints new.engine.waypoints) (Finds verb there cells setup new) print_old print_new
       (λ gain finding f. solved ok same_name same_options
       (subst (λ (n : Option ℕ). PathFinds (solver_of verb) (record { problem = there; lp = lp }) setup.basis new.basis n setup.engine.waypoints new.engine.waypoints gain finding) within f)) result t)
 
 -- The path of a setup of whose problem was selected again.
-module _ {P : Type 0} (written stopped_at : P → Option (List ℕ)) (faults refusals : P → ℕ) (verb : SolvingVerb) (cells : Cells) (file : Filed) (setup : Setup) {given mid : Setup} (seen : mid ≡ given)
+module _ (verb : SolvingVerb) (cells : Cells) (file : Filed) (setup : Setup) {given mid : Setup} (seen : mid ≡ given)
     (others : given ≡ record setup { objective = given.objective; rhs = given.rhs; lp = given.lp }) (problem : Problem ℕ) (on_file : filed_under setup.name file ≡ Some problem)
-    (ok : selected problem (choice_of cells setup.options) ≡ Ok given.lp) (new : Setup) (name : new.name ≡ mid.name) (options : new.options ≡ mid.options) (print_old print_new : P) (result : Result Finding Halt)
-    (t : ReportsFinding (PathFinds (solver_of verb) (record { problem = problem; lp = mid.lp }) mid.basis new.basis (limit_of verb cells) mid.engine.waypoints new.engine.waypoints) written stopped_at faults refusals print_old print_new result) where
-  pub again_reported : (filed : Problem ℕ) → filed_under setup.name file ≡ Some filed → ReportsFinding (Finds verb filed cells setup new) written stopped_at faults refusals print_old print_new result
+    (ok : selected problem (choice_of cells setup.options) ≡ Ok given.lp) (new : Setup) (name : new.name ≡ mid.name) (options : new.options ≡ mid.options) (print_old print_new : SinkState) (result : Result Finding Halt)
+    (t : ReportsFinding (PathFinds (solver_of verb) (record { problem = problem; lp = mid.lp }) mid.basis new.basis (limit_of verb cells) mid.engine.waypoints new.engine.waypoints) print_old print_new result) where
+  pub again_reported : (filed : Problem ℕ) → filed_under setup.name file ≡ Some filed → ReportsFinding (Finds verb filed cells setup new) print_old print_new result
   again_reported =
-      path_reported written stopped_at faults refusals verb cells file refl new problem on_file mid.lp (limit_of verb cells) print_old print_new result refl (now_is setup seen others file problem cells ok)
+      path_reported verb cells file refl new problem on_file mid.lp (limit_of verb cells) print_old print_new result refl (now_is setup seen others file problem cells ok)
       (name ∙ name_kept setup seen others) (options ∙ options_kept setup seen others)
-      (subst (λ (b : Basis). ReportsFinding (PathFinds (solver_of verb) (record { problem = problem; lp = mid.lp }) b new.basis (limit_of verb cells) setup.engine.waypoints new.engine.waypoints) written stopped_at faults refusals print_old print_new result) (basis_kept setup seen others)
-      (subst (λ (e : Engine). ReportsFinding (PathFinds (solver_of verb) (record { problem = problem; lp = mid.lp }) mid.basis new.basis (limit_of verb cells) e.waypoints new.engine.waypoints) written stopped_at faults refusals print_old print_new result) (engine_kept setup seen others) t))
+      (subst (λ (b : Basis). ReportsFinding (PathFinds (solver_of verb) (record { problem = problem; lp = mid.lp }) b new.basis (limit_of verb cells) setup.engine.waypoints new.engine.waypoints) print_old print_new result) (basis_kept setup seen others)
+      (subst (λ (e : Engine). ReportsFinding (PathFinds (solver_of verb) (record { problem = problem; lp = mid.lp }) mid.basis new.basis (limit_of verb cells) e.waypoints new.engine.waypoints) print_old print_new result) (engine_kept setup seen others) t))
 
   -- with an optimal verdict the basis is optimal in what is selected
   pub again_solved : IsReady file setup → new.lp ≡ mid.lp → IsLinearProgram mid.lp → HasRates new.engine.matrix new.engine.basics mid.lp new.basis →
@@ -192,7 +193,7 @@ module _ {P : Type 0} (written stopped_at : P → Option (List ℕ)) (faults ref
         optimal = subst (λ (p : LinearProgram). mark ≡ Optimal → IsOptimalBasis p new.basis) (sym same_lp) optimal;
       }
 
-      by : (result : Result Finding Halt) → ReportsFinding (PathFinds (solver_of verb) (record { problem = problem; lp = mid.lp }) mid.basis new.basis (limit_of verb cells) mid.engine.waypoints new.engine.waypoints) written stopped_at faults refusals print_old print_new result →
+      by : (result : Result Finding Halt) → ReportsFinding (PathFinds (solver_of verb) (record { problem = problem; lp = mid.lp }) mid.basis new.basis (limit_of verb cells) mid.engine.waypoints new.engine.waypoints) print_old print_new result →
           IfOk result (λ finding. IfEnded finding (λ mark. IsSolved mark cells.xobj cells.xrhs file new))
       by (Ok finding) reported =
           solved_ends (solver_of verb) (record { problem = problem; lp = mid.lp }) mid.basis new.basis (limit_of verb cells) mid.engine.waypoints new.engine.waypoints reported.gain finding lawful

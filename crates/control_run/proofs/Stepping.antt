@@ -1,5 +1,6 @@
 -- A statement at a position, and where it leads.
-use Rattle.std.proofs.Common.{◌≡◌, ℕ, ◌+◌, ◌-◌, ◌<◌, List, Option, Some, Ok, Err, slice_get, refl, sym, ap, subst, arith}
+use Rattle.std.proofs.Common.{◌≡◌, ℕ, ◌+◌, ◌-◌, ◌<◌, List, Some, Ok, Err, slice_get, refl, sym, ap, subst, arith}
+use Rattle.job_devices.specs.States.{SinkState}
 use Rattle.control_definitions.specs.Program.{Statement, Program}
 use Rattle.question_definitions.specs.Solving.{Solving}
 use Rattle.run_definitions.specs.State.{State}
@@ -59,10 +60,10 @@ module _ (S : Solving) (program : Program) (cards : List (List ℕ)) (position :
   leads_by old new s within gain (act.Jump to) c = (record (c.0) { position = to }, step_of s within _ c.1, placed_stands to to c.2 refl, c.3)
   leads_by old new s within gain (act.Ends end) c = step_of s within _ c
 
-  module _ {P U : Type 0} (written stopped_at : P → Option (List ℕ)) (faults refusals : P → ℕ) (punch_written punch_stopped_at : U → Option (List ℕ)) (punch_faults punch_refusals : U → ℕ) (old new : Machine) where
-    pub steps_to : {print_old print_new : P} {punch_old punch_new : U} (act : Act) (turn : AfterStatement) → turn ≡ turn_of position act →
-        Performs S statement.verb statement.card written stopped_at faults refusals print_old print_new punch_written punch_stopped_at punch_faults punch_refusals punch_old punch_new cards old new (Ok act) →
-        Steps S program cards written stopped_at faults refusals print_old print_new punch_written punch_stopped_at punch_faults punch_refusals punch_old punch_new position old new (Ok turn)
+  module _ (old new : Machine) where
+    pub steps_to : {print_old print_new punch_old punch_new : SinkState} (act : Act) (turn : AfterStatement) → turn ≡ turn_of position act →
+        Performs S statement.verb statement.card print_old print_new punch_old punch_new cards old new (Ok act) →
+        Steps S program cards print_old print_new punch_old punch_new position old new (Ok turn)
     steps_to act turn is performs = λ executed state within s.
         let a = performs position (executed + 1) (counted state) (counted_stands s) in
         record {
@@ -72,8 +73,8 @@ module _ (S : Solving) (program : Program) (cards : List (List ℕ)) (position :
           punches = a.punches;
         }
 
-    pub steps_err : (from to : P) (punch_from punch_to : U) (h : Halt) → Performs S statement.verb statement.card written stopped_at faults refusals from to punch_written punch_stopped_at punch_faults punch_refusals punch_from punch_to cards old new (Err h) →
-        Steps S program cards written stopped_at faults refusals from to punch_written punch_stopped_at punch_faults punch_refusals punch_from punch_to position old new (Err h)
+    pub steps_err : (from to punch_from punch_to : SinkState) (h : Halt) → Performs S statement.verb statement.card from to punch_from punch_to cards old new (Err h) →
+        Steps S program cards from to punch_from punch_to position old new (Err h)
     steps_err from to punch_from punch_to (halt.Print stop) performs = λ executed state within s.
         let a = performs position (executed + 1) (counted state) (counted_stands s) in
         record { outcome = a.outcome; step = step_of s within a.outcome a.gives; prints = a.prints; punches = a.punches }

@@ -4,7 +4,8 @@
 --     IsReported before now status  each count that has grown is reported by the status
 --     IsStill .. old new            nothing was written after a write that stopped
 --     Leaves .. result              what a device counts and holds where the last write to it came to this result
-use Rattle.std.specs.Prelude.{◌≡◌, ◌⊎◌, ◌<◌, ℕ, List, Option, Result}
+use Rattle.std.specs.Prelude.{◌≡◌, ◌⊎◌, ◌<◌, ℕ, Result}
+use Rattle.job_devices.specs.States.{SinkState}
 use Rattle.job_devices.specs.declared.device.WriteStop.{WriteStop}
 use Rattle.job_devices.specs.Causes.{Rose, HasWriteCause, KeepsStop}
 
@@ -18,9 +19,9 @@ pub record Counts : Type 0 where
   pub punch_memory : ℕ
 
 -- the counts of a print and a punch by what each counts, where so many reads have failed
-abbrev pub counts : {P U : Type 0} → (P → ℕ) → (P → ℕ) → (U → ℕ) → (U → ℕ) → ℕ → P → U → Counts
-counts faults refusals punch_faults punch_refusals read print punch =
-    record { read = read; print = faults print; print_memory = refusals print; punch = punch_faults punch; punch_memory = punch_refusals punch }
+abbrev pub counts : ℕ → SinkState → SinkState → Counts
+counts read print punch =
+    record { read = read; print = print.faults; print_memory = print.refusals; punch = punch.faults; punch_memory = punch.refusals }
 
 module _ (before now : Counts) where
   -- the print has failed, and the status is 25; or it has found no memory, and the status is 28
@@ -40,11 +41,11 @@ module _ (before now : Counts) where
     pub punch_memory : before.punch_memory < now.punch_memory → (status ≡ 28) ⊎ StopsAtPrint status
 
 -- Where a device has failed or found no memory, what it holds is what it held then: nothing was written after.
-pub record IsStill {P : Type 0} (written stopped_at : P → Option (List ℕ)) (faults refusals : P → ℕ) (old new : P) : Type 0 where
-  pub after_fault : faults old < faults new → written new ≡ stopped_at new
-  pub after_refusal : refusals old < refusals new → written new ≡ stopped_at new
+pub record IsStill (old new : SinkState) : Type 0 where
+  pub after_fault : old.faults < new.faults → new.written ≡ new.stopped_at
+  pub after_refusal : old.refusals < new.refusals → new.written ≡ new.stopped_at
 
 -- what a device counts where the last write to it came to this result, and what it held when a write last stopped
-pub record Leaves {P : Type 0} (written stopped_at : P → Option (List ℕ)) (faults refusals : P → ℕ) (old new : P) (result : Result (Unit {0}) WriteStop) : Type 0 where
-  pub cause : HasWriteCause (faults old) (faults new) (refusals old) (refusals new) result
-  pub stopped : KeepsStop (stopped_at old) (stopped_at new) (written new) result
+pub record Leaves (old new : SinkState) (result : Result (Unit {0}) WriteStop) : Type 0 where
+  pub cause : HasWriteCause old new result
+  pub stopped : KeepsStop old new result

@@ -1,5 +1,6 @@
 -- The end of a listing, and the status then; and what may fail in a run.
-use Rattle.std.specs.Prelude.{◌≡◌, ℕ, List, Option, Ok, Err}
+use Rattle.std.specs.Prelude.{◌≡◌, ℕ, Ok, Err}
+use Rattle.job_devices.specs.States.{SinkState}
 use Rattle.job_devices.specs.declared.device.WriteStop.{WriteStop}
 use Rattle.job_devices.specs.declared.device.WriteStop.TheVariants.{Failed, NoMemory}
 use Rattle.job_devices.specs.Text.{Writes}
@@ -19,17 +20,17 @@ cut_status Failed = PrintFault
 cut_status NoMemory = Memory
 
 -- the end's own lines are printed, and the status is that of the end; or the print stops in them
-pub data Finishes {P : Type 0} (written stopped_at : P → Option (List ℕ)) (faults refusals : P → ℕ) (old new : P) (ending : Ending) (status : RunStatus) : Type 0 where
-  printed : code_of status ≡ status_of ending → Writes {T = Unit {0}} written stopped_at faults refusals old new (Ok tt) (ending_text ending) → Finishes written stopped_at faults refusals old new ending status
-  cut_off : (stop : WriteStop) → status ≡ cut_status stop → Writes {T = Unit {0}} written stopped_at faults refusals old new (Err stop) (ending_text ending) → Finishes written stopped_at faults refusals old new ending status
+pub data Finishes (old new : SinkState) (ending : Ending) (status : RunStatus) : Type 0 where
+  printed : code_of status ≡ status_of ending → Writes {T = Unit {0}} old new (Ok tt) (ending_text ending) → Finishes old new ending status
+  cut_off : (stop : WriteStop) → status ≡ cut_status stop → Writes {T = Unit {0}} old new (Err stop) (ending_text ending) → Finishes old new ending status
 
 -- Where the print took no more, nothing is printed; else the listing ends with the line of a fault of the punch, or of memory that ran
 -- out.
-abbrev pub FinishesHalted : {P : Type 0} (written stopped_at : P → Option (List ℕ)) (faults refusals : P → ℕ) (old new : P) → Halt → RunStatus → Type 0
-FinishesHalted written stopped_at faults refusals old new (halt.Print stop) status = (status ≡ cut_status stop) × (new ≡ old)
-FinishesHalted written stopped_at faults refusals old new (halt.Punch Failed) status = Finishes written stopped_at faults refusals old new endings.PunchFault status
-FinishesHalted written stopped_at faults refusals old new (halt.Punch NoMemory) status = Finishes written stopped_at faults refusals old new endings.Memory status
-FinishesHalted written stopped_at faults refusals old new halt.NoMemory status = Finishes written stopped_at faults refusals old new endings.Memory status
+abbrev pub FinishesHalted : (old new : SinkState) → Halt → RunStatus → Type 0
+FinishesHalted old new (halt.Print stop) status = (status ≡ cut_status stop) × (new ≡ old)
+FinishesHalted old new (halt.Punch Failed) status = Finishes old new endings.PunchFault status
+FinishesHalted old new (halt.Punch NoMemory) status = Finishes old new endings.Memory status
+FinishesHalted old new halt.NoMemory status = Finishes old new endings.Memory status
 
 -- The job is read before its program runs: no read fails in a run.
 abbrev pub failures_in_run : (print punch memory : Type 0) → Failures

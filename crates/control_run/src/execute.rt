@@ -41,8 +41,7 @@ fn execute<E: Engine, P: Sink, U: Sink>(
     requires sound { IsSound cards.now machine.old }
     requires verb { IsSoundVerb (viewed statement.now.verb) }
     ensures acts { Performs linear_programming (viewed statement.now.verb) statement.now.card
-        P.written P.stopped_at P.faults P.refusals print.old print.new U.written U.stopped_at U.faults U.refusals
-        punch.old punch.new
+        (P.taken print.old) (P.taken print.new) (U.taken punch.old) (U.taken punch.new)
         cards.now machine.old machine.new result }
     ensures sound { IsSound cards.now machine.new }
 {
@@ -85,8 +84,7 @@ pub fn step<E: Engine, P: Sink, U: Sink>(
     requires within { position ≤ length input.program.now.statements }
     requires sound { IsSound input.cards.now machine.old }
     ensures steps { Steps linear_programming input.entry.program.now input.entry.cards.now
-        P.written P.stopped_at P.faults P.refusals print.old print.new U.written U.stopped_at U.faults U.refusals
-        punch.old punch.new
+        (P.taken print.old) (P.taken print.new) (U.taken punch.old) (U.taken punch.new)
         position machine.old machine.new result }
     ensures sound { IsSound input.entry.cards.now machine.new }
 {

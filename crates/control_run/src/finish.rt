@@ -44,8 +44,7 @@ fn status_of_cut(stop: WriteStop) -> RunStatus
 
 /// Ends the listing, and answers how the run ended.
 pub fn finish<P: Sink>(print: &mut P, end: &End) -> RunStatus
-    ensures finishes { Finishes P.written P.stopped_at P.faults P.refusals print.old print.new
-        (end_view end.now) result }
+    ensures finishes { Finishes (P.taken print.old) (P.taken print.new) (end_view end.now) result }
     ensures own { IsStatusOfRun result }
 {
     match text_of(&Report::End(ending_of(end)), print) {
@@ -56,8 +55,7 @@ pub fn finish<P: Sink>(print: &mut P, end: &End) -> RunStatus
 
 // Ends the listing after a fault of the punch.
 fn finish_punch_fault<P: Sink>(print: &mut P) -> RunStatus
-    ensures finishes { Finishes P.written P.stopped_at P.faults P.refusals print.old print.new
-        PunchFault result }
+    ensures finishes { Finishes (P.taken print.old) (P.taken print.new) PunchFault result }
     ensures own { IsStatusOfRun result }
 {
     match text_of(&Report::End(Ending::PunchFault), print) {
@@ -68,7 +66,7 @@ fn finish_punch_fault<P: Sink>(print: &mut P) -> RunStatus
 
 // Ends the listing where the punch took no more of a deck.
 fn finish_punch_cut<P: Sink>(print: &mut P, stop: WriteStop) -> RunStatus
-    ensures finishes { FinishesHalted P.written P.stopped_at P.faults P.refusals print.old print.new
+    ensures finishes { FinishesHalted (P.taken print.old) (P.taken print.new)
         (halts.Punch stop) result }
     ensures own { IsStatusOfRun result }
 {
@@ -81,8 +79,7 @@ fn finish_punch_cut<P: Sink>(print: &mut P, stop: WriteStop) -> RunStatus
 /// Ends the listing where a statement comes to nothing, and answers how the run ended. Where the print took no more, nothing is
 /// printed.
 pub fn finish_halted<P: Sink>(print: &mut P, halt: Halt) -> RunStatus
-    ensures finishes { FinishesHalted P.written P.stopped_at P.faults P.refusals print.old print.new
-        halt result }
+    ensures finishes { FinishesHalted (P.taken print.old) (P.taken print.new) halt result }
     ensures own { IsStatusOfRun result }
 {
     match halt {

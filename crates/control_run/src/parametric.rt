@@ -80,7 +80,7 @@ fn print_opening<P: Sink>(
         IsAnswered sheet.entry (parametric_run_view parametric_run.now) s reached before after
         (record { report = para_reports.Opening outcome.now; refused = refused }) →
         ReportsFinding (ParametricRunFinds (sheet_view sheet.entry) s reached (parametric_run_view parametric_run.now) before after)
-        P.written P.stopped_at P.faults P.refusals print.old print.new result }
+        (P.taken print.old) (P.taken print.new) result }
 {
     let verdict = Report::Solved {
         by: parametric_run.solver(),
@@ -115,7 +115,7 @@ fn print_chain<P: Sink>(
         IsAnswered sheet.entry (parametric_run_view parametric_run.now) s reached before after
         (record { report = para_reports.Run run.now; refused = refused }) →
         ReportsFinding (ParametricRunFinds (sheet_view sheet.entry) s reached (parametric_run_view parametric_run.now) before after)
-        P.written P.stopped_at P.faults P.refusals print.old print.new result }
+        (P.taken print.old) (P.taken print.new) result }
 {
     let to = parametric_run.to();
     let report = Report::Parametric {
@@ -141,7 +141,7 @@ fn print_run<P: Sink>(
     ensures { (s reached : answers.Basis) (before after : List Basics) →
         IsAnswered sheet.entry (parametric_run_view parametric_run.now) s reached before after answer.now →
         ReportsFinding (ParametricRunFinds (sheet_view sheet.entry) s reached (parametric_run_view parametric_run.now) before after)
-        P.written P.stopped_at P.faults P.refusals print.old print.new result }
+        (P.taken print.old) (P.taken print.new) result }
 {
     match &answer.report {
         ParaReport::Opening(outcome) => {
@@ -187,7 +187,7 @@ fn follow<P: Sink, R: Rates>(
     requires serves { Serves sheet.problem.now sheet.lp.now parametric_run.now }
     ensures tells { ReportsFinding (ParametricRunFinds (sheet_view sheet.entry) basis.old basis.new
         (parametric_run_view parametric_run.now) (R.waypoints rates.old) (R.waypoints rates.new))
-        P.written P.stopped_at P.faults P.refusals print.old print.new result }
+        (P.taken print.old) (P.taken print.new) result }
     ensures rates { HasRates (R.matrix rates.new) (R.basics rates.new)
         sheet.entry.lp.now basis.new }
 {
@@ -222,8 +222,8 @@ fn find<E: Engine, P: Sink>(
 ) -> Result<Finding, Halt>
     requires { IsReady file.now setup.old }
     ensures tells { (problem : Problem ℕ) → filed_under setup.old.name file.now ≡ Some problem →
-        ReportsFinding (ParametricRuns problem cells.now verb setup.old setup.new) P.written P.stopped_at P.faults P.refusals
-        print.old print.new result }
+        ReportsFinding (ParametricRuns problem cells.now verb setup.old setup.new)
+        (P.taken print.old) (P.taken print.new) result }
     ensures ready { IsReady file.now setup.new }
 {
     // a setup's problem stays on file
@@ -278,8 +278,8 @@ pub fn show_parametric_run<E: Engine, P: Sink>(
     requires demands { AreDemands machine.old.cells }
     requires ready { IfSome machine.old.setup (IsReady machine.old.file) }
     ensures acts { (cards : List (List ℕ)) →
-        Executes linear_programming (verb_of verb) card P.written P.stopped_at P.faults P.refusals print.old
-        print.new cards machine.old machine.new result }
+        Executes linear_programming (verb_of verb) card (P.taken print.old) (P.taken print.new)
+        cards machine.old machine.new result }
     ensures sound { (cards : List (List ℕ)) → IsSound cards machine.old →
         IsSound cards machine.new }
 {

@@ -41,8 +41,8 @@ fn print_ranges<P: Sink>(
         (range_lines sheet.lp.now basis.now ranged.now.point ranged.now.report
         sheet.problem.now) }
     ensures { (before : List Basics) →
-        ReportsFinding (RangesFound (sheet_view sheet.entry) basis.now before) P.written P.stopped_at P.faults
-        P.refusals print.old print.new result }
+        ReportsFinding (RangesFound (sheet_view sheet.entry) basis.now before) (P.taken print.old)
+        (P.taken print.new) result }
 {
     let report = Report::Ranges {
         sheet,
@@ -68,7 +68,7 @@ fn range_basis<P: Sink, R: Rates>(
     requires rates { HasRates (R.matrix rates.old) (R.basics rates.old) sheet.lp.now basis.now }
     ensures tells { ReportsFinding (RangesFound (sheet_view sheet.entry)
         basis.now (R.waypoints rates.old))
-        P.written P.stopped_at P.faults P.refusals print.old print.new result }
+        (P.taken print.old) (P.taken print.new) result }
     ensures rates { KeepsRates (R.matrix rates.new) (R.basics rates.new)
         sheet.entry.lp.now basis.now
         (R.waypoints rates.old) (R.waypoints rates.new) }
@@ -90,7 +90,7 @@ fn range_setup<E: Engine, P: Sink>(
     requires ready { IsReady file.now setup.old }
     requires optimal { IsOptimalBasis setup.old.lp setup.old.basis }
     ensures tells { (problem : Problem ℕ) → filed_under setup.old.name file.now ≡ Some problem →
-        ReportsFinding (ShowsRanges problem setup.old) P.written P.stopped_at P.faults P.refusals print.old print.new
+        ReportsFinding (ShowsRanges problem setup.old) (P.taken print.old) (P.taken print.new)
         result }
     ensures ready { IsReady file.now setup.new }
     ensures name { setup.new.name ≡ setup.old.name }
@@ -134,8 +134,8 @@ pub fn show_ranges<E: Engine, P: Sink>(
     requires solved { IfSome machine.old.mark
         (λ mark. IfSome machine.old.setup (IsSolved mark machine.old.cells.xobj machine.old.cells.xrhs machine.old.file)) }
     ensures acts { (cards : List (List ℕ)) →
-        Executes linear_programming program.Ranging card P.written P.stopped_at P.faults P.refusals print.old
-        print.new cards machine.old machine.new result }
+        Executes linear_programming program.Ranging card (P.taken print.old) (P.taken print.new)
+        cards machine.old machine.new result }
     ensures sound { (cards : List (List ℕ)) → IsSound cards machine.old →
         IsSound cards machine.new }
 {

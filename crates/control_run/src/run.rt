@@ -47,8 +47,7 @@ fn run_statements<E: Engine, P: Sink, U: Sink>(
     requires start { Represents input.cards.now machine.old 1 0
         (start (decks_after input.program.now input.cards.now)) }
     ensures { Runs linear_programming input.entry.program.now input.entry.cards.now
-        P.written P.stopped_at P.faults P.refusals print.old print.new U.written U.stopped_at U.faults U.refusals
-        punch.old punch.new
+        (P.taken print.old) (P.taken print.new) (U.taken punch.old) (U.taken punch.new)
         result }
 {
     let mut position = 1;
@@ -75,8 +74,7 @@ fn run<E: Engine, P: Sink, U: Sink>(
     punch: &mut U,
 ) -> Result<End, Halt>
     ensures { Runs linear_programming input.entry.program.now input.entry.cards.now
-        P.written P.stopped_at P.faults P.refusals print.old print.new U.written U.stopped_at U.faults U.refusals
-        punch.old punch.new
+        (P.taken print.old) (P.taken print.new) (U.taken punch.old) (U.taken punch.new)
         result }
 {
     let first = first_after(input.program, input.cards);
@@ -89,7 +87,7 @@ fn run<E: Engine, P: Sink, U: Sink>(
 ///
 /// A run ends by itself; where memory runs out, or a write to the punch fails, the listing ends with that, if it can. After a
 /// fault of the print, or where the print itself runs out of memory, nothing more is printed. After a fault of the punch, or where it
-/// runs out of memory, nothing more is punched: it has gained all that was punched so far, and a prefix of the deck in hand. The
+/// runs out of memory, nothing more is punched: it has gained all cards of the reports so far, and a prefix of the deck in hand. The
 /// status reports whichever of these came.
 pub fn run_on<E: Engine, P: Sink, U: Sink>(
     alloc: Global,
@@ -99,8 +97,7 @@ pub fn run_on<E: Engine, P: Sink, U: Sink>(
     punch: &mut U,
 ) -> RunStatus
     ensures { IsEndOfRun linear_programming program.now cards.now
-        P.written P.stopped_at P.faults P.refusals print.old print.new U.written U.stopped_at U.faults U.refusals
-        punch.old punch.new
+        (P.taken print.old) (P.taken print.new) (U.taken punch.old) (U.taken punch.new)
         result }
 {
     match run::<E, P, U>(alloc, RunInput { program, cards }, print, punch) {
@@ -118,8 +115,7 @@ pub fn run_program<P: Sink, U: Sink>(
     punch: &mut U,
 ) -> RunStatus
     ensures { IsEndOfRun linear_programming program.now cards.now
-        P.written P.stopped_at P.faults P.refusals print.old print.new U.written U.stopped_at U.faults U.refusals
-        punch.old punch.new
+        (P.taken print.old) (P.taken print.new) (U.taken punch.old) (U.taken punch.new)
         result }
 {
     run_on::<RunEngine, P, U>(alloc, program, cards, print, punch)

@@ -42,8 +42,8 @@ fn print_lines<P: Sink>(
         (solution_lines sheet.problem.now sheet.lp.now basis.now viewed.now.point viewed.now.prices
         viewed.now.slack.items) }
     ensures { (before : List Basics) →
-        ReportsFinding (LinesFound (sheet_view sheet.entry) basis.now before mark) P.written P.stopped_at P.faults
-        P.refusals print.old print.new result }
+        ReportsFinding (LinesFound (sheet_view sheet.entry) basis.now before mark)
+        (P.taken print.old) (P.taken print.new) result }
 {
     let report = Report::Solution {
         mark,
@@ -71,7 +71,7 @@ fn show_basis<P: Sink, R: Rates>(
     requires rates { HasRates (R.matrix rates.old) (R.basics rates.old) sheet.lp.now basis.now }
     ensures tells { ReportsFinding (LinesFound (sheet_view sheet.entry) basis.now
         (R.waypoints rates.old) mark)
-        P.written P.stopped_at P.faults P.refusals print.old print.new result }
+        (P.taken print.old) (P.taken print.new) result }
     ensures rates { KeepsRates (R.matrix rates.new) (R.basics rates.new)
         sheet.entry.lp.now basis.now
         (R.waypoints rates.old) (R.waypoints rates.new) }
@@ -93,7 +93,7 @@ fn show_setup<E: Engine, P: Sink>(
 ) -> Result<Finding, Halt>
     requires { IsReady file.now setup.old }
     ensures tells { (problem : Problem ℕ) → filed_under setup.old.name file.now ≡ Some problem →
-        ReportsFinding (Shows problem setup.old mark) P.written P.stopped_at P.faults P.refusals print.old print.new
+        ReportsFinding (Shows problem setup.old mark) (P.taken print.old) (P.taken print.new)
         result }
     ensures ready { IsReady file.now setup.new }
     ensures name { setup.new.name ≡ setup.old.name }
@@ -126,8 +126,8 @@ pub fn show_solution<E: Engine, P: Sink>(
     requires solved { IfSome machine.old.mark
         (λ mark. IfSome machine.old.setup (IsSolved mark machine.old.cells.xobj machine.old.cells.xrhs machine.old.file)) }
     ensures acts { (cards : List (List ℕ)) →
-        Executes linear_programming program.Solution card P.written P.stopped_at P.faults P.refusals print.old
-        print.new cards machine.old machine.new result }
+        Executes linear_programming program.Solution card (P.taken print.old) (P.taken print.new)
+        cards machine.old machine.new result }
     ensures sound { (cards : List (List ℕ)) → IsSound cards machine.old →
         IsSound cards machine.new }
 {

@@ -63,8 +63,8 @@ fn print_verdict<P: Sink>(
         (bases : List answers.Basis) →
         PathReaches solver (sheet_view sheet.entry) s reached limit before after bases
         (verdict_view sheet.entry report.now.outcome) (check_view report.now.refused) →
-        ReportsFinding (PathFinds solver (sheet_view sheet.entry) s reached limit before after) P.written P.stopped_at P.faults
-        P.refusals print.old print.new result }
+        ReportsFinding (PathFinds solver (sheet_view sheet.entry) s reached limit before after)
+        (P.taken print.old) (P.taken print.new) result }
 {
     let verdict = Report::Solved {
         by: solver,
@@ -91,7 +91,7 @@ fn follow_primal<P: Sink, R: Rates>(
     requires rates { HasRates (R.matrix rates.old) (R.basics rates.old) sheet.lp.now basis.old }
     ensures tells { ReportsFinding (PathFinds solvers.Primal (sheet_view sheet.entry) basis.old basis.new limit
         (R.waypoints rates.old) (R.waypoints rates.new))
-        P.written P.stopped_at P.faults P.refusals print.old print.new result }
+        (P.taken print.old) (P.taken print.new) result }
     ensures rates { HasRates (R.matrix rates.new) (R.basics rates.new)
         sheet.entry.lp.now basis.new }
 {
@@ -120,7 +120,7 @@ fn follow_dual<P: Sink, R: Rates>(
     requires rates { HasRates (R.matrix rates.old) (R.basics rates.old) sheet.lp.now basis.old }
     ensures tells { ReportsFinding (PathFinds solvers.Dual (sheet_view sheet.entry) basis.old basis.new (Some limit)
         (R.waypoints rates.old) (R.waypoints rates.new))
-        P.written P.stopped_at P.faults P.refusals print.old print.new result }
+        (P.taken print.old) (P.taken print.new) result }
     ensures rates { HasRates (R.matrix rates.new) (R.basics rates.new)
         sheet.entry.lp.now basis.new }
 {
@@ -155,7 +155,7 @@ fn follow<P: Sink, R: Rates>(
     requires rates { HasRates (R.matrix rates.old) (R.basics rates.old) sheet.lp.now basis.old }
     ensures tells { ReportsFinding (PathFinds (solver_of path.entry.verb) (sheet_view sheet.entry) basis.old basis.new
         (limit_of path.entry.verb path.entry.cells.now) (R.waypoints rates.old) (R.waypoints rates.new))
-        P.written P.stopped_at P.faults P.refusals print.old print.new result }
+        (P.taken print.old) (P.taken print.new) result }
     ensures rates { HasRates (R.matrix rates.new) (R.basics rates.new)
         sheet.entry.lp.now basis.new }
 {
@@ -179,8 +179,8 @@ fn find<E: Engine, P: Sink>(
 ) -> Result<Finding, Halt>
     requires { IsReady file.now setup.old }
     ensures tells { (problem : Problem ℕ) → filed_under setup.old.name file.now ≡ Some problem →
-        ReportsFinding (Finds verb problem cells.now setup.old setup.new) P.written P.stopped_at P.faults P.refusals print.old
-        print.new result }
+        ReportsFinding (Finds verb problem cells.now setup.old setup.new) (P.taken print.old)
+        (P.taken print.new) result }
     ensures ready { IsReady file.now setup.new }
     ensures solved { IfOk result
         (λ finding. IfEnded finding (λ mark. IsSolved mark cells.now.xobj cells.now.xrhs file.now setup.new)) }
@@ -225,8 +225,8 @@ pub fn solve<E: Engine, P: Sink>(
     requires demands { AreDemands machine.old.cells }
     requires ready { IfSome machine.old.setup (IsReady machine.old.file) }
     ensures acts { (cards : List (List ℕ)) →
-        Executes linear_programming (verb_of verb) card P.written P.stopped_at P.faults P.refusals print.old
-        print.new cards machine.old machine.new result }
+        Executes linear_programming (verb_of verb) card (P.taken print.old) (P.taken print.new)
+        cards machine.old machine.new result }
     ensures sound { (cards : List (List ℕ)) → IsSound cards machine.old →
         IsSound cards machine.new }
 {

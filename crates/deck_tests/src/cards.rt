@@ -1,4 +1,4 @@
-ghost use Rattle.std.specs.Prelude.{None};
+ghost use Rattle.job_devices.specs.States.{untold_source};
 
 use card_reader::{CardStop, ReadingFault, read_job};
 use job_devices::{Failed, Source, SureSource};
@@ -13,9 +13,7 @@ struct SlowSource {
 }
 
 impl Source for SlowSource {
-    ghost left = { λ _. None };
-
-    ghost faults = { λ s. s.faults };
+    ghost given = { λ s. untold_source s.faults };
 
     fn read(&mut self, buf: &mut [u8]) -> Result<usize, Failed> {
         self.reads = self.reads.saturating_add(1);

@@ -16,7 +16,7 @@ use job_devices::{Sink, WriteStop};
 fn put_item<P: Sink>(text: &mut P, name: &[u8], row: &[u8], value: u32) -> Result<(), WriteStop>
     requires name { length name.now ≤ 8 }
     requires row { length row.now ≤ 8 }
-    ensures { Writes P.written P.stopped_at P.faults P.refusals text.old text.new result
+    ensures { Writes (P.taken text.old) (P.taken text.new) result
         (line (made.item_card name.now row.now value)) }
 {
     let mut digits = Buffer::new();
@@ -41,7 +41,7 @@ fn route_cost(from: u32, to: u32) -> u32
 /// The row of a source, from which at most so many are sent as it has.
 pub fn put_source_row<P: Sink>(text: &mut P, number: u32) -> Result<(), WriteStop>
     requires { number < 1000 }
-    ensures { Writes P.written P.stopped_at P.faults P.refusals text.old text.new result
+    ensures { Writes (P.taken text.old) (P.taken text.new) result
         (line (row_card (plain_row L (made.source number)))) }
 {
     let card = WrittenCard {
@@ -56,7 +56,7 @@ pub fn put_source_row<P: Sink>(text: &mut P, number: u32) -> Result<(), WriteSto
 /// The row of a destination, which gets at least so many as it wants.
 pub fn put_destination_row<P: Sink>(text: &mut P, number: u32) -> Result<(), WriteStop>
     requires { number < 1000 }
-    ensures { Writes P.written P.stopped_at P.faults P.refusals text.old text.new result
+    ensures { Writes (P.taken text.old) (P.taken text.new) result
         (line (row_card (plain_row G (made.destination number)))) }
 {
     let card = WrittenCard {
@@ -72,7 +72,7 @@ pub fn put_destination_row<P: Sink>(text: &mut P, number: u32) -> Result<(), Wri
 pub fn put_route<P: Sink>(text: &mut P, from: u32, to: u32) -> Result<(), WriteStop>
     requires from { from < 1000 }
     requires to { to < 1000 }
-    ensures { Writes P.written P.stopped_at P.faults P.refusals text.old text.new result
+    ensures { Writes (P.taken text.old) (P.taken text.new) result
         (card_text (made.route_cards from to)) }
 {
     let name = route(from, to);
@@ -84,7 +84,7 @@ pub fn put_route<P: Sink>(text: &mut P, from: u32, to: u32) -> Result<(), WriteS
 /// What a source has.
 pub fn put_supply<P: Sink>(text: &mut P, number: u32) -> Result<(), WriteStop>
     requires { number < 1000 }
-    ensures { Writes P.written P.stopped_at P.faults P.refusals text.old text.new result
+    ensures { Writes (P.taken text.old) (P.taken text.new) result
         (line (made.item_card (codes "RHS") (made.source number) 10)) }
 {
     put_item(text, b"RHS", &source(number), 10)
@@ -93,7 +93,7 @@ pub fn put_supply<P: Sink>(text: &mut P, number: u32) -> Result<(), WriteStop>
 /// What a destination wants.
 pub fn put_demand<P: Sink>(text: &mut P, number: u32) -> Result<(), WriteStop>
     requires { number < 1000 }
-    ensures { Writes P.written P.stopped_at P.faults P.refusals text.old text.new result
+    ensures { Writes (P.taken text.old) (P.taken text.new) result
         (line (made.item_card (codes "RHS") (made.destination number) 10)) }
 {
     put_item(text, b"RHS", &destination(number), 10)

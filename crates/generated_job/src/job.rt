@@ -16,16 +16,14 @@ static PROGRAM: &[u8] =
 static ROWS: &[u8] = b"NAME          TRANSP\nROWS\n N  COST\n";
 
 fn put_program<P: Sink>(text: &mut P) -> Result<(), WriteStop>
-    ensures { Writes P.written P.stopped_at P.faults P.refusals text.old text.new result
-        (card_text program_cards) }
+    ensures { Writes (P.taken text.old) (P.taken text.new) result (card_text program_cards) }
 {
     put_all(text, PROGRAM)
 }
 
 fn put_deck<P: Sink>(text: &mut P, n: u32) -> Result<(), WriteStop>
     requires { n < 1000 }
-    ensures { Writes P.written P.stopped_at P.faults P.refusals text.old text.new result
-        (card_text (deck_fields n)) }
+    ensures { Writes (P.taken text.old) (P.taken text.new) result (card_text (deck_fields n)) }
 {
     put_all(text, ROWS)?;
     put_source_rows(text, n)?;
@@ -40,8 +38,7 @@ fn put_deck<P: Sink>(text: &mut P, n: u32) -> Result<(), WriteStop>
 
 fn put_job<P: Sink>(text: &mut P, n: u32) -> Result<(), WriteStop>
     requires { n < 1000 }
-    ensures { Writes P.written P.stopped_at P.faults P.refusals text.old text.new result
-        (made_job n) }
+    ensures { Writes (P.taken text.old) (P.taken text.new) result (made_job n) }
 {
     put_program(text)?;
     put_deck(text, n)

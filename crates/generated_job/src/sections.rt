@@ -12,7 +12,7 @@ use job_devices::{Sink, WriteStop};
 /// The rows of the sources from 1 to n.
 pub fn put_source_rows<P: Sink>(text: &mut P, n: u32) -> Result<(), WriteStop>
     requires { n < 1000 }
-    ensures { Writes P.written P.stopped_at P.faults P.refusals text.old text.new result
+    ensures { Writes (P.taken text.old) (P.taken text.new) result
         (card_text (map (λ i. row_card (plain_row L (made.source i))) (made.up_to n))) }
 {
     for before in 0..n {
@@ -24,7 +24,7 @@ pub fn put_source_rows<P: Sink>(text: &mut P, n: u32) -> Result<(), WriteStop>
 /// The rows of the destinations from 1 to n.
 pub fn put_destination_rows<P: Sink>(text: &mut P, n: u32) -> Result<(), WriteStop>
     requires { n < 1000 }
-    ensures { Writes P.written P.stopped_at P.faults P.refusals text.old text.new result
+    ensures { Writes (P.taken text.old) (P.taken text.new) result
         (card_text (map (λ j. row_card (plain_row G (made.destination j))) (made.up_to n))) }
 {
     for before in 0..n {
@@ -37,7 +37,7 @@ pub fn put_destination_rows<P: Sink>(text: &mut P, n: u32) -> Result<(), WriteSt
 fn put_routes_from<P: Sink>(text: &mut P, from: u32, n: u32) -> Result<(), WriteStop>
     requires from { from < 1000 }
     requires n { n < 1000 }
-    ensures { Writes P.written P.stopped_at P.faults P.refusals text.old text.new result
+    ensures { Writes (P.taken text.old) (P.taken text.new) result
         (card_text (flat_map (λ j. made.route_cards from j) (made.up_to n))) }
 {
     for before in 0..n {
@@ -49,7 +49,7 @@ fn put_routes_from<P: Sink>(text: &mut P, from: u32, n: u32) -> Result<(), Write
 /// The routes from each source to each destination.
 pub fn put_routes<P: Sink>(text: &mut P, n: u32) -> Result<(), WriteStop>
     requires { n < 1000 }
-    ensures { Writes P.written P.stopped_at P.faults P.refusals text.old text.new result
+    ensures { Writes (P.taken text.old) (P.taken text.new) result
         (card_text (flat_map (λ i. flat_map (λ j. made.route_cards i j) (made.up_to n))
         (made.up_to n))) }
 {
@@ -62,7 +62,7 @@ pub fn put_routes<P: Sink>(text: &mut P, n: u32) -> Result<(), WriteStop>
 /// What the sources from 1 to n have.
 pub fn put_supplies<P: Sink>(text: &mut P, n: u32) -> Result<(), WriteStop>
     requires { n < 1000 }
-    ensures { Writes P.written P.stopped_at P.faults P.refusals text.old text.new result
+    ensures { Writes (P.taken text.old) (P.taken text.new) result
         (card_text (map (λ i. made.item_card (codes "RHS") (made.source i) 10) (made.up_to n))) }
 {
     for before in 0..n {
@@ -74,7 +74,7 @@ pub fn put_supplies<P: Sink>(text: &mut P, n: u32) -> Result<(), WriteStop>
 /// What the destinations from 1 to n want.
 pub fn put_demands<P: Sink>(text: &mut P, n: u32) -> Result<(), WriteStop>
     requires { n < 1000 }
-    ensures { Writes P.written P.stopped_at P.faults P.refusals text.old text.new result
+    ensures { Writes (P.taken text.old) (P.taken text.new) result
         (card_text (map (λ j. made.item_card (codes "RHS") (made.destination j) 10)
         (made.up_to n))) }
 {

@@ -6,6 +6,7 @@ use Rattle.std.proofs.lemmas.List.{append-nil, take-append-drop, take_all, lengt
 use Rattle.std.specs.Io.KnownBytes.{Appends, Keeps}
 use Rattle.job_devices.specs.Causes.{Rose}
 use Rattle.std.specs.List.{flat_map}
+use Rattle.job_devices.specs.States.{SinkState}
 use Rattle.job_devices.specs.Text.{AppendsPrefix, Puts, Writes}
 use Rattle.job_devices.specs.declared.device.WriteStop.{WriteStop}
 
@@ -52,14 +53,14 @@ moves_on prefix rest piece n e =
     (append_assoc prefix (take n rest) (drop n rest) ∙ ap (λ w. prefix ++ w) (take-append-drop n rest) ∙ e)
 
 -- a call that writes a text, and then one that writes the next
-pub writes_then : {P T U : Type 0} {written stopped_at : P → Option (List ℕ)} {faults refusals : P → ℕ} {a b c : P} {r : Result T WriteStop} {done : U} {x y : List ℕ} → Writes written stopped_at faults refusals a b (Ok done) x → Writes written stopped_at faults refusals b c r y → Writes written stopped_at faults refusals a c r (x ++ y)
-writes_then {written = written} {stopped_at = stopped_at} {faults = faults} {refusals = refusals} {a = a} {b = b} {c = c} {r = Ok v} {x = x} {y = y} p q = record {
-  bytes = Puts-then {E = WriteStop} (written a) (written b) (written c) (Ok v) x y p.bytes q.bytes;
+pub writes_then : {T U : Type 0} {a b c : SinkState} {r : Result T WriteStop} {done : U} {x y : List ℕ} → Writes a b (Ok done) x → Writes b c r y → Writes a c r (x ++ y)
+writes_then {a = a} {b = b} {c = c} {r = Ok v} {x = x} {y = y} p q = record {
+  bytes = Puts-then {E = WriteStop} a.written b.written c.written (Ok v) x y p.bytes q.bytes;
   cause = record {
     later = omega arith;
     later_refusals = omega arith;
-    failed = λ h. let rose : Rose (faults b) (faults c) = q.cause.failed h in omega arith;
-    no_memory = λ h. let rose : Rose (refusals b) (refusals c) = q.cause.no_memory h in omega arith;
+    failed = λ h. let rose : Rose b.faults c.faults = q.cause.failed h in omega arith;
+    no_memory = λ h. let rose : Rose b.refusals c.refusals = q.cause.no_memory h in omega arith;
     no_fault = q.cause.no_fault ∙ p.cause.no_fault;
     no_refusal = q.cause.no_refusal ∙ p.cause.no_refusal;
     failed_alone = λ h. q.cause.failed_alone h ∙ p.cause.no_refusal;
@@ -67,13 +68,13 @@ writes_then {written = written} {stopped_at = stopped_at} {faults = faults} {ref
   };
   stopped = q.stopped ∙ p.stopped;
 }
-writes_then {T = T} {written = written} {stopped_at = stopped_at} {faults = faults} {refusals = refusals} {a = a} {b = b} {c = c} {r = Err e} {x = x} {y = y} p q = record {
-  bytes = Puts-then {T = T} (written a) (written b) (written c) (Err e) x y p.bytes q.bytes;
+writes_then {T = T} {a = a} {b = b} {c = c} {r = Err e} {x = x} {y = y} p q = record {
+  bytes = Puts-then {T = T} a.written b.written c.written (Err e) x y p.bytes q.bytes;
   cause = record {
     later = omega arith;
     later_refusals = omega arith;
-    failed = λ h. let rose : Rose (faults b) (faults c) = q.cause.failed h in omega arith;
-    no_memory = λ h. let rose : Rose (refusals b) (refusals c) = q.cause.no_memory h in omega arith;
+    failed = λ h. let rose : Rose b.faults c.faults = q.cause.failed h in omega arith;
+    no_memory = λ h. let rose : Rose b.refusals c.refusals = q.cause.no_memory h in omega arith;
     no_fault = tt;
     no_refusal = tt;
     failed_alone = λ h. q.cause.failed_alone h ∙ p.cause.no_refusal;
@@ -83,21 +84,21 @@ writes_then {T = T} {written = written} {stopped_at = stopped_at} {faults = faul
 }
 
 -- a stop in a text is one in that text with more after it
-pub writes_more : {P T : Type 0} {written stopped_at : P → Option (List ℕ)} {faults refusals : P → ℕ} {a b : P} {stop : WriteStop} {x : List ℕ} (y : List ℕ) → Writes {T = T} written stopped_at faults refusals a b (Err stop) x → Writes {T = T} written stopped_at faults refusals a b (Err stop) (x ++ y)
-writes_more {written = written} {a = a} {b = b} {x = x} y p = record {
-  bytes = AppendsPrefix-more (written a) (written b) x y p.bytes;
+pub writes_more : {T : Type 0} {a b : SinkState} {stop : WriteStop} {x : List ℕ} (y : List ℕ) → Writes {T = T} a b (Err stop) x → Writes {T = T} a b (Err stop) (x ++ y)
+writes_more {a = a} {b = b} {x = x} y p = record {
+  bytes = AppendsPrefix-more a.written b.written x y p.bytes;
   cause = p.cause;
   stopped = p.stopped;
 }
 
 -- the same text, written down in another way
-pub writes_same : {P T : Type 0} {written stopped_at : P → Option (List ℕ)} {faults refusals : P → ℕ} {a b : P} {r : Result T WriteStop} {x y : List ℕ} → x ≡ y → Writes written stopped_at faults refusals a b r x → Writes written stopped_at faults refusals a b r y
-writes_same {written = written} {stopped_at = stopped_at} {faults = faults} {refusals = refusals} {a = a} {b = b} {r = r} e p = let Goal : List ℕ → Type 0 = λ w. Writes written stopped_at faults refusals a b r w in subst Goal e p
+pub writes_same : {T : Type 0} {a b : SinkState} {r : Result T WriteStop} {x y : List ℕ} → x ≡ y → Writes a b r x → Writes a b r y
+writes_same {a = a} {b = b} {r = r} e p = let Goal : List ℕ → Type 0 = λ w. Writes a b r w in subst Goal e p
 
 -- nothing is written
-pub writes_nothing : {P T : Type 0} (written stopped_at : P → Option (List ℕ)) (faults refusals : P → ℕ) (a : P) (done : T) → Writes written stopped_at faults refusals a a (Ok done) []
-writes_nothing written stopped_at faults refusals a done = record {
-  bytes = nothing (written a);
+pub writes_nothing : {T : Type 0} (a : SinkState) (done : T) → Writes a a (Ok done) []
+writes_nothing a done = record {
+  bytes = nothing a.written;
   cause = record { later = omega arith; later_refusals = omega arith; failed = λ h. (cc); no_memory = λ h. (cc); no_fault = refl; no_refusal = refl; failed_alone = λ h. refl; wanted_alone = λ h. refl };
   stopped = refl;
 }
@@ -116,5 +117,5 @@ flat_map_around f xs i d inside =
     ∙ ap (flat_map f) (take-append-drop i xs)
 
 -- a stop in the text of one item, after the texts of those before it
-pub writes_item : {P T U X : Type 0} {written stopped_at : P → Option (List ℕ)} {faults refusals : P → ℕ} {a b c : P} {stop : WriteStop} {done : U} (f : X → List ℕ) (xs : List X) (i : ℕ) (d : X) → i < length xs → Writes written stopped_at faults refusals a b (Ok done) (flat_map f (take i xs)) → Writes {T = T} written stopped_at faults refusals b c (Err stop) (f (get_or xs i d)) → Writes {T = T} written stopped_at faults refusals a c (Err stop) (flat_map f xs)
+pub writes_item : {T U X : Type 0} {a b c : SinkState} {stop : WriteStop} {done : U} (f : X → List ℕ) (xs : List X) (i : ℕ) (d : X) → i < length xs → Writes a b (Ok done) (flat_map f (take i xs)) → Writes {T = T} b c (Err stop) (f (get_or xs i d)) → Writes {T = T} a c (Err stop) (flat_map f xs)
 writes_item f xs i d inside so_far stopped = writes_same (flat_map_around f xs i d inside) (writes_more (flat_map f (drop (suc i) xs)) (writes_then so_far stopped))

@@ -1,5 +1,6 @@
 -- What callers see of the devices in memory.
-use Rattle.std.specs.Prelude.{ℕ, List, Option, drop, take, option_map}
+use Rattle.std.specs.Prelude.{ℕ, List, Option, Some, drop, take, option_map}
+use Rattle.job_devices.specs.States.{SourceState, SinkState}
 use Rattle.job_devices.specs.declared.memory.MemorySource.{MemorySource}
 use Rattle.job_devices.specs.declared.memory.MemorySink.{MemorySink}
 use Rattle.job_devices.specs.declared.memory.SureSource.{SureSource}
@@ -60,3 +61,16 @@ sure_bytes sink = sink.bytes.items
 -- what was written when a write to it last found no memory
 abbrev pub sure_stopped : SureSink → Option (List ℕ)
 sure_stopped sink = option_map (λ count. take count sink.bytes.items) sink.stopped
+
+-- what each of them shows
+abbrev pub source_state : MemorySource → SourceState
+source_state source = record { left = Some (source_left source); faults = reads_failed source }
+
+abbrev pub sure_source_state : SureSource → SourceState
+sure_source_state source = record { left = Some (sure_left source); faults = 0 }
+
+abbrev pub sink_state : MemorySink → SinkState
+sink_state sink = record { written = Some (sink_bytes sink); faults = writes_failed sink; refusals = writes_refused sink; stopped_at = sink_stopped sink }
+
+abbrev pub sure_sink_state : SureSink → SinkState
+sure_sink_state sink = record { written = Some (sure_bytes sink); faults = 0; refusals = sink.refusals; stopped_at = sure_stopped sink }

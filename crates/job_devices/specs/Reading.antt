@@ -5,6 +5,7 @@
 use Rattle.std.specs.Prelude.{◌≡◌, ℕ, ◌≤◌, List, length, drop, Option, Some, None, Result, IsErrOf}
 use Rattle.std.specs.Io.KnownBytes.{Consumes}
 use Rattle.job_devices.specs.Causes.{Rose}
+use Rattle.job_devices.specs.States.{SourceState}
 use Rattle.job_devices.specs.declared.reading.SourceStop.{SourceStop}
 use Rattle.job_devices.specs.declared.reading.SourceStop.TheVariants.{Failed}
 
@@ -18,7 +19,7 @@ ReadsWhole most (Some bytes) (Some rest) = rest ≡ drop most bytes
 
 -- `Failed` is answered only where the source's count of faults rose, and the count never falls. Where anything else is answered, it is
 -- what it was.
-pub record HasSourceCause {T : Type 0} (before now : ℕ) (result : Result T SourceStop) : Type 0 where
-  pub later : before ≤ now
-  pub failed : IsErrOf result Failed → Rose before now
-  pub quiet : (IsErrOf result Failed → ⊥) → now ≡ before
+pub record HasSourceCause {T : Type 0} (old new : SourceState) (result : Result T SourceStop) : Type 0 where
+  pub later : old.faults ≤ new.faults
+  pub failed : IsErrOf result Failed → Rose old.faults new.faults
+  pub quiet : (IsErrOf result Failed → ⊥) → new.faults ≡ old.faults

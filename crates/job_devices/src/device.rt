@@ -4,6 +4,7 @@ ghost use Rattle.std.specs.Io.{ReadsAtMost, WritesAtMost};
 ghost use Rattle.std.specs.Io.KnownBytes.{ReadConsumes, WriteAppends};
 ghost use Rattle.job_devices.specs.Causes.{HasReadCause, HasWriteCause, KeepsStop};
 ghost use Rattle.job_devices.specs.Text.{Writes, text_of_pieces};
+ghost use Rattle.job_devices.specs.States.{SourceState, SinkState};
 
 use std::alloc::AllocError;
 use thiserror::Error;
@@ -37,11 +38,8 @@ pub enum WriteStop {
 
 /// Gives bytes, from the first to the last, and counts its faults.
 pub trait Source {
-    /// The bytes that reads give from here on, where the source tells them.
-    ghost left: { Self → Option (List ℕ) };
-
-    /// How often a read has failed.
-    ghost faults: { Self → ℕ };
+    /// What the source still gives, and how often a read has failed.
+    ghost given: { Self → SourceState };
 
     /// Moves the next bytes into the front of `buf` and says how many. 0 is the end of the input.
     ///
@@ -49,40 +47,31 @@ pub trait Source {
     fn read(&mut self, buf: &mut [u8]) -> Result<usize, Failed>
         requires { 0 < length buf.old }
         ensures bound { ReadsAtMost result buf.new }
-        ensures bytes { ReadConsumes (left self.old) (left self.new) result buf.new }
-        ensures cause { HasReadCause (faults self.old) (faults self.new) result };
+        ensures bytes { ReadConsumes (given self.old).left (given self.new).left result buf.new }
+        ensures cause { HasReadCause (given self.old) (given self.new) result };
 }
 
 /// Takes bytes, each after those that came before, and counts its faults.
 pub trait Sink {
-    /// The bytes written so far, where the sink tells them.
-    ghost written: { Self → Option (List ℕ) };
-
-    /// How often a write has failed.
-    ghost faults: { Self → ℕ };
-
-    /// How often a write found no memory.
-    ghost refusals: { Self → ℕ };
-
-    /// What was written when a write last stopped, where one has and the sink tells it.
-    ghost stopped_at: { Self → Option (List ℕ) };
+    /// What was written, how often a write has failed or found no memory, and what was written when
+    /// one last stopped.
+    ghost taken: { Self → SinkState };
 
     /// Appends a prefix of the piece and says how long it is. 0 is only for an empty piece.
     ///
     /// A write that stops appends nothing, and the count of its cause has risen.
     fn write(&mut self, piece: &[u8]) -> Result<usize, WriteStop>
         ensures bound { WritesAtMost result piece.now }
-        ensures some { IfOk result (λ taken. taken ≡ 0 → length piece.now ≡ 0) }
-        ensures bytes { WriteAppends (written self.old) (written self.new) result piece.now }
-        ensures cause { HasWriteCause (faults self.old) (faults self.new) (refusals self.old)
-            (refusals self.new) result }
-        ensures stopped { KeepsStop (stopped_at self.old) (stopped_at self.new)
-            (written self.new) result };
+        ensures some { IfOk result (λ count. count ≡ 0 → length piece.now ≡ 0) }
+        ensures bytes { WriteAppends (taken self.old).written (taken self.new).written result
+            piece.now }
+        ensures cause { HasWriteCause (taken self.old) (taken self.new) result }
+        ensures stopped { KeepsStop (taken self.old) (taken self.new) result };
 }
 
 /// Writes the whole piece, in as many writes as the sink wants. At a stop a prefix of it is written.
 pub fn put_all<P: Sink>(sink: &mut P, piece: &[u8]) -> Result<(), WriteStop>
-    ensures { Writes P.written P.stopped_at P.faults P.refusals sink.old sink.new result piece.now }
+    ensures { Writes (P.taken sink.old) (P.taken sink.new) result piece.now }
 {
     let mut rest = piece;
     while !rest.is_empty() {
@@ -94,7 +83,7 @@ pub fn put_all<P: Sink>(sink: &mut P, piece: &[u8]) -> Result<(), WriteStop>
 
 /// Writes some pieces, one after the other. At a stop a prefix of all of them is written.
 pub fn put_each<P: Sink>(sink: &mut P, pieces: &[&[u8]]) -> Result<(), WriteStop>
-    ensures { Writes P.written P.stopped_at P.faults P.refusals sink.old sink.new result
+    ensures { Writes (P.taken sink.old) (P.taken sink.new) result
         (text_of_pieces pieces.now) }
 {
     for piece in pieces {

@@ -1,5 +1,6 @@
 // The sink that keeps nothing.
-ghost use Rattle.std.specs.Prelude.{◌≡◌, None, Ok, length};
+ghost use Rattle.std.specs.Prelude.{◌≡◌, Ok, length};
+ghost use Rattle.job_devices.specs.States.{untold_sink};
 
 use crate::{Sink, WriteStop};
 
@@ -8,13 +9,7 @@ use crate::{Sink, WriteStop};
 pub struct Discard;
 
 impl Sink for Discard {
-    ghost written = { λ _. None };
-
-    ghost faults = { λ _. 0 };
-
-    ghost refusals = { λ _. 0 };
-
-    ghost stopped_at = { λ _. None };
+    ghost taken = { λ _. untold_sink 0 };
 
     fn write(&mut self, piece: &[u8]) -> Result<usize, WriteStop>
         ensures all { result ≡ Ok (length piece.now) }

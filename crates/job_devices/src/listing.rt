@@ -57,17 +57,17 @@ impl<R: Files> ListingFile<R> {
 
 impl<R: Files> Source for ListingFile<R> {
     ghost use Rattle.job_devices.specs.Causes.{HasReadCause, next_count};
+    ghost use Rattle.job_devices.specs.States.{untold_source};
     ghost use Rattle.job_devices.specs.Listing.{listing_file, listing_faults, FileGives};
 
-    ghost left = { λ _. None };
-
-    ghost faults = { λ s. listing_faults s };
+    ghost given = { λ s. untold_source (listing_faults s) };
 
     fn read(&mut self, buf: &mut [u8]) -> Result<usize, Failed>
         requires { 0 < length buf.old }
         ensures bound { ReadsAtMost result buf.new }
         ensures bytes { ReadConsumes None None result buf.new }
-        ensures cause { HasReadCause (listing_faults self.old) (listing_faults self.new) result }
+        ensures cause { HasReadCause (untold_source (listing_faults self.old))
+            (untold_source (listing_faults self.new)) result }
 
         // A byte is given only where the file is open, and once opened it stays so.
         ensures file { OnOk result (IsSome (listing_file self.new)) }

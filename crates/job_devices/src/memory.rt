@@ -102,17 +102,15 @@ impl MemorySource {
 
 impl Source for MemorySource {
     ghost use Rattle.job_devices.specs.Causes.{HasReadCause, next_count};
-    ghost use Rattle.job_devices.specs.Memory.{source_left, failing_reads, reads_made, reads_failed, piece_limit};
+    ghost use Rattle.job_devices.specs.Memory.{source_state, source_left, failing_reads, reads_made, reads_failed, piece_limit};
 
-    ghost left = { λ s. Some (source_left s) };
-
-    ghost faults = { λ s. reads_failed s };
+    ghost given = { λ s. source_state s };
 
     fn read(&mut self, buf: &mut [u8]) -> Result<usize, Failed>
         ensures bound { ReadsAtMost result buf.new }
         ensures bytes { ReadConsumes (Some (source_left self.old)) (Some (source_left self.new))
             result buf.new }
-        ensures cause { HasReadCause (reads_failed self.old) (reads_failed self.new) result }
+        ensures cause { HasReadCause (source_state self.old) (source_state self.new) result }
 
         // All that is left is given, as far as the buffer has room for it and a piece may have so many bytes.
         ensures size { IfOk result (λ count.
@@ -153,11 +151,9 @@ impl SureSource {
 }
 
 impl Source for SureSource {
-    ghost use Rattle.job_devices.specs.Memory.{sure_left};
+    ghost use Rattle.job_devices.specs.Memory.{sure_source_state};
 
-    ghost left = { λ s. Some (sure_left s) };
-
-    ghost faults = { λ _. 0 };
+    ghost given = { λ s. sure_source_state s };
 
     fn read(&mut self, buf: &mut [u8]) -> Result<usize, Failed> {
         let count = copy_prefix(&self.bytes[self.at..], buf, usize::MAX);
@@ -197,25 +193,17 @@ impl MemorySink {
 
 impl Sink for MemorySink {
     ghost use Rattle.job_devices.specs.Causes.{HasWriteCause, KeepsStop, next_count};
-    ghost use Rattle.job_devices.specs.Memory.{sink_bytes, failing_writes, writes_made, writes_failed, writes_refused, sink_stopped};
+    ghost use Rattle.job_devices.specs.Memory.{sink_bytes, failing_writes, writes_made, writes_failed, writes_refused, sink_state};
 
-    ghost written = { λ s. Some (sink_bytes s) };
-
-    ghost faults = { λ s. writes_failed s };
-
-    ghost refusals = { λ s. writes_refused s };
-
-    ghost stopped_at = { λ s. sink_stopped s };
+    ghost taken = { λ s. sink_state s };
 
     fn write(&mut self, piece: &[u8]) -> Result<usize, WriteStop>
         ensures bound { WritesAtMost result piece.now }
         ensures some { IfOk result (λ taken. taken ≡ 0 → length piece.now ≡ 0) }
         ensures bytes { WriteAppends (Some (sink_bytes self.old)) (Some (sink_bytes self.new))
             result piece.now }
-        ensures cause { HasWriteCause (writes_failed self.old) (writes_failed self.new)
-            (writes_refused self.old) (writes_refused self.new) result }
-        ensures stopped { KeepsStop (sink_stopped self.old) (sink_stopped self.new)
-            (Some (sink_bytes self.new)) result }
+        ensures cause { HasWriteCause (sink_state self.old) (sink_state self.new) result }
+        ensures stopped { KeepsStop (sink_state self.old) (sink_state self.new) result }
 
         // The listed writes fail, and no others.
         ensures listed { IsErrOf result WriteStop.Failed ↔ Contains (failing_writes self.old)
@@ -272,15 +260,9 @@ impl SureSink {
 }
 
 impl Sink for SureSink {
-    ghost use Rattle.job_devices.specs.Memory.{sure_bytes, sure_stopped};
+    ghost use Rattle.job_devices.specs.Memory.{sure_sink_state};
 
-    ghost written = { λ s. Some (sure_bytes s) };
-
-    ghost faults = { λ _. 0 };
-
-    ghost refusals = { λ s. s.refusals };
-
-    ghost stopped_at = { λ s. sure_stopped s };
+    ghost taken = { λ s. sure_sink_state s };
 
     fn write(&mut self, piece: &[u8]) -> Result<usize, WriteStop> {
         if self.bytes.extend_from_slice(piece).is_err() {

@@ -57,22 +57,19 @@ impl<R: Files> PunchFile<R> {
 
 impl<R: Files> Sink for PunchFile<R> {
     ghost use Rattle.job_devices.specs.Causes.{HasWriteCause, KeepsStop, next_count};
+    ghost use Rattle.job_devices.specs.States.{untold_sink};
     ghost use Rattle.job_devices.specs.Punch.{punch_file, punch_faults, FileTakes};
 
-    ghost written = { λ _. None };
-
-    ghost faults = { λ s. punch_faults s };
-
-    ghost refusals = { λ _. 0 };
-
-    ghost stopped_at = { λ _. None };
+    ghost taken = { λ s. untold_sink (punch_faults s) };
 
     fn write(&mut self, piece: &[u8]) -> Result<usize, WriteStop>
         ensures bound { WritesAtMost result piece.now }
         ensures some { IfOk result (λ taken. taken ≡ 0 → length piece.now ≡ 0) }
         ensures bytes { WriteAppends None None result piece.now }
-        ensures cause { HasWriteCause (punch_faults self.old) (punch_faults self.new) 0 0 result }
-        ensures stopped { KeepsStop None None None result }
+        ensures cause { HasWriteCause (untold_sink (punch_faults self.old))
+            (untold_sink (punch_faults self.new)) result }
+        ensures stopped { KeepsStop (untold_sink (punch_faults self.old))
+            (untold_sink (punch_faults self.new)) result }
 
         // A byte is taken only where the file is there, and once created it stays.
         ensures file { OnOk result (IsSome (punch_file self.new)) }

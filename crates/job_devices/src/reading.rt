@@ -48,12 +48,14 @@ pub fn read_up_to<S: Source>(
     source: &mut S,
     most: usize,
 ) -> Result<Vec<u8>, SourceStop>
-    ensures bytes { IfOk result (λ bytes. IfSome (S.left source.old)
+    ensures bytes { IfOk result (λ bytes. IfSome (S.given source.old).left
         (λ left. bytes.items ≡ take most left)) }
-    ensures whole { OnOk result (ReadsWhole most (S.left source.old) (S.left source.new)) }
-    ensures no_further { ReadsUpTo most (S.left source.old) (S.left source.new) }
-    ensures end { IfOk result (λ bytes. length bytes.items < most → IsAtEnd (S.left source.new)) }
-    ensures cause { HasSourceCause (S.faults source.old) (S.faults source.new) result }
+    ensures whole { OnOk result
+        (ReadsWhole most (S.given source.old).left (S.given source.new).left) }
+    ensures no_further { ReadsUpTo most (S.given source.old).left (S.given source.new).left }
+    ensures end { IfOk result (λ bytes. length bytes.items < most →
+        IsAtEnd (S.given source.new).left) }
+    ensures cause { HasSourceCause (S.given source.old) (S.given source.new) result }
 {
     let mut bytes = Vec::new(alloc);
     let mut piece = [0; PIECE];

@@ -28,17 +28,16 @@ impl<R: Read> StreamSource<R> {
 
 impl<R: Read> Source for StreamSource<R> {
     ghost use Rattle.job_devices.specs.Causes.{HasReadCause, next_count};
+    ghost use Rattle.job_devices.specs.States.{untold_source};
     ghost use Rattle.job_devices.specs.Stream.{stream_reader, stream_read_faults};
 
-    ghost left = { λ _. None };
-
-    ghost faults = { λ s. stream_read_faults s };
+    ghost given = { λ s. untold_source (stream_read_faults s) };
 
     fn read(&mut self, buf: &mut [u8]) -> Result<usize, Failed>
         ensures bound { ReadsAtMost result buf.new }
         ensures bytes { ReadConsumes None None result buf.new }
-        ensures cause { HasReadCause (stream_read_faults self.old)
-            (stream_read_faults self.new) result }
+        ensures cause { HasReadCause (untold_source (stream_read_faults self.old))
+            (untold_source (stream_read_faults self.new)) result }
 
         // The reader has given these bytes, 0 only at its end, and none where the read failed.
         ensures reader { ReadConsumes (R.remaining (stream_reader self.old))
@@ -78,23 +77,19 @@ impl<W: Write> StreamSink<W> {
 
 impl<W: Write> Sink for StreamSink<W> {
     ghost use Rattle.job_devices.specs.Causes.{HasWriteCause, KeepsStop, next_count};
+    ghost use Rattle.job_devices.specs.States.{untold_sink};
     ghost use Rattle.job_devices.specs.Stream.{stream_writer, stream_write_faults};
 
-    ghost written = { λ _. None };
-
-    ghost faults = { λ s. stream_write_faults s };
-
-    ghost refusals = { λ _. 0 };
-
-    ghost stopped_at = { λ _. None };
+    ghost taken = { λ s. untold_sink (stream_write_faults s) };
 
     fn write(&mut self, piece: &[u8]) -> Result<usize, WriteStop>
         ensures bound { WritesAtMost result piece.now }
         ensures some { IfOk result (λ taken. taken ≡ 0 → length piece.now ≡ 0) }
         ensures bytes { WriteAppends None None result piece.now }
-        ensures cause { HasWriteCause (stream_write_faults self.old)
-            (stream_write_faults self.new) 0 0 result }
-        ensures stopped { KeepsStop None None None result }
+        ensures cause { HasWriteCause (untold_sink (stream_write_faults self.old))
+            (untold_sink (stream_write_faults self.new)) result }
+        ensures stopped { KeepsStop (untold_sink (stream_write_faults self.old))
+            (untold_sink (stream_write_faults self.new)) result }
 
         // The writer holds the bytes that were taken. After a fault it may hold some too, where its flush failed.
         ensures writer { MatchResult result

@@ -19,13 +19,15 @@ pub struct Prepared {
 
 /// Reads a job and compiles its program. Its cards are judged before its program, and nothing is compiled of a job that isn't read whole.
 pub fn prepare<S: Source>(alloc: Global, job: &mut S) -> Result<Prepared, EarlyStop>
-    ensures prepared { IfOk result (ArePrepared (S.left job.old)) }
-    ensures read { OnOk result (ReadsJob (S.left job.old) (S.left job.new)) }
-    ensures stop { IfErr result (ReportsEarlyStop (S.left job.old)) }
-    ensures cause { IfErr result (HasStopCause (Rose (S.faults job.old) (S.faults job.new))
-        (ReadsJob (S.left job.old) (S.left job.new))) }
-    ensures quiet { (IsErrOf result EarlyStop.ReadFault → ⊥) → S.faults job.new ≡ S.faults job.old }
-    ensures no_further { ReadsPrefix (S.left job.old) (S.left job.new) }
+    ensures prepared { IfOk result (ArePrepared (S.given job.old).left) }
+    ensures read { OnOk result (ReadsJob (S.given job.old).left (S.given job.new).left) }
+    ensures stop { IfErr result (ReportsEarlyStop (S.given job.old).left) }
+    ensures cause { IfErr result (HasStopCause
+        (Rose (S.given job.old).faults (S.given job.new).faults)
+        (ReadsJob (S.given job.old).left (S.given job.new).left)) }
+    ensures quiet { (IsErrOf result EarlyStop.ReadFault → ⊥) →
+        (S.given job.new).faults ≡ (S.given job.old).faults }
+    ensures no_further { ReadsPrefix (S.given job.old).left (S.given job.new).left }
 {
     let cards = read_job(alloc, job)?;
     let program = compile(alloc, &cards)?;

@@ -4,6 +4,7 @@ use Rattle.std.specs.Prelude.{◌==◌, true, false}
 use Rattle.std.proofs.lemmas.Bool.Decides.{eqb_tells}
 use Rattle.std.specs.Io.KnownBytes.{Appends}
 use Rattle.job_devices.proofs.TextLemmas.{Appends-nothing}
+use Rattle.job_devices.specs.States.{SinkState}
 use Rattle.job_devices.specs.Causes.{Rose}
 use Rattle.job_devices.specs.declared.device.WriteStop.{WriteStop}
 use Rattle.job_devices.specs.declared.device.WriteStop.TheVariants.{Failed, NoMemory}
@@ -41,10 +42,10 @@ module _ {some others : Reads} (l : Leads some others) where
       found answer text (l.job_quiet quiet) (l.job_read read) (l.listing_quiet listing_quiet) (l.listing_read listing_read)
       (λ bytes lines is_job is_listing. so bytes lines (l.is_job bytes is_job) (l.is_listing lines is_listing))
 
-  pub tells_too : {P : Type 0} (written stopped_at : P → Option (List ℕ)) (faults refusals : P → ℕ) {old new : P} (ended : CheckStatus) →
-      Tells some written stopped_at faults refusals old new ended → Tells others written stopped_at faults refusals old new ended
-  tells_too written stopped_at faults refusals ended (no_memory is same quiet listing_quiet) = no_memory is same (l.job_quiet quiet) (l.listing_quiet listing_quiet)
-  tells_too written stopped_at faults refusals ended (says text own is ends) = says text own (due text own is) ends
+  pub tells_too : {old new : SinkState} (ended : CheckStatus) →
+      Tells some old new ended → Tells others old new ended
+  tells_too ended (no_memory is same quiet listing_quiet) = no_memory is same (l.job_quiet quiet) (l.listing_quiet listing_quiet)
+  tells_too ended (says text own is ends) = says text own (due text own is) ends
 
 -- ---- the answer
 
@@ -73,15 +74,15 @@ module _ (reads : Reads) (bytes lines : List ℕ) (is_job : reads.is_job bytes) 
   cut Prints Failed fails wants cuts = print_fails (fails refl) refl cuts
   cut Prints NoMemory fails wants cuts = print_wants_memory (wants refl) refl cuts
 
-  module _ {P : Type 0} (written stopped_at : P → Option (List ℕ)) (faults refusals : P → ℕ) {old new : P} (print : Rose (faults old) (faults new) → failures.print) (wanted : Rose (refusals old) (refusals new) → failures.memory) where
-    pub answer_of : (ended : CheckStatus) → Tells reads written stopped_at faults refusals old new ended → IsCheckAnswer bytes lines failures (code_of ended) (Appends (written old) (written new))
+  module _ {old new : SinkState} (print : Rose old.faults new.faults → failures.print) (wanted : Rose old.refusals new.refusals → failures.memory) where
+    pub answer_of : (ended : CheckStatus) → Tells reads old new ended → IsCheckAnswer bytes lines failures (code_of ended) (Appends old.written new.written)
     answer_of ended (no_memory is same quiet listing_quiet) =
-        memory (ap code_of is) (subst (λ (p : P). Appends (written old) (written p) []) (sym same) (keeps (written old)))
+        memory (ap code_of is) (subst (λ (p : SinkState). Appends old.written p.written []) (sym same) (keeps old.written))
     answer_of ended (says text own is (printed same w)) =
-        subst (λ (s : CheckStatus). IsCheckAnswer bytes lines failures (code_of s) (Appends (written old) (written new))) (sym same) (whole text (may_print text own is) w.bytes)
+        subst (λ (s : CheckStatus). IsCheckAnswer bytes lines failures (code_of s) (Appends old.written new.written)) (sym same) (whole text (may_print text own is) w.bytes)
     answer_of ended (says text own is (cut_off stop same w)) =
-        subst (λ (s : CheckStatus). IsCheckAnswer bytes lines failures (code_of s) (Appends (written old) (written new))) (sym same)
-        (cut (Appends (written old) (written new)) stop (λ e. print (w.cause.failed (ap (λ s. Err s) e))) (λ e. wanted (w.cause.no_memory (ap (λ s. Err s) e)))
+        subst (λ (s : CheckStatus). IsCheckAnswer bytes lines failures (code_of s) (Appends old.written new.written)) (sym same)
+        (cut (Appends old.written new.written) stop (λ e. print (w.cause.failed (ap (λ s. Err s) e))) (λ e. wanted (w.cause.no_memory (ap (λ s. Err s) e)))
         (record { own = code_of own; text = text; may_print = may_print text own is; part = w.bytes.0; is_prefix = w.bytes.1; prints = w.bytes.2 }))
 
 -- ---- why
@@ -103,10 +104,10 @@ module _ (c : Circumstances) where
   as_cut own why Failed fails = (fails refl, own, why)
   as_cut own why NoMemory fails = tt
 
-  pub why_ends : {P : Type 0} (written stopped_at : P → Option (List ℕ)) (faults refusals : P → ℕ) {old new : P} → (Rose (faults old) (faults new) → c.print_fails) → (text : List ℕ) (own ended : CheckStatus) → IsWhy c own →
-      EndsWith written stopped_at faults refusals old new text own ended → HasCheckCause c ended
-  why_ends written stopped_at faults refusals print text own ended why (printed same w) = subst (HasCheckCause c) (sym same) (as_due own why)
-  why_ends written stopped_at faults refusals print text own ended why (cut_off stop same w) =
+  pub why_ends : {old new : SinkState} → (Rose old.faults new.faults → c.print_fails) → (text : List ℕ) (own ended : CheckStatus) → IsWhy c own →
+      EndsWith old new text own ended → HasCheckCause c ended
+  why_ends print text own ended why (printed same w) = subst (HasCheckCause c) (sym same) (as_due own why)
+  why_ends print text own ended why (cut_off stop same w) =
       subst (HasCheckCause c) (sym same) (as_cut own why stop (λ e. print (w.cause.failed (ap (λ s. Err s) e))))
 
   -- of a check without words
@@ -123,10 +124,10 @@ module _ (c : Circumstances) where
     why_due _ _ (listing_fault quiet is fails) = (none, read is, listing fails)
     why_due _ _ (found answer text quiet is listing_quiet is_too so) = why_found answer is is_too
 
-    pub why_tells : {P : Type 0} (written stopped_at : P → Option (List ℕ)) (faults refusals : P → ℕ) {old new : P} → (Rose (faults old) (faults new) → c.print_fails) → (ended : CheckStatus) →
-        Tells reads written stopped_at faults refusals old new ended → HasCheckCause c ended
-    why_tells written stopped_at faults refusals print ended (no_memory is same quiet listing_quiet) = subst (HasCheckCause c) (sym is) tt
-    why_tells written stopped_at faults refusals print ended (says text own is ends) = why_ends written stopped_at faults refusals print text own ended (why_due text own is) ends
+    pub why_tells : {old new : SinkState} → (Rose old.faults new.faults → c.print_fails) → (ended : CheckStatus) →
+        Tells reads old new ended → HasCheckCause c ended
+    why_tells print ended (no_memory is same quiet listing_quiet) = subst (HasCheckCause c) (sym is) tt
+    why_tells print ended (says text own is ends) = why_ends print text own ended (why_due text own is) ends
 
 -- ---- an attested listing
 

@@ -3,7 +3,8 @@
 --     IsReported before now status  each count that has grown is reported by the status
 --     IsStill .. old new            nothing was written after a write that stopped
 --     EndsWith .. text own status   a line is printed, and the status is its own; or the print stops in it
-use Rattle.std.specs.Prelude.{◌≡◌, ◌⊎◌, ◌<◌, ℕ, List, Option, Ok, Err}
+use Rattle.std.specs.Prelude.{◌≡◌, ◌⊎◌, ◌<◌, ℕ, List, Ok, Err}
+use Rattle.job_devices.specs.States.{SinkState}
 use Rattle.job_devices.specs.declared.device.WriteStop.{WriteStop}
 use Rattle.job_devices.specs.Causes.{Rose}
 use Rattle.job_devices.specs.Text.{Writes}
@@ -32,13 +33,13 @@ module _ (before now : Counts) where
     pub job_fault : before.job < now.job → (status ≡ 24) ⊎ StopsAtPrint status
     pub listing_fault : before.listing < now.listing → (status ≡ 27) ⊎ StopsAtPrint status
 
-module _ {P : Type 0} (written stopped_at : P → Option (List ℕ)) (faults refusals : P → ℕ) (old new : P) where
+module _ (old new : SinkState) where
   -- Where the print has failed or found no memory, what it holds is what it held then: nothing was written after.
   pub record IsStill : Type 0 where
-    pub after_fault : faults old < faults new → written new ≡ stopped_at new
-    pub after_refusal : refusals old < refusals new → written new ≡ stopped_at new
+    pub after_fault : old.faults < new.faults → new.written ≡ new.stopped_at
+    pub after_refusal : old.refusals < new.refusals → new.written ≡ new.stopped_at
 
   pub data EndsWith (text : List ℕ) (own status : CheckStatus) : Type 0 where
-    printed : status ≡ own → Writes {T = Unit {0}} written stopped_at faults refusals old new (Ok tt) text → EndsWith text own status
-    cut_off : (stop : WriteStop) → status ≡ cut_status stop → Writes {T = Unit {0}} written stopped_at faults refusals old new (Err stop) text →
+    printed : status ≡ own → Writes {T = Unit {0}} old new (Ok tt) text → EndsWith text own status
+    cut_off : (stop : WriteStop) → status ≡ cut_status stop → Writes {T = Unit {0}} old new (Err stop) text →
         EndsWith text own status

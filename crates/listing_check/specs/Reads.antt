@@ -3,6 +3,7 @@
 --     IsDue reads text status      this line is due, with this status
 --     Tells reads .. status        it is printed, or the print stops in it; or there is no memory, and nothing is printed
 use Rattle.std.specs.Prelude.{◌≡◌, ℕ, List, Option}
+use Rattle.job_devices.specs.States.{SinkState}
 use Rattle.walk_definitions.specs.Walker.{Found}
 use Rattle.walk_definitions.specs.Found.{Answers, answer_text}
 use Rattle.listing_check.specs.declared.status.CheckStatus.{CheckStatus}
@@ -33,7 +34,7 @@ module _ (reads : Reads) where
         ((bytes lines : List ℕ) → reads.is_job bytes → reads.is_listing lines → Answers bytes lines answer × (text ≡ answer_text lines answer)) →
         IsDue text (status_of answer)
 
-  pub data Tells {P : Type 0} (written stopped_at : P → Option (List ℕ)) (faults refusals : P → ℕ) (old new : P) (status : CheckStatus) : Type 0 where
-    no_memory : status ≡ Memory → new ≡ old → reads.job_quiet → reads.listing_quiet → Tells written stopped_at faults refusals old new status
-    says : (text : List ℕ) (own : CheckStatus) → IsDue text own → EndsWith written stopped_at faults refusals old new text own status →
-        Tells written stopped_at faults refusals old new status
+  pub data Tells (old new : SinkState) (status : CheckStatus) : Type 0 where
+    no_memory : status ≡ Memory → new ≡ old → reads.job_quiet → reads.listing_quiet → Tells old new status
+    says : (text : List ℕ) (own : CheckStatus) → IsDue text own → EndsWith old new text own status →
+        Tells old new status

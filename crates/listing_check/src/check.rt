@@ -36,7 +36,7 @@ fn check_bytes<P: Sink>(alloc: Global, start: &Start, listing: &[u8], print: &mu
       listing_same = ⊥;
       is_job = λ bytes. IsStartOf bytes start.now;
       is_listing = λ lines. listing.now ≡ take 64000001 lines;
-    }) P.written P.stopped_at P.faults P.refusals print.old print.new result }
+    }) (P.taken print.old) (P.taken print.new) result }
 {
     if listing.len() > MAX_LISTING {
         return end_with(print, b"LONG LISTING\n", CheckStatus::Long);
@@ -58,14 +58,14 @@ fn check_read<L: Source, P: Sink>(
       job_fails = ⊥;
       job_quiet = Unit {0};
       job_read = Unit {0};
-      listing_fails = Rose (L.faults listing.old) (L.faults listing.new);
-      listing_quiet = L.faults listing.new ≡ L.faults listing.old;
-      listing_read = ReadsWhole 64000001 (L.left listing.old) (L.left listing.new);
+      listing_fails = Rose (L.given listing.old).faults (L.given listing.new).faults;
+      listing_quiet = (L.given listing.new).faults ≡ (L.given listing.old).faults;
+      listing_read = ReadsWhole 64000001 (L.given listing.old).left (L.given listing.new).left;
       listing_same = ⊥;
       is_job = λ bytes. IsStartOf bytes start.now;
-      is_listing = λ lines. L.left listing.old ≡ Some lines;
-    }) P.written P.stopped_at P.faults P.refusals print.old print.new result }
-    ensures no_further { ReadsUpTo 64000001 (L.left listing.old) (L.left listing.new) }
+      is_listing = λ lines. (L.given listing.old).left ≡ Some lines;
+    }) (P.taken print.old) (P.taken print.new) result }
+    ensures no_further { ReadsUpTo 64000001 (L.given listing.old).left (L.given listing.new).left }
 {
     match read_up_to(alloc, listing, MAX_LISTING + 1) {
         Ok(bytes) => check_bytes(alloc, start, &bytes, print),
@@ -90,14 +90,14 @@ fn check_stopped<L: Source, P: Sink>(
       job_fails = stop ≡ EarlyStop.ReadFault;
       job_quiet = stop ≢ EarlyStop.ReadFault;
       job_read = IsWhole stop;
-      listing_fails = Rose (L.faults listing.old) (L.faults listing.new);
-      listing_quiet = L.faults listing.new ≡ L.faults listing.old;
-      listing_read = ReadsWhole 64000001 (L.left listing.old) (L.left listing.new);
+      listing_fails = Rose (L.given listing.old).faults (L.given listing.new).faults;
+      listing_quiet = (L.given listing.new).faults ≡ (L.given listing.old).faults;
+      listing_read = ReadsWhole 64000001 (L.given listing.old).left (L.given listing.new).left;
       listing_same = listing.new ≡ listing.old;
       is_job = λ bytes. ReportsEarlyStop (Some bytes) stop;
-      is_listing = λ lines. L.left listing.old ≡ Some lines;
-    }) P.written P.stopped_at P.faults P.refusals print.old print.new result }
-    ensures no_further { ReadsUpTo 64000001 (L.left listing.old) (L.left listing.new) }
+      is_listing = λ lines. (L.given listing.old).left ≡ Some lines;
+    }) (P.taken print.old) (P.taken print.new) result }
+    ensures no_further { ReadsUpTo 64000001 (L.given listing.old).left (L.given listing.new).left }
 {
     match stop {
         EarlyStop::ReadFault => end_with(print, b"STOP 24 READ FAULT\n", CheckStatus::ReadFault),
@@ -115,18 +115,18 @@ fn check_job<S: Source, L: Source, P: Sink>(
     print: &mut P,
 ) -> CheckStatus
     ensures tells { Tells (record {
-      job_fails = Rose (S.faults job.old) (S.faults job.new);
-      job_quiet = S.faults job.new ≡ S.faults job.old;
-      job_read = ReadsJob (S.left job.old) (S.left job.new);
-      listing_fails = Rose (L.faults listing.old) (L.faults listing.new);
-      listing_quiet = L.faults listing.new ≡ L.faults listing.old;
-      listing_read = ReadsWhole 64000001 (L.left listing.old) (L.left listing.new);
+      job_fails = Rose (S.given job.old).faults (S.given job.new).faults;
+      job_quiet = (S.given job.new).faults ≡ (S.given job.old).faults;
+      job_read = ReadsJob (S.given job.old).left (S.given job.new).left;
+      listing_fails = Rose (L.given listing.old).faults (L.given listing.new).faults;
+      listing_quiet = (L.given listing.new).faults ≡ (L.given listing.old).faults;
+      listing_read = ReadsWhole 64000001 (L.given listing.old).left (L.given listing.new).left;
       listing_same = listing.new ≡ listing.old;
-      is_job = λ bytes. S.left job.old ≡ Some bytes;
-      is_listing = λ lines. L.left listing.old ≡ Some lines;
-    }) P.written P.stopped_at P.faults P.refusals print.old print.new result }
-    ensures job { ReadsPrefix (S.left job.old) (S.left job.new) }
-    ensures listing { ReadsUpTo 64000001 (L.left listing.old) (L.left listing.new) }
+      is_job = λ bytes. (S.given job.old).left ≡ Some bytes;
+      is_listing = λ lines. (L.given listing.old).left ≡ Some lines;
+    }) (P.taken print.old) (P.taken print.new) result }
+    ensures job { ReadsPrefix (S.given job.old).left (S.given job.new).left }
+    ensures listing { ReadsUpTo 64000001 (L.given listing.old).left (L.given listing.new).left }
 {
     match prepare(alloc, job) {
         Ok(prepared) => check_read(alloc, &Start::Program(prepared), listing, print),
@@ -151,37 +151,38 @@ pub fn check_listing<S: Source, L: Source, P: Sink>(
     // passed their tests, and each report says the truth of the state in which it was made: a SOLUTION OPTIMAL is a feasible point
     // such that none is better, with prices that prove it; a verdict holds; and what is printed of a parametric run is right at
     // every value of the parameter.
-    ensures truth { result ≡ CheckStatus.Attested → (bytes lines : List ℕ) → S.left job.old ≡ Some bytes →
-        L.left listing.old ≡ Some lines → IsTrueListing bytes lines }
+    ensures truth { result ≡ CheckStatus.Attested → (bytes lines : List ℕ) →
+        (S.given job.old).left ≡ Some bytes → (L.given listing.old).left ≡ Some lines →
+        IsTrueListing bytes lines }
 
     // Which status, and what stands. Without words, and unless a read or the print fails or memory runs out, the line and the status are
     // those of what the listing is found to be, and of each job and each listing one thing is found.
-    ensures answer { (bytes lines : List ℕ) → length words.now ≡ 0 → S.left job.old ≡ Some bytes →
-        L.left listing.old ≡ Some lines →
+    ensures answer { (bytes lines : List ℕ) → length words.now ≡ 0 →
+        (S.given job.old).left ≡ Some bytes → (L.given listing.old).left ≡ Some lines →
         IsCheckAnswer bytes lines
         (record {
-          job = Rose (S.faults job.old) (S.faults job.new);
-          listing = Rose (L.faults listing.old) (L.faults listing.new);
-          print = Rose (P.faults print.old) (P.faults print.new);
-          memory = Rose (P.refusals print.old) (P.refusals print.new);
+          job = Rose (S.given job.old).faults (S.given job.new).faults;
+          listing = Rose (L.given listing.old).faults (L.given listing.new).faults;
+          print = Rose (P.taken print.old).faults (P.taken print.new).faults;
+          memory = Rose (P.taken print.old).refusals (P.taken print.new).refusals;
         })
         (code_of result)
-        (Appends (P.written print.old) (P.written print.new)) }
+        (Appends (P.taken print.old).written (P.taken print.new).written) }
 
     // Words are refused, and then nothing is read.
     ensures words { 0 < length words.now →
-        EndsWith P.written P.stopped_at P.faults P.refusals print.old print.new words_text CheckStatus.Words result ×
+        EndsWith (P.taken print.old) (P.taken print.new) words_text CheckStatus.Words result ×
         (job.new ≡ job.old) × (listing.new ≡ listing.old) }
 
     // Why, also where the devices don't tell their bytes.
     ensures cause { HasCheckCause
         (record {
           words = length words.now;
-          job_fails = Rose (S.faults job.old) (S.faults job.new);
-          job_read = ReadsJob (S.left job.old) (S.left job.new);
-          listing_fails = Rose (L.faults listing.old) (L.faults listing.new);
-          listing_read = ReadsWhole 64000001 (L.left listing.old) (L.left listing.new);
-          print_fails = Rose (P.faults print.old) (P.faults print.new);
+          job_fails = Rose (S.given job.old).faults (S.given job.new).faults;
+          job_read = ReadsJob (S.given job.old).left (S.given job.new).left;
+          listing_fails = Rose (L.given listing.old).faults (L.given listing.new).faults;
+          listing_read = ReadsWhole 64000001 (L.given listing.old).left (L.given listing.new).left;
+          print_fails = Rose (P.taken print.old).faults (P.taken print.new).faults;
         })
         result }
 
@@ -189,25 +190,25 @@ pub fn check_listing<S: Source, L: Source, P: Sink>(
     // one of the listing by 27, unless the print stops as well and the status is that of its stop.
     ensures reported { IsReported
         (record {
-          job = S.faults job.old;
-          listing = L.faults listing.old;
-          print = P.faults print.old;
-          print_memory = P.refusals print.old;
+          job = (S.given job.old).faults;
+          listing = (L.given listing.old).faults;
+          print = (P.taken print.old).faults;
+          print_memory = (P.taken print.old).refusals;
         })
         (record {
-          job = S.faults job.new;
-          listing = L.faults listing.new;
-          print = P.faults print.new;
-          print_memory = P.refusals print.new;
+          job = (S.given job.new).faults;
+          listing = (L.given listing.new).faults;
+          print = (P.taken print.new).faults;
+          print_memory = (P.taken print.new).refusals;
         })
         (code_of result) }
 
     // After a fault of the print, or where it runs out of memory, nothing more is written to it.
-    ensures still { IsStill P.written P.stopped_at P.faults P.refusals print.old print.new }
+    ensures still { IsStill (P.taken print.old) (P.taken print.new) }
 
     // How far the job and the listing are read, and what stays the same.
-    ensures no_further { ReadsUpTo 16400001 (S.left job.old) (S.left job.new) ×
-        ReadsUpTo 64000001 (L.left listing.old) (L.left listing.new) }
+    ensures no_further { ReadsUpTo 16400001 (S.given job.old).left (S.given job.new).left ×
+        ReadsUpTo 64000001 (L.given listing.old).left (L.given listing.new).left }
     ensures unread { result ≡ CheckStatus.ReadFault → listing.new ≡ listing.old }
 {
     attested_law();

@@ -43,7 +43,7 @@ fn put_place<P: Sink>(
     listing: &[u8],
     rest: &[u8],
 ) -> Result<(), WriteStop>
-    ensures { Writes P.written P.stopped_at P.faults P.refusals print.old print.new result
+    ensures { Writes (P.taken print.old) (P.taken print.new) result
         (line_text word.now listing.now rest.now) }
 {
     let mut digits = Buffer::new();
@@ -60,7 +60,7 @@ fn put_place<P: Sink>(
 
 // That the listing is attested, with so many reports.
 fn put_attested<P: Sink>(print: &mut P, reports: u32) -> Result<(), WriteStop>
-    ensures { Writes P.written P.stopped_at P.faults P.refusals print.old print.new result
+    ensures { Writes (P.taken print.old) (P.taken print.new) result
         (concat (codes "ATTESTED " ∷ digits reports ∷ codes " REPORTS\n" ∷ [])) }
 {
     let mut digits = Buffer::new();
@@ -76,7 +76,7 @@ fn put_attested<P: Sink>(print: &mut P, reports: u32) -> Result<(), WriteStop>
 
 // What a listing is found to be.
 fn put_found<P: Sink>(print: &mut P, listing: &[u8], found: &Found<'_>) -> Result<(), WriteStop>
-    ensures { Writes P.written P.stopped_at P.faults P.refusals print.old print.new result
+    ensures { Writes (P.taken print.old) (P.taken print.new) result
         (answer_text listing.now (Some (found_view found.now))) }
 {
     match found {
@@ -111,7 +111,7 @@ fn status_of_cut(stop: WriteStop) -> CheckStatus
 
 /// Prints a line, and answers its status. A stop of the print comes before it.
 pub fn end_with<P: Sink>(print: &mut P, line: &'static [u8], own: CheckStatus) -> CheckStatus
-    ensures { EndsWith P.written P.stopped_at P.faults P.refusals print.old print.new line.now own result }
+    ensures { EndsWith (P.taken print.old) (P.taken print.new) line.now own result }
 {
     match put_all(print, line) {
         Ok(()) => own,
@@ -121,7 +121,7 @@ pub fn end_with<P: Sink>(print: &mut P, line: &'static [u8], own: CheckStatus) -
 
 /// Prints what a listing is found to be, and answers the status of that. A stop of the print comes before it.
 pub fn end_found<P: Sink>(print: &mut P, listing: &[u8], found: &Found<'_>) -> CheckStatus
-    ensures { EndsWith P.written P.stopped_at P.faults P.refusals print.old print.new
+    ensures { EndsWith (P.taken print.old) (P.taken print.new)
         (answer_text listing.now (Some (found_view found.now))) (status_of (Some (found_view found.now))) result }
 {
     match put_found(print, listing, found) {

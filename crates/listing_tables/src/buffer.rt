@@ -41,15 +41,9 @@ impl TextBuffer {
 }
 
 impl Sink for TextBuffer {
-    ghost use Rattle.listing_tables.specs.Buffers.{buffer_text, buffer_stopped};
+    ghost use Rattle.listing_tables.specs.Buffers.{buffer_state};
 
-    ghost written = { λ buffer. Some (buffer_text buffer) };
-
-    ghost faults = { λ _. 0 };
-
-    ghost refusals = { λ buffer. buffer.refusals };
-
-    ghost stopped_at = { λ buffer. buffer_stopped buffer };
+    ghost taken = { λ buffer. buffer_state buffer };
 
     fn write(&mut self, piece: &[u8]) -> Result<usize, WriteStop> {
         if self.bytes.try_extend_from_slice(piece).is_err() {

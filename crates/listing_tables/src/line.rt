@@ -40,8 +40,7 @@ impl Value {
 
 // A value after a blank.
 fn put_value<P: Sink>(print: &mut P, value: Value) -> Result<(), WriteStop>
-    ensures { Writes P.written P.stopped_at P.faults P.refusals print.old print.new result
-        (value_after_blank value) }
+    ensures { Writes (P.taken print.old) (P.taken print.new) result (value_after_blank value) }
 {
     match value {
         Value::Code(at) => put_each(print, &[b" ", at_word(at)]),
@@ -56,7 +55,7 @@ fn put_value<P: Sink>(print: &mut P, value: Value) -> Result<(), WriteStop>
 
 // Each value after a blank.
 fn put_values<P: Sink>(print: &mut P, values: &[Value]) -> Result<(), WriteStop>
-    ensures { Writes P.written P.stopped_at P.faults P.refusals print.old print.new result
+    ensures { Writes (P.taken print.old) (P.taken print.new) result
         (flat_map value_after_blank values.now) }
 {
     for value in values {
@@ -67,7 +66,7 @@ fn put_values<P: Sink>(print: &mut P, values: &[Value]) -> Result<(), WriteStop>
 
 // The number and the name.
 fn put_line_head<P: Sink>(print: &mut P, number: u32, name: Name) -> Result<(), WriteStop>
-    ensures { Writes P.written P.stopped_at P.faults P.refusals print.old print.new result
+    ensures { Writes (P.taken print.old) (P.taken print.new) result
         (concat (number5 number ∷ codes " " ∷ name8 name ∷ [])) }
 {
     let mut buffer = Buffer::new();
@@ -92,7 +91,7 @@ fn put_line_parts<P: Sink>(
     name: Name,
     values: &[Value],
 ) -> Result<(), WriteStop>
-    ensures { Writes P.written P.stopped_at P.faults P.refusals print.old print.new result
+    ensures { Writes (P.taken print.old) (P.taken print.new) result
         (line_text (record { number = number; name = name; values = map value_view values.now })) }
 {
     put_line_head(print, number, name)?;
@@ -107,7 +106,7 @@ pub fn put_line<P: Sink>(
     name: Name,
     values: &[Value],
 ) -> Result<(), WriteStop>
-    ensures { Writes P.written P.stopped_at P.faults P.refusals print.old print.new result
+    ensures { Writes (P.taken print.old) (P.taken print.new) result
         (line_text (record { number = number; name = name; values = map value_view values.now })) }
 {
     let mut line = TextBuffer::new();

@@ -59,7 +59,7 @@ fn put_multiplier<P: Sink>(
     k: u32,
 ) -> Result<(), WriteStop>
     requires { HasLine sheet (Table.Multipliers ray) k }
-    ensures { Writes P.written P.stopped_at P.faults P.refusals print.old print.new result
+    ensures { Writes (P.taken print.old) (P.taken print.new) result
         (line_view sheet.entry (Table.Multipliers ray.entry) k) }
 {
     let multiplier = ray[k as usize - 1];
@@ -77,7 +77,7 @@ fn put_pair<P: Sink>(
     k: u32,
 ) -> Result<(), WriteStop>
     requires { HasLine sheet (Table.Pairs first second) k }
-    ensures { Writes P.written P.stopped_at P.faults P.refusals print.old print.new result
+    ensures { Writes (P.taken print.old) (P.taken print.new) result
         (line_view sheet.entry (Table.Pairs first.entry second.entry) k) }
 {
     let place = k as usize - 1;
@@ -92,7 +92,7 @@ fn put_row<P: Sink>(
     k: u32,
 ) -> Result<(), WriteStop>
     requires { HasLine sheet (Table.Rows standing) k }
-    ensures { Writes P.written P.stopped_at P.faults P.refusals print.old print.new result
+    ensures { Writes (P.taken print.old) (P.taken print.new) result
         (line_view sheet.entry (Table.Rows standing.entry) k) }
 {
     let place = k as usize - 1;
@@ -118,7 +118,7 @@ fn put_column<P: Sink>(
     k: u32,
 ) -> Result<(), WriteStop>
     requires { HasLine sheet (Table.Columns standing) k }
-    ensures { Writes P.written P.stopped_at P.faults P.refusals print.old print.new result
+    ensures { Writes (P.taken print.old) (P.taken print.new) result
         (line_view sheet.entry (Table.Columns standing.entry) k) }
 {
     let place = k as usize - 1;
@@ -144,7 +144,7 @@ fn put_limit_row<P: Sink>(
     k: u32,
 ) -> Result<(), WriteStop>
     requires { HasLine sheet (Table.LimitRows ranging) k }
-    ensures { Writes P.written P.stopped_at P.faults P.refusals print.old print.new result (line_view
+    ensures { Writes (P.taken print.old) (P.taken print.new) result (line_view
         sheet.entry (Table.LimitRows ranging.entry) k) }
 {
     if !is_at_limit(ranging.basis, k) {
@@ -171,7 +171,7 @@ fn put_limit_column<P: Sink>(
     k: u32,
 ) -> Result<(), WriteStop>
     requires { HasLine sheet (Table.LimitColumns ranging) k }
-    ensures { Writes P.written P.stopped_at P.faults P.refusals print.old print.new result (line_view
+    ensures { Writes (P.taken print.old) (P.taken print.new) result (line_view
         sheet.entry (Table.LimitColumns ranging.entry) k) }
 {
     if !is_at_limit(ranging.basis, k) {
@@ -202,7 +202,7 @@ fn put_between_row<P: Sink>(
     k: u32,
 ) -> Result<(), WriteStop>
     requires { HasLine sheet (Table.BetweenRows ranging) k }
-    ensures { Writes P.written P.stopped_at P.faults P.refusals print.old print.new result (line_view
+    ensures { Writes (P.taken print.old) (P.taken print.new) result (line_view
         sheet.entry (Table.BetweenRows ranging.entry) k) }
 {
     if !is_between(sheet.lp, ranging.basis, k) {
@@ -229,7 +229,7 @@ fn put_between_column<P: Sink>(
     k: u32,
 ) -> Result<(), WriteStop>
     requires { HasLine sheet (Table.BetweenColumns ranging) k }
-    ensures { Writes P.written P.stopped_at P.faults P.refusals print.old print.new result (line_view
+    ensures { Writes (P.taken print.old) (P.taken print.new) result (line_view
         sheet.entry (Table.BetweenColumns ranging.entry) k) }
 {
     if !is_between(sheet.lp, ranging.basis, k) {
@@ -257,7 +257,7 @@ fn put_part<P: Sink>(
     k: u32,
 ) -> Result<(), WriteStop>
     requires { HasLine sheet (Table.Parts part) k }
-    ensures { Writes P.written P.stopped_at P.faults P.refusals print.old print.new result (line_view
+    ensures { Writes (P.taken print.old) (P.taken print.new) result (line_view
         sheet.entry (Table.Parts part.entry) k) }
 {
     let place = k as usize - 1;
@@ -283,7 +283,7 @@ fn put_table_line<P: Sink>(
     k: u32,
 ) -> Result<(), WriteStop>
     requires { HasLine sheet table k }
-    ensures { Writes P.written P.stopped_at P.faults P.refusals print.old print.new result
+    ensures { Writes (P.taken print.old) (P.taken print.new) result
         (line_view sheet.entry table.entry k) }
 {
     match table {
@@ -309,7 +309,7 @@ pub fn put_table<P: Sink>(
 ) -> Result<(), WriteStop>
     requires ordered { first ≤ last }
     requires lines { (k : ℕ) → first < k → k ≤ last → HasLine sheet table k }
-    ensures { Writes P.written P.stopped_at P.faults P.refusals print.old print.new result
+    ensures { Writes (P.taken print.old) (P.taken print.new) result
         (flat_map (line_view sheet.entry table.entry) (numbers_from (first + 1) (last - first))) }
 {
     for k in first..last {

@@ -1,9 +1,10 @@
 -- What the statements come to that ask nothing.
 use Rattle.std.proofs.Common.{◌≡◌, ℕ, false, List, [], Option, Some, Result, Ok, Err, IfOk, refl, sym, ap, subst}
 use Rattle.std.specs.Io.KnownBytes.{Appends}
+use Rattle.job_devices.specs.States.{SinkState}
 use Rattle.job_devices.specs.declared.device.NoMemory.{NoMemory}
 use Rattle.job_devices.specs.declared.memory.SureSink.{SureSink}
-use Rattle.job_devices.specs.Memory.{sure_bytes, sure_stopped}
+use Rattle.job_devices.specs.Memory.{sure_bytes, sure_sink_state}
 use Rattle.control_definitions.specs.declared.NameCell.{NameCell}
 use Rattle.control_definitions.specs.declared.NumberCell.{NumberCell}
 use Rattle.control_definitions.specs.declared.Demand.{Demand}
@@ -103,19 +104,19 @@ module _ (verb : Verb ℕ) (card : ℕ) (cards : List (List ℕ)) (old new : Mac
       passes w card (verb_move verb card state) cards position executed g.gain f (plain state) g.comes g.is_text
   walks_by gains (Err stop) passes = tt
 
-  module _ {P : Type 0} (written stopped_at : P → Option (List ℕ)) (faults refusals : P → ℕ) (print_old print_new : P) (none : written print_old ≡ Some []) (all : written print_new ≡ Some text) where
-    pub walks_printed : Executes IsView Settles verb card written stopped_at faults refusals print_old print_new cards old new (Ok act) → (result : Result Went NoMemory) →
+  module _ (print_old print_new : SinkState) (none : print_old.written ≡ Some []) (all : print_new.written ≡ Some text) where
+    pub walks_printed : Executes IsView Settles verb card print_old print_new cards old new (Ok act) → (result : Result Went NoMemory) →
         IfOk result (Passes new place_old place_new act text) → IfOk result (Walks verb card cards old new place_old place_new)
     walks_printed executes = walks_by (λ position executed state s.
         let a = executes position executed state s in
-        record { gain = a.gain; comes = a.comes; is_text = appended (written print_old) (written print_new) (gain_text a.gain) text a.writes.bytes none all })
+        record { gain = a.gain; comes = a.comes; is_text = appended print_old.written print_new.written (gain_text a.gain) text a.writes.bytes none all })
 
-    pub walks_punched : {U : Type 0} (punch_written punch_stopped_at : U → Option (List ℕ)) (punch_faults punch_refusals : U → ℕ) (punch_old punch_new : U) →
-        Performs IsView Settles verb card written stopped_at faults refusals print_old print_new punch_written punch_stopped_at punch_faults punch_refusals punch_old punch_new cards old new (Ok act) → (result : Result Went NoMemory) →
+    pub walks_punched : (punch_old punch_new : SinkState) →
+        Performs IsView Settles verb card print_old print_new punch_old punch_new cards old new (Ok act) → (result : Result Went NoMemory) →
         IfOk result (Passes new place_old place_new act text) → IfOk result (Walks verb card cards old new place_old place_new)
-    walks_punched punch_written punch_stopped_at punch_faults punch_refusals punch_old punch_new performs = walks_by (λ position executed state s.
+    walks_punched punch_old punch_new performs = walks_by (λ position executed state s.
         let a = performs position executed state s in
-        record { gain = a.gain; comes = a.comes; is_text = appended (written print_old) (written print_new) (gain_text a.gain) text a.prints.bytes none all })
+        record { gain = a.gain; comes = a.comes; is_text = appended print_old.written print_new.written (gain_text a.gain) text a.prints.bytes none all })
 
 -- a statement that prints nothing
 pub walks_quietly : (verb : Verb ℕ) (card : ℕ) (cards : List (List ℕ)) (old new : Machine Chosen) (place_old place_new : ListingPlace) (act : Act) → IsPlain verb card → Decides IsView Settles verb card old new act →
@@ -127,15 +128,14 @@ walks_quietly verb card cards old new place_old place_new act plain decides =
 
 module _ (verb : Verb ℕ) (card : ℕ) (cards : List (List ℕ)) (old new : Machine Chosen) (place_old place_new : ListingPlace) (act : Act) (text : List ℕ) (plain : IsPlain verb card) (from to : SureSink) (none : sure_bytes from ≡ []) (all : text ≡ sure_bytes to)
     (result : Result Went NoMemory) (passes : IfOk result (Passes new place_old place_new act text)) where
-  pub walks_loudly : Executes IsView Settles verb card (λ (s : SureSink). Some (sure_bytes s)) (λ (s : SureSink). sure_stopped s) (λ (s : SureSink). 0) (λ (s : SureSink). s.refusals) from to cards old new (Ok act) →
+  pub walks_loudly : Executes IsView Settles verb card (sure_sink_state from) (sure_sink_state to) cards old new (Ok act) →
       IfOk result (Walks verb card cards old new place_old place_new)
   walks_loudly executes =
-      walks_printed verb card cards old new place_old place_new act text plain (λ (s : SureSink). Some (sure_bytes s)) (λ (s : SureSink). sure_stopped s) (λ (s : SureSink). 0) (λ (s : SureSink). s.refusals) from to
+      walks_printed verb card cards old new place_old place_new act text plain (sure_sink_state from) (sure_sink_state to)
       (ap Some none) (ap Some (sym all)) executes result passes
 
-  pub walks_punching : {U : Type 0} (punch_written punch_stopped_at : U → Option (List ℕ)) (punch_faults punch_refusals : U → ℕ) (punch_old punch_new : U) →
-      Performs IsView Settles verb card (λ (s : SureSink). Some (sure_bytes s)) (λ (s : SureSink). sure_stopped s) (λ (s : SureSink). 0) (λ (s : SureSink). s.refusals) from to
-      punch_written punch_stopped_at punch_faults punch_refusals punch_old punch_new cards old new (Ok act) → IfOk result (Walks verb card cards old new place_old place_new)
-  walks_punching punch_written punch_stopped_at punch_faults punch_refusals punch_old punch_new performs =
-      walks_punched verb card cards old new place_old place_new act text plain (λ (s : SureSink). Some (sure_bytes s)) (λ (s : SureSink). sure_stopped s) (λ (s : SureSink). 0) (λ (s : SureSink). s.refusals) from to
-      (ap Some none) (ap Some (sym all)) punch_written punch_stopped_at punch_faults punch_refusals punch_old punch_new performs result passes
+  pub walks_punching : (punch_old punch_new : SinkState) →
+      Performs IsView Settles verb card (sure_sink_state from) (sure_sink_state to) punch_old punch_new cards old new (Ok act) → IfOk result (Walks verb card cards old new place_old place_new)
+  walks_punching punch_old punch_new performs =
+      walks_punched verb card cards old new place_old place_new act text plain (sure_sink_state from) (sure_sink_state to)
+      (ap Some none) (ap Some (sym all)) punch_old punch_new performs result passes

@@ -38,7 +38,8 @@ pub struct ListingPlace<'a> {
 // Writes the text of an end.
 fn put_end<P: Sink>(print: &mut P, ending: &Ending<'_>) -> Result<(), WriteStop>
     requires { IsEnding ending.now }
-    ensures { Writes P.written P.stopped_at P.faults P.refusals print.old print.new result (ending_text (ending_view ending.now)) }
+    ensures { Writes (P.taken print.old) (P.taken print.new) result
+        (ending_text (ending_view ending.now)) }
 {
     text_of(&Report::End(*ending), print)
 }

@@ -54,7 +54,7 @@ fn choose(
 
 // Writes the report of SETUP.
 fn put_set_up<P: Sink>(print: &mut P, name: Name, sense: Sense) -> Result<(), WriteStop>
-    ensures { Writes P.written P.stopped_at P.faults P.refusals print.old print.new result
+    ensures { Writes (P.taken print.old) (P.taken print.new) result
         (report_text (SetUp name sense)) }
 {
     text_of(&Report::SetUp { name, sense }, print)

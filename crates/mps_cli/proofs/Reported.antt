@@ -1,5 +1,6 @@
 -- What the status reports of the devices, and what stands in them.
-use Rattle.std.proofs.Common.{◌≡◌, ◌⊎◌, inl, inr, ℕ, ◌<◌, List, Option, Ok, Err, refl, ap, ◌∙◌}
+use Rattle.std.proofs.Common.{◌≡◌, ◌⊎◌, inl, inr, ℕ, ◌<◌, Ok, Err, refl, ap, ◌∙◌}
+use Rattle.job_devices.specs.States.{SinkState}
 use Rattle.control_run.specs.declared.status.RunStatus.{RunStatus}
 use Rattle.control_run.specs.Statuses.{code_of}
 use Rattle.control_run.specs.Devices.{Counts, counts, StopsAtPrint, print_failed, print_wants_memory, IsReported, IsStill}
@@ -18,26 +19,25 @@ stops_reading Memory before now quiet more = none_more before now (quiet (λ e. 
 
 -- ---- a job whose listing is the end of a stop alone
 
-module _ {P U : Type 0} (written stopped_at : P → Option (List ℕ)) (faults refusals : P → ℕ)
-    (punch_written punch_stopped_at : U → Option (List ℕ)) (punch_faults punch_refusals : U → ℕ) (punch : U) where
-  abbrev counted : ℕ → P → Counts
-  counted read print = counts faults refusals punch_faults punch_refusals read print punch
+module _ (punch : SinkState) where
+  abbrev counted : ℕ → SinkState → Counts
+  counted read print = counts read print punch
 
-  module _ {old new : P} where
-    pub reported_stop : (read_before read_now : ℕ) (stop : EarlyStop) (ended : RunStatus) → (read_before < read_now → stop ≡ ReadFault) → EndsWith written stopped_at faults refusals old new stop ended →
+  module _ {old new : SinkState} where
+    pub reported_stop : (read_before read_now : ℕ) (stop : EarlyStop) (ended : RunStatus) → (read_before < read_now → stop ≡ ReadFault) → EndsWith old new stop ended →
         IsReported (counted read_before old) (counted read_now new) (code_of ended)
     reported_stop read_before read_now stop ended read (printed is w) =
         reported_other (counted read_before old) (counted read_now new) (code_of ended) w.cause (λ more. ap code_of (is ∙ ap status_at (read more)))
-        (λ more. none_more (punch_faults punch) (punch_faults punch) refl more) (λ more. none_more (punch_refusals punch) (punch_refusals punch) refl more)
+        (λ more. none_more punch.faults punch.faults refl more) (λ more. none_more punch.refusals punch.refusals refl more)
     reported_stop read_before read_now stop ended read (cut_off cause is w) = reported_print (counted read_before old) (counted read_now new) cause (code_of ended) (ap code_of is) w.cause
 
-    still_print : (stop : EarlyStop) (ended : RunStatus) → EndsWith written stopped_at faults refusals old new stop ended → IsStill written stopped_at faults refusals old new
+    still_print : (stop : EarlyStop) (ended : RunStatus) → EndsWith old new stop ended → IsStill old new
     still_print stop ended (printed is w) = stands_still (Ok tt) (left w)
     still_print stop ended (cut_off cause is w) = stands_still (Err cause) (left w)
 
-    pub still_stop : (stop : EarlyStop) (ended : RunStatus) → EndsWith written stopped_at faults refusals old new stop ended →
-        IsStill written stopped_at faults refusals old new × IsStill punch_written punch_stopped_at punch_faults punch_refusals punch punch
-    still_stop stop ended ends = (still_print stop ended ends, still_as_before punch_written punch_stopped_at punch_faults punch_refusals punch)
+    pub still_stop : (stop : EarlyStop) (ended : RunStatus) → EndsWith old new stop ended →
+        IsStill old new × IsStill punch punch
+    still_stop stop ended ends = (still_print stop ended ends, still_as_before punch)
 
 -- ---- a job of which no read has failed
 

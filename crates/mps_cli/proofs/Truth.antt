@@ -2,6 +2,7 @@
 -- answer is complete and decided.
 use Rattle.std.proofs.Common.{◌≡◌, ℕ, List, Option, None, Some, refl, subst}
 use Rattle.std.specs.Io.KnownBytes.{Appends}
+use Rattle.job_devices.specs.States.{SinkState}
 use Rattle.job_devices.specs.Causes.{Rose}
 use Rattle.answer_definitions.specs.Real.{linear_programming}
 use Rattle.deck_definitions.specs.Transport.{made_job}
@@ -74,24 +75,24 @@ module _ (P : Job → Type 0) (asked : Option Request) (reported : Option (List 
 -- ---- the four ways in which a job goes
 
 module _ (asked : Option Request) (reported : Option (List ℕ)) (status : RunStatus) where
-  module _ {P : Type 0} (written stopped_at : P → Option (List ℕ)) (faults refusals : P → ℕ) {old new : P} (read_failed punch_failed : Type 0) (punch : Option (List ℕ)) where
+  module _ {old new : SinkState} (read_failed punch_failed : Type 0) (punch : Option (List ℕ)) where
     -- the words are refused
-    words_headline : asked ≡ None → EndsWith written stopped_at faults refusals old new Words status → (job : Job) → IsAsked asked reported job →
-        IsTrueAnswer linear_programming job (record { read = read_failed; print = Rose (faults old) (faults new); punch = punch_failed; memory = Rose (refusals old) (refusals new) })
-        (code_of status) (Appends (written old) (written new)) (Appends punch punch)
+    words_headline : asked ≡ None → EndsWith old new Words status → (job : Job) → IsAsked asked reported job →
+        IsTrueAnswer linear_programming job (record { read = read_failed; print = Rose old.faults new.faults; punch = punch_failed; memory = Rose old.refusals new.refusals })
+        (code_of status) (Appends old.written new.written) (Appends punch punch)
     words_headline none ends =
-        by_words _ asked reported none (true_answer (ending_answer linear_programming WithoutBytes _ Words (words_refused refl) written stopped_at faults refusals punch status (λ e. e) (λ e. e) ends))
+        by_words _ asked reported none (true_answer (ending_answer linear_programming WithoutBytes _ Words (words_refused refl) punch status (λ e. e) (λ e. e) ends))
 
     -- memory runs out while the words are read
-    memory_headline : EndsWith written stopped_at faults refusals old new Memory status → (job : Job) → IsAsked asked reported job →
-        IsTrueAnswer linear_programming job (record { read = read_failed; print = Rose (faults old) (faults new); punch = punch_failed; memory = Rose (refusals old) (refusals new) })
-        (code_of status) (Appends (written old) (written new)) (Appends punch punch)
-    memory_headline ends job is = true_answer (ending_answer linear_programming job _ Memory memory_at_start written stopped_at faults refusals punch status (λ e. e) (λ e. e) ends)
+    memory_headline : EndsWith old new Memory status → (job : Job) → IsAsked asked reported job →
+        IsTrueAnswer linear_programming job (record { read = read_failed; print = Rose old.faults new.faults; punch = punch_failed; memory = Rose old.refusals new.refusals })
+        (code_of status) (Appends old.written new.written) (Appends punch punch)
+    memory_headline ends job is = true_answer (ending_answer linear_programming job _ Memory memory_at_start punch status (λ e. e) (λ e. e) ends)
 
     -- the words ask for nothing
-    pub stopped_headline : (stop : WordsStop) → (stop ≡ stops.Refused → asked ≡ None) → EndsWith written stopped_at faults refusals old new (stop_of_words stop) status → (job : Job) → IsAsked asked reported job →
-        IsTrueAnswer linear_programming job (record { read = read_failed; print = Rose (faults old) (faults new); punch = punch_failed; memory = Rose (refusals old) (refusals new) })
-        (code_of status) (Appends (written old) (written new)) (Appends punch punch)
+    pub stopped_headline : (stop : WordsStop) → (stop ≡ stops.Refused → asked ≡ None) → EndsWith old new (stop_of_words stop) status → (job : Job) → IsAsked asked reported job →
+        IsTrueAnswer linear_programming job (record { read = read_failed; print = Rose old.faults new.faults; punch = punch_failed; memory = Rose old.refusals new.refusals })
+        (code_of status) (Appends old.written new.written) (Appends punch punch)
     stopped_headline stops.Refused are_refused ends = words_headline (are_refused refl) ends
     stopped_headline stops.NoMemory are_refused ends = memory_headline ends
 

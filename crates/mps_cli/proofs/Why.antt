@@ -3,6 +3,7 @@ use Rattle.std.proofs.Common.{◌≡◌, ℕ, List, Option, None, Some, Err, ref
 use Rattle.std.specs.Prelude.{IfSome}
 use Rattle.deck_definitions.specs.Transport.{made_job}
 use Rattle.run_definitions.specs.Answer.{IsProgramOf}
+use Rattle.job_devices.specs.States.{SinkState}
 use Rattle.job_devices.specs.Causes.{Rose}
 use Rattle.job_devices.specs.Text.{AppendsPrefix}
 use Rattle.job_devices.specs.declared.device.WriteStop.{WriteStop}
@@ -51,12 +52,12 @@ module _ (asked : Option Request) (read_failed is_read : Type 0) where
   cut_cause print_failed punch_failed GainsPrefixOf stop is NoMemory failed prefix = tt
 
   -- of a job whose listing is the end of a stop alone
-  pub ending_cause : (punch_failed : Type 0) {P : Type 0} (written stopped_at : P → Option (List ℕ)) (faults refusals : P → ℕ) {old new : P} (stop : EarlyStop) (ended : RunStatus) → IsWhy stop → EndsWith written stopped_at faults refusals old new stop ended →
-      HasCause asked read_failed is_read (Rose (faults old) (faults new)) punch_failed (AppendsPrefix (written old) (written new)) ended
-  ending_cause punch_failed written stopped_at faults refusals {old} {new} stop ended is (printed same writes) =
-      subst (HasCause asked read_failed is_read (Rose (faults old) (faults new)) punch_failed (AppendsPrefix (written old) (written new))) (sym same) (printed_cause _ _ _ stop is)
-  ending_cause punch_failed written stopped_at faults refusals {old} {new} stop ended is (cut_off cause same writes) =
-      subst (HasCause asked read_failed is_read (Rose (faults old) (faults new)) punch_failed (AppendsPrefix (written old) (written new))) (sym same)
+  pub ending_cause : (punch_failed : Type 0) {old new : SinkState} (stop : EarlyStop) (ended : RunStatus) → IsWhy stop → EndsWith old new stop ended →
+      HasCause asked read_failed is_read (Rose old.faults new.faults) punch_failed (AppendsPrefix old.written new.written) ended
+  ending_cause punch_failed {old} {new} stop ended is (printed same writes) =
+      subst (HasCause asked read_failed is_read (Rose old.faults new.faults) punch_failed (AppendsPrefix old.written new.written)) (sym same) (printed_cause _ _ _ stop is)
+  ending_cause punch_failed {old} {new} stop ended is (cut_off cause same writes) =
+      subst (HasCause asked read_failed is_read (Rose old.faults new.faults) punch_failed (AppendsPrefix old.written new.written)) (sym same)
       (cut_cause _ _ _ stop is cause (λ e. writes.cause.failed (ap (λ s. Err s) e)) writes.bytes)
 
   -- of a job whose program has run

@@ -1,7 +1,8 @@
 -- The end of a job whose program isn't run.
 --     status_at stop               its status
 --     EndsWith .. stop status      its listing is the end of a stop alone
-use Rattle.std.specs.Prelude.{◌≡◌, ℕ, List, Option, Ok, Err}
+use Rattle.std.specs.Prelude.{◌≡◌, ℕ, Ok, Err}
+use Rattle.job_devices.specs.States.{SinkState}
 use Rattle.job_devices.specs.declared.device.WriteStop.{WriteStop}
 use Rattle.job_devices.specs.Text.{Writes}
 use Rattle.listing_definitions.specs.Listing.{ending_text}
@@ -20,8 +21,8 @@ status_at (Control fault) = status.Control
 status_at Memory = status.Memory
 
 -- The line of the stop is printed, and the status is its own; or the print stops in it.
-pub data EndsWith {P : Type 0} (written stopped_at : P → Option (List ℕ)) (faults refusals : P → ℕ) (old new : P) (stop : EarlyStop) (status : RunStatus) : Type 0 where
-  printed : status ≡ status_at stop → Writes {T = Unit {0}} written stopped_at faults refusals old new (Ok tt) (ending_text (stop_view stop)) →
-      EndsWith written stopped_at faults refusals old new stop status
+pub data EndsWith (old new : SinkState) (stop : EarlyStop) (status : RunStatus) : Type 0 where
+  printed : status ≡ status_at stop → Writes {T = Unit {0}} old new (Ok tt) (ending_text (stop_view stop)) →
+      EndsWith old new stop status
   cut_off : (cause : WriteStop) → status ≡ cut_status cause →
-      Writes {T = Unit {0}} written stopped_at faults refusals old new (Err cause) (ending_text (stop_view stop)) → EndsWith written stopped_at faults refusals old new stop status
+      Writes {T = Unit {0}} old new (Err cause) (ending_text (stop_view stop)) → EndsWith old new stop status

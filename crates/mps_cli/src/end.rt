@@ -33,7 +33,7 @@ fn status_of_cut(stop: WriteStop) -> RunStatus
 
 /// Prints a listing that has this end alone, and answers how the job ended. A stop of the print comes before it.
 pub fn end_job<P: Sink>(print: &mut P, stop: EarlyStop) -> RunStatus
-    ensures { EndsWith P.written P.stopped_at P.faults P.refusals print.old print.new stop result }
+    ensures { EndsWith (P.taken print.old) (P.taken print.new) stop result }
 {
     match text_of(&Report::End(stop.ending()), print) {
         Ok(()) => status_of(stop),

@@ -36,33 +36,34 @@ fn run_source<S: Source, P: Sink, U: Sink>(
     punch: &mut U,
 ) -> RunStatus
     ensures answer { (given : Job) (bytes : List ℕ) →
-        IsGiven (S.left job.old) (Rose (S.faults job.old) (S.faults job.new)) given bytes →
+        IsGiven (S.given job.old).left (Rose (S.given job.old).faults (S.given job.new).faults)
+        given bytes →
         IsAnswered linear_programming given
         (record {
-          read = Rose (S.faults job.old) (S.faults job.new);
-          print = Rose (P.faults print.old) (P.faults print.new);
-          punch = Rose (U.faults punch.old) (U.faults punch.new);
-          memory = Rose (P.refusals print.old) (P.refusals print.new);
+          read = Rose (S.given job.old).faults (S.given job.new).faults;
+          print = Rose (P.taken print.old).faults (P.taken print.new).faults;
+          punch = Rose (U.taken punch.old).faults (U.taken punch.new).faults;
+          memory = Rose (P.taken print.old).refusals (P.taken print.new).refusals;
         })
         (code_of result)
-        (Appends (P.written print.old) (P.written print.new))
-        (Appends (U.written punch.old) (U.written punch.new)) }
+        (Appends (P.taken print.old).written (P.taken print.new).written)
+        (Appends (U.taken punch.old).written (U.taken punch.new).written) }
     ensures cause { HasCause (Some Request.Read)
-        (Rose (S.faults job.old) (S.faults job.new))
-        (ReadsJob (S.left job.old) (S.left job.new))
-        (Rose (P.faults print.old) (P.faults print.new))
-        (Rose (U.faults punch.old) (U.faults punch.new))
-        (AppendsPrefix (P.written print.old) (P.written print.new))
+        (Rose (S.given job.old).faults (S.given job.new).faults)
+        (ReadsJob (S.given job.old).left (S.given job.new).left)
+        (Rose (P.taken print.old).faults (P.taken print.new).faults)
+        (Rose (U.taken punch.old).faults (U.taken punch.new).faults)
+        (AppendsPrefix (P.taken print.old).written (P.taken print.new).written)
         result }
     ensures reported { IsReported
-        (counts P.faults P.refusals U.faults U.refusals (S.faults job.old) print.old punch.old)
-        (counts P.faults P.refusals U.faults U.refusals (S.faults job.new) print.new punch.new)
+        (counts (S.given job.old).faults (P.taken print.old) (U.taken punch.old))
+        (counts (S.given job.new).faults (P.taken print.new) (U.taken punch.new))
         (code_of result) }
-    ensures still { IsStill P.written P.stopped_at P.faults P.refusals print.old print.new ×
-        IsStill U.written U.stopped_at U.faults U.refusals punch.old punch.new }
-    ensures no_further { ReadsPrefix (S.left job.old) (S.left job.new) }
-    ensures punch { IsPunched (Some Request.Read) (S.left job.old)
-        (ReadsJob (S.left job.old) (S.left job.new)) (punch.new ≡ punch.old) result }
+    ensures still { IsStill (P.taken print.old) (P.taken print.new) ×
+        IsStill (U.taken punch.old) (U.taken punch.new) }
+    ensures no_further { ReadsPrefix (S.given job.old).left (S.given job.new).left }
+    ensures punch { IsPunched (Some Request.Read) (S.given job.old).left
+        (ReadsJob (S.given job.old).left (S.given job.new).left) (punch.new ≡ punch.old) result }
 {
     match prepare(alloc, job) {
         Ok(prepared) => run_program(alloc, &prepared.program, &prepared.cards, print, punch),
@@ -85,23 +86,23 @@ fn run_made<P: Sink, U: Sink>(alloc: Global, size: u32, print: &mut P, punch: &m
     requires least { 1 ≤ size }
     requires most { size ≤ max_size }
     ensures answer { IsAnswered linear_programming (Made (made_job size))
-        (failures_in_run (Rose (P.faults print.old) (P.faults print.new))
-        (Rose (U.faults punch.old) (U.faults punch.new))
-        (Rose (P.refusals print.old) (P.refusals print.new)))
+        (failures_in_run (Rose (P.taken print.old).faults (P.taken print.new).faults)
+        (Rose (U.taken punch.old).faults (U.taken punch.new).faults)
+        (Rose (P.taken print.old).refusals (P.taken print.new).refusals))
         (code_of result)
-        (Appends (P.written print.old) (P.written print.new))
-        (Appends (U.written punch.old) (U.written punch.new)) }
+        (Appends (P.taken print.old).written (P.taken print.new).written)
+        (Appends (U.taken punch.old).written (U.taken punch.new).written) }
     ensures cause { HasCause (Some (Request.Make size)) ⊥ (Unit {0})
-        (Rose (P.faults print.old) (P.faults print.new))
-        (Rose (U.faults punch.old) (U.faults punch.new))
-        (AppendsPrefix (P.written print.old) (P.written print.new))
+        (Rose (P.taken print.old).faults (P.taken print.new).faults)
+        (Rose (U.taken punch.old).faults (U.taken punch.new).faults)
+        (AppendsPrefix (P.taken print.old).written (P.taken print.new).written)
         result }
     ensures reported { IsReported
-        (counts P.faults P.refusals U.faults U.refusals 0 print.old punch.old)
-        (counts P.faults P.refusals U.faults U.refusals 0 print.new punch.new)
+        (counts 0 (P.taken print.old) (U.taken punch.old))
+        (counts 0 (P.taken print.new) (U.taken punch.new))
         (code_of result) }
-    ensures still { IsStill P.written P.stopped_at P.faults P.refusals print.old print.new ×
-        IsStill U.written U.stopped_at U.faults U.refusals punch.old punch.new }
+    ensures still { IsStill (P.taken print.old) (P.taken print.new) ×
+        IsStill (U.taken punch.old) (U.taken punch.new) }
     ensures punch { IsPunched (Some (Request.Make size)) None (Unit {0}) (punch.new ≡ punch.old)
         result }
 {
@@ -120,34 +121,34 @@ fn run_request<S: Source, P: Sink, U: Sink>(
     punch: &mut U,
 ) -> RunStatus
     requires { HasSize request }
-    ensures headline { (asked : Job) → IsAsked (Some request) (S.left job.old) asked →
+    ensures headline { (asked : Job) → IsAsked (Some request) (S.given job.old).left asked →
         IsTrueAnswer linear_programming asked
         (record {
-          read = Rose (S.faults job.old) (S.faults job.new);
-          print = Rose (P.faults print.old) (P.faults print.new);
-          punch = Rose (U.faults punch.old) (U.faults punch.new);
-          memory = Rose (P.refusals print.old) (P.refusals print.new);
+          read = Rose (S.given job.old).faults (S.given job.new).faults;
+          print = Rose (P.taken print.old).faults (P.taken print.new).faults;
+          punch = Rose (U.taken punch.old).faults (U.taken punch.new).faults;
+          memory = Rose (P.taken print.old).refusals (P.taken print.new).refusals;
         })
         (code_of result)
-        (Appends (P.written print.old) (P.written print.new))
-        (Appends (U.written punch.old) (U.written punch.new)) }
+        (Appends (P.taken print.old).written (P.taken print.new).written)
+        (Appends (U.taken punch.old).written (U.taken punch.new).written) }
     ensures cause { HasCause (Some request)
-        (Rose (S.faults job.old) (S.faults job.new))
-        (ReadsJob (S.left job.old) (S.left job.new))
-        (Rose (P.faults print.old) (P.faults print.new))
-        (Rose (U.faults punch.old) (U.faults punch.new))
-        (AppendsPrefix (P.written print.old) (P.written print.new))
+        (Rose (S.given job.old).faults (S.given job.new).faults)
+        (ReadsJob (S.given job.old).left (S.given job.new).left)
+        (Rose (P.taken print.old).faults (P.taken print.new).faults)
+        (Rose (U.taken punch.old).faults (U.taken punch.new).faults)
+        (AppendsPrefix (P.taken print.old).written (P.taken print.new).written)
         result }
     ensures reported { IsReported
-        (counts P.faults P.refusals U.faults U.refusals (S.faults job.old) print.old punch.old)
-        (counts P.faults P.refusals U.faults U.refusals (S.faults job.new) print.new punch.new)
+        (counts (S.given job.old).faults (P.taken print.old) (U.taken punch.old))
+        (counts (S.given job.new).faults (P.taken print.new) (U.taken punch.new))
         (code_of result) }
-    ensures still { IsStill P.written P.stopped_at P.faults P.refusals print.old print.new ×
-        IsStill U.written U.stopped_at U.faults U.refusals punch.old punch.new }
-    ensures no_further { ReadsPrefix (S.left job.old) (S.left job.new) }
+    ensures still { IsStill (P.taken print.old) (P.taken print.new) ×
+        IsStill (U.taken punch.old) (U.taken punch.new) }
+    ensures no_further { ReadsPrefix (S.given job.old).left (S.given job.new).left }
     ensures unread { request ≢ Request.Read → job.new ≡ job.old }
-    ensures punch { IsPunched (Some request) (S.left job.old)
-        (ReadsJob (S.left job.old) (S.left job.new)) (punch.new ≡ punch.old) result }
+    ensures punch { IsPunched (Some request) (S.given job.old).left
+        (ReadsJob (S.given job.old).left (S.given job.new).left) (punch.new ≡ punch.old) result }
 {
     match request {
         Request::Read => run_source(alloc, job, print, punch),
@@ -164,7 +165,8 @@ fn run_request<S: Source, P: Sink, U: Sink>(
 ///
 /// After a fault of the print, or where the print runs out of memory, nothing more is printed. A deck in which a write to the punch
 /// fails, or in which the punch runs out of memory, is broken off, and ends the job. The status reports each of these. Memory may
-/// run out at any time, which ends a job.
+/// run out at any time, which ends a job. Each deck is punched whole before its report is printed, so a deck that was reported
+/// stands whole, however the job ends.
 ///
 /// A job whose run meets no evidence that a number is too large has one run, and gets the status, the whole listing and all the
 /// cards of this run, unless a read, a write to the print or one to the punch fails, or the status is 28. That is a free answer:
@@ -187,94 +189,94 @@ pub fn run_job<S: Source, P: Sink, U: Sink>(
     // end that reports a singular deck or a wrong price shows the dependency, or the variable. So it is wherever the words, or the
     // source, tell the job.
     ensures headline { (asked : Job) →
-        IsAsked (requests.asked (map string_bytes words.now)) (S.left job.old) asked →
+        IsAsked (requests.asked (map string_bytes words.now)) (S.given job.old).left asked →
         IsTrueAnswer linear_programming asked
         (record {
-          read = Rose (S.faults job.old) (S.faults job.new);
-          print = Rose (P.faults print.old) (P.faults print.new);
-          punch = Rose (U.faults punch.old) (U.faults punch.new);
-          memory = Rose (P.refusals print.old) (P.refusals print.new);
+          read = Rose (S.given job.old).faults (S.given job.new).faults;
+          print = Rose (P.taken print.old).faults (P.taken print.new).faults;
+          punch = Rose (U.taken punch.old).faults (U.taken punch.new).faults;
+          memory = Rose (P.taken print.old).refusals (P.taken print.new).refusals;
         })
         (code_of result)
-        (Appends (P.written print.old) (P.written print.new))
-        (Appends (U.written punch.old) (U.written punch.new)) }
+        (Appends (P.taken print.old).written (P.taken print.new).written)
+        (Appends (U.taken punch.old).written (U.taken punch.new).written) }
 
     // Completeness. Where no evidence of an overflow holds at any moment of the run of the job's bytes, this run is the only
     // one; the status is that of its end, the print gains its whole listing and the punch all its cards; unless a read has
     // failed and the status is 24, or the print and it is 25, or the punch and it is 26, or it is 28, as memory ran out.
     ensures complete { (asked : Job) →
-        IsAsked (requests.asked (map string_bytes words.now)) (S.left job.old) asked →
+        IsAsked (requests.asked (map string_bytes words.now)) (S.given job.old).left asked →
         IsComplete linear_programming asked
         (record {
-          read = Rose (S.faults job.old) (S.faults job.new);
-          print = Rose (P.faults print.old) (P.faults print.new);
-          punch = Rose (U.faults punch.old) (U.faults punch.new);
-          memory = Rose (P.refusals print.old) (P.refusals print.new);
+          read = Rose (S.given job.old).faults (S.given job.new).faults;
+          print = Rose (P.taken print.old).faults (P.taken print.new).faults;
+          punch = Rose (U.taken punch.old).faults (U.taken punch.new).faults;
+          memory = Rose (P.taken print.old).refusals (P.taken print.new).refusals;
         })
         (code_of result)
-        (Appends (P.written print.old) (P.written print.new))
-        (Appends (U.written punch.old) (U.written punch.new)) }
+        (Appends (P.taken print.old).written (P.taken print.new).written)
+        (Appends (U.taken punch.old).written (U.taken punch.new).written) }
 
     // What the status decides. Take any run of the job's bytes that doesn't stop with an overflow: the status is that of its end,
     // and the print gains its whole listing and the punch all its cards; or the status is 20, and this run was broken off; or
     // a read has failed and the status is 24, or the print and it is 25, or the punch and it is 26, or it is 28, as memory ran out.
     ensures decided { (asked : Job) →
-        IsAsked (requests.asked (map string_bytes words.now)) (S.left job.old) asked →
+        IsAsked (requests.asked (map string_bytes words.now)) (S.given job.old).left asked →
         IsDecided linear_programming asked
         (record {
-          read = Rose (S.faults job.old) (S.faults job.new);
-          print = Rose (P.faults print.old) (P.faults print.new);
-          punch = Rose (U.faults punch.old) (U.faults punch.new);
-          memory = Rose (P.refusals print.old) (P.refusals print.new);
+          read = Rose (S.given job.old).faults (S.given job.new).faults;
+          print = Rose (P.taken print.old).faults (P.taken print.new).faults;
+          punch = Rose (U.taken punch.old).faults (U.taken punch.new).faults;
+          memory = Rose (P.taken print.old).refusals (P.taken print.new).refusals;
         })
         (code_of result)
-        (Appends (P.written print.old) (P.written print.new))
-        (Appends (U.written punch.old) (U.written punch.new)) }
+        (Appends (P.taken print.old).written (P.taken print.new).written)
+        (Appends (U.taken punch.old).written (U.taken punch.new).written) }
 
     // What stands, by the status. With 0, 1, 2, 8, 10, 12, 13, 16, 17 and 20 the run of the job has this end; the whole
     // listing of the run stands, and all cards that it has punched; 8 and 13 leave their line alone, and so do 4 and 24. After
-    // 26 and 28 the reports so far stand with this line, and a prefix of the cards; and after 25, and where the print ran out of
-    // memory, the print has stopped in a report or in the lines of an end: all that comes before stands with a prefix of this
-    // text, and the cards that are punched by then.
+    // 26 and 28 the reports so far stand with this line, and all cards of these reports, then a prefix of the deck in hand, and no
+    // more; and after 25, and where the print ran out of memory, the print has stopped in a report or in the lines of an end: all
+    // that comes before stands with a prefix of this text, and the cards that are punched by then.
     ensures stands { (asked : Job) →
-        IsAsked (requests.asked (map string_bytes words.now)) (S.left job.old) asked →
+        IsAsked (requests.asked (map string_bytes words.now)) (S.given job.old).left asked →
         StandsAfter linear_programming asked
         (record {
-          read = Rose (S.faults job.old) (S.faults job.new);
-          print = Rose (P.faults print.old) (P.faults print.new);
-          punch = Rose (U.faults punch.old) (U.faults punch.new);
-          memory = Rose (P.refusals print.old) (P.refusals print.new);
+          read = Rose (S.given job.old).faults (S.given job.new).faults;
+          print = Rose (P.taken print.old).faults (P.taken print.new).faults;
+          punch = Rose (U.taken punch.old).faults (U.taken punch.new).faults;
+          memory = Rose (P.taken print.old).refusals (P.taken print.new).refusals;
         })
-        (Appends (P.written print.old) (P.written print.new))
-        (Appends (U.written punch.old) (U.written punch.new))
+        (Appends (P.taken print.old).written (P.taken print.new).written)
+        (Appends (U.taken punch.old).written (U.taken punch.new).written)
         (code_of result) }
 
     // Why, also where the devices don't tell their bytes.
     ensures cause { HasCause (requests.asked (map string_bytes words.now))
-        (Rose (S.faults job.old) (S.faults job.new))
-        (ReadsJob (S.left job.old) (S.left job.new))
-        (Rose (P.faults print.old) (P.faults print.new))
-        (Rose (U.faults punch.old) (U.faults punch.new))
-        (AppendsPrefix (P.written print.old) (P.written print.new))
+        (Rose (S.given job.old).faults (S.given job.new).faults)
+        (ReadsJob (S.given job.old).left (S.given job.new).left)
+        (Rose (P.taken print.old).faults (P.taken print.new).faults)
+        (Rose (U.taken punch.old).faults (U.taken punch.new).faults)
+        (AppendsPrefix (P.taken print.old).written (P.taken print.new).written)
         result }
 
     // What the status reports: a fault of the print by 25, and that it ran out of memory by 28; a fault of a read by 24 and one of
     // the punch by 26, and that it ran out of memory by 28, unless the print stops as well and the status is that of its stop.
     ensures reported { IsReported
-        (counts P.faults P.refusals U.faults U.refusals (S.faults job.old) print.old punch.old)
-        (counts P.faults P.refusals U.faults U.refusals (S.faults job.new) print.new punch.new)
+        (counts (S.given job.old).faults (P.taken print.old) (U.taken punch.old))
+        (counts (S.given job.new).faults (P.taken print.new) (U.taken punch.new))
         (code_of result) }
 
     // After a fault of the print or of the punch, or where one of them runs out of memory, nothing more is written to it.
-    ensures still { IsStill P.written P.stopped_at P.faults P.refusals print.old print.new ×
-        IsStill U.written U.stopped_at U.faults U.refusals punch.old punch.new }
+    ensures still { IsStill (P.taken print.old) (P.taken print.new) ×
+        IsStill (U.taken punch.old) (U.taken punch.new) }
 
     // How far the job is read, and what stays the same. Nothing is punched but in the run of the job's program.
-    ensures no_further { ReadsPrefix (S.left job.old) (S.left job.new) }
+    ensures no_further { ReadsPrefix (S.given job.old).left (S.given job.new).left }
     ensures unread { requests.asked (map string_bytes words.now) ≢ Some Request.Read →
         job.new ≡ job.old }
-    ensures punch { IsPunched (requests.asked (map string_bytes words.now)) (S.left job.old)
-        (ReadsJob (S.left job.old) (S.left job.new)) (punch.new ≡ punch.old) result }
+    ensures punch { IsPunched (requests.asked (map string_bytes words.now)) (S.given job.old).left
+        (ReadsJob (S.given job.old).left (S.given job.new).left) (punch.new ≡ punch.old) result }
 {
     match request_of(alloc, words) {
         Ok(request) => run_request(alloc, request, job, print, punch),

@@ -23,7 +23,7 @@ use lp_model::Direction;
 
 // The code of a run that ends by itself.
 fn put_code<P: Sink>(print: &mut P, code: u8) -> Result<(), WriteStop>
-    ensures { Writes P.written P.stopped_at P.faults P.refusals print.old print.new result
+    ensures { Writes (P.taken print.old) (P.taken print.new) result
         (ending_text (endings.Ended code)) }
 {
     let mut digits = Buffer::new();
@@ -44,7 +44,7 @@ fn put_fault<P: Sink>(
     fault: u8,
     card: u32,
 ) -> Result<(), WriteStop>
-    ensures { Writes P.written P.stopped_at P.faults P.refusals print.old print.new result
+    ensures { Writes (P.taken print.old) (P.taken print.new) result
         (concat (refused.now ∷ fault_text fault card ∷ codes "\n" ∷ [])) }
 {
     let mut fault_digits = Buffer::new();
@@ -88,7 +88,7 @@ fn verb_fault_number(fault: VerbFault) -> u8
 
 // A statement that is refused.
 fn put_verb_fault<P: Sink>(print: &mut P, fault: VerbFault, card: u32) -> Result<(), WriteStop>
-    ensures { Writes P.written P.stopped_at P.faults P.refusals print.old print.new result
+    ensures { Writes (P.taken print.old) (P.taken print.new) result
         (ending_text (endings.VerbStop (record { fault = fault; card = card }))) }
 {
     put_fault(print, b"STOP 10 VERB ", verb_fault_number(fault), card)
@@ -103,7 +103,7 @@ fn put_singular<P: Sink>(
 ) -> Result<(), WriteStop>
     requires sheet { IsSheet sheet }
     requires full { IsFull sheet dependency.now }
-    ensures { Writes P.written P.stopped_at P.faults P.refusals print.old print.new result
+    ensures { Writes (P.taken print.old) (P.taken print.new) result
         (ending_text (endings.SingularStop (record {
           card = card;
           lines = ray_lines sheet.entry.problem.now sheet.entry.lp.now dependency.now;
@@ -128,7 +128,7 @@ fn put_fault_at<P: Sink>(
     card: u32,
     variable: u32,
 ) -> Result<(), WriteStop>
-    ensures { Writes P.written P.stopped_at P.faults P.refusals print.old print.new result
+    ensures { Writes (P.taken print.old) (P.taken print.new) result
         (concat (refused.now ∷ fault_text fault card ∷ codes " VARIABLE " ∷ digits
         variable ∷ codes "\n" ∷ [])) }
 {
@@ -152,7 +152,7 @@ fn put_fault_at<P: Sink>(
 
 // The prices are wrong: the line of the fault, with the first variable whose price is.
 fn put_wrong_prices<P: Sink>(print: &mut P, card: u32, variable: u32) -> Result<(), WriteStop>
-    ensures { Writes P.written P.stopped_at P.faults P.refusals print.old print.new result
+    ensures { Writes (P.taken print.old) (P.taken print.new) result
         (ending_text (endings.PriceStop (record { card = card; variable = variable }))) }
 {
     put_fault_at(
@@ -166,7 +166,7 @@ fn put_wrong_prices<P: Sink>(print: &mut P, card: u32, variable: u32) -> Result<
 
 // The cards of the job are refused: a job that is too long has no card to be named.
 fn put_card_fault<P: Sink>(print: &mut P, fault: CardFault) -> Result<(), WriteStop>
-    ensures { Writes P.written P.stopped_at P.faults P.refusals print.old print.new result
+    ensures { Writes (P.taken print.old) (P.taken print.new) result
         (ending_text (endings.CardStop fault)) }
 {
     match fault {
@@ -203,7 +203,7 @@ fn put_deck_fault<P: Sink>(
     number: Option<u8>,
     column: Option<u8>,
 ) -> Result<(), WriteStop>
-    ensures { Writes P.written P.stopped_at P.faults P.refusals print.old print.new result
+    ensures { Writes (P.taken print.old) (P.taken print.new) result
         (concat (refused.now ∷ fault_text fault card ∷ labelled (codes " NUMBER ") number ∷ labelled
         (codes " COLUMN ") column ∷ codes "\n" ∷ [])) }
 {
@@ -233,7 +233,7 @@ fn put_limit<P: Sink>(
     limit: u32,
     card: u32,
 ) -> Result<(), WriteStop>
-    ensures { Writes P.written P.stopped_at P.faults P.refusals print.old print.new result
+    ensures { Writes (P.taken print.old) (P.taken print.new) result
         (concat (reached.now ∷ digits limit ∷ codes " CARD " ∷ digits card ∷ codes "\n" ∷ [])) }
 {
     let mut limit_digits = Buffer::new();
@@ -253,7 +253,7 @@ fn put_limit<P: Sink>(
 /// Writes the lines of an end.
 pub fn put_ending<P: Sink>(print: &mut P, ending: Ending<'_>) -> Result<(), WriteStop>
     requires { IsEnding ending }
-    ensures { Writes P.written P.stopped_at P.faults P.refusals print.old print.new result
+    ensures { Writes (P.taken print.old) (P.taken print.new) result
         (ending_text (ending_view ending.entry)) }
 {
     match ending {

@@ -19,7 +19,7 @@ fn put_evidence_head<P: Sink>(
     stop: &'static [u8],
     evidence: &Evidence,
 ) -> Result<(), WriteStop>
-    ensures { Writes P.written P.stopped_at P.faults P.refusals print.old print.new result
+    ensures { Writes (P.taken print.old) (P.taken print.new) result
         (concat (stop.now ∷ digits evidence.now.formula ∷ codes " " ∷ refused_text
         evidence.now.refused ∷ [])) }
 {
@@ -47,7 +47,7 @@ fn put_evidence_tail<P: Sink>(
     evidence: &Evidence,
     card: u32,
 ) -> Result<(), WriteStop>
-    ensures { Writes P.written P.stopped_at P.faults P.refusals print.old print.new result
+    ensures { Writes (P.taken print.old) (P.taken print.new) result
         (concat (evidence_tail evidence.now ∷ codes " CARD " ∷ digits card ∷ codes "\n" ∷ [])) }
 {
     let mut p_digits = Buffer::new();
@@ -112,7 +112,7 @@ impl Lettered for bool {
 
 // A letter for each of these variables, one by one.
 fn put_each_letter<T: Lettered, P: Sink>(print: &mut P, items: &[T]) -> Result<(), WriteStop>
-    ensures { Writes P.written P.stopped_at P.faults P.refusals print.old print.new result
+    ensures { Writes (P.taken print.old) (P.taken print.new) result
         (flat_map (letters_of T.letter_of) items.now) }
 {
     for item in items {
@@ -123,7 +123,7 @@ fn put_each_letter<T: Lettered, P: Sink>(print: &mut P, items: &[T]) -> Result<(
 
 // A letter for each of these variables, in one piece where a buffer has room for it.
 fn put_piece<T: Lettered, P: Sink>(print: &mut P, items: &[T]) -> Result<(), WriteStop>
-    ensures { Writes P.written P.stopped_at P.faults P.refusals print.old print.new result
+    ensures { Writes (P.taken print.old) (P.taken print.new) result
         (flat_map (letters_of T.letter_of) items.now) }
 {
     let mut letters = TextBuffer::new();
@@ -135,7 +135,7 @@ fn put_piece<T: Lettered, P: Sink>(print: &mut P, items: &[T]) -> Result<(), Wri
 
 // A letter for each variable, piece by piece.
 fn put_letters<T: Lettered, P: Sink>(print: &mut P, items: &[T]) -> Result<(), WriteStop>
-    ensures { Writes P.written P.stopped_at P.faults P.refusals print.old print.new result
+    ensures { Writes (P.taken print.old) (P.taken print.new) result
         (flat_map (letters_of T.letter_of) items.now) }
 {
     let mut rest = items;
@@ -153,7 +153,7 @@ fn put_letter_line<T: Lettered, P: Sink>(
     word: &'static [u8],
     items: &[T],
 ) -> Result<(), WriteStop>
-    ensures { Writes P.written P.stopped_at P.faults P.refusals print.old print.new result
+    ensures { Writes (P.taken print.old) (P.taken print.new) result
         (letter_line word.now T.letter_of items.now) }
 {
     put_all(print, word)?;
@@ -167,7 +167,7 @@ fn put_letter_lines<P: Sink>(
     statuses: &[Status],
     way: &[bool],
 ) -> Result<(), WriteStop>
-    ensures { Writes P.written P.stopped_at P.faults P.refusals print.old print.new result
+    ensures { Writes (P.taken print.old) (P.taken print.new) result
         (letter_line (codes "BASIS ") status_letter statuses.now ++ letter_line (codes "WAY ")
         basic_letter way.now) }
 {
@@ -177,7 +177,7 @@ fn put_letter_lines<P: Sink>(
 
 // The same lines, where there is a basis.
 fn put_place<P: Sink>(print: &mut P, basis: Option<&Basis>, way: &[bool]) -> Result<(), WriteStop>
-    ensures { Writes P.written P.stopped_at P.faults P.refusals print.old print.new result
+    ensures { Writes (P.taken print.old) (P.taken print.new) result
         (place_text (place_view basis.entry way.now)) }
 {
     match basis {
@@ -194,7 +194,7 @@ pub fn put_overflow<P: Sink>(
     way: &[bool],
     card: u32,
 ) -> Result<(), WriteStop>
-    ensures { Writes P.written P.stopped_at P.faults P.refusals print.old print.new result
+    ensures { Writes (P.taken print.old) (P.taken print.new) result
         (overflow_text (record {
           evidence = evidence.now;
           place = place_view basis.entry way.now;

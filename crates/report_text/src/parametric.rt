@@ -26,7 +26,7 @@ fn put_parametric_head<P: Sink>(
     from: Frac,
     change: Name,
 ) -> Result<(), WriteStop>
-    ensures { Writes P.written P.stopped_at P.faults P.refusals print.old print.new result
+    ensures { Writes (P.taken print.old) (P.taken print.new) result
         (concat (solver_text by ∷ codes " FROM " ∷ rational_text from ∷ codes " CHANGE "
         ∷ change ∷ codes "\n" ∷ [])) }
 {
@@ -59,7 +59,7 @@ fn put_interval_head<P: Sink>(
     from: Frac,
     to: Frac,
 ) -> Result<(), WriteStop>
-    ensures { Writes P.written P.stopped_at P.faults P.refusals print.old print.new result
+    ensures { Writes (P.taken print.old) (P.taken print.new) result
         (concat (codes "INTERVAL " ∷ digits number ∷ codes " FROM " ∷ rational_text from
         ∷ codes " TO " ∷ rational_text to ∷ codes "\n" ∷ [])) }
 {
@@ -89,7 +89,7 @@ fn put_interval<P: Sink>(
 ) -> Result<(), WriteStop>
     requires is_sheet { IsSheet sheet }
     requires is_part { IsPart sheet part.now }
-    ensures { Writes P.written P.stopped_at P.faults P.refusals print.old print.new result
+    ensures { Writes (P.taken print.old) (P.taken print.new) result
         (interval_text (number, interval_view sheet.entry part.now)) }
 {
     put_interval_head(print, number, part.from, part.to)?;
@@ -105,7 +105,7 @@ fn put_intervals<P: Sink>(
 ) -> Result<(), WriteStop>
     requires is_sheet { IsSheet sheet }
     requires are_parts { All (IsPart sheet) parts.now }
-    ensures { Writes P.written P.stopped_at P.faults P.refusals print.old print.new result
+    ensures { Writes (P.taken print.old) (P.taken print.new) result
         (flat_map interval_text (enumerate_from 1 (map (interval_view sheet.entry) parts.now))) }
 {
     for (index, part) in parts.iter().enumerate() {
@@ -121,7 +121,7 @@ fn put_end_head<P: Sink>(
     found: &'static [u8],
     value: Frac,
 ) -> Result<(), WriteStop>
-    ensures { Writes P.written P.stopped_at P.faults P.refusals print.old print.new result
+    ensures { Writes (P.taken print.old) (P.taken print.new) result
         (concat (solver_text by ∷ found.now ∷ rational_text value ∷ codes "\n" ∷ [])) }
 {
     let text = fraction(value);
@@ -143,7 +143,7 @@ fn put_unbounded_past<P: Sink>(
     requires is_sheet { IsSheet sheet }
     requires is_point { IsFull sheet point.now }
     requires is_direction { IsFull sheet direction.now }
-    ensures { Writes P.written P.stopped_at P.faults P.refusals print.old print.new result
+    ensures { Writes (P.taken print.old) (P.taken print.new) result
         (chain_end_text by (reports.UnboundedPast past (pair_lines sheet.entry.problem.now
         sheet.entry.lp.now point.now direction.now))) }
 {
@@ -162,7 +162,7 @@ fn put_infeasible_past<P: Sink>(
 ) -> Result<(), WriteStop>
     requires is_sheet { IsSheet sheet }
     requires is_ray { IsFull sheet ray.now }
-    ensures { Writes P.written P.stopped_at P.faults P.refusals print.old print.new result
+    ensures { Writes (P.taken print.old) (P.taken print.new) result
         (chain_end_text by (reports.InfeasiblePast past (ray_lines sheet.entry.problem.now
         sheet.entry.lp.now ray.now))) }
 {
@@ -180,7 +180,7 @@ fn put_run_end<P: Sink>(
     end: &ParaEnd,
 ) -> Result<(), WriteStop>
     requires { IsRunEnd sheet end.now }
-    ensures { Writes P.written P.stopped_at P.faults P.refusals print.old print.new result
+    ensures { Writes (P.taken print.old) (P.taken print.new) result
         (chain_end_text by (end_view sheet.entry to end.now)) }
 {
     match end {
@@ -213,7 +213,7 @@ pub fn put_parametric<P: Sink>(
     report: ParametricReport<'_>,
 ) -> Result<(), WriteStop>
     requires { IsParametric sheet report.run.now }
-    ensures { Writes P.written P.stopped_at P.faults P.refusals print.old print.new result
+    ensures { Writes (P.taken print.old) (P.taken print.new) result
         (report_text (reports.Parametric by (chain_view sheet.entry report.entry.change
         report.entry.from report.entry.to report.entry.run.now))) }
 {

@@ -13,7 +13,7 @@ use lp_definitions::Sense;
 use name_table::Name;
 
 pub fn put_title<P: Sink>(print: &mut P, text: &[u8]) -> Result<(), WriteStop>
-    ensures { Writes P.written P.stopped_at P.faults P.refusals print.old print.new result
+    ensures { Writes (P.taken print.old) (P.taken print.new) result
         (report_text (reports.Titled text.now)) }
 {
     put_each(print, &[b"TITLE ", text, b"\n"])
@@ -28,7 +28,7 @@ fn put_filed<P: Sink>(
     columns: u32,
     entries: u32,
 ) -> Result<(), WriteStop>
-    ensures { Writes P.written P.stopped_at P.faults P.refusals print.old print.new result
+    ensures { Writes (P.taken print.old) (P.taken print.new) result
         (filed_text word.now (record {
           name = name;
           rows = rows;
@@ -66,7 +66,7 @@ pub fn put_converted<P: Sink>(
     columns: u32,
     entries: u32,
 ) -> Result<(), WriteStop>
-    ensures { Writes P.written P.stopped_at P.faults P.refusals print.old print.new result
+    ensures { Writes (P.taken print.old) (P.taken print.new) result
         (report_text (reports.Converted
         (record { name = name; rows = rows; columns = columns; entries = entries }))) }
 {
@@ -80,7 +80,7 @@ pub fn put_revised<P: Sink>(
     columns: u32,
     entries: u32,
 ) -> Result<(), WriteStop>
-    ensures { Writes P.written P.stopped_at P.faults P.refusals print.old print.new result
+    ensures { Writes (P.taken print.old) (P.taken print.new) result
         (report_text (reports.Revised (record {
           name = name;
           rows = rows;
@@ -93,7 +93,7 @@ pub fn put_revised<P: Sink>(
 }
 
 pub fn put_setup<P: Sink>(print: &mut P, name: Name, sense: Sense) -> Result<(), WriteStop>
-    ensures { Writes P.written P.stopped_at P.faults P.refusals print.old print.new result
+    ensures { Writes (P.taken print.old) (P.taken print.new) result
         (report_text (reports.SetUp name sense)) }
 {
     let letters = name.bytes();
@@ -118,7 +118,7 @@ fn put_counted<P: Sink>(
     of: &'static [u8],
     count: u32,
 ) -> Result<(), WriteStop>
-    ensures { Writes P.written P.stopped_at P.faults P.refusals print.old print.new result
+    ensures { Writes (P.taken print.old) (P.taken print.new) result
         (concat (word.now ∷ name8 name ∷ of.now ∷ digits count ∷ codes "\n" ∷ [])) }
 {
     let mut count_digits = Buffer::new();
@@ -137,21 +137,21 @@ fn put_counted<P: Sink>(
 }
 
 pub fn put_bcd_out<P: Sink>(print: &mut P, name: Name, cards: u32) -> Result<(), WriteStop>
-    ensures { Writes P.written P.stopped_at P.faults P.refusals print.old print.new result
+    ensures { Writes (P.taken print.old) (P.taken print.new) result
         (report_text (reports.BcdOut name cards)) }
 {
     put_counted(print, b"BCDOUT  ", name, b" CARDS ", cards)
 }
 
 pub fn put_basis_out<P: Sink>(print: &mut P, name: Name, cards: u32) -> Result<(), WriteStop>
-    ensures { Writes P.written P.stopped_at P.faults P.refusals print.old print.new result
+    ensures { Writes (P.taken print.old) (P.taken print.new) result
         (report_text (reports.BasisOut name cards)) }
 {
     put_counted(print, b"PUNCH   ", name, b" CARDS ", cards)
 }
 
 pub fn put_inserted<P: Sink>(print: &mut P, name: Name, basic: u32) -> Result<(), WriteStop>
-    ensures { Writes P.written P.stopped_at P.faults P.refusals print.old print.new result
+    ensures { Writes (P.taken print.old) (P.taken print.new) result
         (report_text (reports.Inserted name basic)) }
 {
     put_counted(print, b"INSERT  ", name, b" BASIC ", basic)

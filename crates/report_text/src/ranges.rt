@@ -15,7 +15,7 @@ pub fn put_ranges<P: Sink>(
     ranging: Ranging<'_>,
 ) -> Result<(), WriteStop>
     requires { AreRanges sheet ranging }
-    ensures { Writes P.written P.stopped_at P.faults P.refusals print.old print.new result (report_text
+    ensures { Writes (P.taken print.old) (P.taken print.new) result (report_text
         (reports.Ranges (ranges_view sheet.entry ranging.entry))) }
 {
     put_all(print, b"RANGE\n")?;

@@ -159,8 +159,7 @@ pub enum Ending<'a> {
 /// Writes the text of a report. At a stop a prefix of it is written.
 pub fn text_of<P: Sink>(report: &Report<'_>, print: &mut P) -> Result<(), WriteStop>
     requires { IsReport report.now }
-    ensures { Writes P.written P.stopped_at P.faults P.refusals print.old print.new result
-        (text_view report.now) }
+    ensures { Writes (P.taken print.old) (P.taken print.new) result (text_view report.now) }
 {
     match *report {
         Report::Title { text } => put_title(print, text),

@@ -16,7 +16,7 @@ pub fn put_row_section<P: Sink>(
     table: Table<'_>,
 ) -> Result<(), WriteStop>
     requires { (k : ℕ) → 0 < k → k ≤ sheet.lp.now.matrix.rows → HasLine sheet table k }
-    ensures { Writes P.written P.stopped_at P.faults P.refusals print.old print.new result (heading.now ++
+    ensures { Writes (P.taken print.old) (P.taken print.new) result (heading.now ++
         flat_map (line_view sheet.entry table.entry) (numbers_from 1 sheet.entry.lp.now.matrix.rows)) }
 {
     put_all(print, heading)?;
@@ -31,7 +31,7 @@ pub fn put_column_section<P: Sink>(
     table: Table<'_>,
 ) -> Result<(), WriteStop>
     requires { (k : ℕ) → sheet.lp.now.matrix.rows < k → k ≤ size sheet.lp.now.matrix → HasLine sheet table k }
-    ensures { Writes P.written P.stopped_at P.faults P.refusals print.old print.new result (heading.now ++
+    ensures { Writes (P.taken print.old) (P.taken print.new) result (heading.now ++
         flat_map (line_view sheet.entry table.entry) (numbers_from (sheet.entry.lp.now.matrix.rows + 1)
         sheet.entry.lp.now.matrix.cols)) }
 {

@@ -12,7 +12,7 @@ use listing_definitions::Mark;
 use listing_tables::{Sheet, Standing, Table, mark_word};
 
 fn put_mark<P: Sink>(print: &mut P, mark: Mark) -> Result<(), WriteStop>
-    ensures { Writes P.written P.stopped_at P.faults P.refusals print.old print.new result
+    ensures { Writes (P.taken print.old) (P.taken print.new) result
         (concat (codes "SOLUTION " ∷ mark_text mark ∷ codes "\n" ∷ [])) }
 {
     put_each(print, &[b"SOLUTION ", mark_word(mark), b"\n"])
@@ -26,7 +26,7 @@ pub fn put_solution<P: Sink>(
     standing: Standing<'_>,
 ) -> Result<(), WriteStop>
     requires { IsSolution sheet standing }
-    ensures { Writes P.written P.stopped_at P.faults P.refusals print.old print.new result
+    ensures { Writes (P.taken print.old) (P.taken print.new) result
         (report_text (reports.Solution mark (lines_view sheet.entry standing.entry))) }
 {
     put_mark(print, mark)?;

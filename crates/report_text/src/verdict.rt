@@ -24,7 +24,7 @@ fn put_found<P: Sink>(
     number: u32,
     rest: &'static [u8],
 ) -> Result<(), WriteStop>
-    ensures { Writes P.written P.stopped_at P.faults P.refusals print.old print.new result
+    ensures { Writes (P.taken print.old) (P.taken print.new) result
         (concat (solver_text by ∷ codes " " ∷ concat (found.now ∷ digits number ∷ rest.now
         ∷ []) ∷ [])) }
 {
@@ -49,7 +49,7 @@ fn put_objective<P: Sink>(
     steps: u32,
     objective: Frac,
 ) -> Result<(), WriteStop>
-    ensures { Writes P.written P.stopped_at P.faults P.refusals print.old print.new result
+    ensures { Writes (P.taken print.old) (P.taken print.new) result
         (concat (solver_text by ∷ codes " " ∷ concat (found.now ∷ digits steps ∷ codes " OBJECTIVE "
         ∷ rational_text objective ∷ []) ∷ [])) }
 {
@@ -76,7 +76,7 @@ fn put_verdict_head<P: Sink>(
     outcome: &Outcome,
 ) -> Result<(), WriteStop>
     requires { IsOutcome sheet outcome.now }
-    ensures { Writes P.written P.stopped_at P.faults P.refusals print.old print.new result
+    ensures { Writes (P.taken print.old) (P.taken print.new) result
         (concat (solver_text by ∷ codes " " ∷ verdict_head (verdict_view sheet.entry
         outcome.now) ∷ [])) }
 {
@@ -98,7 +98,7 @@ fn put_verdict_head<P: Sink>(
 
 // The check, or the operation that it was refused.
 fn put_check<P: Sink>(print: &mut P, refused: Option<Refused>) -> Result<(), WriteStop>
-    ensures { Writes P.written P.stopped_at P.faults P.refusals print.old print.new result
+    ensures { Writes (P.taken print.old) (P.taken print.new) result
         (concat (codes " " ∷ check_text (check_view refused) ∷ codes "\n" ∷ [])) }
 {
     match refused {
@@ -113,7 +113,7 @@ fn put_refused<P: Sink>(
     word: &'static [u8],
     refused: Refused,
 ) -> Result<(), WriteStop>
-    ensures { Writes P.written P.stopped_at P.faults P.refusals print.old print.new result
+    ensures { Writes (P.taken print.old) (P.taken print.new) result
         (concat (word.now ∷ refused_text refused ∷ codes "\n" ∷ [])) }
 {
     let left = fraction(refused.left);
@@ -139,7 +139,7 @@ fn put_verdict_lines<P: Sink>(
     outcome: &Outcome,
 ) -> Result<(), WriteStop>
     requires { IsOutcome sheet outcome.now }
-    ensures { Writes P.written P.stopped_at P.faults P.refusals print.old print.new result
+    ensures { Writes (P.taken print.old) (P.taken print.new) result
         (table_text (verdict_lines (verdict_view sheet.entry outcome.now))) }
 {
     let last = sheet.lp.number_of_variables();
@@ -168,7 +168,7 @@ pub fn put_verdict<P: Sink>(
     refused: Option<Refused>,
 ) -> Result<(), WriteStop>
     requires { IsOutcome sheet outcome.now }
-    ensures { Writes P.written P.stopped_at P.faults P.refusals print.old print.new result
+    ensures { Writes (P.taken print.old) (P.taken print.new) result
         (report_text (reports.Solved by (verdict_view sheet.entry outcome.now)
         (check_view refused))) }
 {

@@ -2,6 +2,7 @@
 use Rattle.std.proofs.Common.{◌≡◌, ℕ, ◌+◌, ◌-◌, ◌≤◌, length, arith, Bool, true, List, ◌∷◌, Option, None, Some, Result, Ok, Err, IfOk, if◌then◌else◌, drop, refl, sym, ap, subst, ◌∙◌}
 use Rattle.std.specs.Prelude.{IfErr, option_and_then}
 use Rattle.std.proofs.lemmas.Slice.Eq.{bytes_eq-Decides}
+use Rattle.job_devices.specs.States.{SinkState}
 use Rattle.job_devices.specs.declared.device.WriteStop.{WriteStop}
 use Rattle.job_devices.specs.Text.{Writes}
 use Rattle.card_definitions.specs.Cards.{Card, numbered_cards}
@@ -123,7 +124,7 @@ module _ {K : Type 0} (Shows : Filed → K → Present → Type 0) (card : ℕ) 
 
 -- ---- the statement
 
-module _ {K : Type 0} (Shows : Filed → K → Present → Type 0) {P : Type 0} (written stopped_at : P → Option (List ℕ)) (faults refusals : P → ℕ) (verb : DeckVerb) (card : ℕ) (cards : List (List ℕ)) (machine : Machine K) where
+module _ {K : Type 0} (Shows : Filed → K → Present → Type 0) (verb : DeckVerb) (card : ℕ) (cards : List (List ℕ)) (machine : Machine K) where
   module _ (problem : Problem ℕ) (from_card : ℕ) (file : Filed) (described : IsDescribed Shows verb card cards machine problem from_card)
       (put : (name : Name) → filed_under name file ≡ (if same problem.name name then Some problem else filed_under name machine.file)) (last : file.last ≡ Some problem.name) where
     comes_filed : (position executed : ℕ) (state : State) → Represents Shows cards machine position executed state →
@@ -142,12 +143,12 @@ module _ {K : Type 0} (Shows : Filed → K → Present → Type 0) {P : Type 0} 
       },
     )
 
-    pub filed_done : {from to : P} → Writes {T = Unit {0}} written stopped_at faults refusals from to (Ok tt) (report_text (report_of verb (size_of problem))) →
-        Executes Shows Settles (verb_of verb) card written stopped_at faults refusals from to cards machine (record machine { file = file; decks_from = from_card; setup = None; mark = None }) (Ok Next)
-    filed_done writes = loudly Shows Settles (verb_of verb) card written stopped_at faults refusals cards machine (report_of verb (size_of problem)) comes_filed writes
+    pub filed_done : {from to : SinkState} → Writes {T = Unit {0}} from to (Ok tt) (report_text (report_of verb (size_of problem))) →
+        Executes Shows Settles (verb_of verb) card from to cards machine (record machine { file = file; decks_from = from_card; setup = None; mark = None }) (Ok Next)
+    filed_done writes = loudly Shows Settles (verb_of verb) card cards machine (report_of verb (size_of problem)) comes_filed writes
 
-    pub filed_cut : {from to : P} (new : Machine K) (stop : WriteStop) → Writes {T = Unit {0}} written stopped_at faults refusals from to (Err stop) (report_text (report_of verb (size_of problem))) →
-        Executes Shows Settles (verb_of verb) card written stopped_at faults refusals from to cards machine new (Err (halt.Print stop))
+    pub filed_cut : {from to : SinkState} (new : Machine K) (stop : WriteStop) → Writes {T = Unit {0}} from to (Err stop) (report_text (report_of verb (size_of problem))) →
+        Executes Shows Settles (verb_of verb) card from to cards machine new (Err (halt.Print stop))
     filed_cut new stop writes =
-        cut_off Shows Settles (verb_of verb) card written stopped_at faults refusals cards machine new stop (report_of verb (size_of problem))
+        cut_off Shows Settles (verb_of verb) card cards machine new stop (report_of verb (size_of problem))
         (λ position executed state s. let c = comes_filed position executed state s in (next (Prints (report_of verb (size_of problem))) c.0, c.1, refl)) writes

@@ -1,6 +1,7 @@
 -- How a statement comes to something.
 use Rattle.std.proofs.Common.{◌≡◌, ℕ, List, [], Option, None, Some, Ok, Err, refl, sym, ap, subst, ◌∙◌}
 use Rattle.job_devices.proofs.TextLemmas.{writes_nothing}
+use Rattle.job_devices.specs.States.{SinkState}
 use Rattle.job_devices.specs.declared.device.WriteStop.{WriteStop}
 use Rattle.job_devices.specs.Text.{Writes}
 use Rattle.problem_definitions.specs.Names.{Name}
@@ -36,28 +37,28 @@ settles_found card fault found go x outcome some given = subst (λ o. Settles ca
 
 -- ---- with what is printed
 
-module _ {K : Type 0} (Shows : Filed → K → Present → Type 0) (Given : ℕ → StatementMove → StatementOutcome → Type 0) (verb : Verb ℕ) (card : ℕ) {P : Type 0} (written stopped_at : P → Option (List ℕ)) (faults refusals : P → ℕ) (cards : List (List ℕ)) (old : Machine K) where
-  pub quietly : (print : P) {new : Machine K} {act : Act} →
+module _ {K : Type 0} (Shows : Filed → K → Present → Type 0) (Given : ℕ → StatementMove → StatementOutcome → Type 0) (verb : Verb ℕ) (card : ℕ) (cards : List (List ℕ)) (old : Machine K) where
+  pub quietly : (print : SinkState) {new : Machine K} {act : Act} →
       ((position executed : ℕ) (state : State) → Represents Shows cards old position executed state → Comes Shows Given verb card cards position executed state new Nothing act) →
-      Executes Shows Given verb card written stopped_at faults refusals print print cards old new (Ok act)
-  quietly print comes = λ position executed state s. record { gain = Nothing; no_cards = refl; comes = comes position executed state s; writes = writes_nothing written stopped_at faults refusals print tt }
+      Executes Shows Given verb card print print cards old new (Ok act)
+  quietly print comes = λ position executed state s. record { gain = Nothing; no_cards = refl; comes = comes position executed state s; writes = writes_nothing print tt }
 
-  pub loudly : {print_old print_new : P} {new : Machine K} {act : Act} (report : Report) →
+  pub loudly : {print_old print_new : SinkState} {new : Machine K} {act : Act} (report : Report) →
       ((position executed : ℕ) (state : State) → Represents Shows cards old position executed state → Comes Shows Given verb card cards position executed state new (Prints report) act) →
-      Writes {T = Unit {0}} written stopped_at faults refusals print_old print_new (Ok tt) (report_text report) →
-      Executes Shows Given verb card written stopped_at faults refusals print_old print_new cards old new (Ok act)
+      Writes {T = Unit {0}} print_old print_new (Ok tt) (report_text report) →
+      Executes Shows Given verb card print_old print_new cards old new (Ok act)
   loudly report comes writes = λ position executed state s. record { gain = Prints report; no_cards = refl; comes = comes position executed state s; writes = writes }
 
   -- the report is broken off
-  pub cut_off : {print_old print_new : P} (new : Machine K) (stop : WriteStop) (report : Report) →
+  pub cut_off : {print_old print_new : SinkState} (new : Machine K) (stop : WriteStop) (report : Report) →
       ((position executed : ℕ) (state : State) → Represents Shows cards old position executed state → (outcome : StatementOutcome) × Given card (verb_move verb card state) outcome × (gain_of outcome ≡ Prints report)) →
-      Writes {T = Unit {0}} written stopped_at faults refusals print_old print_new (Err stop) (report_text report) →
-      Executes Shows Given verb card written stopped_at faults refusals print_old print_new cards old new (Err (halt.Print stop))
+      Writes {T = Unit {0}} print_old print_new (Err stop) (report_text report) →
+      Executes Shows Given verb card print_old print_new cards old new (Err (halt.Print stop))
   cut_off {print_old = print_old} {print_new = print_new} new stop report comes writes = λ position executed state s.
       let t = comes position executed state s in
       record {
         outcome = t.0;
         no_cards = subst (λ (g : Gain). punched_by g ≡ []) (sym t.2) refl;
         gives = t.1;
-        writes = subst (λ (g : Gain). Writes {T = Unit {0}} written stopped_at faults refusals print_old print_new (Err stop) (gain_text g)) (sym t.2) writes;
+        writes = subst (λ (g : Gain). Writes {T = Unit {0}} print_old print_new (Err stop) (gain_text g)) (sym t.2) writes;
       }

@@ -1,5 +1,6 @@
 -- What TITLE comes to.
-use Rattle.std.proofs.Common.{◌≡◌, ℕ, List, Option, Ok, Err, refl, subst}
+use Rattle.std.proofs.Common.{◌≡◌, ℕ, List, Ok, Err, refl, subst}
+use Rattle.job_devices.specs.States.{SinkState}
 use Rattle.job_devices.specs.declared.device.WriteStop.{WriteStop}
 use Rattle.job_devices.specs.Text.{Writes}
 use Rattle.control_definitions.specs.Program.{Title}
@@ -19,15 +20,15 @@ titles : (text : List ℕ) (card : ℕ) (state : State) → Settles card (verb_m
 unfolding verb_move
 titles text card state = refl
 
-module _ {K : Type 0} (Shows : Filed → K → Present → Type 0) {P : Type 0} (written stopped_at : P → Option (List ℕ)) (faults refusals : P → ℕ) {print_old print_new : P} (text : List ℕ) (card : ℕ) (cards : List (List ℕ)) (machine : Machine K) where
-  pub title_done : (printed : List ℕ) → printed ≡ text → Writes {T = Unit {0}} written stopped_at faults refusals print_old print_new (Ok tt) (report_text (Titled printed)) →
-      Executes Shows Settles (Title text) card written stopped_at faults refusals print_old print_new cards machine machine (Ok Next)
+module _ {K : Type 0} (Shows : Filed → K → Present → Type 0) {print_old print_new : SinkState} (text : List ℕ) (card : ℕ) (cards : List (List ℕ)) (machine : Machine K) where
+  pub title_done : (printed : List ℕ) → printed ≡ text → Writes {T = Unit {0}} print_old print_new (Ok tt) (report_text (Titled printed)) →
+      Executes Shows Settles (Title text) card print_old print_new cards machine machine (Ok Next)
   title_done printed same writes =
-      loudly Shows Settles (Title text) card written stopped_at faults refusals cards machine (Titled text) (λ position executed state s. (state, titles text card state, s))
-      (subst (λ (t : List ℕ). Writes {T = Unit {0}} written stopped_at faults refusals print_old print_new (Ok tt) (report_text (Titled t))) same writes)
+      loudly Shows Settles (Title text) card cards machine (Titled text) (λ position executed state s. (state, titles text card state, s))
+      (subst (λ (t : List ℕ). Writes {T = Unit {0}} print_old print_new (Ok tt) (report_text (Titled t))) same writes)
 
-  pub title_cut : (stop : WriteStop) (printed : List ℕ) → printed ≡ text → Writes {T = Unit {0}} written stopped_at faults refusals print_old print_new (Err stop) (report_text (Titled printed)) →
-      Executes Shows Settles (Title text) card written stopped_at faults refusals print_old print_new cards machine machine (Err (halt.Print stop))
+  pub title_cut : (stop : WriteStop) (printed : List ℕ) → printed ≡ text → Writes {T = Unit {0}} print_old print_new (Err stop) (report_text (Titled printed)) →
+      Executes Shows Settles (Title text) card print_old print_new cards machine machine (Err (halt.Print stop))
   title_cut stop printed same writes =
-      cut_off Shows Settles (Title text) card written stopped_at faults refusals cards machine machine stop (Titled text) (λ position executed state s. (next (Prints (Titled text)) state, titles text card state, refl))
-      (subst (λ (t : List ℕ). Writes {T = Unit {0}} written stopped_at faults refusals print_old print_new (Err stop) (report_text (Titled t))) same writes)
+      cut_off Shows Settles (Title text) card cards machine machine stop (Titled text) (λ position executed state s. (next (Prints (Titled text)) state, titles text card state, refl))
+      (subst (λ (t : List ℕ). Writes {T = Unit {0}} print_old print_new (Err stop) (report_text (Titled t))) same writes)

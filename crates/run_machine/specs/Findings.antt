@@ -3,7 +3,8 @@
 --     ReportsFinding result        what is found is reported, with its report printed; or it is cut off
 --     act_of cells card finding    what follows
 --     mark_left finding            the mark that it leaves
-use Rattle.std.specs.Prelude.{◌≡◌, ℕ, List, Option, Some, None, Result, Ok, Err}
+use Rattle.std.specs.Prelude.{◌≡◌, ℕ, Option, Some, None, Result, Ok, Err}
+use Rattle.job_devices.specs.States.{SinkState}
 use Rattle.job_devices.specs.declared.device.WriteStop.{WriteStop}
 use Rattle.job_devices.specs.Text.{Writes}
 use Rattle.listing_definitions.specs.declared.Mark.{Mark}
@@ -32,19 +33,19 @@ refused_finding NoMemory = Err halt.NoMemory
 
 -- ---- with what is printed
 
-module _ (Holds : Gain → Finding → Type 0) {P : Type 0} (written stopped_at : P → Option (List ℕ)) (faults refusals : P → ℕ) (print_old print_new : P) where
+module _ (Holds : Gain → Finding → Type 0) (print_old print_new : SinkState) where
   -- this is found, with some gain, which is printed
   pub record HasReported (finding : Finding) : Type 0 where
     pub gain : Gain
     pub holds : Holds gain finding
-    pub writes : Writes {T = Unit {0}} written stopped_at faults refusals print_old print_new (Ok tt) (gain_text gain)
+    pub writes : Writes {T = Unit {0}} print_old print_new (Ok tt) (gain_text gain)
 
   -- something is found, and the print stops before all that it gains is printed
   pub record IsReportingCut (stop : WriteStop) : Type 0 where
     pub gain : Gain
     pub finding : Finding
     pub holds : Holds gain finding
-    pub writes : Writes {T = Unit {0}} written stopped_at faults refusals print_old print_new (Err stop) (gain_text gain)
+    pub writes : Writes {T = Unit {0}} print_old print_new (Err stop) (gain_text gain)
 
   -- where there is no memory, nothing is printed
   abbrev pub ReportsFinding : Result Finding Halt → Type 0

@@ -1,6 +1,7 @@
 -- What a statement does with a machine, the print and the punch.
 --     Performs result              the statement comes to this act, with its report printed and its deck punched; or it is cut off
-use Rattle.std.specs.Prelude.{◌≡◌, ℕ, List, Option, Result, Ok, Err}
+use Rattle.std.specs.Prelude.{◌≡◌, ℕ, List, Result, Ok, Err}
+use Rattle.job_devices.specs.States.{SinkState}
 use Rattle.job_devices.specs.declared.device.WriteStop.{WriteStop}
 use Rattle.job_devices.specs.Text.{Writes}
 use Rattle.deck_definitions.specs.Written.{card_text}
@@ -21,21 +22,20 @@ use Rattle.run_machine.specs.Statements.{Comes}
 abbrev pub gain_cards : Gain → List ℕ
 gain_cards gain = card_text (punched_by gain)
 
-module _ {K : Type 0} (Shows : Filed → K → Present → Type 0) (Given : ℕ → StatementMove → StatementOutcome → Type 0) (verb : Verb ℕ) (card : ℕ) {P U : Type 0} (written stopped_at : P → Option (List ℕ)) (faults refusals : P → ℕ) (print_old print_new : P)
-    (punch_written punch_stopped_at : U → Option (List ℕ)) (punch_faults punch_refusals : U → ℕ) (punch_old punch_new : U) where
+module _ {K : Type 0} (Shows : Filed → K → Present → Type 0) (Given : ℕ → StatementMove → StatementOutcome → Type 0) (verb : Verb ℕ) (card : ℕ) (print_old print_new punch_old punch_new : SinkState) where
   -- with some gain, which is printed and punched, the statement comes to this act
   pub record ActsWith (cards : List (List ℕ)) (position executed : ℕ) (state : State) (new : Machine K) (act : Act) : Type 0 where
     pub gain : Gain
     pub comes : Comes Shows Given verb card cards position executed state new gain act
-    pub prints : Writes {T = Unit {0}} written stopped_at faults refusals print_old print_new (Ok tt) (gain_text gain)
-    pub punches : Writes {T = Unit {0}} punch_written punch_stopped_at punch_faults punch_refusals punch_old punch_new (Ok tt) (gain_cards gain)
+    pub prints : Writes {T = Unit {0}} print_old print_new (Ok tt) (gain_text gain)
+    pub punches : Writes {T = Unit {0}} punch_old punch_new (Ok tt) (gain_cards gain)
 
   -- the statement comes to something, and the print stops before all that it gains is printed; what it punches is punched before
   pub record IsPrintCut (state : State) (stop : WriteStop) : Type 0 where
     pub outcome : StatementOutcome
     pub gives : Given card (verb_move verb card state) outcome
-    pub prints : Writes {T = Unit {0}} written stopped_at faults refusals print_old print_new (Err stop) (gain_text (gain_of outcome))
-    pub punches : Writes {T = Unit {0}} punch_written punch_stopped_at punch_faults punch_refusals punch_old punch_new (Ok tt) (gain_cards (gain_of outcome))
+    pub prints : Writes {T = Unit {0}} print_old print_new (Err stop) (gain_text (gain_of outcome))
+    pub punches : Writes {T = Unit {0}} punch_old punch_new (Ok tt) (gain_cards (gain_of outcome))
 
   -- the statement would punch this deck and go on, and the punch stops before all of the deck is punched; nothing is printed
   pub record IsPunchCut (state : State) (stop : WriteStop) : Type 0 where
@@ -43,7 +43,7 @@ module _ {K : Type 0} (Shows : Filed → K → Present → Type 0) (Given : ℕ 
     pub deck : List (List ℕ)
     pub after : State
     pub gives : Given card (verb_move verb card state) (Goes (Punches report deck) after)
-    pub punches : Writes {T = Unit {0}} punch_written punch_stopped_at punch_faults punch_refusals punch_old punch_new (Err stop) (card_text deck)
+    pub punches : Writes {T = Unit {0}} punch_old punch_new (Err stop) (card_text deck)
     pub is_quiet : print_new ≡ print_old
 
   -- What a statement does from each state that the machine showed. Where it finds no memory, nothing is printed and nothing is

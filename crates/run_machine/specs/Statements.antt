@@ -3,7 +3,8 @@
 --     Comes state gain act         from this state the statement comes to this act with this gain
 --     Decides old new act          the statement prints nothing, and comes to this act
 --     Executes result              the statement punches nothing, and comes to this act, with its report printed; or it is cut off
-use Rattle.std.specs.Prelude.{◌≡◌, ℕ, ◌≤◌, List, [], Option, Result, Ok, Err, IfSome}
+use Rattle.std.specs.Prelude.{◌≡◌, ℕ, ◌≤◌, List, [], Result, Ok, Err, IfSome}
+use Rattle.job_devices.specs.States.{SinkState}
 use Rattle.job_devices.specs.declared.device.WriteStop.{WriteStop}
 use Rattle.job_devices.specs.Text.{Writes}
 use Rattle.control_definitions.specs.Program.{Verb, MoveLimit, Mvadr, Goto}
@@ -43,20 +44,20 @@ module _ {K : Type 0} (Shows : Filed → K → Present → Type 0) (Given : ℕ 
     Decides old new act =
         (cards : List (List ℕ)) (position executed : ℕ) (state : State) → Represents Shows cards old position executed state → Comes cards position executed state new Nothing act
 
-    module _ {P : Type 0} (written stopped_at : P → Option (List ℕ)) (faults refusals : P → ℕ) (print_old print_new : P) where
+    module _ (print_old print_new : SinkState) where
       -- with some gain, which is printed, the statement comes to this act
       pub record Acts (cards : List (List ℕ)) (position executed : ℕ) (state : State) (new : Machine K) (act : Act) : Type 0 where
         pub gain : Gain
         pub no_cards : punched_by gain ≡ []
         pub comes : Comes cards position executed state new gain act
-        pub writes : Writes {T = Unit {0}} written stopped_at faults refusals print_old print_new (Ok tt) (gain_text gain)
+        pub writes : Writes {T = Unit {0}} print_old print_new (Ok tt) (gain_text gain)
 
       -- the statement comes to something, and the print stops before all that it gains is printed
       pub record IsCutOff (state : State) (stop : WriteStop) : Type 0 where
         pub outcome : StatementOutcome
         pub no_cards : punched_by (gain_of outcome) ≡ []
         pub gives : Given card (verb_move verb card state) outcome
-        pub writes : Writes {T = Unit {0}} written stopped_at faults refusals print_old print_new (Err stop) (gain_text (gain_of outcome))
+        pub writes : Writes {T = Unit {0}} print_old print_new (Err stop) (gain_text (gain_of outcome))
 
       -- What a statement that punches nothing does from each state that the machine showed. Where it finds no memory, nothing is
       -- printed.

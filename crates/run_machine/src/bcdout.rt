@@ -24,9 +24,8 @@ impl<S: Kept> Machine<S> {
         card: u32,
     ) -> Result<Act, Halt>
         ensures { (cards : List (List ℕ)) →
-            Performs S.shows Settles program.Bcdout card P.written P.stopped_at P.faults P.refusals print.old
-            print.new U.written U.stopped_at U.faults U.refusals punch.old punch.new cards self.now self.now
-            result }
+            Performs S.shows Settles program.Bcdout card (P.taken print.old) (P.taken print.new)
+            (U.taken punch.old) (U.taken punch.new) cards self.now self.now result }
     {
         let Some(problem) = self.problem_in(NameCell::Xpbname) else {
             return Ok(Act::Ends(End::Verb {

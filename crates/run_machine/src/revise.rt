@@ -55,8 +55,8 @@ impl<S: Kept> Machine<S> {
         card: u32,
     ) -> Result<Act, Halt>
         requires { IsSound S.ready S.solved cards.now self.old }
-        ensures acts { Executes S.shows Settles program.Revise card P.written P.stopped_at P.faults P.refusals
-            print.old print.new cards.now self.old self.new result }
+        ensures acts { Executes S.shows Settles program.Revise card (P.taken print.old)
+            (P.taken print.new) cards.now self.old self.new result }
         ensures sound { IsSound S.ready S.solved cards.now self.new }
     {
         let described = self.revised(alloc, cards, card)?;

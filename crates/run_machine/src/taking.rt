@@ -106,8 +106,8 @@ impl<S: Kept> Machine<S> {
         requires sound { IsSound S.ready S.solved cards.now self.old }
         requires described { Describes S.shows verb card cards.now self.old
             (Ok described) }
-        ensures acts { Executes S.shows Settles (verb_of verb) card P.written P.stopped_at P.faults P.refusals
-            print.old print.new cards.now self.old self.new result }
+        ensures acts { Executes S.shows Settles (verb_of verb) card (P.taken print.old)
+            (P.taken print.new) cards.now self.old self.new result }
         ensures sound { IsSound S.ready S.solved cards.now self.new }
     {
         match described {

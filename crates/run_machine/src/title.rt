@@ -15,8 +15,8 @@ impl<S: Kept> Machine<S> {
     /// TITLE: prints a text.
     pub fn print_title<P: Sink>(&self, print: &mut P, text: &Text) -> Result<Act, Halt>
         ensures { (card : ℕ) (cards : List (List ℕ)) →
-            Executes S.shows Settles (program.Title text.now) card P.written P.stopped_at P.faults P.refusals
-            print.old print.new cards self.now self.now result }
+            Executes S.shows Settles (program.Title text.now) card (P.taken print.old)
+            (P.taken print.new) cards self.now self.now result }
     {
         text_of(&Report::Title { text: text.bytes() }, print)?;
         Ok(Act::Next)

@@ -1,5 +1,6 @@
 -- What SETUP comes to.
 use Rattle.std.proofs.Common.{◌≡◌, ℕ, List, [], ◌∷◌, Option, None, Some, Ok, Err, refl, sym, ap, subst, inl, inr, ◌∙◌}
+use Rattle.job_devices.specs.States.{SinkState}
 use Rattle.job_devices.specs.declared.device.WriteStop.{WriteStop}
 use Rattle.job_devices.specs.Text.{Writes}
 use Rattle.problem_definitions.specs.Names.{Name}
@@ -90,7 +91,7 @@ module _ (card : ℕ) (options : SetupOptions) (state : State) where
       gives_found card verb_fault.NoProblem (problem_of state.cells.xpbname state.file) go_found problem (outcome_of problem options (opening_statuses lp) state) e
       (gives_selected card (selected problem (choice_of state.cells options)) (go_selected problem) lp (outcome_of problem options (opening_statuses lp) state) s (inl refl))
 
-module _ (card : ℕ) {P : Type 0} (written stopped_at : P → Option (List ℕ)) (faults refusals : P → ℕ) (cards : List (List ℕ)) (machine : Machine) (options : SetupOptions) where
+module _ (card : ℕ) (cards : List (List ℕ)) (machine : Machine) (options : SetupOptions) where
   fault_by : (fault : VerbFault) → IsSetupFault machine.cells machine.file options (Fault fault) → {position executed : ℕ} {state : State} → Represents cards machine position executed state →
       Gives linear_programming card (verb_move (SetupVerb options) card state) (stops (VerbStop (record { fault = fault; card = card })))
   fault_by fault (no_problem is none) {state = state} s =
@@ -108,10 +109,10 @@ module _ (card : ℕ) {P : Type 0} (written stopped_at : P → Option (List ℕ)
       gives_overflow card options state problem e (problem_view s (λ (c : Cells). c.xpbname) (Some problem) some)
       (subst (λ (c : Cells). HasSelectionOverflow problem (choice_of c options) e) (sym s.cells) h)
 
-  pub setup_refused : (print : P) (refusal : Refusal) → IsNotOpened machine.cells machine.file options refusal →
-      Executes linear_programming (SetupVerb options) card written stopped_at faults refusals print print cards machine machine (refused_act card refusal)
-  setup_refused print (Fault fault) h = quietly IsPresent (Gives linear_programming) (SetupVerb options) card written stopped_at faults refusals cards machine print (λ position executed state s. fault_by fault h s)
-  setup_refused print (Overflow e) h = quietly IsPresent (Gives linear_programming) (SetupVerb options) card written stopped_at faults refusals cards machine print (λ position executed state s. overflow_by e h s)
+  pub setup_refused : (print : SinkState) (refusal : Refusal) → IsNotOpened machine.cells machine.file options refusal →
+      Executes linear_programming (SetupVerb options) card print print cards machine machine (refused_act card refusal)
+  setup_refused print (Fault fault) h = quietly IsPresent (Gives linear_programming) (SetupVerb options) card cards machine print (λ position executed state s. fault_by fault h s)
+  setup_refused print (Overflow e) h = quietly IsPresent (Gives linear_programming) (SetupVerb options) card cards machine print (λ position executed state s. overflow_by e h s)
   setup_refused print NoMemory h = refl
 
   module _ (opened : Opened) (o : IsOpened machine.cells machine.file options opened) where
@@ -143,16 +144,16 @@ module _ (card : ℕ) {P : Type 0} (written stopped_at : P → Option (List ℕ)
       mark = refl;
     }
 
-    pub setup_done : {print_old print_new : P} → Writes {T = Unit {0}} written stopped_at faults refusals print_old print_new (Ok tt) (report_text (SetUp opened.name options.sense)) →
-        Executes linear_programming (SetupVerb options) card written stopped_at faults refusals print_old print_new cards machine (record machine { setup = Some opened.setup; mark = None }) (Ok Next)
+    pub setup_done : {print_old print_new : SinkState} → Writes {T = Unit {0}} print_old print_new (Ok tt) (report_text (SetUp opened.name options.sense)) →
+        Executes linear_programming (SetupVerb options) card print_old print_new cards machine (record machine { setup = Some opened.setup; mark = None }) (Ok Next)
     setup_done {print_old = print_old} {print_new = print_new} writes =
-        loudly IsPresent (Gives linear_programming) (SetupVerb options) card written stopped_at faults refusals cards machine (SetUp o.problem.name options.sense)
+        loudly IsPresent (Gives linear_programming) (SetupVerb options) card cards machine (SetUp o.problem.name options.sense)
         (λ position executed state s. (after_setup o.problem options (opening_statuses opened.setup.lp) state, gives_opened s, stands_set_up s))
-        (subst (λ (n : Name). Writes {T = Unit {0}} written stopped_at faults refusals print_old print_new (Ok tt) (report_text (SetUp n options.sense))) o.is_own writes)
+        (subst (λ (n : Name). Writes {T = Unit {0}} print_old print_new (Ok tt) (report_text (SetUp n options.sense))) o.is_own writes)
 
-    pub setup_cut : {print_old print_new : P} (stop : WriteStop) → Writes {T = Unit {0}} written stopped_at faults refusals print_old print_new (Err stop) (report_text (SetUp opened.name options.sense)) →
-        Executes linear_programming (SetupVerb options) card written stopped_at faults refusals print_old print_new cards machine machine (Err (halt.Print stop))
+    pub setup_cut : {print_old print_new : SinkState} (stop : WriteStop) → Writes {T = Unit {0}} print_old print_new (Err stop) (report_text (SetUp opened.name options.sense)) →
+        Executes linear_programming (SetupVerb options) card print_old print_new cards machine machine (Err (halt.Print stop))
     setup_cut {print_old = print_old} {print_new = print_new} stop writes =
-        cut_off IsPresent (Gives linear_programming) (SetupVerb options) card written stopped_at faults refusals cards machine machine stop (SetUp o.problem.name options.sense)
+        cut_off IsPresent (Gives linear_programming) (SetupVerb options) card cards machine machine stop (SetUp o.problem.name options.sense)
         (λ position executed state s. (outcome_of o.problem options (opening_statuses opened.setup.lp) state, gives_opened s, refl))
-        (subst (λ (n : Name). Writes {T = Unit {0}} written stopped_at faults refusals print_old print_new (Err stop) (report_text (SetUp n options.sense))) o.is_own writes)
+        (subst (λ (n : Name). Writes {T = Unit {0}} print_old print_new (Err stop) (report_text (SetUp n options.sense))) o.is_own writes)

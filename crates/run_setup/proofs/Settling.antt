@@ -1,5 +1,6 @@
 -- What a statement comes to, whatever is right of linear programming, it comes to by what is right.
-use Rattle.std.proofs.Common.{ℕ, List, Option, Result, Ok, Err}
+use Rattle.std.proofs.Common.{ℕ, List, Result, Ok, Err}
+use Rattle.job_devices.specs.States.{SinkState}
 use Rattle.problem_file.specs.Filed.{Filed}
 use Rattle.control_definitions.specs.Program.{Verb}
 use Rattle.question_definitions.specs.Solving.{Solving}
@@ -24,9 +25,9 @@ module _ {K : Type 0} (Shows : Filed → K → Present → Type 0) (S : Solving)
   follows card move cards new position executed gain (act.Jump to) f = (f.0, settles_gives S card move _ f.1, f.2, f.3)
   follows card move cards new position executed gain (act.Ends end) f = settles_gives S card move _ f
 
-  module _ (verb : Verb ℕ) (card : ℕ) {P : Type 0} (written stopped_at : P → Option (List ℕ)) (faults refusals : P → ℕ) (print_old print_new : P) where
+  module _ (verb : Verb ℕ) (card : ℕ) (print_old print_new : SinkState) where
     pub executes : (cards : List (List ℕ)) (old new : Machine K) (result : Result Act Halt) →
-        Executes Shows Settles verb card written stopped_at faults refusals print_old print_new cards old new result → Executes Shows (Gives S) verb card written stopped_at faults refusals print_old print_new cards old new result
+        Executes Shows Settles verb card print_old print_new cards old new result → Executes Shows (Gives S) verb card print_old print_new cards old new result
     executes cards old new (Ok then) e = λ position executed state s.
         let a = e position executed state s in
         record { gain = a.gain; no_cards = a.no_cards; comes = follows card (verb_move verb card state) cards new position executed a.gain then a.comes; writes = a.writes }
@@ -36,25 +37,25 @@ module _ {K : Type 0} (Shows : Filed → K → Present → Type 0) (S : Solving)
     executes cards old new (Err (halt.Punch stop)) e = absurd e
     executes cards old new (Err halt.NoMemory) e = e
 
-    pub performs : {U : Type 0} (punch_written punch_stopped_at : U → Option (List ℕ)) (punch_faults punch_refusals : U → ℕ) (punch_old punch_new : U) (cards : List (List ℕ)) (old new : Machine K) (result : Result Act Halt) →
-        Performs Shows Settles verb card written stopped_at faults refusals print_old print_new punch_written punch_stopped_at punch_faults punch_refusals punch_old punch_new cards old new result →
-        Performs Shows (Gives S) verb card written stopped_at faults refusals print_old print_new punch_written punch_stopped_at punch_faults punch_refusals punch_old punch_new cards old new result
-    performs punch_written punch_stopped_at punch_faults punch_refusals punch_old punch_new cards old new (Ok then) e = λ position executed state s.
+    pub performs : (punch_old punch_new : SinkState) (cards : List (List ℕ)) (old new : Machine K) (result : Result Act Halt) →
+        Performs Shows Settles verb card print_old print_new punch_old punch_new cards old new result →
+        Performs Shows (Gives S) verb card print_old print_new punch_old punch_new cards old new result
+    performs punch_old punch_new cards old new (Ok then) e = λ position executed state s.
         let a = e position executed state s in
         record { gain = a.gain; comes = follows card (verb_move verb card state) cards new position executed a.gain then a.comes; prints = a.prints; punches = a.punches }
-    performs punch_written punch_stopped_at punch_faults punch_refusals punch_old punch_new cards old new (Err (halt.Print stop)) e = λ position executed state s.
+    performs punch_old punch_new cards old new (Err (halt.Print stop)) e = λ position executed state s.
         let a = e position executed state s in
         record { outcome = a.outcome; gives = settles_gives S card (verb_move verb card state) a.outcome a.gives; prints = a.prints; punches = a.punches }
-    performs punch_written punch_stopped_at punch_faults punch_refusals punch_old punch_new cards old new (Err (halt.Punch stop)) e = λ position executed state s.
+    performs punch_old punch_new cards old new (Err (halt.Punch stop)) e = λ position executed state s.
         let a = e position executed state s in
         record { report = a.report; deck = a.deck; after = a.after; gives = settles_gives S card (verb_move verb card state) (Goes (Punches a.report a.deck) a.after) a.gives; punches = a.punches; is_quiet = a.is_quiet }
-    performs punch_written punch_stopped_at punch_faults punch_refusals punch_old punch_new cards old new (Err halt.NoMemory) e = e
+    performs punch_old punch_new cards old new (Err halt.NoMemory) e = e
 
   -- a statement that prints and punches nothing
-  pub decides : (verb : Verb ℕ) (card : ℕ) {P U : Type 0} (written stopped_at : P → Option (List ℕ)) (faults refusals : P → ℕ) (print : P) (punch_written punch_stopped_at : U → Option (List ℕ)) (punch_faults punch_refusals : U → ℕ) (punch : U)
+  pub decides : (verb : Verb ℕ) (card : ℕ) (print punch : SinkState)
       (cards : List (List ℕ)) (old new : Machine K) (then : Act) → Decides Shows Settles verb card old new then →
-      Performs Shows (Gives S) verb card written stopped_at faults refusals print print punch_written punch_stopped_at punch_faults punch_refusals punch punch cards old new (Ok then)
-  decides verb card written stopped_at faults refusals print punch_written punch_stopped_at punch_faults punch_refusals punch cards old new then decided =
-      performs verb card written stopped_at faults refusals print print punch_written punch_stopped_at punch_faults punch_refusals punch punch cards old new (Ok then)
-      (punches_nothing punch_written punch_stopped_at punch_faults punch_refusals punch Shows Settles verb card written stopped_at faults refusals print print cards old new (Ok then)
-      (quietly Shows Settles verb card written stopped_at faults refusals cards old print (decided cards)))
+      Performs Shows (Gives S) verb card print print punch punch cards old new (Ok then)
+  decides verb card print punch cards old new then decided =
+      performs verb card print print punch punch cards old new (Ok then)
+      (punches_nothing punch Shows Settles verb card print print cards old new (Ok then)
+      (quietly Shows Settles verb card cards old print (decided cards)))

@@ -1,6 +1,7 @@
 -- What a statement does with the machine of a run, by what is right of linear programming: the words of run_machine, for a setup that
 -- keeps a basis.
-use Rattle.std.specs.Prelude.{ℕ, List, Option, Result}
+use Rattle.std.specs.Prelude.{ℕ, List, Result}
+use Rattle.job_devices.specs.States.{SinkState}
 use Rattle.control_definitions.specs.Program.{Verb}
 use Rattle.question_definitions.specs.Solving.{Solving}
 use Rattle.run_definitions.specs.State.{State}
@@ -20,12 +21,12 @@ module _ (S : Solving) (verb : Verb ℕ) (card : ℕ) where
   abbrev pub Comes : List (List ℕ) → ℕ → ℕ → State → Machine → Gain → Act → Type 0
   Comes = statements.Comes IsPresent (Gives S) verb card
 
-  module _ {P : Type 0} (written stopped_at : P → Option (List ℕ)) (faults refusals : P → ℕ) (print_old print_new : P) where
+  module _ (print_old print_new : SinkState) where
     -- the statement punches nothing, and comes to this act, with its report printed; or it is cut off
     abbrev pub Executes : List (List ℕ) → Machine → Machine → Result Act Halt → Type 0
-    Executes = statements.Executes IsPresent (Gives S) verb card written stopped_at faults refusals print_old print_new
+    Executes = statements.Executes IsPresent (Gives S) verb card print_old print_new
 
-    module _ {U : Type 0} (punch_written punch_stopped_at : U → Option (List ℕ)) (punch_faults punch_refusals : U → ℕ) (punch_old punch_new : U) where
+    module _ (punch_old punch_new : SinkState) where
       -- it comes to this act, with its report printed and its deck punched; or it is cut off
       abbrev pub Performs : List (List ℕ) → Machine → Machine → Result Act Halt → Type 0
-      Performs = punching.Performs IsPresent (Gives S) verb card written stopped_at faults refusals print_old print_new punch_written punch_stopped_at punch_faults punch_refusals punch_old punch_new
+      Performs = punching.Performs IsPresent (Gives S) verb card print_old print_new punch_old punch_new

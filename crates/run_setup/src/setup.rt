@@ -78,8 +78,8 @@ pub fn set_up<E: Engine, P: Sink>(
     options: &SetupOptions,
 ) -> Result<Act, Halt>
     ensures acts { (cards : List (List ℕ)) →
-        Executes linear_programming (program.Setup (options_view options.now)) card P.written
-        P.stopped_at P.faults P.refusals print.old print.new cards machine.old machine.new result }
+        Executes linear_programming (program.Setup (options_view options.now)) card
+        (P.taken print.old) (P.taken print.new) cards machine.old machine.new result }
     ensures sound { (cards : List (List ℕ)) → IsSound cards machine.old →
         IsSound cards machine.new }
 {

@@ -7,7 +7,7 @@ use Rattle.basis_deck.proofs.punching.put_limits.Given as goal
 -- what is written, and what is left, are the whole
 abbrev pub invariant-loop-c : goal.invariant-loop-c
 invariant-loop-c g l =
-    (written : List ℕ) × (Writes {T = Unit {0}} g.U.Sink.written g.U.Sink.stopped_at g.U.Sink.faults g.U.Sink.refusals l.fn.sink l.sink (Ok tt) written)
+    (written : List ℕ) × (Writes {T = Unit {0}} (g.U.Sink.taken l.fn.sink) (g.U.Sink.taken l.sink) (Ok tt) written)
     × (written ++ card_text (limits_from l.problem l.lp l.basis l.c) ≡ card_text (limits_from l.problem l.lp l.basis 0))
     × (l.count + length (limits_from l.problem l.lp l.basis l.c) ≡ length (limits_from l.problem l.lp l.basis 0))
     × (l.count ≤ l.c)

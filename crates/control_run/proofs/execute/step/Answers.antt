@@ -17,8 +17,8 @@ pub returns-in_err-act-clause-steps : goal.returns-in_err-act-clause-steps
 returns-in_err-act-clause-steps g c =
     let p = err_from_is_err_and c.from_residual.result c.from_residual.ensures.1 in
     rw (p.1, p.2)
-    (steps_err linear_programming c.args.input.program.now c.args.input.cards.now c.args.position (statement_view c.statement-next.result.now) c.statement-next.ensures g.P.Sink.written g.P.Sink.stopped_at g.P.Sink.faults g.P.Sink.refusals g.U.Sink.written g.U.Sink.stopped_at g.U.Sink.faults g.U.Sink.refusals c.args.machine.now c.execute.new.machine c.args.print.now c.execute.new.print c.args.punch.now c.execute.new.punch _ c.in_err-act.ensures.acts)
+    (steps_err linear_programming c.args.input.program.now c.args.input.cards.now c.args.position (statement_view c.statement-next.result.now) c.statement-next.ensures c.args.machine.now c.execute.new.machine (g.P.Sink.taken c.args.print.now) (g.P.Sink.taken c.execute.new.print) (g.U.Sink.taken c.args.punch.now) (g.U.Sink.taken c.execute.new.punch) _ c.in_err-act.ensures.acts)
 
 pub returns-clause-steps : goal.returns-clause-steps
 returns-clause-steps g c =
-    steps_to linear_programming c.args.input.program.now c.args.input.cards.now c.args.position (statement_view c.statement-next.result.now) c.statement-next.ensures g.P.Sink.written g.P.Sink.stopped_at g.P.Sink.faults g.P.Sink.refusals g.U.Sink.written g.U.Sink.stopped_at g.U.Sink.faults g.U.Sink.refusals c.args.machine.now _ _ c.turn.result c.turn.ensures c.in_ok-act.ensures.acts
+    steps_to linear_programming c.args.input.program.now c.args.input.cards.now c.args.position (statement_view c.statement-next.result.now) c.statement-next.ensures c.args.machine.now _ _ c.turn.result c.turn.ensures c.in_ok-act.ensures.acts

@@ -13,14 +13,14 @@ use Rattle.control_run.proofs.parametric.find.Goals as goal
 pub returns-in-Err-clause-tells : goal.returns-in-Err-clause-tells
 returns-in-Err-clause-tells g c =
     rw c.refused.ensures
-    (unselected_reported g.P.Sink.written g.P.Sink.stopped_at g.P.Sink.faults g.P.Sink.refusals c.args.verb c.args.cells.now c.args.file.now refl c.select_again.new.setup c.in-Some.problem.now
-    (ap (λ (s : Setup). filed_under s.name c.args.file.now) (sym c.setup.view_is) ∙ sym c.in-Some.ensures) c.args.print.now c.in-Err.refusal c.in-Err.ensures.refused)
+    (unselected_reported c.args.verb c.args.cells.now c.args.file.now refl c.select_again.new.setup c.in-Some.problem.now
+    (ap (λ (s : Setup). filed_under s.name c.args.file.now) (sym c.setup.view_is) ∙ sym c.in-Some.ensures) (g.P.Sink.taken c.args.print.now) c.in-Err.refusal c.in-Err.ensures.refused)
 
 pub returns-in-Err-request_of-clause-tells : goal.returns-in-Err-request_of-clause-tells
 returns-in-Err-request_of-clause-tells g c =
     rw (c.refused-in-Err-request_of.ensures, c.refusal_of.ensures)
-    (unasked_reported g.P.Sink.written g.P.Sink.stopped_at g.P.Sink.faults g.P.Sink.refusals c.args.verb c.args.cells.now c.args.file.now refl c.select_again.new.setup c.in-Some.problem.now
-    (ap (λ (s : Setup). filed_under s.name c.args.file.now) (sym c.setup.view_is) ∙ sym c.in-Some.ensures) c.select_again.new.setup.lp c.in_default-select_again.ensures.selected c.args.print.now c.in-Err-request_of.stop c.in-Err-request_of.ensures.refused)
+    (unasked_reported c.args.verb c.args.cells.now c.args.file.now refl c.select_again.new.setup c.in-Some.problem.now
+    (ap (λ (s : Setup). filed_under s.name c.args.file.now) (sym c.setup.view_is) ∙ sym c.in-Some.ensures) c.select_again.new.setup.lp c.in_default-select_again.ensures.selected (g.P.Sink.taken c.args.print.now) c.in-Err-request_of.stop c.in-Err-request_of.ensures.refused)
 
 pub returns-in-Err-request_of-clause-ready : goal.returns-in-Err-request_of-clause-ready
 returns-in-Err-request_of-clause-ready g c =
@@ -56,7 +56,7 @@ follow-requires-clause-serves g c =
 
 pub returns-clause-tells : goal.returns-clause-tells
 returns-clause-tells g c =
-    again_reported g.P.Sink.written g.P.Sink.stopped_at g.P.Sink.faults g.P.Sink.refusals c.args.verb c.args.cells.now c.args.file.now c.args.setup.now c.setup-2.view_is c.select_again.ensures.others c.in-Some.problem.now
+    again_reported c.args.verb c.args.cells.now c.args.file.now c.args.setup.now c.setup-2.view_is c.select_again.ensures.others c.in-Some.problem.now
     (ap (λ (s : Setup). filed_under s.name c.args.file.now) (sym c.setup.view_is) ∙ sym c.in-Some.ensures) c.in_default-select_again.ensures.selected _ refl refl (parametric_run_view c.run_of-parametric_run.result)
     (asked_of c.args.verb c.in-Some.problem.now c.args.cells.now c.in-Ok.request c.run_of-parametric_run.result c.steps_allowed.result c.steps_allowed.ensures.steps c.run_of-parametric_run.ensures.viewed c.in-Ok.ensures.asked)
-    c.args.print.now c.follow.new.print c.follow.result c.follow.ensures.tells
+    (g.P.Sink.taken c.args.print.now) (g.P.Sink.taken c.follow.new.print) c.follow.result c.follow.ensures.tells

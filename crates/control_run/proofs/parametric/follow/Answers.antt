@@ -14,15 +14,15 @@ returns-in-Ok-clause-tells g c =
 pub returns-in-Err-Limit-clause-tells : goal.returns-in-Err-Limit-clause-tells
 returns-in-Err-Limit-clause-tells g c =
     let t = subst (StopsParametricRun c.args.sheet (parametric_run_view c.args.parametric_run.now) c.args.basis.now c.run_from.new.basis (g.R.Rates.waypoints c.args.rates.now) (g.R.Rates.waypoints c.run_from.new.rates)) c.in-Err-Limit.field-0-is c.in-Err-Limit.ensures.stops in
-    tells_quietly g.P.Sink.written g.P.Sink.stopped_at g.P.Sink.faults g.P.Sink.refusals
-    (ParametricRunFinds (sheet_view c.args.sheet) c.args.basis.now c.run_from.new.basis (parametric_run_view c.args.parametric_run.now) (g.R.Rates.waypoints c.args.rates.now) (g.R.Rates.waypoints c.run_from.new.rates)) c.args.print.now (Ok Limit) (at_limit t.goes_on)
+    tells_quietly
+    (ParametricRunFinds (sheet_view c.args.sheet) c.args.basis.now c.run_from.new.basis (parametric_run_view c.args.parametric_run.now) (g.R.Rates.waypoints c.args.rates.now) (g.R.Rates.waypoints c.run_from.new.rates)) (g.P.Sink.taken c.args.print.now) (Ok Limit) (at_limit t.goes_on)
 
 pub overflow_in-requires-clause-way : goal.overflow_in-requires-clause-way
 overflow_in-requires-clause-way g c =
     let t = subst (StopsParametricRun c.args.sheet (parametric_run_view c.args.parametric_run.now) c.args.basis.now c.run_from.new.basis (g.R.Rates.waypoints c.args.rates.now) (g.R.Rates.waypoints c.run_from.new.rates)) c.in-Err-Overflow.field-0-is c.in-Err-Overflow.ensures.stops in
-    is_way g.P.Sink.written g.P.Sink.stopped_at g.P.Sink.faults g.P.Sink.refusals c.args.sheet (parametric_run_view c.args.parametric_run.now) c.args.basis.now c.run_from.new.basis (g.R.Rates.waypoints c.args.rates.now) (g.R.Rates.waypoints c.run_from.new.rates) c.in-Err-Overflow.evidence t
+    is_way c.args.sheet (parametric_run_view c.args.parametric_run.now) c.args.basis.now c.run_from.new.basis (g.R.Rates.waypoints c.args.rates.now) (g.R.Rates.waypoints c.run_from.new.rates) c.in-Err-Overflow.evidence t
 
 pub returns-in-Err-Overflow-clause-tells : goal.returns-in-Err-Overflow-clause-tells
 returns-in-Err-Overflow-clause-tells g c =
     let t = subst (StopsParametricRun c.args.sheet (parametric_run_view c.args.parametric_run.now) c.args.basis.now c.run_from.new.basis (g.R.Rates.waypoints c.args.rates.now) (g.R.Rates.waypoints c.run_from.new.rates)) c.in-Err-Overflow.field-0-is c.in-Err-Overflow.ensures.stops in
-    run_overflow_tells g.P.Sink.written g.P.Sink.stopped_at g.P.Sink.faults g.P.Sink.refusals c.args.sheet (parametric_run_view c.args.parametric_run.now) c.args.basis.now c.run_from.new.basis (g.R.Rates.waypoints c.args.rates.now) (g.R.Rates.waypoints c.run_from.new.rates) c.in-Err-Overflow.evidence t c.args.print.now c.overflow_in.result c.overflow_in.ensures
+    run_overflow_tells c.args.sheet (parametric_run_view c.args.parametric_run.now) c.args.basis.now c.run_from.new.basis (g.R.Rates.waypoints c.args.rates.now) (g.R.Rates.waypoints c.run_from.new.rates) c.in-Err-Overflow.evidence t (g.P.Sink.taken c.args.print.now) c.overflow_in.result c.overflow_in.ensures

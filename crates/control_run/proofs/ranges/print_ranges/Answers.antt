@@ -16,8 +16,8 @@ pub returns-in_err-text_of : goal.returns-in_err-text_of
 returns-in_err-text_of g c = λ before.
     let p = err_from_is_err_and c.from_residual.result c.from_residual.ensures.1 in
     rw (p.1, p.2)
-    (ranges_cut g.P.Sink.written g.P.Sink.stopped_at g.P.Sink.faults g.P.Sink.refusals c.args.sheet c.args.basis.now before c.args.ranged.now.point c.args.ranged.now.report c.requires.ranged _ c.in_err-text_of.ensures)
+    (ranges_cut c.args.sheet c.args.basis.now before c.args.ranged.now.point c.args.ranged.now.report c.requires.ranged _ c.in_err-text_of.ensures)
 
 pub returns : goal.returns
 returns g c = λ before.
-    ranges_reported g.P.Sink.written g.P.Sink.stopped_at g.P.Sink.faults g.P.Sink.refusals c.args.sheet c.args.basis.now before c.args.ranged.now.point c.args.ranged.now.report c.requires.ranged c.in_ok-text_of.ensures
+    ranges_reported c.args.sheet c.args.basis.now before c.args.ranged.now.point c.args.ranged.now.report c.requires.ranged c.in_ok-text_of.ensures

@@ -21,5 +21,5 @@ range_basis-requires-clause-no_change g c =
 
 pub returns-clause-tells : goal.returns-clause-tells
 returns-clause-tells g c =
-    ranges_at g.P.Sink.written g.P.Sink.stopped_at g.P.Sink.faults g.P.Sink.refusals c.args.file.now c.setup.view_is c.in-Some.problem.now (sym c.in-Some.ensures) c.args.print.now c.range_basis.new.print c.range_basis.result
+    ranges_at c.args.file.now c.setup.view_is c.in-Some.problem.now (sym c.in-Some.ensures) (g.P.Sink.taken c.args.print.now) (g.P.Sink.taken c.range_basis.new.print) c.range_basis.result
     c.range_basis.ensures.tells

@@ -6,7 +6,7 @@ use Rattle.control_run.proofs.run.run_statements.Given as goal
 
 abbrev pub invariant-loop-position : goal.invariant-loop-position
 invariant-loop-position g l =
-    IsUnderway linear_programming l.input.program.now l.input.cards.now g.P.Sink.written g.P.Sink.stopped_at g.P.Sink.faults g.P.Sink.refusals g.U.Sink.written g.U.Sink.stopped_at g.U.Sink.faults g.U.Sink.refusals l.fn.print l.print l.fn.punch l.punch l.machine l.position l.executed
+    IsUnderway linear_programming l.input.program.now l.input.cards.now (g.P.Sink.taken l.fn.print) (g.P.Sink.taken l.print) (g.U.Sink.taken l.fn.punch) (g.U.Sink.taken l.punch) l.machine l.position l.executed
 
 abbrev pub decreases-loop-position : goal.decreases-loop-position
 decreases-loop-position g l = 100000 - l.executed

@@ -19,10 +19,10 @@ pub returns-in_err-text_of : goal.returns-in_err-text_of
 returns-in_err-text_of g c = λ before.
     let p = err_from_is_err_and c.from_residual.result c.from_residual.ensures.1 in
     rw (p.1, p.2)
-    (lines_cut g.P.Sink.written g.P.Sink.stopped_at g.P.Sink.faults g.P.Sink.refusals c.args.sheet c.args.basis.now before c.args.mark c.args.viewed.now.point c.args.viewed.now.prices c.args.viewed.now.slack.items c.deref.result.now c.deref.ensures.value
+    (lines_cut c.args.sheet c.args.basis.now before c.args.mark c.args.viewed.now.point c.args.viewed.now.prices c.args.viewed.now.slack.items c.deref.result.now c.deref.ensures.value
     c.requires.viewed _ c.in_err-text_of.ensures)
 
 pub returns : goal.returns
 returns g c = λ before.
-    lines_reported g.P.Sink.written g.P.Sink.stopped_at g.P.Sink.faults g.P.Sink.refusals c.args.sheet c.args.basis.now before c.args.mark c.args.viewed.now.point c.args.viewed.now.prices c.args.viewed.now.slack.items c.deref.result.now c.deref.ensures.value
+    lines_reported c.args.sheet c.args.basis.now before c.args.mark c.args.viewed.now.point c.args.viewed.now.prices c.args.viewed.now.slack.items c.deref.result.now c.deref.ensures.value
     c.requires.viewed c.in_ok-text_of.ensures

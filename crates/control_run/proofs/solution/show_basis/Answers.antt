@@ -15,8 +15,8 @@ returns-in-Ok-clause-tells g c = c.print_lines.ensures (g.R.Rates.waypoints c.ar
 pub returns-in-Err-Overflow-clause-tells : goal.returns-in-Err-Overflow-clause-tells
 returns-in-Err-Overflow-clause-tells g c =
     let t = subst (λ stop. IfOverflow stop (SolutionRefused c.args.sheet.lp.now (g.R.Rates.waypoints c.args.rates.now) c.args.basis.now (g.R.Rates.waypoints c.solution_of.new.rates))) c.in-Err-Overflow.field-0-is c.in-Err-Overflow.ensures.overflow in
-    overflow_tells g.P.Sink.written g.P.Sink.stopped_at g.P.Sink.faults g.P.Sink.refusals
-    (LinesFound (sheet_view c.args.sheet) c.args.basis.now (g.R.Rates.waypoints c.args.rates.now) c.args.mark) c.args.print.now
+    overflow_tells
+    (LinesFound (sheet_view c.args.sheet) c.args.basis.now (g.R.Rates.waypoints c.args.rates.now) c.args.mark) (g.P.Sink.taken c.args.print.now)
     c.args.basis.now (g.R.Rates.waypoints c.solution_of.new.rates) c.in-Err-Overflow.evidence c.overflow_at.result
     (subst (λ (e : Evidence). IsOverflowAt c.args.basis.now (g.R.Rates.waypoints c.solution_of.new.rates) e c.overflow_at.result) c.in-Err-Overflow.evidence-is c.overflow_at.ensures)
     (lines_overflow c.args.sheet c.args.basis.now (g.R.Rates.waypoints c.args.rates.now) (g.R.Rates.waypoints c.solution_of.new.rates) c.args.mark c.in-Err-Overflow.evidence t)

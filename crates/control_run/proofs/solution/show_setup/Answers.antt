@@ -21,5 +21,5 @@ show_basis-requires-clause-no_change g c =
 
 pub returns-clause-tells : goal.returns-clause-tells
 returns-clause-tells g c =
-    lines_at g.P.Sink.written g.P.Sink.stopped_at g.P.Sink.faults g.P.Sink.refusals c.args.file.now c.setup.view_is c.args.mark c.in-Some.problem.now (sym c.in-Some.ensures) c.args.print.now c.show_basis.new.print c.show_basis.result
+    lines_at c.args.file.now c.setup.view_is c.args.mark c.in-Some.problem.now (sym c.in-Some.ensures) (g.P.Sink.taken c.args.print.now) (g.P.Sink.taken c.show_basis.new.print) c.show_basis.result
     c.show_basis.ensures.tells

@@ -12,8 +12,8 @@ use Rattle.control_run.proofs.solving.find.Goals as goal
 pub returns-in-Err-clause-tells : goal.returns-in-Err-clause-tells
 returns-in-Err-clause-tells g c =
     rw c.refused.ensures
-    (refusal_reported g.P.Sink.written g.P.Sink.stopped_at g.P.Sink.faults g.P.Sink.refusals c.args.verb c.args.cells.now c.args.file.now refl c.select_again.new.setup c.in-Some.problem.now
-    (ap (λ (s : Setup). filed_under s.name c.args.file.now) (sym c.setup.view_is) ∙ sym c.in-Some.ensures) c.args.print.now c.in-Err.refusal c.in-Err.ensures.refused)
+    (refusal_reported c.args.verb c.args.cells.now c.args.file.now refl c.select_again.new.setup c.in-Some.problem.now
+    (ap (λ (s : Setup). filed_under s.name c.args.file.now) (sym c.setup.view_is) ∙ sym c.in-Some.ensures) (g.P.Sink.taken c.args.print.now) c.in-Err.refusal c.in-Err.ensures.refused)
 
 pub follow-requires-clause-sheet : goal.follow-requires-clause-sheet
 follow-requires-clause-sheet g c =
@@ -37,11 +37,11 @@ follow-requires-clause-rates g c =
 
 pub returns-clause-tells : goal.returns-clause-tells
 returns-clause-tells g c =
-    again_reported g.P.Sink.written g.P.Sink.stopped_at g.P.Sink.faults g.P.Sink.refusals c.args.verb c.args.cells.now c.args.file.now c.args.setup.now c.setup-2.view_is c.select_again.ensures.others c.in-Some.problem.now
-    (ap (λ (s : Setup). filed_under s.name c.args.file.now) (sym c.setup.view_is) ∙ sym c.in-Some.ensures) c.in_default-select_again.ensures.selected _ refl refl c.args.print.now c.follow.new.print c.follow.result c.follow.ensures.tells
+    again_reported c.args.verb c.args.cells.now c.args.file.now c.args.setup.now c.setup-2.view_is c.select_again.ensures.others c.in-Some.problem.now
+    (ap (λ (s : Setup). filed_under s.name c.args.file.now) (sym c.setup.view_is) ∙ sym c.in-Some.ensures) c.in_default-select_again.ensures.selected _ refl refl (g.P.Sink.taken c.args.print.now) (g.P.Sink.taken c.follow.new.print) c.follow.result c.follow.ensures.tells
 
 pub returns-clause-solved : goal.returns-clause-solved
 returns-clause-solved g c =
-    again_solved g.P.Sink.written g.P.Sink.stopped_at g.P.Sink.faults g.P.Sink.refusals c.args.verb c.args.cells.now c.args.file.now c.args.setup.now c.setup-2.view_is c.select_again.ensures.others c.in-Some.problem.now
-    (ap (λ (s : Setup). filed_under s.name c.args.file.now) (sym c.setup.view_is) ∙ sym c.in-Some.ensures) c.in_default-select_again.ensures.selected _ refl refl c.args.print.now c.follow.new.print c.follow.result c.follow.ensures.tells
+    again_solved c.args.verb c.args.cells.now c.args.file.now c.args.setup.now c.setup-2.view_is c.select_again.ensures.others c.in-Some.problem.now
+    (ap (λ (s : Setup). filed_under s.name c.args.file.now) (sym c.setup.view_is) ∙ sym c.in-Some.ensures) c.in_default-select_again.ensures.selected _ refl refl (g.P.Sink.taken c.args.print.now) (g.P.Sink.taken c.follow.new.print) c.follow.result c.follow.ensures.tells
     c.requires refl c.number_of_variables-size.ensures.lawful c.follow.ensures.rates

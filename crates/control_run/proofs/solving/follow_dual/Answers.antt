@@ -20,19 +20,19 @@ returns-in-Ok-clause-tells g c =
 pub returns-in-Err-NotDualFeasible-clause-tells : goal.returns-in-Err-NotDualFeasible-clause-tells
 returns-in-Err-NotDualFeasible-clause-tells g c =
     let t = subst (DualPathStops c.args.sheet c.args.basis.now c.dual_from.new.basis c.args.limit (g.R.Rates.waypoints c.args.rates.now) (g.R.Rates.waypoints c.dual_from.new.rates)) c.in-Err-NotDualFeasible.field-0-is c.in-Err-NotDualFeasible.ensures.stops in
-    tells_quietly g.P.Sink.written g.P.Sink.stopped_at g.P.Sink.faults g.P.Sink.refusals
-    (PathFinds solvers.Dual (sheet_view c.args.sheet) c.args.basis.now c.dual_from.new.basis (Some c.args.limit) (g.R.Rates.waypoints c.args.rates.now) (g.R.Rates.waypoints c.dual_from.new.rates)) c.args.print.now (Ok (WrongPrices c.in-Err-NotDualFeasible.variable)) (wrong_prices t.0)
+    tells_quietly
+    (PathFinds solvers.Dual (sheet_view c.args.sheet) c.args.basis.now c.dual_from.new.basis (Some c.args.limit) (g.R.Rates.waypoints c.args.rates.now) (g.R.Rates.waypoints c.dual_from.new.rates)) (g.P.Sink.taken c.args.print.now) (Ok (WrongPrices c.in-Err-NotDualFeasible.variable)) (wrong_prices t.0)
 
 pub returns-in-Err-Limit-clause-tells : goal.returns-in-Err-Limit-clause-tells
 returns-in-Err-Limit-clause-tells g c =
     let t = subst (DualPathStops c.args.sheet c.args.basis.now c.dual_from.new.basis c.args.limit (g.R.Rates.waypoints c.args.rates.now) (g.R.Rates.waypoints c.dual_from.new.rates)) c.in-Err-Limit.field-0-is c.in-Err-Limit.ensures.stops in
-    tells_quietly g.P.Sink.written g.P.Sink.stopped_at g.P.Sink.faults g.P.Sink.refusals
-    (PathFinds solvers.Dual (sheet_view c.args.sheet) c.args.basis.now c.dual_from.new.basis (Some c.args.limit) (g.R.Rates.waypoints c.args.rates.now) (g.R.Rates.waypoints c.dual_from.new.rates)) c.args.print.now (Ok Limit) (at_limit (t.0, t.1.goes_on))
+    tells_quietly
+    (PathFinds solvers.Dual (sheet_view c.args.sheet) c.args.basis.now c.dual_from.new.basis (Some c.args.limit) (g.R.Rates.waypoints c.args.rates.now) (g.R.Rates.waypoints c.dual_from.new.rates)) (g.P.Sink.taken c.args.print.now) (Ok Limit) (at_limit (t.0, t.1.goes_on))
 
 pub returns-in-Err-Overflow-clause-tells : goal.returns-in-Err-Overflow-clause-tells
 returns-in-Err-Overflow-clause-tells g c =
     let t = subst (DualPathStops c.args.sheet c.args.basis.now c.dual_from.new.basis c.args.limit (g.R.Rates.waypoints c.args.rates.now) (g.R.Rates.waypoints c.dual_from.new.rates)) c.in-Err-Overflow.field-0-is c.in-Err-Overflow.ensures.stops in
-    overflow_tells g.P.Sink.written g.P.Sink.stopped_at g.P.Sink.faults g.P.Sink.refusals
-    (PathFinds solvers.Dual (sheet_view c.args.sheet) c.args.basis.now c.dual_from.new.basis (Some c.args.limit) (g.R.Rates.waypoints c.args.rates.now) (g.R.Rates.waypoints c.dual_from.new.rates)) c.args.print.now
+    overflow_tells
+    (PathFinds solvers.Dual (sheet_view c.args.sheet) c.args.basis.now c.dual_from.new.basis (Some c.args.limit) (g.R.Rates.waypoints c.args.rates.now) (g.R.Rates.waypoints c.dual_from.new.rates)) (g.P.Sink.taken c.args.print.now)
     c.dual_from.new.basis (g.R.Rates.waypoints c.dual_from.new.rates) c.in-Err-Overflow.evidence c.overflow_at.result c.overflow_at.ensures
     (path_overflows solvers.Dual dual_turn (Dual c.args.sheet.lp.now) c.args.sheet c.args.basis.now c.dual_from.new.basis (Some c.args.limit) (g.R.Rates.waypoints c.args.rates.now) (g.R.Rates.waypoints c.dual_from.new.rates) c.in-Err-Overflow.evidence (λ bases place o. o) t)

@@ -20,13 +20,13 @@ returns-in-Ok-clause-tells g c =
 pub returns-in-Err-Limit-clause-tells : goal.returns-in-Err-Limit-clause-tells
 returns-in-Err-Limit-clause-tells g c =
     let t = subst (PathStops c.args.sheet c.args.basis.now c.path_from.new.basis c.args.limit (g.R.Rates.waypoints c.args.rates.now) (g.R.Rates.waypoints c.path_from.new.rates)) c.in-Err-Limit.field-0-is c.in-Err-Limit.ensures.stops in
-    tells_quietly g.P.Sink.written g.P.Sink.stopped_at g.P.Sink.faults g.P.Sink.refusals
-    (PathFinds solvers.Primal (sheet_view c.args.sheet) c.args.basis.now c.path_from.new.basis c.args.limit (g.R.Rates.waypoints c.args.rates.now) (g.R.Rates.waypoints c.path_from.new.rates)) c.args.print.now (Ok Limit) (at_limit (limit_passed c.args.sheet c.args.basis.now c.path_from.new.basis c.args.limit t))
+    tells_quietly
+    (PathFinds solvers.Primal (sheet_view c.args.sheet) c.args.basis.now c.path_from.new.basis c.args.limit (g.R.Rates.waypoints c.args.rates.now) (g.R.Rates.waypoints c.path_from.new.rates)) (g.P.Sink.taken c.args.print.now) (Ok Limit) (at_limit (limit_passed c.args.sheet c.args.basis.now c.path_from.new.basis c.args.limit t))
 
 pub returns-in-Err-Overflow-clause-tells : goal.returns-in-Err-Overflow-clause-tells
 returns-in-Err-Overflow-clause-tells g c =
     let t = subst (PathStops c.args.sheet c.args.basis.now c.path_from.new.basis c.args.limit (g.R.Rates.waypoints c.args.rates.now) (g.R.Rates.waypoints c.path_from.new.rates)) c.in-Err-Overflow.field-0-is c.in-Err-Overflow.ensures.stops in
-    overflow_tells g.P.Sink.written g.P.Sink.stopped_at g.P.Sink.faults g.P.Sink.refusals
-    (PathFinds solvers.Primal (sheet_view c.args.sheet) c.args.basis.now c.path_from.new.basis c.args.limit (g.R.Rates.waypoints c.args.rates.now) (g.R.Rates.waypoints c.path_from.new.rates)) c.args.print.now
+    overflow_tells
+    (PathFinds solvers.Primal (sheet_view c.args.sheet) c.args.basis.now c.path_from.new.basis c.args.limit (g.R.Rates.waypoints c.args.rates.now) (g.R.Rates.waypoints c.path_from.new.rates)) (g.P.Sink.taken c.args.print.now)
     c.path_from.new.basis (g.R.Rates.waypoints c.path_from.new.rates) c.in-Err-Overflow.evidence c.overflow_at.result c.overflow_at.ensures
     (path_overflows solvers.Primal turn (Primal c.args.sheet.lp.now) c.args.sheet c.args.basis.now c.path_from.new.basis c.args.limit (g.R.Rates.waypoints c.args.rates.now) (g.R.Rates.waypoints c.path_from.new.rates) c.in-Err-Overflow.evidence (λ bases place o. o) t)

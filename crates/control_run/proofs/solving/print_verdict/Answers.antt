@@ -8,10 +8,10 @@ pub returns-in_err-text_of : goal.returns-in_err-text_of
 returns-in_err-text_of g c = λ s reached limit before after bases r.
     let p = err_from_is_err_and c.from_residual.result c.from_residual.ensures.1 in
     rw (p.1, p.2)
-    (verdict_cut g.P.Sink.written g.P.Sink.stopped_at g.P.Sink.faults g.P.Sink.refusals c.args.solver (sheet_view c.args.sheet) s reached limit before after bases (verdict_view c.args.sheet c.args.report.now.outcome) (check_view c.args.report.now.refused) r
+    (verdict_cut c.args.solver (sheet_view c.args.sheet) s reached limit before after bases (verdict_view c.args.sheet c.args.report.now.outcome) (check_view c.args.report.now.refused) r
     _ c.in_err-text_of.ensures)
 
 pub returns : goal.returns
 returns g c = λ s reached limit before after bases r.
-    verdict_reported g.P.Sink.written g.P.Sink.stopped_at g.P.Sink.faults g.P.Sink.refusals c.args.solver (sheet_view c.args.sheet) s reached limit before after bases (verdict_view c.args.sheet c.args.report.now.outcome) (check_view c.args.report.now.refused) r
+    verdict_reported c.args.solver (sheet_view c.args.sheet) s reached limit before after bases (verdict_view c.args.sheet c.args.report.now.outcome) (check_view c.args.report.now.refused) r
     c.mark_of.result (c.mark_of.ensures c.args.sheet) c.in_ok-text_of.ensures

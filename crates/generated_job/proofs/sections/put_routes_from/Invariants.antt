@@ -6,4 +6,4 @@ use Rattle.job_devices.specs.Text.{Writes}
 use Rattle.generated_job.proofs.sections.put_routes_from.Given as goal
 
 abbrev pub invariant-loop-before : goal.invariant-loop-before
-invariant-loop-before g l = Writes {T = Unit {0}} g.P.Sink.written g.P.Sink.stopped_at g.P.Sink.faults g.P.Sink.refusals l.fn.text l.text (Ok tt) (card_text (flat_map (λ j. route_cards l.from j) (up_to l.before)))
+invariant-loop-before g l = Writes {T = Unit {0}} (g.P.Sink.taken l.fn.text) (g.P.Sink.taken l.text) (Ok tt) (card_text (flat_map (λ j. route_cards l.from j) (up_to l.before)))

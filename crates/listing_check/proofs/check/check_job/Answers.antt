@@ -16,7 +16,7 @@ returns-in-Ok-clause-tells g c =
       listing_same = λ e. absurd e;
       is_job = λ bytes is. subst (λ (known : Option (List ℕ)). ArePrepared known c.in-Ok.prepared) is c.in-Ok.ensures.prepared;
       is_listing = λ lines is. is;
-    }) g.P.Sink.written g.P.Sink.stopped_at g.P.Sink.faults g.P.Sink.refusals c.check_read.result c.check_read.ensures.tells
+    }) c.check_read.result c.check_read.ensures.tells
 
 pub returns-in-Err-clause-tells : goal.returns-in-Err-clause-tells
 returns-in-Err-clause-tells g c =
@@ -30,4 +30,4 @@ returns-in-Err-clause-tells g c =
       listing_same = λ e. e;
       is_job = λ bytes is. subst (λ (known : Option (List ℕ)). ReportsEarlyStop known c.in-Err.stop) is c.in-Err.ensures.stop;
       is_listing = λ lines is. is;
-    }) g.P.Sink.written g.P.Sink.stopped_at g.P.Sink.faults g.P.Sink.refusals c.check_stopped.result c.check_stopped.ensures.tells
+    }) c.check_stopped.result c.check_stopped.ensures.tells

@@ -9,7 +9,7 @@ use Rattle.listing_check.proofs.check.check_listing.Goals as goal
 
 pub returns-then-is_empty-clause-answer : goal.returns-then-is_empty-clause-answer
 returns-then-is_empty-clause-answer g c bytes lines none job listing =
-    answer_of _ bytes lines job listing _ (λ e. e) (λ e. e) g.P.Sink.written g.P.Sink.stopped_at g.P.Sink.faults g.P.Sink.refusals (λ e. e) (λ e. e) c.check_job.result c.check_job.ensures.tells
+    answer_of _ bytes lines job listing _ (λ e. e) (λ e. e) (λ e. e) (λ e. e) c.check_job.result c.check_job.ensures.tells
 
 pub returns-then-is_empty-clause-truth : goal.returns-then-is_empty-clause-truth
 returns-then-is_empty-clause-truth g c is bytes lines job listing =
@@ -17,10 +17,10 @@ returns-then-is_empty-clause-truth g c is bytes lines job listing =
 
 pub returns-then-is_empty-clause-cause : goal.returns-then-is_empty-clause-cause
 returns-then-is_empty-clause-cause g c =
-    why_tells _ _ (without (length c.args.words.now) c.if-is_empty.ensures) (λ e. e) (λ e. e) (λ e. e) (λ e. e) g.P.Sink.written g.P.Sink.stopped_at g.P.Sink.faults g.P.Sink.refusals (λ e. e) c.check_job.result c.check_job.ensures.tells
+    why_tells _ _ (without (length c.args.words.now) c.if-is_empty.ensures) (λ e. e) (λ e. e) (λ e. e) (λ e. e) (λ e. e) c.check_job.result c.check_job.ensures.tells
 
 -- ---- with words
 
 pub returns-clause-cause : goal.returns-clause-cause
 returns-clause-cause g c =
-    why_ends _ g.P.Sink.written g.P.Sink.stopped_at g.P.Sink.faults g.P.Sink.refusals (λ e. e) words_text Words c.end_with.result (there_are (length c.args.words.now) c.if-is_empty.ensures) c.end_with.ensures
+    why_ends _ (λ e. e) words_text Words c.end_with.result (there_are (length c.args.words.now) c.if-is_empty.ensures) c.end_with.ensures

@@ -17,8 +17,8 @@ returns-in-Ok-clause-tells g c =
       listing_read = λ e. c.in-Ok.ensures.whole;
       listing_same = λ e. absurd e;
       is_job = λ bytes is. is;
-      is_listing = λ lines is. c.deref.ensures.value ∙ some_of (λ left. c.in-Ok.bytes.items ≡ take 64000001 left) (g.L.Source.left c.args.listing.now) lines is c.in-Ok.ensures.bytes;
-    }) g.P.Sink.written g.P.Sink.stopped_at g.P.Sink.faults g.P.Sink.refusals c.check_bytes.result c.check_bytes.ensures
+      is_listing = λ lines is. c.deref.ensures.value ∙ some_of (λ left. c.in-Ok.bytes.items ≡ take 64000001 left) (g.L.Source.given c.args.listing.now).left lines is c.in-Ok.ensures.bytes;
+    }) c.check_bytes.result c.check_bytes.ensures
 
 pub returns-in-Err-Failed-clause-tells : goal.returns-in-Err-Failed-clause-tells
 returns-in-Err-Failed-clause-tells g c =

@@ -22,7 +22,7 @@ returns-in-Card-clause-tells g c =
       listing_same = λ e. absurd e;
       is_job = λ bytes is. subst (ReportsEarlyStop (Some bytes)) c.in-Card.is is;
       is_listing = λ lines is. is;
-    }) g.P.Sink.written g.P.Sink.stopped_at g.P.Sink.faults g.P.Sink.refusals c.check_read.result c.check_read.ensures.tells
+    }) c.check_read.result c.check_read.ensures.tells
 
 pub returns-in-Control-clause-tells : goal.returns-in-Control-clause-tells
 returns-in-Control-clause-tells g c =
@@ -36,4 +36,4 @@ returns-in-Control-clause-tells g c =
       listing_same = λ e. absurd e;
       is_job = λ bytes is. subst (ReportsEarlyStop (Some bytes)) c.in-Control.is is;
       is_listing = λ lines is. is;
-    }) g.P.Sink.written g.P.Sink.stopped_at g.P.Sink.faults g.P.Sink.refusals c.check_read-in-Control.result c.check_read-in-Control.ensures.tells
+    }) c.check_read-in-Control.result c.check_read-in-Control.ensures.tells

@@ -15,7 +15,7 @@ use Rattle.mps_cli.proofs.run.run_job.Goals as goal
 
 pub returns-in-Ok-clause-headline : goal.returns-in-Ok-clause-headline
 returns-in-Ok-clause-headline g c =
-    same_headline (asked (map string_bytes c.args.words.now)) (g.S.Source.left c.args.job.now) c.run_request.result _ _ _ c.in-Ok.request c.in-Ok.ensures.accepted c.run_request.ensures.headline
+    same_headline (asked (map string_bytes c.args.words.now)) (g.S.Source.given c.args.job.now).left c.run_request.result _ _ _ c.in-Ok.request c.in-Ok.ensures.accepted c.run_request.ensures.headline
 
 pub returns-in-Ok-clause-complete : goal.returns-in-Ok-clause-complete
 returns-in-Ok-clause-complete g c job is = complete_answer (returns-in-Ok-clause-headline g c job is)
@@ -39,9 +39,9 @@ returns-in-Ok-clause-unread g c differs = c.run_request.ensures.unread (λ e. di
 
 pub returns-in-Err-clause-headline : goal.returns-in-Err-clause-headline
 returns-in-Err-clause-headline g c =
-    stopped_headline (asked (map string_bytes c.args.words.now)) (g.S.Source.left c.args.job.now) c.end_job.result g.P.Sink.written g.P.Sink.stopped_at g.P.Sink.faults g.P.Sink.refusals _ _ (g.U.Sink.written c.args.punch.now)
+    stopped_headline (asked (map string_bytes c.args.words.now)) (g.S.Source.given c.args.job.now).left c.end_job.result _ _ (g.U.Sink.taken c.args.punch.now).written
     c.in-Err.stop (λ e. c.in-Err.ensures.refused (ap (λ s. Err s) e))
-    (subst (λ (stop : EarlyStop). EndsWith g.P.Sink.written g.P.Sink.stopped_at g.P.Sink.faults g.P.Sink.refusals c.args.print.now c.end_job.new.print stop c.end_job.result) c.from.ensures c.end_job.ensures)
+    (subst (λ (stop : EarlyStop). EndsWith (g.P.Sink.taken c.args.print.now) (g.P.Sink.taken c.end_job.new.print) stop c.end_job.result) c.from.ensures c.end_job.ensures)
 
 pub returns-in-Err-clause-complete : goal.returns-in-Err-clause-complete
 returns-in-Err-clause-complete g c job is = complete_answer (returns-in-Err-clause-headline g c job is)
@@ -57,16 +57,16 @@ returns-in-Err-clause-punch g c = nothing refl
 
 pub returns-in-Err-clause-cause : goal.returns-in-Err-clause-cause
 returns-in-Err-clause-cause g c =
-    ending_cause (asked (map string_bytes c.args.words.now)) _ _ _ g.P.Sink.written g.P.Sink.stopped_at g.P.Sink.faults g.P.Sink.refusals _ c.end_job.result
+    ending_cause (asked (map string_bytes c.args.words.now)) _ _ _ _ c.end_job.result
     (why_words (asked (map string_bytes c.args.words.now)) _ _ c.in-Err.stop (λ e. c.in-Err.ensures.refused (ap (λ s. Err s) e)))
-    (subst (λ (stop : EarlyStop). EndsWith g.P.Sink.written g.P.Sink.stopped_at g.P.Sink.faults g.P.Sink.refusals c.args.print.now c.end_job.new.print stop c.end_job.result) c.from.ensures c.end_job.ensures)
+    (subst (λ (stop : EarlyStop). EndsWith (g.P.Sink.taken c.args.print.now) (g.P.Sink.taken c.end_job.new.print) stop c.end_job.result) c.from.ensures c.end_job.ensures)
 
 pub returns-in-Err-clause-reported : goal.returns-in-Err-clause-reported
 returns-in-Err-clause-reported g c =
-    reported_stop g.P.Sink.written g.P.Sink.stopped_at g.P.Sink.faults g.P.Sink.refusals g.U.Sink.written g.U.Sink.stopped_at g.U.Sink.faults g.U.Sink.refusals c.args.punch.now (g.S.Source.faults c.args.job.now) (g.S.Source.faults c.args.job.now) _ c.end_job.result (λ more. absurd (omega (arith, more)))
-    (subst (λ (stop : EarlyStop). EndsWith g.P.Sink.written g.P.Sink.stopped_at g.P.Sink.faults g.P.Sink.refusals c.args.print.now c.end_job.new.print stop c.end_job.result) c.from.ensures c.end_job.ensures)
+    reported_stop (g.U.Sink.taken c.args.punch.now) (g.S.Source.given c.args.job.now).faults (g.S.Source.given c.args.job.now).faults _ c.end_job.result (λ more. absurd (omega (arith, more)))
+    (subst (λ (stop : EarlyStop). EndsWith (g.P.Sink.taken c.args.print.now) (g.P.Sink.taken c.end_job.new.print) stop c.end_job.result) c.from.ensures c.end_job.ensures)
 
 pub returns-in-Err-clause-still : goal.returns-in-Err-clause-still
 returns-in-Err-clause-still g c =
-    still_stop g.P.Sink.written g.P.Sink.stopped_at g.P.Sink.faults g.P.Sink.refusals g.U.Sink.written g.U.Sink.stopped_at g.U.Sink.faults g.U.Sink.refusals c.args.punch.now _ c.end_job.result
-    (subst (λ (stop : EarlyStop). EndsWith g.P.Sink.written g.P.Sink.stopped_at g.P.Sink.faults g.P.Sink.refusals c.args.print.now c.end_job.new.print stop c.end_job.result) c.from.ensures c.end_job.ensures)
+    still_stop (g.U.Sink.taken c.args.punch.now) _ c.end_job.result
+    (subst (λ (stop : EarlyStop). EndsWith (g.P.Sink.taken c.args.print.now) (g.P.Sink.taken c.end_job.new.print) stop c.end_job.result) c.from.ensures c.end_job.ensures)

@@ -22,10 +22,10 @@ returns-in-Ok-clause-cause g c = source_cause _ _ _ _ _ c.run_source.result c.ar
 
 pub returns-in-Err-clause-answer : goal.returns-in-Err-clause-answer
 returns-in-Err-clause-answer g c =
-    ending_answer linear_programming (Made (made_job c.args.size)) _ Memory memory_at_start g.P.Sink.written g.P.Sink.stopped_at g.P.Sink.faults g.P.Sink.refusals (g.U.Sink.written c.args.punch.now) c.end_job.result (λ e. e) (λ e. e) c.end_job.ensures
+    ending_answer linear_programming (Made (made_job c.args.size)) _ Memory memory_at_start (g.U.Sink.taken c.args.punch.now).written c.end_job.result (λ e. e) (λ e. e) c.end_job.ensures
 
 pub returns-in-Err-clause-cause : goal.returns-in-Err-clause-cause
-returns-in-Err-clause-cause g c = ending_cause (Some (Make c.args.size)) _ _ _ g.P.Sink.written g.P.Sink.stopped_at g.P.Sink.faults g.P.Sink.refusals Memory c.end_job.result tt c.end_job.ensures
+returns-in-Err-clause-cause g c = ending_cause (Some (Make c.args.size)) _ _ _ Memory c.end_job.result tt c.end_job.ensures
 
 pub returns-in-Ok-clause-punch : goal.returns-in-Ok-clause-punch
 returns-in-Ok-clause-punch g c = source_punch c.args.size _ _ _ _ _ c.run_source.result (ap (λ b. Some b) c.in-Ok.ensures) c.run_source.ensures.punch
@@ -34,7 +34,7 @@ pub returns-in-Err-clause-punch : goal.returns-in-Err-clause-punch
 returns-in-Err-clause-punch g c = nothing refl
 
 pub returns-in-Err-clause-reported : goal.returns-in-Err-clause-reported
-returns-in-Err-clause-reported g c = reported_stop g.P.Sink.written g.P.Sink.stopped_at g.P.Sink.faults g.P.Sink.refusals g.U.Sink.written g.U.Sink.stopped_at g.U.Sink.faults g.U.Sink.refusals c.args.punch.now 0 0 Memory c.end_job.result (λ more. absurd (omega (arith, more))) c.end_job.ensures
+returns-in-Err-clause-reported g c = reported_stop (g.U.Sink.taken c.args.punch.now) 0 0 Memory c.end_job.result (λ more. absurd (omega (arith, more))) c.end_job.ensures
 
 pub returns-in-Err-clause-still : goal.returns-in-Err-clause-still
-returns-in-Err-clause-still g c = still_stop g.P.Sink.written g.P.Sink.stopped_at g.P.Sink.faults g.P.Sink.refusals g.U.Sink.written g.U.Sink.stopped_at g.U.Sink.faults g.U.Sink.refusals c.args.punch.now Memory c.end_job.result c.end_job.ensures
+returns-in-Err-clause-still g c = still_stop (g.U.Sink.taken c.args.punch.now) Memory c.end_job.result c.end_job.ensures

@@ -9,7 +9,7 @@ use Rattle.mps_cli.proofs.run.run_request.Goals as goal
 
 pub returns-in-Read-clause-headline : goal.returns-in-Read-clause-headline
 returns-in-Read-clause-headline g c =
-    read_headline (Some c.args.request) (g.S.Source.left c.args.job.now) c.run_source.result _ _ _ (ap (λ (r : Request). Some r) c.in-Read.is) c.run_source.ensures.answer
+    read_headline (Some c.args.request) (g.S.Source.given c.args.job.now).left c.run_source.result _ _ _ (ap (λ (r : Request). Some r) c.in-Read.is) c.run_source.ensures.answer
 
 pub returns-in-Read-clause-cause : goal.returns-in-Read-clause-cause
 returns-in-Read-clause-cause g c = read_cause _ _ _ _ _ c.run_source.result c.in-Read.is c.run_source.ensures.cause
@@ -21,7 +21,7 @@ returns-in-Read-clause-unread g c differs = absurd (differs c.in-Read.is)
 
 pub returns-in-Make-clause-headline : goal.returns-in-Make-clause-headline
 returns-in-Make-clause-headline g c =
-    made_headline (Some c.args.request) (g.S.Source.left c.args.job.now) c.run_made.result _ _ _ _ _ _ c.in-Make.size (ap (λ (r : Request). Some r) c.in-Make.is) c.run_made.ensures.answer
+    made_headline (Some c.args.request) (g.S.Source.given c.args.job.now).left c.run_made.result _ _ _ _ _ _ c.in-Make.size (ap (λ (r : Request). Some r) c.in-Make.is) c.run_made.ensures.answer
 
 pub returns-in-Make-clause-cause : goal.returns-in-Make-clause-cause
 returns-in-Make-clause-cause g c = made_cause _ _ _ _ _ c.run_made.result c.in-Make.size c.in-Make.is c.run_made.ensures.cause

@@ -19,15 +19,14 @@ returns-in-Ok-clause-cause g c =
 
 pub returns-in-Err-clause-answer : goal.returns-in-Err-clause-answer
 returns-in-Err-clause-answer g c given bytes is =
-    ending_answer linear_programming given _ c.in-Err.stop (may_stop linear_programming given bytes _ _ is.has_bytes is.is_read c.in-Err.stop is.is_reported c.in-Err.ensures.stop c.in-Err.ensures.cause)
-    g.P.Sink.written g.P.Sink.stopped_at g.P.Sink.faults g.P.Sink.refusals (g.U.Sink.written c.args.punch.now) c.end_job.result (λ e. e) (λ e. e) c.end_job.ensures
+    ending_answer linear_programming given _ c.in-Err.stop (may_stop linear_programming given bytes _ _ is.has_bytes is.is_read c.in-Err.stop is.is_reported c.in-Err.ensures.stop c.in-Err.ensures.cause) (g.U.Sink.taken c.args.punch.now).written c.end_job.result (λ e. e) (λ e. e) c.end_job.ensures
 
 pub returns-in-Err-clause-cause : goal.returns-in-Err-clause-cause
 returns-in-Err-clause-cause g c =
-    ending_cause (Some Read) _ _ _ g.P.Sink.written g.P.Sink.stopped_at g.P.Sink.faults g.P.Sink.refusals c.in-Err.stop c.end_job.result (why _ _ c.in-Err.stop c.in-Err.ensures.cause) c.end_job.ensures
+    ending_cause (Some Read) _ _ _ c.in-Err.stop c.end_job.result (why _ _ c.in-Err.stop c.in-Err.ensures.cause) c.end_job.ensures
 
 pub returns-in-Ok-clause-punch : goal.returns-in-Ok-clause-punch
-returns-in-Ok-clause-punch g c = in_run c.in-Ok.prepared.program c.in-Ok.ensures.read (program_of (g.S.Source.left c.args.job.now) c.in-Ok.prepared c.in-Ok.ensures.prepared) c.run_program.ensures.own
+returns-in-Ok-clause-punch g c = in_run c.in-Ok.prepared.program c.in-Ok.ensures.read (program_of (g.S.Source.given c.args.job.now).left c.in-Ok.prepared c.in-Ok.ensures.prepared) c.run_program.ensures.own
 
 pub returns-in-Err-clause-punch : goal.returns-in-Err-clause-punch
 returns-in-Err-clause-punch g c = nothing refl
@@ -37,7 +36,7 @@ returns-in-Ok-clause-reported g c = reported_unread _ _ _ _ _ (c.in-Ok.ensures.q
 
 pub returns-in-Err-clause-reported : goal.returns-in-Err-clause-reported
 returns-in-Err-clause-reported g c =
-    reported_stop g.P.Sink.written g.P.Sink.stopped_at g.P.Sink.faults g.P.Sink.refusals g.U.Sink.written g.U.Sink.stopped_at g.U.Sink.faults g.U.Sink.refusals c.args.punch.now _ _ c.in-Err.stop c.end_job.result (stops_reading c.in-Err.stop _ _ (λ other. c.in-Err.ensures.quiet (λ e. other (cc e)))) c.end_job.ensures
+    reported_stop (g.U.Sink.taken c.args.punch.now) _ _ c.in-Err.stop c.end_job.result (stops_reading c.in-Err.stop _ _ (λ other. c.in-Err.ensures.quiet (λ e. other (cc e)))) c.end_job.ensures
 
 pub returns-in-Err-clause-still : goal.returns-in-Err-clause-still
-returns-in-Err-clause-still g c = still_stop g.P.Sink.written g.P.Sink.stopped_at g.P.Sink.faults g.P.Sink.refusals g.U.Sink.written g.U.Sink.stopped_at g.U.Sink.faults g.U.Sink.refusals c.args.punch.now c.in-Err.stop c.end_job.result c.end_job.ensures
+returns-in-Err-clause-still g c = still_stop (g.U.Sink.taken c.args.punch.now) c.in-Err.stop c.end_job.result c.end_job.ensures

@@ -8,7 +8,7 @@ use Rattle.report_text.proofs.overflow.put_letters.Given as goal
 abbrev pub invariant-loop-rest : goal.invariant-loop-rest
 invariant-loop-rest g l =
     (done : List ℕ) × (done ++ flat_map (letters_of g.T.Lettered.letter_of) l.rest ≡ flat_map (letters_of g.T.Lettered.letter_of) l.items)
-    × Writes {T = Unit {0}} g.P.Sink.written g.P.Sink.stopped_at g.P.Sink.faults g.P.Sink.refusals l.fn.print l.print (Ok tt) done
+    × Writes {T = Unit {0}} (g.P.Sink.taken l.fn.print) (g.P.Sink.taken l.print) (Ok tt) done
 
 abbrev pub decreases-loop-rest : goal.decreases-loop-rest
 decreases-loop-rest g l = length l.rest

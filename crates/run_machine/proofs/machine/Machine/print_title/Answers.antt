@@ -6,8 +6,8 @@ pub returns-in_err-text_of : goal.returns-in_err-text_of
 returns-in_err-text_of g c = λ card cards.
     let p = err_from_is_err_and c.from_residual.result c.from_residual.ensures.1 in
     rw (p.1, p.2)
-    (title_cut g.S.Kept.shows g.P.Sink.written g.P.Sink.stopped_at g.P.Sink.faults g.P.Sink.refusals c.args.text.now card cards c.args.self.now _ c.bytes.result.now c.bytes.ensures.bytes c.in_err-text_of.ensures)
+    (title_cut g.S.Kept.shows c.args.text.now card cards c.args.self.now _ c.bytes.result.now c.bytes.ensures.bytes c.in_err-text_of.ensures)
 
 pub returns : goal.returns
 returns g c = λ card cards.
-    title_done g.S.Kept.shows g.P.Sink.written g.P.Sink.stopped_at g.P.Sink.faults g.P.Sink.refusals c.args.text.now card cards c.args.self.now c.bytes.result.now c.bytes.ensures.bytes c.in_ok-text_of.ensures
+    title_done g.S.Kept.shows c.args.text.now card cards c.args.self.now c.bytes.result.now c.bytes.ensures.bytes c.in_ok-text_of.ensures

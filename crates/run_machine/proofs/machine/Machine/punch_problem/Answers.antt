@@ -6,20 +6,20 @@ use Rattle.run_machine.proofs.machine.Machine.punch_problem.Goals as goal
 
 pub returns-in_default : goal.returns-in_default
 returns-in_default g c = λ cards.
-    no_problem_punched g.S.Kept.shows c.args.card g.P.Sink.written g.P.Sink.stopped_at g.P.Sink.faults g.P.Sink.refusals g.U.Sink.written g.U.Sink.stopped_at g.U.Sink.faults g.U.Sink.refusals cards c.args.self.now c.args.print.now c.args.punch.now (sym c.in_default.ensures)
+    no_problem_punched g.S.Kept.shows c.args.card cards c.args.self.now (g.P.Sink.taken c.args.print.now) (g.U.Sink.taken c.args.punch.now) (sym c.in_default.ensures)
 
 pub returns-in-Err : goal.returns-in-Err
 returns-in-Err g c = λ cards.
-    deck_cut g.S.Kept.shows c.args.card g.P.Sink.written g.P.Sink.stopped_at g.P.Sink.faults g.P.Sink.refusals g.U.Sink.written g.U.Sink.stopped_at g.U.Sink.faults g.U.Sink.refusals cards c.args.self.now c.in-Some.problem.now (sym c.in-Some.ensures) c.args.print.now c.in-Err.stop c.in-Err.ensures.text
+    deck_cut g.S.Kept.shows c.args.card cards c.args.self.now c.in-Some.problem.now (sym c.in-Some.ensures) (g.P.Sink.taken c.args.print.now) c.in-Err.stop c.in-Err.ensures.text
 
 pub returns-in_err-text_of : goal.returns-in_err-text_of
 returns-in_err-text_of g c = λ cards.
     let p = err_from_is_err_and c.from_residual.result c.from_residual.ensures.1 in
     rw (p.1, p.2)
-    (deck_line_cut g.S.Kept.shows c.args.card g.P.Sink.written g.P.Sink.stopped_at g.P.Sink.faults g.P.Sink.refusals g.U.Sink.written g.U.Sink.stopped_at g.U.Sink.faults g.U.Sink.refusals cards c.args.self.now c.in-Some.problem.now (sym c.in-Some.ensures)
+    (deck_line_cut g.S.Kept.shows c.args.card cards c.args.self.now c.in-Some.problem.now (sym c.in-Some.ensures)
     c.name.result c.name.ensures.name c.in-Ok.count c.in-Ok.ensures.count c.in-Ok.ensures.text _ c.in_err-text_of.ensures)
 
 pub returns : goal.returns
 returns g c = λ cards.
-    deck_punched g.S.Kept.shows c.args.card g.P.Sink.written g.P.Sink.stopped_at g.P.Sink.faults g.P.Sink.refusals g.U.Sink.written g.U.Sink.stopped_at g.U.Sink.faults g.U.Sink.refusals cards c.args.self.now c.in-Some.problem.now (sym c.in-Some.ensures)
+    deck_punched g.S.Kept.shows c.args.card cards c.args.self.now c.in-Some.problem.now (sym c.in-Some.ensures)
     c.name.result c.name.ensures.name c.in-Ok.count c.in-Ok.ensures.count c.in-Ok.ensures.text c.in_ok-text_of.ensures
