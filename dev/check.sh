@@ -39,9 +39,11 @@ if command -v git >/dev/null && git rev-parse --git-dir >/dev/null 2>&1; then
 fi
 
 # README.md is short, and the edits that must fail are few.
-most_lines=100 most_edits=80
-lines=$(wc -l <README.md)
-[ "$lines" -le "$most_lines" ] || fail "README.md has $lines lines, more than $most_lines"
+most_bytes=6000 most_in_paragraph=500 most_edits=90
+bytes=$(wc -c <README.md)
+[ "$bytes" -le "$most_bytes" ] || fail "README.md has $bytes bytes, more than $most_bytes"
+longest=$(LC_ALL=C.UTF-8 awk '!/^\|/ && length > most { most = length } END { print most + 0 }' README.md)
+[ "$longest" -le "$most_in_paragraph" ] || fail "README.md has a paragraph of $longest characters, more than $most_in_paragraph"
 edits=$(find crates -path '*/must-fail/*.edit' | wc -l)
 long=$(find crates -name out -prune -o -name '*.rt' -print0 | LC_ALL=C.UTF-8 xargs -0 grep -hE '^ *(requires|ensures|invariant) ' |
     LC_ALL=C.UTF-8 grep -cE '^.{101}')

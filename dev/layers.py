@@ -308,17 +308,6 @@ def check_map(crates):
             yield f"docs/ARCHITECTURE.md: {crate} stands in {found.count(crate)} rows of its tables"
 
 
-def check_readme(crates):
-    "where a row of the map of README.md goes from a crate to another, these are the first and the last of its layer"
-    text = (TOP / "README.md").read_text(encoding="utf-8").partition("\n## The map\n")[2].partition("\n## ")[0]
-    rows = re.findall(r"^\| [^|]* \| (`[^|]*) \|$", text, re.M)
-    if len(rows) != len(crates.layers):
-        yield f"README.md: the map has {len(rows)} rows for {len(crates.layers)} layers"
-    for cell, (_, members) in zip(rows, crates.layers):
-        if (found := re.match(r"`(\w+)` to `(\w+)`", cell)) and list(found.groups()) != [members[0], members[-1]]:
-            yield f"README.md: a layer goes from {members[0]} to {members[-1]}, and not from {found[1]} to {found[2]}"
-
-
 def check_fresh(crates):
     for path, text in made(crates).items():
         if not path.exists() or path.read_text(encoding="utf-8") != text:
@@ -344,7 +333,7 @@ def main(words):
         for path, text in made(crates).items():
             path.write_text(text, encoding="utf-8")
         return 0
-    wrong = [line for check in (check_order, check_cited, check_map, check_readme, check_fresh) for line in check(crates)]
+    wrong = [line for check in (check_order, check_cited, check_map, check_fresh) for line in check(crates)]
     for line in wrong:
         print(line, file=sys.stderr)
     return 1 if wrong else 0

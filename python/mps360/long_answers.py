@@ -92,7 +92,8 @@ def dealt_out(split: Split, of_rows: Entries, of_columns: Entries | None, wanted
 def crossed_in_short(answer: Answer, split: Split) -> Answer:
     "a variable whose limits cross; where one of them is a row it is a ray"
     assert answer.crossed
-    ends = moved_limits(split).get(answer.crossed)
+    of, name = answer.crossed
+    ends = moved_limits(split).get((of, name))
     if not ends:
         return answer
     factors = {"upper": UNIT, "lower": -UNIT, "both": ZERO}

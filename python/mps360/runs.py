@@ -14,10 +14,13 @@ from dataclasses import dataclass, field
 from mps360.at_hand import Tool
 from mps360.bases import Basis
 from mps360.life import awaited
+from mps360.output import CANT_WRITE
 from mps360.processes import Process, Processes
 from mps360.solvers import Solver
 
 NO_END, NO_ANSWER, WRONG_USE = 124, 70, 64
+# what a program couldn't write that ended with this status
+NOT_WRITTEN = {25: "the listing", 26: "the punched deck"}
 VERDICT = re.compile(r"PRIMAL (OPTIMAL|INFEASIBLE|UNBOUNDED) STEPS (\d+)(?: OBJECTIVE (\S+))?")
 ITSELF = "the job's own statements"
 
@@ -33,6 +36,8 @@ class NoAnswer(Exception):
     @classmethod
     def of(cls, status: int, lines: Sequence[str] = ()) -> NoAnswer:
         "of an exit status, which is kept where it means something"
+        if status in NOT_WRITTEN:
+            return cls(f"the program couldn't write {NOT_WRITTEN[status]} (it ended with {status})", CANT_WRITE, lines)
         return cls(f"the program gave no answer (it ended with {status})", status if WRONG_USE <= status < 128 else NO_ANSWER, lines)
 
 

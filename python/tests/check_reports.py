@@ -367,10 +367,10 @@ def try_readme(folder, program):
     "the first command of README.md, and what it says of the answer"
     page = (programs.TOP / "README.md").read_text()
     command = re.search(r"^    scripts/solve (.*)$", page, re.M)[1].split()
-    said = re.search(r"`(OPTIMAL: .*?)`", page)[1]
+    said = re.search(r"^```\n(OPTIMAL: .*?)^```$", page, re.M | re.S)[1]
     told = call(SCRIPTS / "solve", "--program", program, *(programs.TOP / word if word.startswith("examples/") else word for word in command),
                 cwd=folder)
-    check(f"README.md: {told.stdout.decode()}", told.returncode == 0 and told.stdout.decode().startswith(said + "\n"))
+    check(f"README.md: {told.stdout.decode()}", told.returncode == 0 and told.stdout.decode().startswith(said))
     check_page("README.md", next((folder / word).read_text(encoding="utf-8") for word in command if word.endswith(".html")))
 
 

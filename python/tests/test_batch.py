@@ -116,3 +116,103 @@ def test_wrong_words_are_wrong_at_once(tmp_path, words, status, cause):
     found, text, said = house.batch(*words)
     assert (found, text) == (status, "") and cause in said and said.count("\n") == 1, said
     assert not (house.models / "listings").exists()
+
+
+# ---- what is lost, and what isn't
+
+WRITES_NOTHING = """
+    sys.stdin.read()
+    if os.path.exists({full!r}):
+        sys.exit(25)
+    print("TITLE FAKE")
+    print("PRIMAL OPTIMAL STEPS 1 OBJECTIVE 7/2 CHECKED")
+    print("END 0")
+"""
+
+
+def jobs_house(folder):
+    "a house with jobs alone; while the file full is there, no listing can be written"
+    house = House(folder)
+    (house.models / "glass.mps").unlink()
+    for name in "abc":
+        (house.models / f"{name}.job").write_text("         PROGRAM\n")
+    fakes.program(folder / "scripts", "program", WRITES_NOTHING, full=str(folder / "full"))
+    return house
+
+
+def test_a_full_disk_is_no_answer(tmp_path):
+    "the batch ends at the first listing that can't be written, and --resume runs that file too"
+    house = jobs_house(tmp_path)
+    (tmp_path / "full").touch()
+    status, text, said = house.batch()
+    assert (status, text) == (73, "")
+    assert said.split("\n")[-2] == ("mps360-batch: a: the listing couldn't be written (status 25): the batch ends here, with 0 of 3 done; --resume goes on with "
+                                    "the others")
+    assert house.summary() == {}
+    (tmp_path / "full").unlink()
+    status, text, _ = house.batch("--resume")
+    assert status == 0 and text.split("\n")[0] == "   0  a                        END 0  objective 7/2" and set(house.summary()) == set("abc")
+
+
+def test_a_full_disk_below_solve(tmp_path):
+    "a file that can't be written by the child which solves an MPS file"
+    house = House(tmp_path)
+    fakes.program(tmp_path / "scripts", "program", WRITES_NOTHING, full=str(tmp_path / "full"))
+    (tmp_path / "full").touch()
+    status, text, said = house.batch("--with", "none")
+    assert (status, text, house.summary()) == (73, "", {}) and "the batch ends here, with 0 of 1 done" in said
+
+
+def test_statuses_of_devices_of_an_earlier_batch(tmp_path):
+    "an older summary may have a full disk as an answer: it is run again"
+    house = jobs_house(tmp_path)
+    assert house.batch()[0] == 0
+    path = house.models / "listings/summary.csv"
+    path.write_text(path.read_text().replace(",ended,0,7/2,", ",stopped,25,,", 1))
+    status, text, _ = house.batch("--resume")
+    assert status == 0 and text == "   0  a                        END 0  objective 7/2\n"
+
+
+def test_an_earlier_summary_is_kept(tmp_path):
+    house = jobs_house(tmp_path)
+    out = house.models / "listings"
+    assert house.batch()[0] == 0
+    first = (out / "summary.csv").read_bytes(), (out / "summary.json").read_bytes()
+    for name in "bc":
+        (house.models / f"{name}.job").unlink()
+    status, _, said = house.batch()
+    assert status == 0 and f"the summary of an earlier batch is {out / 'summary-1.csv'} now; --resume goes on with that batch" in said
+    assert ((out / "summary-1.csv").read_bytes(), (out / "summary-1.json").read_bytes()) == first
+    second = (out / "summary.csv").read_bytes()
+    assert set(house.summary()) == {"a"} and house.batch()[0] == 0
+    assert (out / "summary-1.csv").read_bytes() == first[0] and (out / "summary-2.csv").read_bytes() == second
+    assert house.batch("--resume")[0] == 0 and not (out / "summary-3.csv").exists()
+
+
+def test_lines_that_nobody_reads(tmp_path):
+    "the results are kept, and the loss of the lines is told in the end"
+    house = jobs_house(tmp_path)
+    if not os.path.exists("/dev/full"):
+        pytest.skip("there is no /dev/full")
+    env = {**os.environ, "PATH": str(house.path)}
+    with open("/dev/full", "wb") as full:
+        ended = subprocess.run([sys.executable, tmp_path / "scripts/mps360-batch", house.models], stdout=full, stderr=subprocess.PIPE, timeout=120, check=False, env=env)
+    assert ended.returncode == 73 and ended.stderr.endswith(b"mps360-batch: can't write to standard output: No space left on device\n"), ended
+    assert set(house.summary()) == set("abc")
+
+
+def test_the_compiled_program_is_taken(tmp_path):
+    "where no program is installed, that which was compiled of these sources before runs at once; nothing is compiled"
+    house = jobs_house(tmp_path)
+    (tmp_path / "scripts/program").unlink()
+    (tmp_path / "crates/mps360").mkdir(parents=True)
+    (tmp_path / "crates.txt").write_text("mps360:\n")
+    code = "import sys; sys.path.insert(0, sys.argv[1]); from mps360 import unproved; print(unproved.place_of('mps360') / unproved.key('mps360'))"
+    env = {**os.environ, "PATH": str(house.path) + ":/bin:/usr/bin"}
+    fakes.program(house.path, "rt", "sys.exit('rt was called')")
+    place = subprocess.run([sys.executable, "-c", code, tmp_path / "python"], stdout=subprocess.PIPE, check=True, env=env).stdout.decode().strip()
+    os.makedirs(place)
+    fakes.program(place, "program", WRITES_NOTHING, full=str(tmp_path / "full"))
+    ended = subprocess.run([sys.executable, tmp_path / "scripts/mps360-batch", house.models], capture_output=True, timeout=120, check=False, env=env)
+    assert ended.returncode == 0 and b"running UNPROVED" in ended.stderr and b"rt was called" not in ended.stderr, ended
+    assert ended.stdout.startswith(b"   0  a                        END 0  objective 7/2\n")

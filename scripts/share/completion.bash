@@ -28,7 +28,7 @@ _mps360_batch() {
     if [[ $word == -* ]]; then
         _mps360_words "-j --seconds --time-limit --with --resume --mps2job --old-codes --out --help" "$word"
     else
-        _mps360_files '!*.@(job|mps|mps.gz)' "$word"
+        _mps360_files '!*.@(job|mps|mps.gz|lp|lp.gz)' "$word"
     fi
 }
 _mps360_explain() {

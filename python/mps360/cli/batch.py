@@ -1,6 +1,7 @@
-"""Runs many jobs and MPS files, each in a folder of its own, writes each result at once, and prints a line for each.
+"""Runs many jobs, MPS files and LP files, each in a folder of its own, writes each result at once, and prints a line for each.
 
-usage: mps360-batch [options] FOLDER [OUT]        the jobs (*.job) and MPS files (*.mps, *.mps.gz) of a folder; OUT is FOLDER/listings
+usage: mps360-batch [options] FOLDER [OUT]        the jobs (*.job), MPS files (*.mps, *.mps.gz) and LP files (*.lp, *.lp.gz) of a
+                                                 folder; OUT is FOLDER/listings
        mps360-batch [options] --out OUT FILE..    these files
 
   -j N               N at once; without it one after the other
@@ -13,18 +14,21 @@ usage: mps360-batch [options] FOLDER [OUT]        the jobs (*.job) and MPS files
   --mps2job WORDS    words for mps2job.py, in one: --mps2job='--negative-up free'
   --old-codes        ends with 1 in place of 3 where a file came to no answer, as it did before
 
-An MPS file is solved as solve does it, by its routes; a job has its own statements. In OUT there come NAME.listing, NAME.punch where a deck
+An MPS file or LP file is solved as solve does it, by its routes; a job has its own statements. In OUT there come NAME.listing, NAME.punch where a deck
 is punched, of an MPS file NAME.job and NAME.names as well, and what was changed is said on standard error; and summary.csv, which has a line
 for each file as soon as it is done, and in the end summary.json: name, file, state, status, objective (of an MPS file with its constant),
 seconds, proved, how it ended, a checksum, and of an MPS file the route, who proved it (program, checker or none) and the notes. The state is
 ended (END 0, 1, 2), stopped (a STOP line), refused (the file can't be kept), time limit or no answer (what was printed until then stands in
 NAME.listing.part).
 
+A disk that is full, and a device that gives no more, end the batch: what met it has no answer and no line, and --resume runs it. Without
+--resume an earlier summary of OUT is kept, as summary-1.csv and so on.
+
 The proved program is used where it is built; else all run UNPROVED, compiled once, in a minute or two (MPS360_PROVED=1 refuses that).
 
 Ends with 0 where each ended with an END line; 3 where one didn't; 64 for wrong use; 66 where there is no such folder or file, or
-nothing to run in it; 70 where no program or no solver can be had; 73 where OUT can't be written; 130 where it was interrupted."""
-import argparse, collections, csv, errno, hashlib, json, os, pathlib, re, shlex, shutil, signal, subprocess, sys, tempfile, threading, time
+nothing to run in it; 70 where no program or no solver can be had; 73 where OUT or standard output can't be written; 130 where it was interrupted."""
+import argparse, collections, csv, hashlib, itertools, json, os, pathlib, re, shlex, shutil, signal, subprocess, sys, tempfile, threading, time
 from concurrent.futures import FIRST_COMPLETED, ThreadPoolExecutor, wait
 from mps360.listings import read as listing2json
 from mps360 import programs, solvers
@@ -35,7 +39,7 @@ from mps360.commands import here
 from mps360.output import CantWrite, command
 from mps360 import unproved
 
-ENDINGS = (".job", ".mps", ".mps.gz")
+ENDINGS = (".job", ".mps", ".mps.gz", ".lp", ".lp.gz")
 OLD_COLUMNS = ("name", "file", "state", "status", "objective", "seconds", "proved", "end", "sum")
 COLUMNS = (*OLD_COLUMNS, "route", "proved_by", "notes")
 TEXT_COLUMNS = ("name", "file", "end", "route", "notes")
@@ -45,6 +49,8 @@ LATE, GRACE = 10.0, 5.0
 NO_END, REFUSED, CANT_READ, CANT_WRITE, INTERRUPTED, OPEN, OLD_OPEN = 124, 65, 66, 73, 130, 3, 1
 LINE_EACH, PATIENCE, MOST_SAID = 10, 0.2, 5
 DONE = ("ended", "stopped", "refused")
+# statuses of a run whose job couldn't be read, or whose listing or punched deck couldn't be written: no answer, but the want of a device
+DEVICE_FAULTS = {24: "the job couldn't be read", 25: "the listing couldn't be written", 26: "the deck couldn't be punched"}
 USAGE = "usage: mps360-batch [-j N] [--seconds S] [--with SOLVERS] [--resume] [--mps2job WORDS] FOLDER [OUT] | --out OUT FILE.."
 
 
@@ -70,6 +76,10 @@ class Signals:
         self.number = number
         if not self.is_noted:
             raise Interrupted(number)
+
+
+class DeviceFault(Exception):
+    "a run met a device that takes or gives no more, so that it has no answer, and others wouldn't have one either"
 
 
 class TimeOver(Exception):
@@ -116,7 +126,7 @@ def files_of(options):
     except OSError as cause:
         raise Wrong(66, f"can't read {cause.filename}: {cause.strerror}") from None
     if not paths:
-        raise Wrong(66, f"no job (*.job) and no MPS file (*.mps, *.mps.gz) in {folder}")
+        raise Wrong(66, f"no job (*.job), no MPS file (*.mps, *.mps.gz) and no LP file (*.lp, *.lp.gz) in {folder}")
     return named(paths), words[1] if len(words) == 2 else folder / "listings"
 
 
@@ -143,6 +153,20 @@ class Summary:
 
     def line(self, record):
         return {key: for_a_sheet(record[key]) if key in TEXT_COLUMNS else record[key] for key in COLUMNS}
+
+    def keep_earlier(self):
+        "the summary of an earlier batch gets the next free number; the place where it is, None where there is none"
+        if not self.before():
+            return None
+        number = next(number for number in itertools.count(1) if not any(self.numbered(path, number).exists() for path in (self.path, self.json)))
+        for path in (self.path, self.json):
+            if path.exists():
+                os.replace(path, self.numbered(path, number))
+        return self.numbered(self.path, number)
+
+    @staticmethod
+    def numbered(path, number):
+        return path.with_name(f"{path.stem}-{number}{path.suffix}")
 
     def begin(self, kept):
         self.records = dict(kept)
@@ -280,6 +304,8 @@ class Runs:
         if status < 0:
             record["end"] = f"ended by signal {-status}"
             return
+        if status in DEVICE_FAULTS:
+            raise DeviceFault(f"{name}: {DEVICE_FAULTS[status]} (status {status})")
         os.replace(part, self.out / f"{name}.listing")
         text = (self.out / f"{name}.listing").read_text(encoding="latin-1")
         record |= {"state": "ended" if status in (0, 1, 2) else "stopped", "status": status, "end": how_it_ended(text)}
@@ -303,8 +329,8 @@ class Runs:
         if status in (REFUSED, CANT_READ):
             cause = next((line for line in told.split("\n") if line.startswith("solve: ")), told or f"solve ended with {status}")
             record |= {"state": "refused", "end": cause.removeprefix("solve: "), "proved": ""}
-        elif status == CANT_WRITE:
-            raise OSError(errno.ENOSPC, told.split("\n")[-1], str(folder))
+        elif status == CANT_WRITE or status in DEVICE_FAULTS:
+            raise DeviceFault(f"{name}: {DEVICE_FAULTS.get(status) or told.split(chr(10))[-1].removeprefix('solve: ')} (status {status})")
         else:
             self.take(name, record, status, (folder / "answer").read_bytes(), told)
 
@@ -365,7 +391,7 @@ def done_before(summary, runs, files):
     kept, before = {}, summary.before()
     for name, path in files.items():
         line = before.get(for_a_sheet(name))
-        if line is None or line["state"] not in DONE or line["proved"] == "no" and runs.proved == "yes":
+        if line is None or line["state"] not in DONE or line["status"] in map(str, DEVICE_FAULTS) or line["proved"] == "no" and runs.proved == "yes":
             continue
         has_all = line["state"] == "refused" or (summary.path.parent / f"{name}.listing").exists()
         try:
@@ -386,7 +412,8 @@ class Lines:
         status = "none" if record["status"] is None else record["status"]
         try:
             if self.fault is None:
-                print(f"{status:>4}  {record['name']:<24} {record['end']}", flush=True)
+                objective = f"  objective {record['objective']}" if record["objective"] else ""
+                print(f"{status:>4}  {record['name']:<24} {record['end']}{objective}", flush=True)
         except CantWrite as cause:
             self.fault = cause
 
@@ -440,6 +467,8 @@ def batch(options, signals):
         program, is_proved = a_program()
         runs, summary = Runs(program, is_proved, out.resolve(), options), Summary(out)
         kept = done_before(summary, runs, files) if options.resume else {}
+        if not options.resume and (earlier := summary.keep_earlier()):
+            say(f"the summary of an earlier batch is {earlier} now; --resume goes on with that batch")
         summary.begin(kept)
         if options.resume:
             say(f"{len(kept)} of {len(files)} are done already")
@@ -447,7 +476,9 @@ def batch(options, signals):
         work_off({name: path for name, path in files.items() if name not in kept}, runs, summary, options.at_once, signals, lines)
         summary.end(files)
     except OSError as cause:
-        raise Wrong(73, f"can't write {cause.filename or out}: {cause.strerror}") from None
+        raise Wrong(CANT_WRITE, f"can't write {cause.filename or out}: {cause.strerror}") from None
+    except DeviceFault as cause:
+        raise Wrong(CANT_WRITE, f"{cause}: the batch ends here, with {len(summary.records)} of {len(files)} done; --resume goes on with the others") from None
     if len(summary.records) < len(files):
         say(f"interrupted: {len(summary.records)} of {len(files)} are done and stand in {out}; the others are not, and --resume goes on with them")
         return INTERRUPTED

@@ -24,7 +24,7 @@ from mps360 import programs
 from mps360.cli import mps2job
 from mps360.cli.words import joined
 from mps360.errors import Refused
-from mps360.jobs.write import job_of
+from mps360.long_numbers import exact_job
 from mps360 import text as strangers_text
 from mps360.output import command
 
@@ -763,7 +763,7 @@ def job_text(data, words, name):
     "the job of a model's file, and the names that it has otherwise than the file"
     options = mps2job.parsed_options([*words, "--", name], mps2job.wrong_use)
     model = mps.read_bytes(data, mps2job.reading_of(options), name)
-    job = job_of(model, options.ranging, model.name or pathlib.Path(name).name)
+    job = exact_job(model, options.ranging, model.name or pathlib.Path(name).name)
     table = job.name_map()
     return job.text, {**table["rows"], **table["columns"], **table["sets"]}
 

@@ -37,7 +37,7 @@ from mps360.cli.words import joined
 from mps360.provenance import Provenance
 from mps360.commands import called, here
 from mps360.long_numbers import exact_job
-from mps360.listings import made as made_listing
+from mps360.listings import made as made_listing, restore
 from mps360.output import command, make_folder, write_file
 from mps360.text import marked_decimal
 from mps360.text import as_lines, as_text
@@ -165,7 +165,7 @@ class Answer:
         self.variable = None
         if job:
             made_listing.check_made(job, reports, self.model.has_basis, self.model.ranging)
-            self.variable = variables_of(job.file)
+            self.variable = variables_of(job)
             return job.model.objective
         from mps360.listings import follow as follow_listing
         about, _ = follow_listing.follow(self.model.job.decode("latin-1"), reports)
@@ -287,21 +287,23 @@ class Answer:
             yield f"({len(lines) - len(shown)} more have {'the activity' if which == 'activity' else 'the price'} 0)"
 
 
-def variables_of(model):
-    "from the number of a variable of a model, rows first, to its kind, its name and its limits"
-    rows, columns = list(model.rows), list(model.columns)
+def variables_of(job):
+    "from the number of a variable of a job, rows first, to its kind, and its name and its limits in the file"
+    rows, columns, file = list(job.rows), list(job.columns), job.file
     def variable(number):
         if number <= len(rows):
-            return "row", rows[number - 1], *model.row_limits(rows[number - 1])
-        return "column", columns[number - len(rows) - 1], *model.column_limits(columns[number - len(rows) - 1])
+            return "row", rows[number - 1], *file.row_limits(rows[number - 1])
+        return "column", columns[number - len(rows) - 1], *file.column_limits(columns[number - len(rows) - 1])
     return variable
 
 
 def variables_of_job(program, names):
     "the same of a linear program that a job selects, by the names of the table"
+    long = restore.Table(names["long"]) if "long" in names else None
     def variable(number):
         kind, name = "row" if number <= program.m else "column", program.names[number - 1]
-        return kind, names.get(kind + "s", {}).get(name, name), program.lower[number - 1], program.upper[number - 1]
+        limits = long.limits(number) if long else None
+        return kind, names.get(kind + "s", {}).get(name, name), *(limits or (program.lower[number - 1], program.upper[number - 1]))
     return variable
 
 

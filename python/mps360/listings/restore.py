@@ -82,7 +82,7 @@ class Table:
     def limits(self, number: int) -> Limits | None:
         "the file's limits of a row or column that was changed, by its number in the listing"
         place = self.by_number.get(number)
-        return place and place.limits
+        return None if place is None else place.limits
 
 
 # ---- the reports
@@ -108,7 +108,8 @@ def recount(reports: list[Report], table: Table) -> None:
 
 
 def raised(number: str | None, shift: Fraction) -> str | None:
-    return number if number in (None, "-") or not shift else str(Fraction(number) + shift)
+    "a number of a line and a shift; a line may have none (None), or one that isn't asked for (-)"
+    return number if number is None or number == "-" or not shift else str(Fraction(number) + shift)
 
 
 def left(lines: list[Line], table: Table) -> list[Line]:
@@ -134,7 +135,8 @@ def restored(line: Line, table: Table, limits: dict[int, list[tuple[Moved, Line]
     stand = limits.get(place.number, [])
     activity = Fraction(line["activity"]) + place.shift
     price = "dual" if place.of == "row" else "reduced"
-    line |= {"activity": str(activity), **{key: None if limit is None else str(limit) for key, limit in zip(("lower", "upper"), place.limits)},
+    lower, upper = (None if limit is None else str(limit) for limit in place.limits)
+    line |= {"activity": str(activity), "lower": lower, "upper": upper,
              price: str(sum((Fraction(limit["dual"]) for _, limit in stand), Fraction(line[price])))}
     if place.of == "row":
         line["slack"] = str(place.rhs - activity)

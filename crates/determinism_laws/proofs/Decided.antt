@@ -1,4 +1,4 @@
--- Where no evidence of an overflow holds a job is answered as its run, or it is cut off.
+-- A run that doesn't stop with an overflow decides what its job is answered.
 use Rattle.std.proofs.Common.{◌≡◌, ◌⊎◌, ℕ, List, [], Some, inl, inr, sym, ap, subst, ◌∙◌}
 use Rattle.deck_definitions.specs.Written.{card_text}
 use Rattle.listing_definitions.specs.Report.{Report}
@@ -6,8 +6,8 @@ use Rattle.listing_definitions.specs.Ending.{Ending, Ended, WordsRefused, Contro
 use Rattle.listing_definitions.specs.Listing.{listing}
 use Rattle.question_definitions.specs.Solving.{Solving}
 use Rattle.run_definitions.specs.Answer.{Job, bytes_of, Failures, Gains, IsJobRun, MayEnd, words_refused, read_fails, by_itself, memory_at_start, memory_in_run, memory_at_punch, punch_fails, IsAnswer, whole, print_fails, print_wants_memory}
-use Rattle.determinism_laws.specs.Laws.{IsOverflow, AreSame, MeetsNoEvidence, IsFunction}
-use Rattle.determinism_laws.specs.Complete.{IsAnswerOfRun, IsCutOff, read_failed, print_failed, punch_failed, memory_wanted, IsComplete, IsBrokenOff, IsDecided}
+use Rattle.determinism_laws.specs.Laws.{IsOverflow, AreSame, IsFunction}
+use Rattle.determinism_laws.specs.Decided.{IsCutOff, read_failed, print_failed, punch_failed, memory_wanted, IsBrokenOff, IsDecided}
 use Rattle.determinism_laws.proofs.Runs.{overflow_or_not}
 use Rattle.determinism_laws.proofs.Stops.{IsOfItself, job_of_itself}
 
@@ -28,49 +28,6 @@ all_gained ReadFault cards deck punched own gains = absurd own
 all_gained PrintFault cards deck punched own gains = absurd own
 all_gained PunchFault cards deck punched own gains = absurd own
 all_gained Memory cards deck punched own gains = absurd own
-
-module _ (S : Solving) (function : IsFunction S) (job : Job) (failures : Failures) (status : ℕ) (PrintGains PunchGains : List ℕ → Type 0) (printed punched : List ℕ)
-    (print_gains : PrintGains printed) (punch_gains : PunchGains punched) (bytes : List ℕ) (of_job : bytes_of job ≡ Some bytes) (none : MeetsNoEvidence S bytes) where
-  by_run : (reports : List Report) (cards : List (List ℕ)) (ending : Ending) → IsJobRun S bytes reports cards ending → status ≡ status_of ending → printed ≡ listing reports ending →
-      punched ≡ card_text cards → IsAnswerOfRun S bytes status PrintGains PunchGains
-  by_run reports cards ending runs is text all = record {
-    reports = reports;
-    cards = cards;
-    ending = ending;
-    runs = runs;
-    is_only = λ others other_cards other also. function.one_run bytes reports others cards other_cards ending other none runs also;
-    no_overflow = function.unstopped bytes reports cards ending none runs;
-    is_status = is;
-    print_gains = subst PrintGains text print_gains;
-    punch_gains = subst PunchGains all punch_gains;
-  }
-
-  by_end : (reports : List Report) (cards deck : List (List ℕ)) (ending : Ending) → MayEnd S job failures reports cards deck ending → status ≡ status_of ending → printed ≡ listing reports ending →
-      Gains ending cards deck punched → IsAnswerOfRun S bytes status PrintGains PunchGains ⊎ IsCutOff failures status
-  by_end _ _ _ _ (words_refused refused) is text gains = let e = sym (ap bytes_of refused) ∙ of_job in absurd (cc e)
-  by_end _ _ _ _ (read_fails read is_read failed) is text gains = inr (read_failed failed is)
-  by_end reports cards _ ending (by_itself others also runs) is text gains =
-      let e = sym also ∙ of_job in
-      let same : others ≡ bytes = cc e in
-      let of_bytes = subst (λ (xs : List ℕ). IsJobRun S xs reports cards ending) same runs in
-      inl (by_run reports cards ending of_bytes is text (all_gained ending cards [] punched (job_of_itself S bytes reports cards ending of_bytes) gains))
-  by_end _ _ _ _ memory_at_start is text gains = inr (memory_wanted is)
-  by_end _ _ _ _ (memory_in_run others program state also so_far) is text gains = inr (memory_wanted is)
-  by_end _ _ _ _ (memory_at_punch others program state deck also so_far punching) is text gains = inr (memory_wanted is)
-  by_end _ _ _ _ (punch_fails others program state deck failed also so_far punching) is text gains = inr (punch_failed failed is)
-
-  by_answer : IsAnswer S job failures (record { status = status; printed = printed; punched = punched }) → IsAnswerOfRun S bytes status PrintGains PunchGains ⊎ IsCutOff failures status
-  by_answer (whole {reports} {cards} {deck} ending may_end is text gains) = by_end reports cards deck ending may_end is text gains
-  by_answer (print_fails failed is cut) = inr (print_failed failed is)
-  by_answer (print_wants_memory wanted is cut) = inr (memory_wanted is)
-
--- an answer to a job is complete, where a run is a function
-pub answer_is_complete : (S : Solving) (job : Job) (failures : Failures) (status : ℕ) (PrintGains PunchGains : List ℕ → Type 0) (printed punched : List ℕ) → IsFunction S → PrintGains printed → PunchGains punched →
-    IsAnswer S job failures (record { status = status; printed = printed; punched = punched }) → IsComplete S job failures status PrintGains PunchGains
-answer_is_complete S job failures status PrintGains PunchGains printed punched function print_gains punch_gains is bytes of_job none =
-    by_answer S function job failures status PrintGains PunchGains printed punched print_gains punch_gains bytes of_job none is
-
--- ---- what a status decides
 
 module _ (S : Solving) (function : IsFunction S) (job : Job) (failures : Failures) (status : ℕ) (PrintGains PunchGains : List ℕ → Type 0) (printed punched : List ℕ)
     (print_gains : PrintGains printed) (punch_gains : PunchGains punched) (bytes : List ℕ) (of_job : bytes_of job ≡ Some bytes)
