@@ -3,11 +3,17 @@
 # that takes some 25 minutes on four processors for mps360, and more for both; what is proved stays so, and later runs prove only
 # what changed.
 # usage: scripts/build.sh [NAME]     a line for each crate, and in the end each program's path; ends with 64 for wrong use, 70 where
-# one can't be built
+# one can't be built, 73 where standard output can't be written
 set -eu
+# a write that fails is no answer
+trap '' PIPE
+cant_write() {
+    echo "build.sh: can't write to standard output" >&2
+    exit 73
+}
 case ${1:-} in
     -h | --help)
-        sed -n '2,6s/^# //p' "$0"
+        sed -n '2,6s/^# //p' "$0" 2>/dev/null || cant_write
         exit 0
         ;;
 esac
@@ -47,7 +53,7 @@ awk -v names="${names[*]}" '{ sub(/#.*/, "") }
     }' "$top/crates.txt" >"$room/crates.txt"
 count=$(wc -l <"$room/crates.txt")
 told=${names[*]}
-echo "${told/ / and } with the crates below: $count. What is proved already is passed over."
+echo "${told/ / and } with the crates below: $count. What is proved already is passed over." 2>/dev/null || cant_write
 
 # The gate's own command, over a copy that has these crates alone, without must-fail edits: it proves as many at once as there are
 # processors, and keeps what it has proved.
@@ -74,5 +80,5 @@ for name in "${names[@]}"; do
     chmod 755 "$program"
     # as old as the copy, so that it isn't fresh where a source was changed while it was proved
     touch -r "$room/crates.txt" "$program"
-    echo "built in $(((SECONDS - begun) / 60)) minutes $(((SECONDS - begun) % 60)) seconds: $program"
+    echo "built in $(((SECONDS - begun) / 60)) minutes $(((SECONDS - begun) % 60)) seconds: $program" 2>/dev/null || cant_write
 done

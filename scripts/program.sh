@@ -2,11 +2,17 @@
 # Prints the path of a proved program, which is one that no source, definition or proof is newer than.
 # usage: program.sh [--fresh] [NAME]     NAME is mps360, where none is given, or mps360check, the checker of listings
 # Where there is none it is built first (scripts/build.sh); with --fresh nothing is built. Ends with 1 where there is none, with 64
-# for wrong use.
+# for wrong use, 73 where standard output can't be written.
 set -eu
+# a write that fails is no answer
+trap '' PIPE
+cant_write() {
+    echo "program.sh: can't write to standard output" >&2
+    exit 73
+}
 case ${1:-} in
     -h | --help)
-        sed -n '2,5s/^# //p' "$0"
+        sed -n '2,5s/^# //p' "$0" 2>/dev/null || cant_write
         exit 0
         ;;
 esac
@@ -33,4 +39,4 @@ if ! is_fresh; then
     "$top/scripts/build.sh" "$name" >&2 || exit 1
     is_fresh || exit 1
 fi
-echo "$program"
+echo "$program" 2>/dev/null || cant_write

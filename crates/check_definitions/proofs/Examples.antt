@@ -10,7 +10,8 @@ use Rattle.lp_definitions.specs.declared.Sense.{Sense}
 use Rattle.lp_definitions.specs.declared.Sense.TheVariants.{Min, Max}
 use Rattle.lp_definitions.specs.LinearProgram.{LinearProgram, value_at}
 use Rattle.check_definitions.specs.declared.Verdict.TheVariants.{Checked, Failed, Unchecked}
-use Rattle.check_definitions.specs.Checks.{optimal_check, crossed_check, infeasible_check, unbounded_check}
+use Rattle.check_definitions.specs.Steps.{of_any_length, verdict_by}
+use Rattle.check_definitions.specs.Checks.{optimal_steps, optimal_check, crossed_check, infeasible_check, unbounded_check}
 
 abbrev number : ℕ → ℚ
 number n = whole (pos n)
@@ -132,3 +133,8 @@ too_large = one_column 2 (on 1 (number 1) ∷ on 2 large ∷ []) (None ∷ None 
 refused : optimal_check too_large (value_at (large ∷ zero_ℚ ∷ large ∷ [])) (value_at []) ≡ Unchecked (record { op = Mul; left = large; right = large })
 unfolding refuses shared_factor raised_numerator raised_sum sum_denominator ◌+ℚ◌ ◌*ℚ◌ neg_ℚ fraction whole gcd compare_ℚ
 refused = refl
+
+-- of any length it is made, and the row's value is found not to be the row's sum
+made : verdict_by of_any_length (optimal_steps too_large (value_at (large ∷ zero_ℚ ∷ large ∷ [])) (value_at [])) ≡ Failed 1 2
+unfolding ◌+ℚ◌ ◌*ℚ◌ neg_ℚ fraction whole gcd compare_ℚ
+made = refl

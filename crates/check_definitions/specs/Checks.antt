@@ -6,7 +6,8 @@
 --     standing_prices p z y        a price that is not 0 stands only at the limit that its sign asks for
 --     ray_columns, ray_limits      the multipliers vanish on each column; each meets a limit, and these products are added up
 --     free_direction p d           the direction falls only where there is no lower limit, and rises only where there is no upper one
---     optimal_check, crossed_check, infeasible_check, unbounded_check      the verdicts
+--     optimal_steps, crossed_steps, infeasible_steps, unbounded_steps      all that is asked of a verdict
+--     optimal_check, crossed_check, infeasible_check, unbounded_check      what these steps say in numbers of 128 bits
 use Rattle.std.specs.Prelude.{ℕ, ◌+◌, Bool, true, false, not, ◌&&◌, List, [], ◌∷◌, ◌++◌, map, filter, Option, Some, None, is_some, is_none, unwrap_or}
 use Rattle.std.specs.List.{flat_map}
 use Rattle.std.specs.declared.cmp.Ordering.{Ordering}
@@ -148,16 +149,28 @@ module _ (p : LinearProgram) where
   abbrev pub improving : Vector → List Step
   improving d = combined_steps d ++ comparison 5 0 (lt_ℚ (for_min p.sense (objective_value p d)) zero_ℚ) ∷ []
 
-  -- ---- the checks
+  -- ---- the steps of the checks, and their verdicts
+
+  abbrev pub optimal_steps : Vector → Vector → List Step
+  optimal_steps z y = feasible_point z ++ (reduced_costs y ++ standing_prices z y)
+
+  abbrev pub crossed_steps : ℕ → List Step
+  crossed_steps k = comparison 1 k (is_crossed (lower_of p k) (upper_of p k)) ∷ []
+
+  abbrev pub infeasible_steps : Vector → List Step
+  infeasible_steps w = ray_columns w ++ (ray_limits w zero_ℚ (multiplied w) ++ ray_sum w)
+
+  abbrev pub unbounded_steps : Vector → Vector → List Step
+  unbounded_steps z d = feasible_point z ++ (equations 3 d ++ (free_direction d ++ improving d))
 
   abbrev pub optimal_check : Vector → Vector → Verdict
-  optimal_check z y = verdict_of (feasible_point z ++ (reduced_costs y ++ standing_prices z y))
+  optimal_check z y = verdict_of (optimal_steps z y)
 
   abbrev pub crossed_check : ℕ → Verdict
-  crossed_check k = verdict_of (comparison 1 k (is_crossed (lower_of p k) (upper_of p k)) ∷ [])
+  crossed_check k = verdict_of (crossed_steps k)
 
   abbrev pub infeasible_check : Vector → Verdict
-  infeasible_check w = verdict_of (ray_columns w ++ (ray_limits w zero_ℚ (multiplied w) ++ ray_sum w))
+  infeasible_check w = verdict_of (infeasible_steps w)
 
   abbrev pub unbounded_check : Vector → Vector → Verdict
-  unbounded_check z d = verdict_of (feasible_point z ++ (equations 3 d ++ (free_direction d ++ improving d)))
+  unbounded_check z d = verdict_of (unbounded_steps z d)

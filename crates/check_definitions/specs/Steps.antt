@@ -1,14 +1,17 @@
 -- A check as the list of what it does, in order, and its verdict.
 --     Step                         an operation on two values, or a comparison
---     verdict_of steps             what the first step that stops says, or Checked
+--     Arithmetic                   what numbers are read, and what operations are refused
+--     verdict_by A steps           what the first step that stops says in that arithmetic, or Checked
+--     verdict_of steps             the same in numbers of 128 bits
+--     AllHold steps                each comparison holds
 --     in_turn verdicts             what the first verdict that stops says, or Checked
 --     sum_steps start ts           adds up products from the left, each made before it is added
 --     sum_of start ts              what that sum comes to
-use Rattle.std.specs.Prelude.{ℕ, Bool, List, [], ◌∷◌, map, if◌then◌else◌}
+use Rattle.std.specs.Prelude.{◌≡◌, ℕ, Bool, true, false, List, [], ◌∷◌, map, if◌then◌else◌}
 use Rattle.exact_values.specs.Rational.{ℚ, ◌+ℚ◌, ◌*ℚ◌}
 use Rattle.frac128.specs.declared.Op.{Op}
 use Rattle.frac128.specs.declared.Op.TheVariants.{Add, Mul}
-use Rattle.frac128.specs.Operations.{refuses}
+use Rattle.frac128.specs.Operations.{refuses, terms_fit}
 use Rattle.lp_definitions.specs.RatesEvidence.{sum_from}
 use Rattle.check_definitions.specs.declared.Verdict.{Verdict}
 use Rattle.check_definitions.specs.declared.Verdict.TheVariants.{Checked, Failed, Unchecked}
@@ -18,11 +21,33 @@ pub data Step : Type 0 where
   operation : Op → ℚ → ℚ → Step
   comparison : ℕ → ℕ → Bool → Step
 
+-- what numbers are read, and what operations on two numbers are refused
+pub record Arithmetic : Type 0 where
+  pub reads : ℚ → Bool
+  pub refused : Op → ℚ → ℚ → Bool
+
+-- the arithmetic of the run: the terms of a number have 128 bits
+abbrev pub of_128_bits : Arithmetic
+of_128_bits = record { reads = terms_fit; refused = refuses }
+
+-- a number is of any length, and no operation is refused
+abbrev pub of_any_length : Arithmetic
+of_any_length = record { reads = λ x. true; refused = λ op x y. false }
+
 -- the steps are made in order, until an operation is refused or a comparison fails
+abbrev pub verdict_by : Arithmetic → List Step → Verdict
+verdict_by A [] = Checked
+verdict_by A (operation op x y ∷ steps) = if A.refused op x y then Unchecked (record { op = op; left = x; right = y }) else verdict_by A steps
+verdict_by A (comparison part number holds ∷ steps) = if holds then verdict_by A steps else Failed part number
+
 abbrev pub verdict_of : List Step → Verdict
-verdict_of [] = Checked
-verdict_of (operation op x y ∷ steps) = if refuses op x y then Unchecked (record { op = op; left = x; right = y }) else verdict_of steps
-verdict_of (comparison part number holds ∷ steps) = if holds then verdict_of steps else Failed part number
+verdict_of steps = verdict_by of_128_bits steps
+
+-- each comparison holds, whatever operations are refused
+abbrev pub AllHold : List Step → Type 0
+AllHold [] = Unit {0}
+AllHold (operation op x y ∷ steps) = AllHold steps
+AllHold (comparison part number holds ∷ steps) = (holds ≡ true) × AllHold steps
 
 -- the first verdict where it stops, and else the second
 abbrev pub followed_by : Verdict → Verdict → Verdict

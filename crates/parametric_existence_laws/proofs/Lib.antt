@@ -1,0 +1,5 @@
+pub mod Runs
+pub mod Reaches
+pub mod ObjectiveFaces
+pub mod ObjectiveParts
+pub mod RhsParts

@@ -1,0 +1,133 @@
+#!/usr/bin/env python3
+"""Counts how many exact answers of another solver are attested, by rows and decimals of random sparse models (those of bench_bases.py); and
+times the checker.
+
+usage: bench_attesting.py [--itself | --program FILE] [--models N] [--rows N,N..] [--seconds S] | --times [--program FILE]
+
+  --itself        oracle/attesting.py is asked, a reading of the checker's rules that isn't proved. Else the proved program mps360check
+  --program FILE  another program, which takes the job on standard input and the listing from the file LISTING of the present folder
+  --models N      N models of each kind (10)
+  --rows N,N..    10,20,50,100,200,300 without it
+  --seconds S     the solver is ended after S seconds (60), and counted apart
+  --times         times, in place of the counts: the least processor time of five runs, and the peak memory
+
+esolver of QSopt_ex solves each model in exact fractions, and solution2listing.py makes a job and a listing of what it wrote. A number of the
+answer may not fit a fraction of 127 bits: then there is no listing, since none could have these numbers. It ends with 64 for wrong use, 70
+where there is no checker or no esolver."""
+import argparse, collections, pathlib, shutil, subprocess, sys, tempfile
+sys.path.insert(0, str(pathlib.Path(__file__).resolve().parents[2] / "python"))
+import bench_bases
+from mps360 import mps
+from mps360.cli import mps2job
+from mps360.cli import prove
+from mps360.cli import solution2listing
+from mps360.jobs.write import job_of
+from mps360.listings import write as answer_listing
+from mps360 import programs
+from oracle import attesting as expected_attesting
+
+HERE = pathlib.Path(__file__).resolve().parent
+ENDS = ("attested", "unchecked", "doesn't fit", "no end")
+
+
+def solved(path, solution, seconds):
+    "whether esolver has written an answer in time"
+    try:
+        subprocess.run(["esolver", "-O", solution, path], capture_output=True, timeout=seconds)
+    except subprocess.TimeoutExpired:
+        return False
+    return solution.exists()
+
+
+def end_of(asked, text, folder, seconds):
+    "what becomes of the answer to a model, as text"
+    path, solution = folder / "model.mps", folder / "solution"
+    path.write_text(text)
+    solution.unlink(missing_ok=True)
+    if not solved(path, solution, seconds):
+        return "no end"
+    try:
+        job, listing = solution2listing.made(mps2job.parsed_options([str(path)], solution2listing.wrong_use), str(solution))
+    except solution2listing.Ended as cause:
+        if "doesn't fit 128 bits" in str(cause):
+            return "doesn't fit"
+        raise
+    status, line = asked(job.text.encode("latin-1"), listing.encode("latin-1"))
+    if status not in (expected_attesting.ATTESTED, expected_attesting.UNCHECKED):
+        raise SystemExit(f"bench_attesting.py: of esolver's answer to {path.read_text().split()[1]} the checker says {line}")
+    return "attested" if status == expected_attesting.ATTESTED else "unchecked"
+
+
+def counts(asked, options):
+    "a line for each kind of model"
+    print("| Rows | Decimals | Models | Attested | Unchecked: an operation of a test doesn't fit | A number of the answer doesn't fit | No answer in time |")
+    print("|" + "---|" * 7)
+    with tempfile.TemporaryDirectory() as folder:
+        for rows in options.rows:
+            for decimals in bench_bases.DECIMALS:
+                ends = collections.Counter()
+                for number in range(1, options.models + 1):
+                    model = prove.plain_model(bench_bases.made_model(rows, decimals, number))
+                    ends[end_of(asked, prove.plain_text(model), pathlib.Path(folder), options.seconds)] += 1
+                print("| " + " | ".join(str(cell) for cell in (rows, decimals, options.models, *(ends[end] for end in ENDS))) + " |", flush=True)
+
+
+def greatest_deck():
+    "a deck of the greatest size, whose opening basis is optimal (that of bench_converting.sh)"
+    entry = "    {:<8}  {:<8}  {:<12}\n".format
+    yield "NAME          GREATEST\nROWS\n N  COST\n" + "".join(f" L  R{row}\n" for row in range(1, 1000)) + "COLUMNS\n"
+    for column in range(1, 5001):
+        yield entry(f"X{column}", "COST", column % 97)
+        yield from (entry(f"X{column}", f"R{1 + (column * 7 + k * 111) % 999}", "-3.25") for k in range(9))
+    yield "RHS\n" + "".join(entry("LIMIT", f"R{row}", row) for row in range(1, 1000)) + "ENDATA\n"
+
+
+def times(program):
+    greatest = job_of(mps.read_text("".join(greatest_deck())))
+    wide = programs.TOP / "examples/wide.job"
+    print("| What | Bytes of the listing | Answer, processor time, memory |\n|---|---|---|")
+    for what, job, listing in (("examples/wide", wide.read_text(), wide.with_suffix(".listing").read_text()),
+                               ("1,000 rows, 5,000 columns and 50,000 entries, with one SOLUTION", greatest.text, answer_listing.listing_of(greatest, answer_listing.Answer("optimal")))):
+        with tempfile.TemporaryDirectory() as folder:
+            for name, text in (("JOB", job), ("LISTING", listing)):
+                pathlib.Path(folder, name).write_text(text)
+            told = subprocess.run([sys.executable, HERE / "timed.py", "JOB", program], cwd=folder, stdout=subprocess.PIPE, text=True)
+        print(f"| {what} | {len(listing)} | {told.stdout.strip()} |", flush=True)
+
+
+def refused(message):
+    print(f"bench_attesting.py: {message}", file=sys.stderr)
+    sys.exit(64)
+
+
+def main(words):
+    if any(word in ("-h", "--help") for word in words):
+        print(__doc__)
+        return 0
+    parser = argparse.ArgumentParser(add_help=False)
+    parser.error = refused
+    parser.add_argument("--itself", action="store_true")
+    parser.add_argument("--program", type=lambda word: str(pathlib.Path(word).resolve()))
+    parser.add_argument("--models", type=int, default=10)
+    parser.add_argument("--rows", type=lambda word: [int(part) for part in word.split(",")], default=bench_bases.ROWS)
+    parser.add_argument("--seconds", type=float, default=60)
+    parser.add_argument("--times", action="store_true")
+    options = parser.parse_args(words)
+    if options.itself and (options.program or options.times):
+        refused("--itself asks no program")
+    try:
+        if not options.times and not shutil.which("esolver"):
+            raise programs.NoProgram("esolver isn't installed (qsopt-ex)")
+        program = None if options.itself else options.program or programs.checker_program()
+    except programs.NoProgram as cause:
+        print(f"bench_attesting.py: {cause}", file=sys.stderr)
+        return 70
+    if options.times:
+        times(program)
+        return 0
+    counts((lambda job, listing: programs.attested_by(program, job, listing)) if program else expected_attesting.attest, options)
+    return 0
+
+
+if __name__ == "__main__":
+    sys.exit(main(sys.argv[1:]))

@@ -1,0 +1,96 @@
+#!/usr/bin/env bash
+# Small checks of the repository, which run after the gate, in under a minute. A check whose tool is missing is skipped, and so is,
+# saying so, what needs the proved program where it isn't fresh.
+# usage: check.sh      ends with 1 where a check fails
+set -u
+case ${1:-} in
+    -h | --help)
+        sed -n '2,4s/^# //p' "$0" 2>/dev/null || {
+            echo "check.sh: can't write to standard output" >&2
+            exit 73
+        }
+        exit 0
+        ;;
+esac
+cd "$(dirname "$0")/.." || exit 1
+failed=0
+fail() {
+    echo "check: $*" >&2
+    failed=1
+}
+
+# No handle is allowed.
+[ "$(cat HANDLES)" = 'Handles allowed: none.' ] || fail "HANDLES is changed"
+
+# Each crate that is listed stands in crates/, and each that stands there is listed, once.
+listed=$(sed -e 's/#.*//' crates.txt | sed -n 's/^ *\([a-z0-9_]*\).*:.*/\1/p' | sort)
+[ -z "$(uniq -d <<<"$listed")" ] || fail "crates.txt lists twice:" $(uniq -d <<<"$listed")
+for crate in $listed; do
+    [ -f "crates/$crate/src/lib.rt" ] || [ -f "crates/$crate/src/main.rt" ] || fail "crates/$crate is missing"
+done
+for folder in crates/*/; do
+    crate=$(basename "$folder")
+    grep -qx "$crate" <<<"$listed" || fail "crates.txt doesn't list $crate"
+done
+
+# What rt makes isn't committed.
+if command -v git >/dev/null && git rev-parse --git-dir >/dev/null 2>&1; then
+    [ -z "$(git ls-files | grep -E '(^|/)out/')" ] || fail "files of an out/ are committed"
+fi
+
+# README.md is short, and the edits that must fail are few.
+most_lines=100 most_edits=80
+lines=$(wc -l <README.md)
+[ "$lines" -le "$most_lines" ] || fail "README.md has $lines lines, more than $most_lines"
+edits=$(find crates -path '*/must-fail/*.edit' | wc -l)
+long=$(find crates -name out -prune -o -name '*.rt' -print0 | LC_ALL=C.UTF-8 xargs -0 grep -hE '^ *(requires|ensures|invariant) ' |
+    LC_ALL=C.UTF-8 grep -cE '^.{101}')
+crates_with_edits=$(find crates -path '*/must-fail/*.edit' | cut -d/ -f2 | sort -u | wc -l)
+tests=$(find crates -name out -prune -o -name '*.rt' -print0 | xargs -0 grep -hE '^ *#\[test\]' | wc -l)
+echo "check: $edits must-fail edits in $crates_with_edits crates; $tests test functions; $long lines of clauses have over 100 columns"
+[ "$edits" -le "$most_edits" ] || fail "there are $edits must-fail edits, more than $most_edits"
+
+if command -v python3 >/dev/null; then
+    # No text cites a paper by number; paths, definitions, calls and clauses that documents name are there.
+    python3 dev/check_documents.py || fail "a document says what isn't so"
+
+    # No crate stands on one of a higher layer, crates.txt lists what files cite, and the page of layers is fresh.
+    python3 dev/layers.py --check || fail "crates.txt or a page of layers (dev/layers.py --write makes these pages)"
+
+    # The page of faults is that of examples/faults, and the listings of examples/ are those that are worked out apart.
+    python3 dev/faults.py --check || fail "dev/faults.py --write makes docs/FAULTS.md"
+    bash dev/examples.sh --expected || fail "a listing of examples/"
+    python3 python/tests/check_decks.py || fail "free_deck.py changes a deck, or free decks are read otherwise than they are to be"
+    # The six that take longest run side by side.
+    python3 python/tests/check_installed.py &
+    installed=$!
+    python3 python/tests/check_mps2job.py &
+    files=$!
+    python3 python/tests/check_reports.py &
+    reports=$!
+    python3 python/tests/check_bases.py &
+    bases=$!
+    python3 python/tests/check_answers.py &
+    answers=$!
+    python3 python/tests/check_tools.py || fail "a script does otherwise than it is to do"
+    wait "$reports" || fail "solve, listing2html.py, listing2json.py or the page of reference answers does otherwise than it is to do"
+    wait "$bases" || fail "basis2deck.py or prove takes another basis than a solver wrote"
+    wait "$answers" || fail "a solution, a listing or a certificate becomes another than it is, or is taken where it should be refused"
+    wait "$files" || fail "mps2job.py changes a problem, or takes a file that it should refuse"
+    wait "$installed" || fail "build.sh, install.sh, an installed command or mps360-batch does otherwise than it is to do"
+    if scripts/program.sh --fresh >/dev/null; then
+        bash dev/examples.sh || fail "the program prints other listings of examples/"
+        python3 dev/faults.py --run || fail "the program ends the jobs of examples/faults otherwise"
+    else
+        echo "check: no fresh proved program mps360; examples/ aren't run"
+    fi
+    if scripts/program.sh --fresh mps360check >/dev/null; then
+        python3 python/tests/check_listings.py --proved --jobs 0 40 || fail "the checker says otherwise of an altered listing than its rules"
+        python3 python/tests/random_jobs.py --attest 0 100 || fail "the checker says otherwise of a job's own listing than its rules"
+    else
+        echo "check: no fresh proved program mps360check; no altered listing is attested"
+    fi
+fi
+
+[ "$failed" -eq 0 ] && echo "check: ok"
+exit "$failed"

@@ -1,0 +1,283 @@
+#!/usr/bin/env python3
+"""Checks what documents say of the repository: no text cites a paper by number; each path and each heading that a document names is there;
+each definition of docs/DEFINITIONS.md stands where it says, and in its tables from rules to code in the very file, each function there
+has a contract, each fault its number, its test and its place in the order of tests, and links alone lead there from README.md; each
+call and each clause of docs/CLAIMS.md is there. dev/check.sh runs it.
+
+usage: check_documents.py                     ends with 1 where something isn't so
+       check_documents.py --walks [SEED]      prints ten rules, picked by a seed, with the links by which README.md leads to each"""
+import pathlib, random, re, sys
+
+TOP = pathlib.Path(__file__).resolve().parent.parent
+CRATES = TOP / "crates"
+CITED = re.compile(
+    r"\b0[1-4]-[0-9]{1,2}\b"
+    r"|\b(?:document|paper|demand|request|stage|rung)s? [0-9]+"
+    r"|\b[DRTW][0-9]{1,2}(?:\.[0-9]+)?\b"
+)
+NAMED = re.compile(r"`((?:\.ci|scripts|python|dev|docs|examples|crates)/[^`\s]*)|\]\(([^)#\s]+)(?:#[^)]*)?\)")
+NAME = re.compile(r"[A-Za-z_◌][\w◌]*")
+wrong = 0
+
+
+def told(path, number, what):
+    global wrong
+    wrong += 1
+    print(f"{path.relative_to(TOP)}:{number}: {what}", file=sys.stderr)
+
+
+def lines_of(path):
+    return enumerate(path.read_text(encoding="utf-8").splitlines(), 1)
+
+
+def prose(path):
+    "the lines of prose of a file: all but its code"
+    fenced = False
+    for number, line in lines_of(path):
+        if path.suffix == ".md":
+            if line.lstrip().startswith("```"):
+                fenced = not fenced
+            elif not fenced:
+                yield number, re.sub(r"`[^`]*`", "", line)
+        else:
+            mark = "//" if path.suffix in (".rt", ".edit") else "--"
+            _, found, comment = re.sub(r'"(?:[^"\\]|\\.)*"', '""', line).partition(mark)
+            if found:
+                yield number, re.sub(r"`[^`]*`", "", comment)
+
+
+def check_citations():
+    for path in sorted(TOP.rglob("*")):
+        if path.suffix in (".rt", ".antt", ".md", ".edit") and not {"out", ".git"} & set(path.parts):
+            for number, text in prose(path):
+                if found := CITED.search(text):
+                    told(path, number, f"a paper is cited by number: {found.group()}")
+
+
+def check_paths():
+    for page in [*TOP.glob("*.md"), *TOP.glob("docs/*.md"), *TOP.glob("examples/*.md")]:
+        for number, line in lines_of(page):
+            for found in NAMED.finditer(line):
+                name = (found[1] or "").rstrip(".,:)") or found[2]
+                if "://" in name or re.search(r"NAME|[A-Z]+\.job|<|\.\.\.", name) or "/out/" in name:
+                    continue
+                base = TOP if found[1] else page.parent
+                if not (list(base.glob(name)) if re.search(r"[*?]", name) else (base / name).exists()):
+                    told(page, number, f"there is no {name}")
+
+
+def rows(page):
+    "the rows of the tables of a page, as cells, each with the heading above it"
+    heading = ""
+    for number, line in lines_of(page):
+        heading = line if line.startswith("#") else heading
+        cells = [cell.strip() for cell in re.split(r"(?<!\\)\|", line)[1:-1]]
+        if len(cells) == 3 and not set(line) <= set("|-: "):
+            yield number, heading, cells
+
+
+def quoted(cell):
+    return re.findall(r"`([^`]+)`", cell)
+
+
+def sources(crate, folder, endings):
+    return "\n".join(path.read_text(encoding="utf-8") for path in sorted((CRATES / crate / folder).rglob("*")) if path.suffix in endings)
+
+
+def check_definitions():
+    page = TOP / "docs/DEFINITIONS.md"
+    for number, heading, (_, names, places) in rows(page):
+        if heading.startswith("### "):
+            continue
+        crates, files = set(), []
+        for place in quoted(places):
+            found = re.fullmatch(r"(\w+)/(specs|src)(?:/(\w+))?", place)
+            if found and (CRATES / found[1]).is_dir():
+                crates.add(found[1])
+            if found or re.fullmatch(r"[A-Z]\w*", place):
+                files.append((found[1] if found else None, found[3] if found else place))
+            elif not NAME.fullmatch(place):
+                told(page, number, f"{place} isn't a place")
+        for crate, file in files:
+            if file and not any(list((CRATES / one).glob(f"*/{file}.*")) for one in ([crate] if crate else crates)):
+                told(page, number, f"there is no {crate or ' or '.join(sorted(crates))}/specs/{file}")
+        text = "".join(sources(crate, folder, (".antt", ".rt")) for crate in crates for folder in ("specs", "src"))
+        words = set(NAME.findall(text))
+        for name in quoted(names):
+            if crates and not all(part in words for part in NAME.findall(name)):
+                told(page, number, f"{name} isn't defined in {', '.join(sorted(crates))}")
+
+
+def defined_in(name, path):
+    "whether a file defines this name, and a function of this name with a clause that it ensures"
+    text = path.read_text(encoding="utf-8")
+    if path.suffix == ".antt":
+        return re.search(rf"^\s*(?:(?:abbrev|unfoldable) )?(?:pub )?(?:record |data )?{re.escape(name)}(?: :| \(|\s*$)", text, re.M)
+    return re.search(rf"\bfn {re.escape(name)}\b[^{{}}]*?(?:requires[^{{}}]*{{.*?)?\bensures\b", text, re.S)
+
+
+def numbers_of_faults():
+    "the number of each fault, by its kind and name, as the definitions have it"
+    tables = {"deck": ("run_definitions/specs/Verbs", "deck_fault_number"), "number": ("run_definitions/specs/Verbs", "number_fault_of"),
+              "verb": ("listing_definitions/specs/Ending", "verb_fault_number"), "control": ("control_definitions/specs/Compiled", "fault_number"),
+              "card": ("listing_definitions/specs/Listing", "card_stop_text")}
+    numbers = {}
+    for kind, (place, name) in tables.items():
+        text = (CRATES / f"{place}.antt").read_text(encoding="utf-8")
+        for case, value in re.findall(rf"^{name} (.*?) = (.*)$", text, re.M):
+            if found := re.search(r"(?:^|Some |FAULT |fault_text )(\d+)", value):
+                numbers[kind, re.findall(r"[A-Z]\w*", case)[-1 if kind == "number" else 0]] = int(found[1])
+    return numbers
+
+
+def body_of(name, path):
+    "the text of a definition, up to the empty line after it"
+    found = re.search(rf"^\s*(?:(?:abbrev|unfoldable) )?(?:pub )?{re.escape(name)} :.*?(?:\n\s*\n|\Z)", path.read_text(encoding="utf-8"), re.M | re.S)
+    return found[0] if found else ""
+
+
+def rules():
+    "the rules of the tables from rules to code, each with its lines: what stands there, the fault or None, the name, and its file"
+    page = TOP / "docs/DEFINITIONS.md"
+    found = []
+    for number, heading, (rule, what, where) in rows(page):
+        if heading.startswith("### ") and rule != "Rule":
+            if rule:
+                found.append((number, rule, []))
+            parts = re.fullmatch(r"(?:`(\w+)`, by )?\[`([^`]+)`\]\(([^)]+)\)", where)
+            if not parts or bool(parts[1]) != what.endswith(tuple("0123456789")) or not found:
+                told(page, number, f"{where}: one name is to stand here, linked to its file, in the line of a fault after the fault's name")
+            elif not (path := (page.parent / parts[3]).resolve()).is_file():
+                told(page, number, f"there is no {parts[3]}")
+            else:
+                found[-1][2].append((number, what, parts[1], parts[2], path))
+    return found
+
+
+def check_rules():
+    page = TOP / "docs/DEFINITIONS.md"
+    numbers, given = numbers_of_faults(), set()
+    for first, rule, lines in rules():
+        last = {}
+        for number, what, fault, name, path in lines:
+            if not defined_in(name, path):
+                told(page, number, f"{name} isn't defined in {path.relative_to(TOP)}, or ensures nothing")
+            if not fault:
+                continue
+            kind = what.partition(" ")[0]
+            given.add((kind, fault))
+            if what != f"{kind} fault {numbers.get((kind, fault))}":
+                told(page, number, f"{fault} isn't {what}")
+            test = re.search(rf"\b{fault}\b", body_of(name, path))
+            if not test:
+                told(page, number, f"{name} doesn't test {fault}")
+            elif test.start() < last.get(name, 0):
+                told(page, number, f"{name} tests {fault} before the fault above")
+            else:
+                last[name] = test.start()
+        if not {"definition", "contract", "code"} <= {what for _, what, *_ in lines}:
+            told(page, first, f"{rule}: a definition, a contract and code are to stand here, each with its file")
+    for kind, fault in sorted(set(numbers) - given):
+        told(page, 1, f"{kind} fault {numbers[kind, fault]}, {fault}, stands in no rule")
+
+
+def links_of(page):
+    "the pages and files to which the links of a page lead"
+    text = re.sub(r"^```.*?^```", "", page.read_text(encoding="utf-8"), flags=re.M | re.S)
+    return {(page.parent / name).resolve() for name in re.findall(r"\]\(([^)#\s]+)(?:#[^)]*)?\)", text) if "://" not in name}
+
+
+def walks():
+    "the files to which links alone lead from README.md in three steps at most, each with the files on the way"
+    ways = {TOP / "README.md": [TOP / "README.md"]}
+    edge = list(ways)
+    for _ in range(3):
+        following = []
+        for page in (page for page in edge if page.suffix == ".md"):
+            for to in sorted(links_of(page)):
+                if to.is_file() and to not in ways:
+                    ways[to] = [*ways[page], to]
+                    following.append(to)
+        edge = following
+    return ways
+
+
+def walk_to(lines, ways):
+    "the way to a file that defines a rule, and its definition there; or None"
+    return next(((ways[path], name) for _, what, _, name, path in lines if what == "definition" and path in ways and defined_in(name, path)), None)
+
+
+def check_walks():
+    "from README.md, links alone lead in three steps at most to a file that defines each rule"
+    ways = walks()
+    for number, rule, lines in rules():
+        if not walk_to(lines, ways):
+            told(TOP / "docs/DEFINITIONS.md", number, f"{rule}: README.md is more than three links away from its definition")
+
+
+def print_walks(seed):
+    "ten rules, with the way to each"
+    ways = walks()
+    for _, rule, lines in random.Random(seed).sample(rules(), 10):
+        found = walk_to(lines, ways)
+        print(f"{rule}: {' -> '.join(str(path.relative_to(TOP)) for path in found[0])}, `{found[1]}`" if found else f"{rule}: no way")
+
+
+def headings_of(page):
+    "the headings of a page, as links name them"
+    text = re.sub(r"^```.*?^```", "", page.read_text(encoding="utf-8"), flags=re.M | re.S)
+    return {re.sub(r"[^\w\- ]", "", heading.lower()).strip().replace(" ", "-") for heading in re.findall(r"^#+ (.*)$", text, re.M)}
+
+
+def check_headings():
+    for page in [*TOP.glob("*.md"), *TOP.glob("docs/*.md"), *TOP.glob("examples/*.md")]:
+        for number, line in lines_of(page):
+            for name, heading in re.findall(r"\]\(([^)#\s]*)#([^)\s]+)\)", line):
+                to = page.parent / name if name else page
+                if "://" not in name and to.suffix == ".md" and to.exists() and heading not in headings_of(to):
+                    told(page, number, f"there is no heading #{heading} in {name or page.name}")
+
+
+def check_claims():
+    page = TOP / "docs/CLAIMS.md"
+    everywhere = {folder.name: sources(folder.name, "src", (".rt",)) for folder in sorted(CRATES.iterdir()) if folder.is_dir()}
+    labels = {crate: set(re.findall(r"\b(?:ensures|requires)\s+(\w+)\s*\{", text) +
+                        re.findall(r"^ +(?:pub )?(\w+) :", sources(crate, "specs", (".antt",)), re.M)) for crate, text in everywhere.items()}
+    crates = []
+    for number, heading, (calls, _, clauses) in rows(page):
+        named = [part for call in quoted(calls) for part in re.split("::", call)]
+        if calls == "Call":
+            continue
+        if calls:
+            crates = [part for part in named + quoted(heading) if part in everywhere]
+        text = "\n".join(everywhere[one] for one in crates) if crates else "\n".join(everywhere.values())
+        for part in named:
+            if part not in everywhere and not re.search(rf"\b{re.escape(part)}\b", text):
+                told(page, number, f"there is no {part} in {', '.join(crates) or 'any crate'}")
+        known = set().union(*(labels[one] for one in crates or labels))
+        for clause in quoted(re.sub(r"\bof `[^`]+`|`[^`]+`'", "", clauses)):
+            if clause not in known:
+                told(page, number, f"there is no clause {clause} in {', '.join(crates) or 'any crate'}")
+
+
+def main():
+    words = sys.argv[1:]
+    if words[:1] == ["--walks"] and len(words) <= 2:
+        print_walks(words[1] if len(words) > 1 else "0")
+        check_walks()
+        return 1 if wrong else 0
+    if words:
+        print(__doc__)
+        return 0 if words[0] in ("-h", "--help") else 64
+    check_citations()
+    check_paths()
+    check_headings()
+    check_definitions()
+    check_rules()
+    check_walks()
+    check_claims()
+    return 1 if wrong else 0
+
+
+if __name__ == "__main__":
+    sys.exit(main())

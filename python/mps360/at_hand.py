@@ -1,0 +1,89 @@
+"""The program that solves and the checker of listings that are at hand: which file, and whether it is proved.
+
+    program = solver_program()        NoProgram where there is none
+    checker = listing_checker()       None where none is at hand
+
+Nothing is compiled here: of the unproved ones those count that were compiled before of the same sources, by scripts/mps360 or scripts/mps360check."""
+from __future__ import annotations
+
+import hashlib
+import os
+from dataclasses import dataclass
+from typing import Literal
+
+from mps360 import programs, unproved
+from mps360.programs import NoProgram
+
+Kind = Literal["proved", "unproved", "other"]
+PROGRAM, CHECKER = "mps360", "mps360check"
+PROVES = "scripts/build.sh proves and builds it, in some 25 minutes"
+
+
+@dataclass(frozen=True)
+class Tool:
+    "a program: the command that gets a job on standard input, and what it is"
+    command: tuple[str, ...]
+    kind: Kind
+    prepare: tuple[str, ...] = ()     # a command that is to run once before, and compiles it; none where that is done
+    name: str = PROGRAM
+    has_limit: bool = True            # whether numbers past 127 bits are refused
+
+    @property
+    def file(self) -> str | None:
+        "the program itself; None where it isn't known, since it is compiled on the way"
+        if not self.prepare:
+            return self.command[0]
+        return unproved.kept(self.name)
+
+    @property
+    def checksum(self) -> str | None:
+        "the SHA-256 of the program's file"
+        file = self.file
+        return checksum_of(file) if file else None
+
+
+def checksum_of(path: str | os.PathLike[str]) -> str | None:
+    "the SHA-256 of a file, in hexadecimal; None where it can't be read"
+    whole = hashlib.sha256()
+    try:
+        with open(path, "rb") as source:
+            while part := source.read(1 << 20):
+                whole.update(part)
+    except OSError:
+        return None
+    return whole.hexdigest()
+
+
+def named(file: str, name: str) -> Tool:
+    "a program that is named on the command line; NoProgram where it can't be run"
+    if os.path.isdir(file) or not os.access(file, os.X_OK):
+        raise NoProgram(f"{file} isn't a program that can be run")
+    return Tool((os.path.abspath(file),), "other", name=name)
+
+
+def solver_program(file: str | None = None) -> Tool:
+    "the program that is named, or the proved one, or the unproved one"
+    if file:
+        return named(file, PROGRAM)
+    proved = None if os.environ.get("MPS360_UNPROVED") else programs.proved_program(PROGRAM)
+    if proved:
+        return Tool((proved,), "proved")
+    if os.environ.get("MPS360_PROVED"):
+        raise NoProgram(f"no proved program is there; {PROVES}")
+    kept = unproved.kept(PROGRAM) if unproved.crate_of(PROGRAM).is_dir() else None
+    if kept:
+        return Tool((kept,), "unproved")
+    command = str(programs.COMMANDS / PROGRAM)
+    return Tool((command,), "unproved", (command, "--make", "2"))
+
+
+def listing_checker(file: str | None = None) -> Tool | None:
+    "the checker of listings that is named, or the proved one, or an unproved one that is compiled already; the one place where a checker is asked for"
+    if file:
+        return named(file, CHECKER)
+    proved = None if os.environ.get("MPS360_UNPROVED") else programs.proved_program(CHECKER)
+    if proved:
+        return Tool((proved,), "proved", name=CHECKER)
+    kept = unproved.kept(CHECKER) if not os.environ.get("MPS360_PROVED") and unproved.crate_of(CHECKER).is_dir() else None
+    return Tool((kept,), "unproved", name=CHECKER) if kept else None
+

@@ -1,0 +1,1 @@
+"The commands: the words of each, its messages and its exit codes."

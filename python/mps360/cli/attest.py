@@ -1,0 +1,124 @@
+"""Attests another solver's exact answer: makes a job of the MPS file and a listing of the solution, and asks the proved checker of listings,
+which knows no solver, whether its numbers prove it. One line on standard output says the outcome.
+
+usage: attest [--keep FOLDER] [--program FILE] [..] MODEL.mps SOLUTION
+
+  --keep FOLDER   the job, its listing and the table of names stay in FOLDER
+  --program FILE  another program than scripts/mps360check: it gets the job on standard input, and the listing in the file LISTING of the
+                  present folder. What it says isn't called attested
+
+Each other option is one of mps2job.py, which reads the file: what it changes, leaves out or chooses is said on standard error. SOLUTION is what
+solution2listing.py takes: what `esolver -O` of QSopt_ex writes, or JSON.
+
+It ends with 0 where the answer is attested; with 40 where its numbers don't prove it, 42 where an operation of a test doesn't fit 127 bits, 43
+where the listing is too long, other statuses of the checker as they are; with 64 for wrong use, 65 where a file is refused, 66 where it can't be
+read, 70 where there is no checker, 73 where a file can't be written."""
+import json, os, pathlib, re, subprocess, sys, tempfile
+from fractions import Fraction
+from mps360.cli import mps2job
+from mps360.cli import solution2listing
+from mps360 import programs
+from mps360.output import command, make_folder, write_file
+from mps360.cli.solution2listing import Ended
+from mps360.text import as_text
+
+NAME = "attest"
+ANSWER = re.compile(r"(?:ATTESTED \d+ REPORTS|(?:WRONG|OPEN|UNCHECKED) LINE (\d+)|LONG LISTING|STOP .*)\n")
+REFUSED = {40: "its numbers don't prove it", 41: "it can't be attested", 42: "an operation of its test doesn't fit 127 bits", 43: "its listing has more than 64,000,000 bytes"}
+BEFORE = {"proved": "attested: ", "unproved": "not proved, since the checker ran unproved; it attests: ", "other": "not proved, since another program ran; it attests: "}
+VERDICT = re.compile(r"^PRIMAL (OPTIMAL|INFEASIBLE|UNBOUNDED) STEPS \d+ (?:OBJECTIVE (\S+))?", re.M)
+MEANS = {"INFEASIBLE": "INFEASIBLE, no plan keeps all limits", "UNBOUNDED": "UNBOUNDED, the objective has no bound"}
+
+
+def told(message):
+    mps2job.say(f"{NAME}: {as_text(str(message))}")
+
+
+def taken(words, name):
+    "the words without an option, and its value"
+    if name not in words:
+        return words, None
+    at = words.index(name)
+    if at + 1 == len(words):
+        raise Ended(64, f"{name} wants a value")
+    return words[:at] + words[at + 2:], words[at + 1]
+
+
+def checker_of(file):
+    "what calls the checker in the folder of the files JOB and LISTING, and which one it is"
+    if not file:
+        is_installed = (programs.COMMANDS / "check").exists()
+        is_proved = is_installed or not os.environ.get("MPS360_UNPROVED") and programs.proved_program("mps360check")
+        return [programs.COMMANDS / "mps360check", "JOB", "LISTING"], "proved" if is_proved else "unproved"
+    if not os.access(file, os.X_OK) or os.path.isdir(file):
+        raise Ended(70, f"{file} isn't a program that can be run")
+    return [os.path.abspath(file)], "other"
+
+
+def answer_of(command, job, listing):
+    "the status of the checker, and the line of the listing that it names"
+    with tempfile.TemporaryDirectory() as folder:
+        for name, text in (("JOB", job), ("LISTING", listing)):
+            pathlib.Path(folder, name).write_bytes(text)
+        try:
+            with open(pathlib.Path(folder, "JOB"), "rb") as given:
+                ended = subprocess.run(command, stdin=given, stdout=subprocess.PIPE, cwd=folder)
+        except OSError as cause:
+            raise Ended(70, f"can't run {command[0]}: {cause.strerror}") from None
+    said = ended.stdout.decode("latin-1")
+    answer = ANSWER.fullmatch(said)
+    if ended.returncode == 70 or not answer and ended.returncode not in (25, 28) or said.startswith("ATTESTED") != (ended.returncode == 0):
+        raise Ended(70, f"{command[0]} ended with {ended.returncode} and gave no answer: {said[:80]!r}")
+    return ended.returncode, int(answer[1]) if answer and answer[1] else None
+
+
+def outcome(status, number, listing, constant):
+    "what the answer is, or why it isn't attested"
+    if status:
+        lines = listing.split("\n")
+        place = f": line {number} of the listing, {lines[number - 1][:60]}" if number and number <= len(lines) else ""
+        return "not attested: " + REFUSED.get(status, f"the checker ended with {status}") + place
+    verdict, objective = VERDICT.search(listing).groups()
+    if verdict != "OPTIMAL":
+        return MEANS[verdict]
+    return f"OPTIMAL, objective {objective}" + (f", {Fraction(objective) + constant} with the file's constant" if constant else "")
+
+
+def kept(folder, job, listing, others):
+    "the job, its listing and the table of names stay"
+    texts = {pathlib.Path(folder, f"model.{ending}"): text for ending, text in (("job", job.text), ("listing", listing), ("names", json.dumps(job.name_map(), indent=1) + "\n"))}
+    solution2listing.check_places(*texts, *others)
+    make_folder(folder)
+    for path, text in texts.items():
+        write_file(path, text)
+
+
+def run(words):
+    words, keep = taken(words, "--keep")
+    words, program = taken(words, "--program")
+    if len(words) < 2 or words[-1].startswith("-"):
+        raise Ended(64, "MODEL.mps and SOLUTION are two files; --help says what there is")
+    options = mps2job.parsed_options(words[:-1], solution2listing.wrong_use)
+    if options.job or options.names:
+        raise Ended(64, "--keep FOLDER keeps the job and the table of names")
+    command, which = checker_of(program)
+    job, listing = solution2listing.made(options, words[-1])
+    for sentence in job.said:
+        told(sentence)
+    if keep:
+        kept(keep, job, listing, (options.file, words[-1]))
+    status, number = answer_of(command, job.text.encode(), listing.encode())
+    print(("" if status else BEFORE[which]) + as_text(outcome(status, number, listing, job.model.constant)))
+    return status
+
+
+@command(NAME)
+def main(words):
+    if any(word in ("-h", "--help") for word in words):
+        print(__doc__)
+        return 0
+    try:
+        return run(words)
+    except Ended as end:
+        told(end)
+        return end.status

@@ -1,0 +1,112 @@
+"""Makes a basis deck, which INSERT takes, of a basis that another solver has written, or says on which line it can't.
+
+usage: basis2deck.py [OPTIONS] [-o DECK] [--names MAP] [--from WRITER] MODEL.mps BASIS
+
+  BASIS            what clp -basisOut, esolver -b (of QSopt_ex), lp_solve -wbas or glpsol -w has written, or another program in the same
+                   form; its names are those of MODEL.mps. It may be gzipped
+  -o DECK          where the deck goes; without it to standard output
+  --names MAP      the table of names that mps2job.py wrote with the job: it is to be the one of this model
+  --from WRITER    clp, esolver, lp_solve or glpsol, or activity: another program, which calls a row's limit upper where the row's activity
+                   is at its upper limit. Needed where the file doesn't tell, and has a row of two limits
+
+Each other option is one of mps2job.py, and says how MODEL.mps is read, its value behind a = (--negative-up=free): say here what was said
+there. The deck goes behind the data deck of the job, and INSERT between SETUP and PRIMAL (scripts/prove does all of it).
+
+A column that no line names stands where SETUP puts it: at its lower limit, or else at its upper one, or else it is free. Names that were
+shortened for the job are shortened here. What is placed otherwise than the file says, since a limit isn't there, is said on standard error:
+a basis is a place to begin, and none makes another problem. It ends with 0, with 64 for wrong use, 65 where a file is refused, 66 where it
+can't be read, 73 where DECK can't be written."""
+import argparse, os, sys
+from mps360 import bases as basis_file
+from mps360.cli import mps2job
+from mps360.listings import read as listing2json
+from mps360 import errors
+from mps360 import mps
+from mps360.output import command, write_file
+from mps360.jobs.write import job_of
+
+
+NAME = "basis2deck.py"
+
+
+class Ended(Exception):
+    "the work is over, with this status and these words"
+
+
+def say(words):
+    mps2job.say(f"{NAME}: {words}")
+
+
+def read_job(path, words):
+    "the model of an MPS file, read by these words for mps2job.py, and its job"
+    try:
+        options = mps2job.parsed_options([*words, "--", path])
+        model = mps.read_file(path, mps2job.reading_of(options))
+        return job_of(model, options.ranging, model.name or path)
+    except OSError as cause:
+        raise Ended(66, f"can't read {path}: {cause.strerror}")
+    except errors.Refused as cause:
+        raise Ended(65, f"{path}: {cause}")
+
+
+def check_names(path, job):
+    "the table of names is to be the one of this job"
+    try:
+        names, *_ = listing2json.read_names(path)
+    except (OSError, ValueError) as cause:
+        raise Ended(66, f"can't read {path}: {getattr(cause, 'strerror', None) or cause}")
+    except listing2json.NoNames as cause:
+        raise Ended(65, f"{path}: {cause}")
+    here = job.name_map()
+    if any(names.get(key, {}) != here[key] for key in ("rows", "columns")):
+        raise Ended(65, f"{path} isn't the table of names of {job.model.name or 'this model'}, read in this way")
+
+
+def read_basis(path, model, writer):
+    try:
+        return basis_file.read_file(path, model, writer)
+    except OSError as cause:
+        raise Ended(66, f"can't read {path}: {cause.strerror}")
+    except errors.Refused as cause:
+        raise Ended(65, f"{path}: {cause}")
+
+
+def same_file(path, other):
+    "(a device isn't written over)"
+    return other is not None and os.path.isfile(other) and os.path.realpath(path) == os.path.realpath(other)
+
+
+@command(NAME)
+def main(words):
+    if any(word in ("-h", "--help") for word in words):
+        print(__doc__)
+        return 0
+    parser = argparse.ArgumentParser(add_help=False, allow_abbrev=False)
+    parser.error = lambda message: (say(message), sys.exit(64))
+    parser.add_argument("-o", dest="deck")
+    parser.add_argument("--names")
+    parser.add_argument("--from", dest="writer", choices=basis_file.WRITERS)
+    parser.add_argument("model")
+    parser.add_argument("basis")
+    options, passed = parser.parse_known_args(words)
+    if unknown := [word for word in passed if not word.startswith("--")]:
+        parser.error(f"one model and one basis; what is {unknown[0]}?")
+    if options.deck and any(same_file(options.deck, path) for path in (options.model, options.basis, options.names)):
+        parser.error("DECK is a file of its own")
+    try:
+        job = read_job(options.model, passed)
+        if options.names:
+            check_names(options.names, job)
+        basis = read_basis(options.basis, job.model, options.writer)
+        for sentence in basis.said:
+            say(sentence)
+        deck = basis_file.deck_of(basis, job)
+        if options.deck:
+            write_file(options.deck, deck)
+        else:
+            sys.stdout.write(deck)
+    except Ended as ended:
+        status, words = ended.args
+        say(words)
+        return status
+    return 0

@@ -1,0 +1,50 @@
+"""Makes a page to look at of a job and its listing: one HTML file without outside parts and without scripts.
+
+usage: listing2html.py [--names MAP] [-o PAGE.html] JOB LISTING
+
+  --names MAP   the table of names that mps2job.py wrote: names come as they were, and the objective's constant is said
+  -o PAGE.html  where the page goes; without it to standard output
+
+The page has each verdict in a sentence, the plan and the rows as tables with decimals and exact fractions, prices with the intervals of
+RANGE beside them, a ray as the rows that conflict, a direction as what grows, and parametric runs as plots; the listing stands at its end.
+It ends with 0, with 64 for wrong use, 65 where the text isn't a listing, or is one of another job, 66 where a file can't be read, 73
+where the page can't be written."""
+import argparse, sys
+from mps360.listings.made import OtherJob
+from mps360.listings.read import NO_NAMES, NoListing, NoNames, read_names
+from mps360.output import command, write_file
+from mps360.pages.html import page
+
+
+@command("listing2html.py")
+def main(words):
+    if any(word in ("-h", "--help") for word in words):
+        print(__doc__)
+        return 0
+    parser = argparse.ArgumentParser(add_help=False)
+    parser.error = lambda message: (print(f"listing2html.py: {message}", file=sys.stderr), sys.exit(64))
+    parser.add_argument("--names")
+    parser.add_argument("-o", dest="page")
+    parser.add_argument("job")
+    parser.add_argument("listing")
+    options = parser.parse_args(words)
+    try:
+        job, listing = (open(path, encoding="latin-1").read() for path in (options.job, options.listing))
+        names = read_names(options.names) if options.names else NO_NAMES
+    except (OSError, ValueError) as cause:
+        print(f"listing2html.py: can't read: {cause}", file=sys.stderr)
+        return 66
+    except NoNames as cause:
+        print(f"listing2html.py: {options.names}: {cause}", file=sys.stderr)
+        return 65
+    try:
+        text = page(job, listing, names)
+    except (NoListing, OtherJob, ZeroDivisionError, TypeError, ValueError) as cause:
+        print(f"listing2html.py: no page of this: {cause}", file=sys.stderr)
+        return 65
+    if options.page:
+        write_file(options.page, text)
+    else:
+        sys.stdout.reconfigure(encoding="utf-8")
+        sys.stdout.write(text)
+    return 0

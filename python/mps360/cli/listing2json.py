@@ -1,0 +1,63 @@
+"""Makes JSON of a listing, or CSV of its reports. Fractions stay exact, as text. docs/listing.schema.json has each field with its meaning.
+
+usage: listing2json.py [--csv | --table NAME] [--decimal] [--names MAP] [FILE]      without FILE the listing is read from standard input
+
+  --csv         the table lines of the last SOLUTION, with a head line
+  --table NAME  CSV of all reports of a kind: verdicts, solutions, rays (and directions), ranges, intervals (of parametric runs), or
+                others (titles, problems, setups, decks and bases); the column report numbers the reports of the listing
+  --decimal     beside each fraction its value as a decimal number, which is rounded
+  --names MAP   the table of names that mps2job.py wrote: names come as they were, and a constant of the objective is added to the objective
+                of each verdict, under objective_with_constant; it isn't, and a line on standard error says so, where the SOLUTION below
+                the verdict has another objective or right-hand side
+
+In CSV a name that a spreadsheet could take for a formula (it begins with = + - @ or an apostrophe) has an apostrophe before it, and a control
+character stands as an escape; in JSON names are exact. It ends with 0, with 64 for wrong use, 65 where the text isn't a listing, 66 where it
+can't be read."""
+import argparse, sys
+from mps360.listings.read import NoListing, NoNames, TABLES, add_decimals, document, json_text, name_back, parse, read_names, write_solution, write_table
+from mps360.output import command
+
+
+@command("listing2json.py")
+def main(words):
+    if any(word in ("-h", "--help") for word in words):
+        print(__doc__)
+        return 0
+    parser = argparse.ArgumentParser(add_help=False)
+    parser.error = lambda message: (print(f"listing2json.py: {message}", file=sys.stderr), sys.exit(64))
+    kind = parser.add_mutually_exclusive_group()
+    kind.add_argument("--csv", action="store_true")
+    kind.add_argument("--table", choices=TABLES)
+    parser.add_argument("--decimal", action="store_true")
+    parser.add_argument("--names")
+    parser.add_argument("file", nargs="?")
+    options = parser.parse_args(words)
+    try:
+        text = open(options.file, encoding="latin-1").read() if options.file else sys.stdin.buffer.read().decode("latin-1")
+        names = read_names(options.names) if options.names else None
+    except (OSError, ValueError) as cause:
+        print(f"listing2json.py: can't read: {cause}", file=sys.stderr)
+        return 66
+    except NoNames as cause:
+        print(f"listing2json.py: {options.names}: {cause}", file=sys.stderr)
+        return 65
+    sys.stdout.reconfigure(encoding="utf-8")
+    try:
+        listing = parse(text)
+        if not listing["reports"] and not listing["end"]:
+            raise NoListing("it is empty")
+        if names:
+            name_back(listing, names)
+        if options.csv:
+            write_solution(listing, options.decimal, sys.stdout)
+        elif options.table:
+            write_table(listing, options.table, options.decimal, sys.stdout)
+        else:
+            whole = document(listing)
+            if options.decimal:
+                add_decimals(whole)
+            sys.stdout.write(json_text(whole))
+    except NoListing as cause:
+        print(f"listing2json.py: not a listing: {cause}", file=sys.stderr)
+        return 65
+    return 0

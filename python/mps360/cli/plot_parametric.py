@@ -1,0 +1,50 @@
+"""Draws what a parametric run found: the best value of the objective over the parameter, which is a chain of straight lines.
+
+usage: plot_parametric.py [--svg] [--run K] [-o FILE] [LISTING]      without LISTING the listing is read from standard input
+
+  --svg    a picture in SVG; without it one of letters, and a table of the exact values
+  --run K  the Kth parametric run of the listing; without it the last
+  -o FILE  where it goes; without it to standard output
+
+The value at each parameter is the sum of price times activity over rows and columns, which for a best plan is its objective (with the
+parameter's share of the change row, in a run of PARAOBJ). It ends with 0, with 64 for wrong use, 65 where the text isn't a listing, or has
+no such run, 66 where a file can't be read, 73 where one can't be written."""
+import argparse, sys
+from mps360 import text as strangers_text
+from mps360.output import command, write_file
+from mps360.listings import read as listing2json
+from mps360.pages.parametric import NoRun, in_letters, in_svg, points_of
+
+
+@command("plot_parametric.py")
+def main(words):
+    if any(word in ("-h", "--help") for word in words):
+        print(__doc__)
+        return 0
+    strangers_text.guard()
+    parser = argparse.ArgumentParser(add_help=False)
+    parser.error = lambda message: (print(f"plot_parametric.py: {message}", file=sys.stderr), sys.exit(64))
+    parser.add_argument("--svg", action="store_true")
+    parser.add_argument("--run", type=int)
+    parser.add_argument("-o", dest="out")
+    parser.add_argument("file", nargs="?")
+    options = parser.parse_args(words)
+    try:
+        text = open(options.file, encoding="latin-1").read() if options.file else sys.stdin.read()
+        runs = [report for report in listing2json.parse(text)["reports"] if report["report"] == "parametric" and report["intervals"]]
+        number = len(runs) if options.run is None else options.run
+        if not 1 <= number <= len(runs):
+            raise NoRun(f"it has {len(runs)} parametric runs")
+        report = runs[number - 1]
+        picture = (in_svg if options.svg else in_letters)(report, points_of(report))
+        if options.out:
+            write_file(options.out, picture)
+        else:
+            sys.stdout.write(picture)
+    except OSError as cause:
+        print(f"plot_parametric.py: {cause.filename}: {cause.strerror}", file=sys.stderr)
+        return 66
+    except (listing2json.NoListing, NoRun) as cause:
+        print(f"plot_parametric.py: can't be drawn: {cause}", file=sys.stderr)
+        return 65
+    return 0

@@ -1,0 +1,452 @@
+"""Solves an MPS file, or runs a job, and says the answer in the names of the file, with decimals beside the exact fractions.
+
+usage: solve [--json | --csv | --html FILE] [--basis FILE [--from WRITER]] [--with SOLVER,..|none] [--only ROUTE] [--seconds S] [--names MAP]
+             [--keep FOLDER] [--write-basis FILE] [--solution FILE] [--life S] [--max | --min] [--ranging] [..] MODEL
+
+  --json         JSON on standard output, in place of a text (docs/listing.schema.json has its fields)
+  --csv          CSV: the plan with its rows; where there is no best plan, the ray or the direction
+  --html FILE    a page to look at goes to FILE, beside the text
+  --basis FILE   the run begins at a basis of this model that another solver wrote (prove --help has more)
+  --from WRITER  which solver wrote it, where the file doesn't tell
+  --keep FOLDER  the job, its listing (which is what is proved) and the table of names stay in FOLDER
+  --with SOLVER,..    who may be asked for a basis where PRIMAL has no end in 5 s or a number doesn't fit, of highs, clp, esolver, glpsol and
+                 lp_solve, in this order; none for nobody. Without it those that are installed
+  --only ROUTE   primal (from the opening basis), basis (of a solver), or exact (esolver's exact answer, attested by the checker), alone
+  --seconds S    bounds all of it; without it PRIMAL goes on until it ends
+  --write-basis FILE  the basis of the answer goes to FILE, as an MPS basis file, which clp, esolver and others begin at
+  --solution FILE     the solution goes to FILE as glpsol -w writes one, or by --solution-form highs as HiGHS does
+  --names MAP    where MODEL is a job: the table of names that mps2job.py wrote for it
+  --life S       the first line of life on standard error after S seconds (5), the next after twice as long each time; 0 for none
+  --program FILE another program than scripts/mps360: it gets the job on standard input. What it prints is called unproved
+  --checker FILE another checker than scripts/mps360check
+
+No solver is believed: what each gives is where PRIMAL begins, or goes to the checker, and the answer says by which route it came. MODEL is an MPS file or a job (it begins with PROGRAM), or - for standard input. --max and --min go before what the file says, --ranging asks how
+far each number may move; every other word that begins with - is handed to mps2job.py as it stands, its value after a =, as
+--negative-up=free (mps2job.py --help has them).
+
+It ends with the status of the run: 0, 1 no plan, 2 no bound, more in docs/FAULTS.md; or with 64 for wrong use, 65 where MODEL is refused, 66
+where it can't be read, 70 where there is no program or no solver, 73 where a file can't be written, 124 where there is no end in S seconds, 130
+after Ctrl-C or a TERM signal: then what stands is said. A deck that is punched goes to the file PUNCH of this folder."""
+import argparse, hashlib, io, json, os, pathlib, re, signal, sys
+from mps360.cli import mps2job
+from fractions import Fraction
+from mps360.listings import read as listing2json
+from mps360 import at_hand, errors, life, mps, routes, runs, solvers
+from mps360.cli.options import add_routes, check_routes, plan_of
+from mps360.provenance import Provenance
+from mps360.jobs.write import job_of
+from mps360.listings import made as made_listing
+from mps360.output import command, make_folder, write_file
+from mps360.text import marked_decimal
+from mps360.text import as_text
+
+NAME = "solve"
+MOST_LINES = 40
+WRITERS = ("clp", "esolver", "lp_solve", "glpsol", "activity")
+FORMS = ("glpsol", "highs")
+# the words that a job doesn't go with, and the options that they are
+MODEL_WORDS = {"--basis": "basis", "--with": "solvers", "--only": "only", "--write-basis": "write_basis", "--solution": "solution", "--checker": "checker"}
+
+
+class Ended(Exception):
+    "the work is over, with this status and these words"
+
+
+def say(words):
+    print(f"{NAME}: {as_text(str(words))}", file=sys.stderr, flush=True)
+
+
+def wrong_use(message):
+    raise Ended(64, message)
+
+
+def is_job(content):
+    "whether the first card that means something is PROGRAM"
+    first = next((line for line in content.split(b"\n") if line.strip() and not line.startswith(b"*")), b"")
+    return re.match(rb"(\S* +)PROGRAM\b", first) is not None
+
+
+# ---- the job
+
+class Model:
+    "a model, as the job that is run and the table of its names"
+    def __init__(self, options, passed):
+        self.path, self.notes, self.names, self.table, self.converted = options.model, [], listing2json.NO_NAMES, b"", None
+        self.basis, self.has_basis = None, False
+        try:
+            content = sys.stdin.buffer.read() if options.model == "-" else pathlib.Path(options.model).read_bytes()
+            if options.names:
+                self.take_names(options.names)
+        except (OSError, ValueError) as cause:
+            what = options.model if isinstance(cause, OSError) and cause.filename != options.names else options.names
+            raise Ended(66, f"can't read {what}: {getattr(cause, 'strerror', None) or cause}")
+        except listing2json.NoNames as cause:
+            raise Ended(65, f"{options.names}: {cause}")
+        self.checksum = hashlib.sha256(content).hexdigest()
+        if is_job(content):
+            if word := next((word for word in MODEL_WORDS if getattr(options, MODEL_WORDS[word]) is not None), None):
+                raise Ended(64, f"{word} goes with an MPS file, and {options.model} is a job")
+            if passed:
+                raise Ended(64, f"{passed[0]} is a word for an MPS file, and {options.model} is a job")
+            self.job = content
+        elif options.names:
+            raise Ended(64, "--names goes with a job, and this is no job: it doesn't begin with PROGRAM")
+        else:
+            self.convert(content, options, passed)
+
+    def take_names(self, path):
+        self.names, self.table = listing2json.read_names(path), pathlib.Path(path).read_bytes()
+
+    def convert(self, content, options, passed):
+        words = mps2job.parsed_options([*passed, "--", self.path], wrong_use)
+        try:
+            model = mps.read_bytes(content, mps2job.reading_of(words, wrong_use))
+            file = ("model.mps.gz" if content.startswith(b"\x1f\x8b") else "model.mps") if self.path == "-" else os.path.basename(self.path)
+            job = self.converted = job_of(model, words.ranging, model.name or file)
+        except errors.Refused as cause:
+            raise Ended(65, *f"{self.path}: {cause}".split("\n"))
+        self.notes, self.job, self.ranging = list(job.said), job.text.encode("ascii"), words.ranging
+        if options.basis:
+            self.take_basis(options, job)
+        table = job.name_map()
+        self.names, self.table = listing2json.names_of(table), (json.dumps(table, indent=1) + "\n").encode()
+
+    def take_basis(self, options, job):
+        from mps360.cli import basis2deck
+        try:
+            self.basis = basis2deck.read_basis(options.basis, job.model, options.writer)
+        except basis2deck.Ended as ended:
+            status, words = ended.args
+            raise Ended(status, *words.split("\n"))
+        self.notes += self.basis.said
+
+    def ran(self, attempt):
+        "the listing is that of this attempt's job"
+        if self.converted:
+            self.job, self.has_basis = attempt.job.encode("ascii"), attempt.basis is not None and not attempt.by_checker
+            self.ranging = self.ranging and not attempt.by_checker
+
+
+# ---- the answer
+
+class Answer:
+    "what a run came to"
+    def __init__(self, model, run, provenance):
+        self.run, self.provenance, self.model = run, provenance, model
+        self.text = run.listing.decode("latin-1")
+        try:
+            self.listing = listing2json.parse(self.text)
+            self.objective = as_text(self.objective_of(self.listing["reports"]))
+        except (listing2json.NoListing, made_listing.OtherJob) as cause:
+            raise Ended(70, f"what the program printed isn't the listing of this job: {cause}")
+        listing2json.name_back(self.listing, model.names)
+        self.result = listing2json.result_of(self.listing)
+
+    def objective_of(self, reports):
+        "the name of the objective; the reports are compared with the job"
+        job = self.model.converted
+        if job:
+            made_listing.check_made(job, reports, self.model.has_basis, self.model.ranging)
+            return job.model.objective
+        from mps360.listings import follow as follow_listing
+        about, _ = follow_listing.follow(self.model.job.decode("latin-1"), reports)
+        programs = [program for program, report in zip(about, reports) if program and report["report"] == "verdict"]
+        name = programs[-1].names[programs[-1].objective] if programs else "the objective"
+        return self.model.names[0].get("rows", {}).get(name, name) if programs else name
+
+    def last(self, kind):
+        return next((report for report in reversed(self.listing["reports"]) if report["report"] == kind), None)
+
+    def point(self):
+        "the best plan for other solvers, None where there is none or its tables aren't whole"
+        solution, model = self.last("solution"), self.model.converted.model
+        if self.result["verdict"] != "optimal" or not solution:
+            return None
+        from mps360 import solution_out
+        rows, columns = ([(line["at"], Fraction(line["activity"]), Fraction(line[price])) for line in solution.get(key, ())]
+                         for key, price in (("rows", "dual"), ("columns", "reduced")))
+        if (len(rows), len(columns)) != (len(model.rows), len(model.columns)):
+            return None
+        basis = self.run.basis if self.run.by_checker else None
+        return solution_out.point_of(model, rows, columns, basis=basis, has_basis=basis is not None or not self.run.by_checker)
+
+    def printed_by(self):
+        "who printed the listing, by which route, and the checksums, as the page says it"
+        return " ".join(part for part in (self.provenance.page_sentence(), self.provenance.route_sentence(), self.provenance.checksum_sentence()) if part)
+
+    def json(self):
+        run = {"model": self.model.path, "program": self.provenance.kind, "seconds": round(self.run.seconds, 3), "interrupted": self.run.interrupted,
+               "notes": self.model.notes, **self.provenance.as_json()}
+        whole = listing2json.document(self.listing, run)
+        listing2json.add_decimals(whole)
+        return listing2json.json_text(whole)
+
+    def csv(self):
+        out = io.StringIO()
+        if self.last("solution") and self.result["verdict"] == "optimal":
+            listing2json.write_solution(self.listing, True, out)
+        elif any(report["report"] == "parametric" for report in self.listing["reports"]):
+            listing2json.write_table(self.listing, "intervals", True, out)
+        else:
+            listing2json.write_table(self.listing, "rays" if self.result["verdict"] else "verdicts", True, out)
+        return with_cells(out.getvalue(), self.provenance.cells())
+
+    # ---- as a text
+
+    def text_lines(self):
+        verdict = self.last("verdict")
+        if verdict:
+            yield self.sentence(verdict)
+        yield from self.table_of(verdict)
+        if any(report["report"] == "parametric" for report in self.listing["reports"]):
+            yield "The job has parametric runs: scripts/plot_parametric.py draws them, --html shows them, --json and --csv have their numbers."
+        end = self.listing["end"]
+        if end and end["text"].startswith("STOP"):
+            yield f"The run stopped: {as_text(end['text'].splitlines()[0])}. scripts/explain says what that means."
+        elif not verdict:
+            yield f"The run ended with status {end['status']}, and has no verdict." if end else "The listing was cut off before a verdict."
+        yield ""
+        yield from (f"note: {as_text(note)}" for note in self.model.notes)
+        yield self.provenance.sentence()
+        yield from (part for part in (self.provenance.route_sentence(), self.provenance.checksum_sentence()) if part)
+        yield f"Scripts, which are tested, {'made the job of the file and ' if self.model.converted else ''}put in names and decimals (rounded after ≈)."
+
+    def sentence(self, verdict):
+        sense = self.result["sense"]
+        most, more = ("greatest", "more") if sense == "MAX" else ("least", "less")
+        if verdict["verdict"] == "optimal":
+            total = verdict.get("objective_with_constant", verdict["objective"])
+            constant = f" ({verdict['objective']} and the constant {verdict['objective_constant']})" if total != verdict["objective"] else ""
+            return f"OPTIMAL: the {most} {self.objective} is {both(total)}{constant}; no plan that keeps all limits has {more}."
+        if verdict["verdict"] == "unbounded":
+            return f"UNBOUNDED: {self.objective} {'grows' if sense == 'MAX' else 'falls'} without end along this direction, from the activities beside it."
+        if "crossed" in verdict:
+            return f"INFEASIBLE: variable {verdict['crossed']} has a lower limit above its upper one."
+        return "INFEASIBLE: no plan keeps all limits; those of these rows and columns conflict, with these factors."
+
+    def table_of(self, verdict):
+        "the plan with its rows, or the ray or the direction"
+        if not verdict:
+            return
+        solution = self.last("solution")
+        if verdict["verdict"] == "optimal" and solution:
+            near = {line["number"]: line for _, line in listing2json.each_line(self.last("ranges") or {})}
+            yield from self.solution_table("Column", "reduced", solution.get("columns", []), near, "activity",
+                                           ("cost_low", "cost_high", "same plan while the cost is"))
+            yield from self.solution_table("Row", "dual", solution.get("rows", []), near, "dual",
+                                           ("limit_low", "limit_high", "price holds while the limit is"))
+            count = sum(report["report"] == "solution" for report in self.listing["reports"])
+            if count > 1:
+                yield f"\nThe job has {count} solutions, and this is the last one; --html, and --table of listing2json.py, have all."
+        elif "ray" in verdict:
+            yield from table("Row or column", ("factor",), [(line["name"], both(line["multiplier"])) for line in verdict["ray"]])
+        elif "direction" in verdict:
+            moving = [line for line in verdict["direction"] if line["direction"] != "0"]
+            lines = [(line["name"], both(line["activity"]), both(line["direction"])) for line in moving]
+            yield from table("Row or column", ("activity", "changes by"), lines)
+
+    def solution_table(self, head, price, lines, near, which, interval):
+        low, high, words = interval
+        shown = [line for line in lines if line[which] != "0"]
+        names = ("activity", "shadow price" if price == "dual" else "reduced cost", *([words] if near else []))
+        ends = [[ends_of(near.get(line["number"], {}), low, high)] if near else [] for line in shown]
+        yield from table(head, names, [(line["name"], both(line["activity"]), both(line[price]), *end) for line, end in zip(shown, ends)])
+        if len(shown) < len(lines):
+            yield f"({len(lines) - len(shown)} more have {'the activity' if which == 'activity' else 'the price'} 0)"
+
+
+def with_cells(text, cells):
+    "CSV with these columns behind the others, the same on each line"
+    import csv
+    head, *lines = csv.reader(io.StringIO(text))
+    out = io.StringIO()
+    csv.writer(out, lineterminator="\n").writerows([[*head, *cells], *([*line, *cells.values()] for line in lines)])
+    return out.getvalue()
+
+
+def both(number):
+    "a number as a decimal, with the exact fraction beside it where it is another text"
+    text = marked_decimal(number)
+    return text if text == number else f"{text} = {number}"
+
+
+def ends_of(line, low, high):
+    "an interval of RANGE, or nothing"
+    if low not in line or line[low] == "-":
+        return ""
+    if line[low] is None and line[high] is None:
+        return "any"
+    return f"{'any' if line[low] is None else marked_decimal(line[low])} to {'any' if line[high] is None else marked_decimal(line[high])}"
+
+
+def table(head, names, lines):
+    "the lines of a table: a name, and texts under these names"
+    width = max([len(head), *(len(as_text(line[0])) for line in lines[:MOST_LINES])])
+    wide = [max([len(name), *(len(line[k]) for line in lines[:MOST_LINES])]) for k, name in enumerate(names, 1)]
+    yield f"\n{head:<{width}}" + "".join(f"  {name:>{w}}" for name, w in zip(names, wide))
+    for line in lines[:MOST_LINES]:
+        yield (f"{as_text(line[0]):<{width}}" + "".join(f"  {text:>{w}}" for text, w in zip(line[1:], wide))).rstrip()
+    if len(lines) > MOST_LINES:
+        yield f".. and {len(lines) - MOST_LINES} more: --csv, --json and --html have all"
+
+
+# ---- the whole
+
+def kept(folder, name, content):
+    make_folder(folder)
+    write_file(folder / name, content)
+
+
+def stem_of(options):
+    return pathlib.Path(options.model).name.removesuffix(".gz").rsplit(".", 1)[0] if options.model != "-" else "model"
+
+
+def write_solution(options, model, answer):
+    "the files for other solvers; why one isn't written is said"
+    wanted = [word for word in ("--write-basis", "--solution") if getattr(options, MODEL_WORDS[word])]
+    if not wanted:
+        return
+    from mps360 import solution_out
+    form, point, verdict = options.solution_form or "glpsol", answer.point(), answer.result["verdict"]
+    for word in wanted:
+        path = pathlib.Path(getattr(options, MODEL_WORDS[word]))
+        try:
+            if point is None and (word == "--write-basis" or form == "glpsol" or verdict not in ("infeasible", "unbounded")):
+                raise errors.Refused(f"there is no best plan, but {verdict.upper()}" if verdict else "there is no answer")
+            text = solution_out.basis_file(point) if word == "--write-basis" else solution_out.nothing_text(verdict) if point is None else \
+                solution_out.solution_file(point, form)
+            kept(path.parent, path.name, text.encode("utf-8"))
+        except errors.Refused as cause:
+            say(f"{word}: {path} isn't written: {cause}")
+
+
+def write_outputs(options, model, answer):
+    write_solution(options, model, answer)
+    if options.keep:
+        kept(pathlib.Path(options.keep), f"{stem_of(options)}.listing", answer.text.encode("latin-1"))
+    if options.html:
+        from mps360.pages import html as listing2html
+        page = listing2html.page(model.job.decode("latin-1"), answer.text, model.names, answer.printed_by())
+        path = pathlib.Path(options.html)
+        kept(path.parent, path.name, page.encode("utf-8"))
+    if options.json:
+        sys.stdout.write(answer.json())
+    elif options.csv:
+        sys.stdout.write(answer.csv())
+    else:
+        print("\n".join(answer.text_lines()))
+
+
+def program_of(options):
+    "the program that runs; that it runs unproved is said"
+    try:
+        program = at_hand.solver_program(options.program)
+    except at_hand.NoProgram as cause:
+        raise Ended(70, str(cause))
+    if program.kind == "unproved" and not program.prepare:
+        print(f"mps360: running UNPROVED, by the program that was compiled of these sources before; {at_hand.PROVES}", file=sys.stderr, flush=True)
+    return program
+
+
+def checker_of(options):
+    "the checker of listings, or None"
+    try:
+        return at_hand.listing_checker(options.checker)
+    except at_hand.NoProgram as cause:
+        raise Ended(70, str(cause))
+
+
+def outcome_of(options, model, program, checker, life):
+    "what the run of a job, or the routes of an MPS file, came to"
+    observer = runs.Observer(say=life.say, going=life.say, heard=life.heard, tick=life.tick)
+    try:
+        if not model.converted:
+            return routes.Outcome(runs.run_alone(model.job, program, seconds=options.seconds, observer=observer), [])
+        way = routes.Routes(model.converted, program, plan_of(options), checker, observer)
+        if model.basis:
+            way.begin_at(model.basis, os.path.basename(options.basis))
+        return way.run()
+    except OSError as cause:
+        raise Ended(70, f"can't run {cause.filename or program.command[0]}: {cause.strerror}")
+    except runs.NoAnswer as cause:
+        raise Ended(cause.status, str(cause))
+    except solvers.NoBasis as cause:
+        raise Ended(70, str(cause))
+    finally:
+        life.clear()
+
+
+def say_interrupted(attempt):
+    "what stands after an interruption"
+    lines = attempt.lines()
+    stands = f"What was printed stands; its last line is: {lines[-1]}" if lines else "Nothing was printed."
+    waited = life.awaited(attempt.job, lines).replace("waits", "waited", 1).replace("has", "had", 1)
+    say(f"interrupted after {attempt.seconds:.0f} s, when it {waited}. {stands}")
+
+
+def keep(options, name, content):
+    if options.keep:
+        kept(pathlib.Path(options.keep), name, content)
+
+
+def solve(options, passed):
+    model, stem = Model(options, passed), stem_of(options)
+    keep(options, f"{stem}.job", model.job)
+    if model.table:
+        keep(options, f"{stem}.names", model.table)
+    program, checker = program_of(options), checker_of(options) if model.converted else None
+    outcome = outcome_of(options, model, program, checker, life.Life(NAME, options.life))
+    attempt = outcome.attempt
+    model.ran(attempt)
+    keep(options, f"{stem}.job", model.job)
+    if attempt.solver and attempt.written:
+        keep(options, f"{stem}.{attempt.solver.name}", attempt.written.encode("latin-1"))
+    provenance = Provenance.of(outcome, program, checker, model.checksum)
+    if attempt.interrupted:
+        say_interrupted(attempt)
+    elif model.converted:
+        say(provenance.line())
+    write_outputs(options, model, Answer(model, attempt, provenance))
+    return outcome.status
+
+
+def interrupt(*_):
+    raise KeyboardInterrupt
+
+
+@command(NAME)
+def main(words):
+    if any(word in ("-h", "--help") for word in words):
+        print(__doc__)
+        return 0
+    parser = argparse.ArgumentParser(add_help=False, allow_abbrev=False)
+    parser.error = lambda message: (say(message), sys.exit(64))
+    form = parser.add_mutually_exclusive_group()
+    form.add_argument("--json", action="store_true")
+    form.add_argument("--csv", action="store_true")
+    for word in ("--html", "--names", "--keep", "--program", "--checker", "--basis", "--write-basis", "--solution"):
+        parser.add_argument(word)
+    parser.add_argument("--solution-form", choices=FORMS)
+    add_routes(parser)
+    parser.add_argument("--from", dest="writer", choices=WRITERS)
+    parser.add_argument("--life", type=float, default=life.FIRST)
+    parser.add_argument("model")
+    options, passed = parser.parse_known_args(words)
+    if unknown := [word for word in passed if not word.startswith("--")]:
+        parser.error(f"one model at a time; what is {unknown[0]}?")
+    if options.writer and not options.basis:
+        parser.error("--from goes with --basis")
+    if fault := check_routes(options):
+        parser.error(fault)
+    sys.stdout.reconfigure(encoding="utf-8")
+    signal.signal(signal.SIGTERM, interrupt)
+    try:
+        return solve(options, passed)
+    except Ended as ended:
+        status, *words = ended.args
+        for word in words:
+            say(word)
+        return status
+    except KeyboardInterrupt:
+        say("interrupted before the program ran; nothing stands")
+        return 130

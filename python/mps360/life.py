@@ -1,0 +1,72 @@
+"""Lines of life: that a command still runs, and what it waits for, on standard error; one line that is written over on a terminal."""
+from __future__ import annotations
+
+import re
+import sys
+import time
+from collections.abc import Callable, Sequence
+from typing import TextIO
+
+from mps360.text import as_text
+
+FIRST, MOST, SILENT = 5.0, 60.0, 8.0   # seconds: before the first line, between two at most, after a line of the program itself
+WIDTH = 79
+PRINTING = frozenset("TITLE CONVERT REVISE SETUP PRIMAL DUAL SOLUTION RANGE PARAOBJ PARARHS BCDOUT PUNCH INSERT".split())
+
+
+def awaited(job: str, lines: Sequence[str]) -> str:
+    "what a run of a job does now, as far as the lines of its listing tell"
+    if not lines:
+        return "waits for the program's first line"
+    return f"waits for {next_verb(job, lines) or 'the end'}; the listing has {len(lines)} lines so far"
+
+
+def next_verb(job: str, lines: Sequence[str]) -> str | None:
+    "the statement after the one that printed last, by the order of the cards"
+    cards = [card[:72] for card in job.split("\n")]
+    cards = cards[:next((k for k, card in enumerate(cards) if card.split()[-1:] == ["PEND"]), 0)]
+    verbs = [found[1] for card in cards if (found := re.match(r"(?:[A-Z0-9]+)? +([A-Z]+)", card)) and found[1] in PRINTING]
+    printed = [word for line in lines if (word := line.split(" ")[0]) in PRINTING and not re.match(r"(PARAOBJ|PARARHS) (ENDS|\w+ PAST) ", line)]
+    return verbs[len(printed)] if verbs[:len(printed)] == printed and len(printed) < len(verbs) else None
+
+
+class Life:
+    "says that a command lives: after `first` seconds, and after twice as long each time, up to MOST; never where first is 0"
+
+    def __init__(self, name: str, first: float = FIRST, stream: TextIO | None = None) -> None:
+        self.name, self.first, self.stream = name, first, stream or sys.stderr
+        self.is_terminal = self.stream.isatty()
+        self.pause, self.due, self.shown, self.heard_at = first, min(first, 1.0) if self.is_terminal else first, 0, -MOST
+
+    def tick(self, seconds: float, waits: Callable[[], str]) -> None:
+        "so many seconds have gone by"
+        if self.first <= 0 or seconds < self.due or time.monotonic() - self.heard_at < SILENT:
+            return
+        words = as_text(f"{self.name}: {seconds:.0f} s, {waits()}")
+        if self.is_terminal:
+            self.clear()
+            self.stream.write(words[:WIDTH])
+            self.stream.flush()
+            self.shown = len(words[:WIDTH])
+            self.due = seconds + 1.0
+        else:
+            print(words, file=self.stream, flush=True)
+            self.pause = min(2 * self.pause, MOST)
+            self.due = seconds + self.pause
+
+    def say(self, words: str) -> None:
+        "a line of the command itself"
+        self.clear()
+        print(f"{self.name}: {as_text(str(words))}", file=self.stream, flush=True)
+
+    def heard(self, line: str) -> None:
+        "a line that a program says on standard error"
+        self.clear()
+        self.heard_at = time.monotonic()
+        print(as_text(line), file=self.stream, flush=True)
+
+    def clear(self) -> None:
+        "the line of life goes from the terminal"
+        if self.shown:
+            self.stream.write("\r" + " " * self.shown + "\r")
+            self.shown = 0

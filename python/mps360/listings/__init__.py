@@ -1,0 +1,1 @@
+"Listings: read, compared with their jobs, written."

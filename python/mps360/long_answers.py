@@ -1,0 +1,108 @@
+"""Makes of another solver's answer, or of a basis, of a model with long numbers one of the model of short numbers that long_numbers has made.
+
+    in_short(answer, split)        a listings.write.Answer by the names of split.model, of one by the names of split.file
+    basis_in_short(basis, split)   the same of a bases.Basis
+
+Nothing is solved, and no number is made up: a price or a multiplier of a limit that has become a row goes to this row, and the column that is fixed
+at 1 gets what the others leave over."""
+from __future__ import annotations
+
+from dataclasses import replace
+from fractions import Fraction
+from typing import Callable
+
+from mps360.bases import BASIC, FREE, LOWER, UPPER, Basis
+from mps360.listings.write import Answer
+from mps360.long_numbers import Entries, Split
+from mps360.model import Sums
+
+ZERO, UNIT = Fraction(0), Fraction(1)
+ENDS = {LOWER: "lower", UPPER: "upper"}
+
+
+def moved_limits(split: Split) -> dict[tuple[str, str], dict[str, str]]:
+    "of each row (\"row\", name) and column (\"column\", name) whose limits have become rows: these rows by their ends"
+    found: dict[tuple[str, str], dict[str, str]] = {}
+    for row, moved in split.moved.items():
+        found.setdefault((moved.of, moved.name), {})[moved.end] = row
+    return found
+
+
+def left_over(split: Split, column: str, wanted: Fraction, prices: Entries) -> Fraction:
+    "what is left of a number of a column of the file once its entries, each times the row's price, are taken away"
+    numbers = Sums(split.file).of(column)
+    return wanted - sum((numbers[row] * prices.get(row, ZERO) for row in numbers), ZERO)
+
+
+def of_one(split: Split, prices: Entries) -> Entries:
+    "what is left over on the column that is fixed at 1"
+    if split.one is None:
+        return {}
+    numbers = Sums(split.model).of(split.one)
+    return {split.one: -sum((value * prices.get(row, ZERO) for row, value in numbers.items()), ZERO)}
+
+
+def in_short(answer: Answer, split: Split) -> Answer:
+    columns = answer.columns | ({split.one: UNIT} if split.one else {})
+    if answer.kind == "infeasible":
+        return crossed_in_short(answer, split) if answer.crossed else ray_in_short(answer, split)
+    if answer.kind == "unbounded":
+        return replace(answer, columns=columns)
+    sign = -1 if split.file.sense == "MAX" else 1
+
+    def end_of(price: Fraction) -> str:
+        return "lower" if sign * price > 0 else "upper"
+
+    costs = {name: split.file.columns[name].get(split.file.objective, ZERO) for of, name in moved_limits(split) if of == "column"}
+    prices, reduced = dealt_out(split, answer.prices, answer.reduced, costs, end_of)
+    return replace(answer, columns=columns, prices=prices, reduced=reduced)
+
+
+def ray_in_short(answer: Answer, split: Split) -> Answer:
+    ray, column_ray = dealt_out(split, answer.ray, answer.column_ray, {}, lambda factor: "upper" if factor > 0 else "lower")
+    return replace(answer, ray=ray, column_ray=column_ray)
+
+
+def dealt_out(split: Split, of_rows: Entries, of_columns: Entries | None, wanted: Entries,
+              end_of: Callable[[Fraction], str]) -> tuple[Entries, Entries | None]:
+    """the prices (or multipliers) of rows and of columns, where those that belong to limits which are rows go to these; the end is the one on
+    which a price of this sign bears. Those of columns may be None: not known, as with what is worked out of the rows'"""
+    rows, columns = dict(of_rows), None if of_columns is None else dict(of_columns)
+    for (of, name), ends in moved_limits(split).items():
+        if of == "row":
+            price = of_rows.get(name, ZERO)
+        else:
+            price = left_over(split, name, wanted.get(name, ZERO), of_rows) if of_columns is None else of_columns.get(name, ZERO)
+        end = "both" if "both" in ends else end_of(price)
+        if not price or end not in ends:
+            continue
+        rows[ends[end]] = price
+        if of == "row":
+            del rows[name]
+        elif columns is not None:
+            columns[name] = ZERO
+    return rows, None if columns is None else columns | of_one(split, rows)
+
+
+def crossed_in_short(answer: Answer, split: Split) -> Answer:
+    "a variable whose limits cross; where one of them is a row it is a ray"
+    assert answer.crossed
+    ends = moved_limits(split).get(answer.crossed)
+    if not ends:
+        return answer
+    factors = {"upper": UNIT, "lower": -UNIT, "both": ZERO}
+    return replace(answer, crossed=None, ray={row: factors[end] for end, row in ends.items()}, column_ray=None)
+
+
+def basis_in_short(basis: Basis, split: Split) -> Basis:
+    "where a row or a column stands at a limit that is a row, this row stands there, and it is basic itself"
+    rows, columns = dict(basis.rows) | dict.fromkeys(split.added, BASIC), dict(basis.columns)
+    if split.one:
+        columns[split.one] = LOWER
+    for (of, name), ends in moved_limits(split).items():
+        statuses = rows if of == "row" else columns
+        status = statuses[name]
+        end = "both" if "both" in ends else ENDS.get(status, "")
+        if status not in (BASIC, FREE) and end in ends:
+            rows[ends[end]], statuses[name] = (LOWER if end == "both" else status), BASIC
+    return Basis(rows, columns, basis.writer, list(basis.said))

@@ -1,0 +1,1 @@
+"Pages and plots to look at."

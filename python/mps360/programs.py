@@ -1,0 +1,76 @@
+"""Runs jobs, and attests listings, for the other scripts: by the proved program where it is fresh, else all jobs unproved, built once
+(`rt try --cases`)."""
+import pathlib, re, shutil, subprocess, tempfile
+from mps360 import unproved
+
+# the repository, or the folder where the commands are installed
+TOP = pathlib.Path(__file__).resolve().parents[2]
+COMMANDS = TOP / "scripts" if (TOP / "scripts").is_dir() else TOP
+
+
+class NoProgram(Exception):
+    "neither a proved program nor an unproved run can be had"
+
+
+def proved_program(name="mps360"):
+    "the path of the proved program of this name, installed or fresh, or None where there is none"
+    installed = COMMANDS / {"mps360": "program", "mps360check": "check"}[name]
+    if installed.exists():
+        return str(installed)
+    found = subprocess.run([COMMANDS / "program.sh", "--fresh", name], capture_output=True, text=True)
+    return found.stdout.strip() if found.returncode == 0 else None
+
+
+def checker_program(is_unproved=False):
+    "the path of the checker of listings: the proved one, or where there is none and an unproved one is wanted, that which is compiled of its sources"
+    program = proved_program("mps360check")
+    if program:
+        return program
+    if not is_unproved:
+        raise NoProgram("no proved program mps360check is there (scripts/build.sh builds it)")
+    try:
+        return unproved.make("mps360check", optimised=True)
+    except unproved.NoAnswer as cause:
+        raise NoProgram(str(cause)) from None
+
+
+def attested_by(program, job, listing):
+    "the status of a checker of listings, and what it prints"
+    with tempfile.TemporaryDirectory() as folder:
+        pathlib.Path(folder, "LISTING").write_bytes(listing)
+        ended = subprocess.run([program], input=job, stdout=subprocess.PIPE, cwd=folder, timeout=600)
+    return ended.returncode, ended.stdout.decode("latin-1")
+
+
+def run_proved(program, job):
+    "the status, the listing and the punched deck (None where nothing is punched) of a job"
+    with tempfile.TemporaryDirectory() as folder:
+        ended = subprocess.run([program], input=job, stdout=subprocess.PIPE, cwd=folder, timeout=600)
+        punch = pathlib.Path(folder, "PUNCH")
+        return ended.returncode, ended.stdout, punch.read_bytes() if punch.exists() else None
+
+
+def run_jobs(jobs, unproved=False, whole=True):
+    """from names to bytes of jobs, the status and the listing of each. The unproved run may have no answer to a job: then the status is None,
+    or, where the whole is wanted, that is told as the want of a program."""
+    program = None if unproved else proved_program()
+    if program:
+        return {name: run_proved(program, job)[:2] for name, job in jobs.items()}
+    if not unproved or not shutil.which("rt"):
+        raise NoProgram("no proved program is there (scripts/build.sh builds it)" if not unproved else "no command rt on the path")
+    with tempfile.TemporaryDirectory() as folder:
+        for name, job in jobs.items():
+            pathlib.Path(folder, name).write_bytes(job)
+        ended = subprocess.run(["rt", "try", "--cases", folder], cwd=TOP / "crates/mps360", capture_output=True)
+    text = ended.stdout + ended.stderr
+    statuses = {found[1].decode(): int(found[2]) for found in re.finditer(rb"^case=(\S+) run=ended status=(\d+)", text, re.M)}
+    parts = re.split(rb"^== (\S+)\n", ended.stdout, flags=re.M)
+    listings = {name.decode(): re.sub(rb"^case=.*\n?", b"", listing, flags=re.M) for name, listing in zip(parts[1::2], parts[2::2])}
+    if not statuses:
+        raise NoProgram("the unproved run gave no answer:\n" + text.decode(errors="replace")[-600:])
+    silent = [name for name in jobs if name not in statuses]
+    if whole and silent:
+        line = re.search(rb"^case=%s .*$" % re.escape(silent[0].encode()), text, re.M)
+        said = line[0].decode() if line else text[-300:].decode(errors="replace")
+        raise NoProgram(f"the unproved run gave no answer to {len(silent)} of {len(jobs)} jobs, as {silent[0]}: {said}")
+    return {name: (statuses.get(name), re.sub(rb"cases=\d+ ended=.*\n?", b"", listings.get(name, b""))) for name in jobs}

@@ -1,0 +1,353 @@
+"""The ways to a proof of what a linear program's answer is, tried one after the other until one proves a verdict.
+
+    outcome = Routes(job, program, Plan(..), checker).run()
+
+1. a basis that is handed in: INSERT and PRIMAL
+2. PRIMAL from the opening basis, for a few seconds; where there are two processors it goes on beside all that follows
+3. a basis of each solver, as it is there: INSERT and PRIMAL
+4. esolver's exact answer, attested by the checker of listings
+5. PRIMAL from the opening basis, to its end
+
+No solver is believed: a verdict is that of the program, or of the checker. What comes to no verdict ends as PRIMAL did."""
+from __future__ import annotations
+
+import functools
+import os
+import time
+from collections.abc import Callable, Sequence
+from dataclasses import dataclass, field
+
+from mps360 import bases, solutions, solvers
+from mps360.at_hand import Tool
+from mps360.bases import Basis
+from mps360.errors import Refused
+from mps360.jobs.write import Job
+from mps360.listings import write
+from mps360.plain import Plain
+from mps360.processes import Process, Processes
+from mps360.runs import NO_END, Attempt, NoAnswer, Observer, shown, waits_for
+from mps360.solvers import NoBasis, Request, Solver
+
+OPENING_SECONDS, SOLVER_SECONDS, RUN_SECONDS = 5.0, 20.0, 20.0
+INTERRUPTED = 130
+OPENING = "PRIMAL from the opening basis"
+ROUTES = ("primal", "basis", "exact")
+EXACT_SOLVER = "esolver"
+
+
+@dataclass(frozen=True)
+class Plan:
+    "which routes are tried, for how many seconds each; None is without an end"
+    solvers: tuple[str, ...] | None = None      # who may be asked, in this order; None: those that are installed
+    only: str | None = None                     # one of ROUTES, and no other
+    seconds: float | None = None                # all of it
+    opening_first: bool = True                  # whether PRIMAL from the opening basis begins before a solver is asked
+    exact: bool = True                          # whether an exact answer goes to the checker
+    opening_seconds: float | None = OPENING_SECONDS
+    solver_seconds: float | None = SOLVER_SECONDS
+    run_seconds: float | None = RUN_SECONDS
+    last_seconds: float | None = None           # of the last run of PRIMAL from the opening basis
+    processors: int = field(default_factory=lambda: len(os.sched_getaffinity(0)) if hasattr(os, "sched_getaffinity") else os.cpu_count() or 1)
+
+    def takes(self, route: str) -> bool:
+        return self.only in (None, route)
+
+
+@dataclass(frozen=True)
+class Tried:
+    "a route, how long it took, and why it came to nothing; None where it is the one that led to the answer"
+    words: str
+    seconds: float
+    why: str | None
+
+
+@dataclass
+class Outcome:
+    "what the routes came to: the attempt whose listing it is, and all that were tried, in their order"
+    attempt: Attempt
+    routes: list[Tried]
+    version: str = ""                           # of the solver whose basis or answer it is
+
+    @property
+    def status(self) -> int:
+        "the exit status"
+        return INTERRUPTED if self.attempt.interrupted else self.attempt.status
+
+
+class Decided(Exception):
+    "an attempt has come to a verdict"
+
+    def __init__(self, attempt: Attempt) -> None:
+        super().__init__(attempt.words)
+        self.attempt = attempt
+
+
+class Routes:
+    "the routes of one job, which mps360.jobs.write made of a model"
+
+    def __init__(self, job: Job, program: Tool, plan: Plan, checker: Tool | None = None, observer: Observer | None = None) -> None:
+        self.job, self.program, self.plan, self.checker, self.observer = job, program, plan, checker, observer or Observer()
+        self.given: tuple[Basis, str] | None = None
+        self.tried: list[tuple[float, Tried]] = []   # each with the time when it began
+        self.opening: Attempt | None = None     # PRIMAL from the opening basis, while it runs
+        self.running: Attempt | None = None     # a run from a basis, while it runs
+        self.kept: list[Attempt] = []           # attempts whose listings aren't whole; what stands where no other is
+        self.first_basis = ""                   # the first basis that a solver gave, as a basis file of the plain model
+        self.begun = time.monotonic()
+        self.plain: Plain | None = None
+
+    def begin_at(self, basis: Basis, words: str) -> None:
+        "hands in a basis of the model, which comes first; words are what it is called, as a file's name"
+        self.given = basis, words
+
+    def run(self) -> Outcome:
+        """tries the routes. NoAnswer where a program ends as none of a job ends; OSError where one can't be run; solvers.NoBasis where a route that
+        was asked for has no solver. KeyboardInterrupt ends what runs, and what stands is the outcome."""
+        self.begun = time.monotonic()
+        with Processes() as processes:
+            self.processes = processes
+            try:
+                self.prepare()
+                return self.outcome(self.last_of_all())
+            except Decided as decided:
+                if self.opening:
+                    self.note(self.opening, "another route came to a verdict first")
+                self.note(decided.attempt, None)
+                return self.outcome(decided.attempt)
+            except KeyboardInterrupt:
+                return self.stopped()
+
+    def outcome(self, attempt: Attempt) -> Outcome:
+        "what the routes came to; those that were tried stand in the order in which they began"
+        routes = [tried for _, tried in sorted(self.tried, key=lambda pair: pair[0])]
+        return Outcome(attempt, routes, attempt.solver.version if attempt.solver and not attempt.interrupted else "")
+
+    def stopped(self) -> Outcome:
+        "what stands at an interruption"
+        attempt = next((one for one in (self.running, self.opening, *self.kept) if one and one.process), None) or Attempt(OPENING, self.job.text)
+        if attempt.process:
+            attempt.process.end()
+            attempt.take()
+        attempt.interrupted = True
+        return self.outcome(attempt)
+
+    def prepare(self) -> None:
+        "compiles a program that runs unproved and isn't compiled; its own words are told"
+        if self.program.prepare:
+            process = self.processes.start(self.program.prepare, tell=self.observer.heard, keeps=False)
+            if self.wait(process, self.left(), lambda: "waits for the program to be compiled") and process.status:
+                raise NoAnswer.of(process.status)
+
+    # ---- time, and waiting
+
+    def left(self) -> float | None:
+        "the seconds that are left of all"
+        return None if self.plan.seconds is None else max(0.0, self.plan.seconds - (time.monotonic() - self.begun))
+
+    def seconds_for(self, wanted: float | None) -> float | None:
+        left = self.left()
+        return left if wanted is None else wanted if left is None else min(wanted, left)
+
+    def is_late(self) -> bool:
+        return self.left() == 0
+
+    def wait(self, process: Process, seconds: float | None, waits: Callable[[], str]) -> bool:
+        "whether the process ends within these seconds; Decided where the run beside it comes to a verdict"
+        until = None if seconds is None else time.monotonic() + seconds
+        while True:
+            beside = [self.opening.process] if self.opening and self.opening.process and self.opening.process is not process else []
+            ended = self.processes.wait([process, *beside], until, lambda: self.observer.tick(time.monotonic() - self.begun, waits))
+            if ended is None or ended is process:
+                return ended is process
+            self.end_opening(None)
+
+    def end_opening(self, limit: float | None) -> None:
+        "PRIMAL from the opening basis has ended, or is ended"
+        opening, self.opening = self.opening, None
+        assert opening is not None and opening.process is not None
+        opening.process.end()
+        opening.read(limit)
+        self.judge(opening)
+
+    def judge(self, attempt: Attempt) -> None:
+        "Decided where the attempt's listing is whole and has a verdict; else it is noted"
+        if attempt.why is None:
+            raise Decided(attempt)
+        self.observer.say(f"{attempt.words}: {attempt.why}")
+        self.note(attempt, attempt.why)
+        self.kept.append(attempt)
+
+    def note(self, attempt: Attempt, why: str | None) -> None:
+        self.tried.append((attempt.begun, Tried(attempt.words, round(time.monotonic() - attempt.begun, 3), why)))
+
+    # ---- the routes
+
+    def last_of_all(self) -> Attempt:
+        "goes through the routes; the attempt that stands where none of them decides"
+        plan = self.plan
+        if self.may_ask() and (plan.solvers or plan.only):
+            self.check_asked()
+        if self.given:
+            self.try_basis(Attempt(f"INSERT of {self.given[1]} and PRIMAL", "", self.given[0]), plan.last_seconds)
+        if plan.takes("primal") and plan.opening_first:
+            self.begin_opening()
+        for solver in self.those_asked if plan.takes("basis") else ():
+            if not self.is_late():
+                self.try_solver(solver)
+        if plan.takes("exact") and plan.exact and not self.is_late():
+            self.try_exact()
+        if plan.takes("primal"):
+            self.try_opening()
+        return self.best_of()
+
+    def check_asked(self) -> None:
+        "NoBasis where a solver that is named, or that a route can't do without, isn't installed"
+        there = {solver.name for solver in self.those_asked}
+        wanted = [*(self.plan.solvers or ()), *((EXACT_SOLVER,) if self.plan.only == "exact" else ())]
+        missing = next((name for name in wanted if name not in there), None)
+        if missing:
+            raise NoBasis(f"{solvers.TITLES.get(missing, missing)} isn't installed (apt-get install {solvers.PACKAGES[missing]})")
+        if not there:
+            raise NoBasis(f"none of {', '.join(solvers.NAMES)} is installed")
+
+    def may_ask(self) -> bool:
+        return self.plan.only != "primal" and self.plan.solvers != ()
+
+    @functools.cached_property
+    def those_asked(self) -> list[Solver]:
+        "the solvers that may be asked, and are installed"
+        names = solvers.NAMES if self.plan.solvers is None else self.plan.solvers
+        return solvers.installed(names) if self.may_ask() else []
+
+    def start(self, attempt: Attempt) -> Attempt:
+        attempt.process = self.processes.start(self.program.command, attempt.job.encode("latin-1"), tell=self.observer.heard)
+        return attempt
+
+    def begin_opening(self) -> None:
+        "PRIMAL from the opening basis, for its first seconds; or, where nobody may be asked, for all"
+        self.opening = self.start(Attempt(OPENING, self.job.text))
+        seconds = self.seconds_for(self.plan.opening_seconds if self.may_ask() else None)
+        if self.wait_opening(seconds) or self.is_late() or not self.those_asked:
+            return
+        self.observer.going(f"PRIMAL had no end in {shown(seconds)} s")
+        if self.plan.processors < 2:
+            self.end_opening(seconds)
+
+    def wait_opening(self, seconds: float | None) -> bool:
+        "whether PRIMAL from the opening basis has ended within these seconds, without a verdict"
+        opening = self.opening
+        assert opening is not None and opening.process is not None
+        if not self.wait(opening.process, seconds, lambda: waits_for(opening)):
+            return False
+        self.end_opening(None)
+        return True
+
+    def try_opening(self) -> None:
+        "PRIMAL from the opening basis, to its end"
+        seconds = limit = self.seconds_for(self.plan.last_seconds)
+        if self.opening is None:
+            if any(one.words == OPENING and one.status != NO_END for one in self.kept):
+                return
+            self.opening = self.start(Attempt(OPENING, self.job.text))
+        elif seconds is not None and self.opening.process:
+            limit = self.opening.process.seconds + seconds
+        if not self.wait_opening(seconds):
+            self.end_opening(limit)
+
+    def try_solver(self, solver: Solver) -> None:
+        "asks a solver for a basis, and begins there"
+        attempt = Attempt(f"INSERT of {solver.title}'s basis and PRIMAL", "", solver=solver)
+        self.observer.going(f"asking {solver.title} for a basis")
+        try:
+            attempt.basis, attempt.written = self.asked(lambda: solver.ask(self.plain_form(), self.processes), solver).basis()
+        except (NoBasis, Refused, OSError) as cause:
+            self.fails(attempt, f"no basis of {solver.title}: {str(cause).splitlines()[0]}")
+            return
+        self.first_basis = self.first_basis or self.plain_form().deck(attempt.basis)
+        self.try_basis(attempt, self.plan.run_seconds)
+
+    def fails(self, attempt: Attempt, cause: str) -> None:
+        self.observer.say(cause)
+        self.note(attempt, cause)
+
+    def plain_form(self) -> Plain:
+        self.plain = self.plain or Plain(self.job.model)
+        return self.plain
+
+    def asked(self, ask: Callable[[], Request], solver: Solver) -> Request:
+        "a solver's request once the solver has ended; NoBasis where it doesn't"
+        seconds = self.seconds_for(self.plan.solver_seconds)
+        request = ask()
+        ended = self.wait(request.process, seconds, lambda: f"waits for a basis of {solver.title}")
+        request.process.end()
+        if not ended:
+            raise NoBasis(f"no end in {shown(seconds)} seconds")
+        return request
+
+    def try_basis(self, attempt: Attempt, seconds: float | None) -> None:
+        "INSERT of the attempt's basis, and PRIMAL"
+        assert attempt.basis is not None
+        for sentence in attempt.basis.said:
+            self.observer.say(sentence)
+        attempt.job = bases.with_insert(self.job, attempt.basis)
+        self.running = self.start(attempt)
+        limit = self.seconds_for(seconds)
+        self.wait(self.running_process(), limit, lambda: waits_for(attempt))
+        self.running_process().end()
+        self.running = None
+        attempt.read(limit)
+        self.judge(attempt)
+
+    def running_process(self) -> Process:
+        assert self.running is not None and self.running.process is not None
+        return self.running.process
+
+    def try_exact(self) -> None:
+        "esolver's exact answer, attested by the checker"
+        solver = next((one for one in self.those_asked if one.name == EXACT_SOLVER), None)
+        if solver is None:
+            return
+        attempt = Attempt(f"{solver.title}'s exact answer, attested by the checker", self.job.text, solver=solver, by_checker=True, status=0)
+        try:
+            if self.checker is None:
+                raise NoBasis("no checker of listings is at hand (scripts/build.sh builds it)")
+            self.observer.going(f"asking {solver.title} for an exact answer")
+            request = self.asked(lambda: solver.ask_exactly(self.plain_form(), self.processes, self.first_basis), solver)
+            attempt.written = request.written()
+            attempt.listing = self.listing_of(attempt.written).encode("latin-1")
+            attempt.basis = request.exact_basis()
+            self.attest(attempt)
+            attempt.seconds = time.monotonic() - attempt.begun
+        except (NoBasis, Refused, OSError, solutions.NoSolution, write.Refused) as cause:
+            self.fails(attempt, f"no exact answer of {solver.title}: {str(cause).splitlines()[0]}")
+            return
+        raise Decided(attempt)
+
+    def listing_of(self, text: str) -> str:
+        "the listing of a solution that esolver wrote of the plain model"
+        plain, job = self.plain_form(), self.job
+        answer = plain.answer_back(solutions.read_bytes(text.encode("latin-1"), plain.model))
+        named = write.Answer("optimal", columns={job.columns[name]: value for name, value in answer.columns.items()},
+                             prices={job.rows[name]: value for name, value in answer.prices.items()},
+                             reduced=None if answer.reduced is None else {job.columns[name]: value for name, value in answer.reduced.items()})
+        return write.listing_of(job, named)
+
+    def attest(self, attempt: Attempt) -> None:
+        "asks the checker of listings; NoBasis where it doesn't attest"
+        assert self.checker is not None
+        process = self.processes.start(self.checker.command, attempt.job.encode("latin-1"), files={"LISTING": attempt.listing}, tell=self.observer.heard)
+        if not self.wait(process, self.left(), lambda: "waits for the checker of listings"):
+            raise NoBasis("the checker of listings had no end in the time that was left")
+        said = process.printed().decode("latin-1")
+        if process.status != 0 or not said.startswith("ATTESTED "):
+            raise NoBasis(f"the checker of listings says {said.strip()[:60] or 'nothing'} and ends with {process.status}")
+
+    def best_of(self) -> Attempt:
+        """what stands where no route decides: an attempt with a verdict whose listing isn't whole, or PRIMAL from the opening basis, or the first one.
+        NoBasis where no route came to a run, and there was time"""
+        kept = sorted(self.kept, key=lambda one: (one.verdict is None, one.words != OPENING))
+        if kept:
+            return kept[0]
+        if self.tried and not self.is_late():
+            raise NoBasis("; ".join(tried.why for _, tried in self.tried if tried.why))
+        return Attempt(OPENING, self.job.text, why=f"no end in {shown(self.plan.seconds)} seconds")

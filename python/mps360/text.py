@@ -1,0 +1,87 @@
+"""Texts for people. Text of strangers (names and titles of their files), shown as text on a terminal: no byte of it moves the cursor or hides
+a line; in the cells of a spreadsheet no formula. Decimals beside fractions, and words of sentences."""
+import re, sys
+from decimal import Decimal, localcontext
+from fractions import Fraction
+
+DIGITS, MOST_DIGITS = 7, 15
+FORMULA_SIGNS = tuple("=+-@＝＋－＠'")
+# all that a terminal may obey or leave out: the control characters, and those that turn the direction of writing or have no width
+UNSEEN = re.compile("[\x00-\x1f\x7f-\x9f\u200b-\u200f\u2028-\u202e\u2060-\u2069\ufeff\ud800-\udfff]")
+
+
+def as_text(text):
+    "each such character as an escape that can be seen, as \\x1b"
+    def escape(found):
+        code = ord(found[0])
+        return f"\\x{code:02x}" if code < 256 else f"\\u{code:04x}"
+    return UNSEEN.sub(escape, text)
+
+
+class Shown:
+    "a stream on which only line feeds are obeyed, and what it can't write is escaped"
+    def __init__(self, stream):
+        self.stream = stream
+
+    def write(self, text):
+        seen = "\n".join(as_text(line) for line in text.split("\n"))
+        encoding = getattr(self.stream, "encoding", None) or "utf-8"
+        self.stream.write(seen.encode(encoding, "backslashreplace").decode(encoding))
+
+    def __getattr__(self, name):
+        return getattr(self.stream, name)
+
+
+def guard():
+    "standard output and standard error show text alone from now on"
+    sys.stdout, sys.stderr = Shown(sys.stdout), Shown(sys.stderr)
+
+
+# ---- numbers, and cells of a spreadsheet
+
+def decimal_of(number):
+    "the decimal number of a fraction, and whether that is its exact value; what isn't has at least 7 correct digits"
+    value = Fraction(number)
+    if value.denominator == 1 and abs(value) < 10 ** MOST_DIGITS:
+        return str(value), True
+    with localcontext() as context:
+        context.prec = MOST_DIGITS
+        exact = Decimal(value.numerator) / value.denominator
+        if Fraction(exact) == value:
+            return plain(exact), True
+        context.prec = min(MOST_DIGITS, max(DIGITS, len(str(int(abs(value))))))
+        return plain(Decimal(value.numerator) / value.denominator), False
+
+
+def plain(value):
+    "a decimal number without needless zeros, with an exponent where it would be long"
+    value = value.normalize()
+    return f"{value:f}" if -6 <= value.adjusted() < MOST_DIGITS else f"{value:E}".replace("E+", "E")
+
+
+def marked_decimal(number):
+    "the same as text: what was rounded is marked"
+    text, exact = decimal_of(number)
+    return text if exact else f"≈{text}"
+
+
+def cell(text):
+    """a text as a cell that no spreadsheet takes for a formula: where it begins with = + - @ (also of full width) or ', an apostrophe stands before it"""
+    text = as_text(text)
+    return "'" + text if text.startswith(FORMULA_SIGNS) else text
+
+
+# ---- words of sentences
+
+def counted(count, what, *verbs):
+    "a number of things, and a verb: the first for one of them, the second for more"
+    return " ".join([f"{count} {what}{'' if count == 1 else 's'}", *(verbs[:1] if count == 1 else verbs[1:])])
+
+
+def some_of(names):
+    return ", ".join(name[:30] for name in names[:5]) + (", .." if len(names) > 5 else "")
+
+
+def lines_text(lines):
+    shown = ", ".join(str(line) for line in lines[:5])
+    return ("line " if len(lines) == 1 else "lines ") + shown + (f" and {len(lines) - 5} more" if len(lines) > 5 else "")

@@ -1,0 +1,1 @@
+"Readings of the rules that share nothing with what is shipped: tests compare it with them."

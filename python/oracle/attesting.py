@@ -1,0 +1,752 @@
+"""Says whether the numbers of a listing prove what it says of a job, and all else in it is what the job prints: worked out apart from the
+program, over Python's exact fractions, without a path and without a basis. A script, tested and not proved.
+
+usage: dev/oracle attesting JOB LISTING       it prints one line, and ends with its status
+       dev/oracle attesting --as-program      takes them as the program mps360check does: the job on standard input, and the listing from
+                                               the file LISTING of the present folder
+
+  0 ATTESTED n REPORTS   all of it
+ 40 WRONG LINE n         what is due at line n isn't of its form, or fails a test
+ 41 OPEN LINE n          line n can't be attested: RANGE, PUNCH or INSERT, a stop whose cause needs a path, an optimum without SOLUTION
+ 42 UNCHECKED LINE n     an operation of a test doesn't fit 127 bits
+ 43 LONG LISTING         of more than 64,000,000 bytes
+ 64 wrong use; 66 a file can't be read; as the program: STOP 4 WORDS, with 4, and STOP 27 LISTING FAULT, with 27"""
+from dataclasses import dataclass
+from fractions import Fraction
+import pathlib
+import re
+import sys
+
+from oracle.rules import (BasisDeck, DataDeck, GREATEST, LinearProgram, Program, Refused, RevisionDeck, SelectionFault, Stop, add, cut, is_skipped,
+                       multiply, name_field, subtract, word_of)
+
+MOST_LISTING, MOST_STATEMENTS = 64_000_000, 100_000
+ATTESTED, WRONG, OPEN, UNCHECKED, LONG = 0, 40, 41, 42, 43
+DEFAULTS = {"XPARAM": Fraction(0)}
+DEMAND_OF = {"INFEASIBLE": "XDONFS", "UNBOUNDED": "XDOUNB"}
+# more than a fraction of 128 bits has
+MOST_DIGITS = 100
+FRACTION = r"-?\d+(?:/\d+)?"
+OPERATIONS = ("ADD", "SUB", "MUL", "DIV")
+# stops whose cause needs a path, a basis or a device: # is a count, / a fraction, ! an operation
+OPEN_STOPS = ("STOP 16 ITERATION LIMIT # CARD #", "STOP 24 READ FAULT", "STOP 26 PUNCH FAULT", "STOP 28 MEMORY", "STOP 10 VERB FAULT 15 CARD #",
+              "STOP 10 VERB FAULT 16 CARD # VARIABLE #", "STOP 20 OVERFLOW F# ! / / P # Q # I # J # TERM # THETA / CARD #")
+
+
+class Found(Exception):
+    "the end of the walk: a status, and a line or the number of reports"
+    def __init__(self, status, number):
+        super().__init__(status, number)
+        self.status, self.number = status, number
+
+
+class Misses(Exception):
+    "what is due isn't of its form, or fails a test"
+
+
+def ask(holds):
+    if not holds:
+        raise Misses
+
+
+# ---- reading: lines of the listing, and words of a line
+
+class Listing:
+    "the lines of a listing, and the next one"
+    def __init__(self, text):
+        self.lines, self.at = text.split("\n"), 0
+        self.last = self.lines.pop()
+        self.has_part = bool(self.last)
+
+    def line(self):
+        "the number of the next line"
+        return self.at + 1
+
+    def peek(self):
+        "the next line; None at the end, and of a line without its line feed"
+        return self.lines[self.at] if self.at < len(self.lines) else None
+
+    def take(self):
+        line = self.peek()
+        ask(line is not None)
+        self.at += 1
+        return line
+
+    def is_over(self):
+        return self.at == len(self.lines) and not self.has_part
+
+
+def fraction(word):
+    "a fraction as it is written in lowest terms, of 128 bits"
+    ask(len(word) <= MOST_DIGITS and re.fullmatch(FRACTION, word, re.ASCII))
+    parts = word.split("/")
+    ask(len(parts) == 1 or int(parts[1]))
+    value = Fraction(int(parts[0]), int(parts[1]) if len(parts) == 2 else 1)
+    ask(str(value) == word and abs(value.numerator) <= GREATEST and value.denominator <= GREATEST)
+    return value
+
+
+def count(word, most=2 ** 32 - 1):
+    ask(len(word) <= MOST_DIGITS and re.fullmatch(r"0|[1-9]\d*", word, re.ASCII) and int(word) <= most)
+    return int(word)
+
+
+def is_open_stop(line):
+    "whether a line is the first one of a stop text that can't be attested"
+    return any(has_form(line.split(" "), form.split(" ")) for form in OPEN_STOPS)
+
+
+def has_form(words, form):
+    try:
+        ask(len(words) == len(form))
+        for word, piece in zip(words, form):
+            if piece.endswith("#"):
+                ask(word.startswith(piece[:-1]))
+                count(word[len(piece) - 1:])
+            elif piece == "/":
+                fraction(word)
+            else:
+                ask(word in OPERATIONS if piece == "!" else word == piece)
+    except Misses:
+        return False
+    return True
+
+
+def is_checked(words):
+    "whether the words at the end of a verdict say CHECKED; the other form names an operation and its operands"
+    if words == ["CHECKED"]:
+        return True
+    ask(len(words) == 4 and words[0] == "UNCHECKED" and words[1] in OPERATIONS)
+    fraction(words[2]), fraction(words[3])
+    return False
+
+
+def shown(value):
+    return "NONE" if value is None else str(value)
+
+
+class Sheet:
+    "a linear program whose table lines are read"
+    def __init__(self, lp):
+        self.lp, self.size = lp, lp.m + lp.n
+
+    def head(self, k):
+        return f"{k + 1:5} {self.lp.names[k]:<8} "
+
+    def values(self, line, k):
+        "the words behind the head of a variable's line"
+        ask(line.startswith(self.head(k)))
+        return line[len(self.head(k)):].split(" ")
+
+    def table(self, listing, *kinds):
+        "a line for each variable: an AT code for a kind of None, and a number for one of 0; the columns of numbers"
+        lines = []
+        for k in range(self.size):
+            words = self.values(listing.take(), k)
+            ask(len(words) == len(kinds))
+            lines.append([read_code(word) if kind is None else fraction(word) for kind, word in zip(kinds, words)])
+        return [list(column) for column in zip(*lines)] if lines else [[] for _ in kinds]
+
+    def ray(self, listing):
+        "the lines of a ray, ascending, each with a number other than 0; no other table line may follow"
+        ray = [Fraction(0)] * self.size
+        for k in range(self.size):
+            line = listing.peek()
+            if line is None or not line.startswith(self.head(k)):
+                continue
+            words = self.values(listing.take(), k)
+            ask(len(words) == 1)
+            ray[k] = fraction(words[0])
+            ask(ray[k])
+        ask(not re.match(r" *\d+ ", listing.peek() or ""))
+        return ray
+
+
+def read_code(word):
+    ask(word in ("BS", "**", "EQ", "LL", "UL", "FR"))
+    return word
+
+
+# ---- the sums of the checks, with plain operations of 128 bits
+
+def total(start, products):
+    for x, y in products:
+        start = add(start, multiply(x, y))
+    return start
+
+
+def check_equations(lp, point):
+    rows = [[] for _ in range(lp.m)]
+    for j, entries in enumerate(lp.columns):
+        for i, value in entries:
+            rows[i].append((value, point[lp.m + j]))
+    for i, products in enumerate(rows):
+        ask(total(Fraction(0), products) == point[i])
+
+
+def check_limits(lp, point):
+    for value, lower, upper in zip(point, lp.lower, lp.upper):
+        ask((lower is None or value >= lower) and (upper is None or value <= upper))
+
+
+def cost(lp, entries):
+    "the cost of a column"
+    own = dict(entries)
+    if not lp.change:
+        return own.get(lp.objective, Fraction(0))
+    row, theta = lp.change
+    return add(own.get(lp.objective, Fraction(0)), multiply(theta, own.get(row, Fraction(0))))
+
+
+def check_prices(lp, prices):
+    for j, entries in enumerate(lp.columns):
+        worth = cost(lp, entries)
+        ask(subtract(worth, total(Fraction(0), ((prices[i], value) for i, value in entries))) == prices[lp.m + j])
+
+
+def for_min(lp, price):
+    return price if lp.sense == "MIN" else -price
+
+
+def check_optimal(lp, point, prices):
+    check_equations(lp, point)
+    check_limits(lp, point)
+    check_prices(lp, prices)
+    for k, price in enumerate(prices):
+        ask(not price or point[k] == (lp.lower if for_min(lp, price) > 0 else lp.upper)[k])
+
+
+def check_crossed(lp, k):
+    ask(None not in (lp.lower[k], lp.upper[k]) and lp.lower[k] > lp.upper[k])
+
+
+def ray_sum(lp, ray):
+    "the sum of the multipliers, each times its limit, after the tests of the columns and of the limits"
+    for j, entries in enumerate(lp.columns):
+        ask(total(ray[lp.m + j], ((ray[i], value) for i, value in entries)) == 0)
+    whole = Fraction(0)
+    for k, factor in enumerate(ray):
+        if factor:
+            limit = (lp.upper if factor > 0 else lp.lower)[k]
+            ask(limit is not None)
+            whole = add(whole, multiply(factor, limit))
+    return whole
+
+
+def check_direction(lp, point, direction):
+    "a feasible point, and a direction that keeps all limits"
+    check_equations(lp, point)
+    check_limits(lp, point)
+    check_equations(lp, direction)
+    for k, by in enumerate(direction):
+        ask(not by or (lp.lower if by < 0 else lp.upper)[k] is None)
+
+
+def worth_of(lp, direction):
+    "what the objective gains along a direction, counted for MIN"
+    worth = direction[lp.objective]
+    if lp.change:
+        worth = add(worth, multiply(lp.change[1], direction[lp.change[0]]))
+    return for_min(lp, worth)
+
+
+# ---- parametric runs
+
+class Changing:
+    "the linear programs of a parametric run: the objective with theta times a row, or the limits with theta times the rows' shifts"
+    def __init__(self, lp, row=None, shift=None):
+        self.lp, self.row, self.shift = lp, row, shift
+
+    def at(self, theta):
+        if self.row is not None:
+            return self.lp.with_(change=(self.row, theta))
+        lower, upper = list(self.lp.lower), list(self.lp.upper)
+        for i, by in enumerate(self.shift):
+            for limits in (lower, upper):
+                if limits[i] is not None:
+                    limits[i] = add(limits[i], multiply(theta, by))
+        return self.lp.with_(lower=lower, upper=upper)
+
+
+def along(theta, values, rates):
+    return [add(value, multiply(theta, rate)) for value, rate in zip(values, rates)]
+
+
+def check_interval(changing, is_first, first, last, most, columns):
+    ask(first < last or is_first and first == last)
+    ask(last <= most)
+    ends = []
+    for theta in (first, last):
+        lp = changing.at(theta)
+        point, prices = along(theta, columns[1], columns[2]), along(theta, columns[3], columns[4])
+        check_optimal(lp, point, prices)
+        ends.append((lp, point, prices))
+    for _, _, prices in ends:
+        for k, price in enumerate(prices):
+            if price:
+                ask(all(point[k] == (lp.lower if for_min(lp, price) > 0 else lp.upper)[k] for lp, point, _ in ends))
+
+
+# ---- verdicts
+
+@dataclass
+class Claim:
+    "a verdict as it is read, or a SOLUTION OPTIMAL: its kind, whether its word is CHECKED, and its numbers"
+    kind: str
+    is_checked: bool
+    objective: Fraction | None = None
+    crossed: int | None = None
+    ray: list | None = None
+    point: list | None = None
+    direction: list | None = None
+    prices: list | None = None
+
+    def test(self, lp):
+        "the test of its proof; an optimal one is tested at SOLUTION"
+        if self.kind == "OPTIMAL":
+            return
+        if self.crossed is not None:
+            check_crossed(lp, self.crossed)
+        elif self.kind == "INFEASIBLE":
+            ask(ray_sum(lp, self.ray) < 0)
+        else:
+            check_direction(lp, self.point, self.direction)
+            ask(worth_of(lp, self.direction) < 0)
+            ask(self.objective == self.point[lp.objective])
+        ask(self.is_checked)
+
+
+# ---- the walk
+
+class Walk:
+    def __init__(self, job, listing):
+        self.listing, self.reports, self.pending = Listing(listing.decode("latin-1")), 0, None
+        self.cards, self.place = [], 0
+        self.problems, self.last, self.setup, self.mark = {}, None, None, None
+        self.cells, self.demands = dict(DEFAULTS), {}
+        self.job = job
+
+    # -- what comes
+
+    def open_stop(self):
+        if is_open_stop(self.listing.peek() or ""):
+            raise Found(OPEN, self.listing.line())
+
+    def open_pending(self):
+        if self.pending:
+            raise Found(OPEN, self.pending[0])
+
+    def due(self, text):
+        "a line on which nothing is left to the listing"
+        self.open_stop()
+        if self.listing.peek() != text:
+            raise self.wrong()
+        self.listing.at += 1
+
+    def ends(self, text):
+        self.open_stop()
+        self.open_pending()
+        self.due(text)
+        raise Found(*((ATTESTED, self.reports) if self.listing.is_over() else (WRONG, self.listing.line())))
+
+    def reported(self, text):
+        self.due(text)
+        self.reports += 1
+
+    def read(self, reading):
+        "a report that has numbers of its own; what the reading gives of it"
+        line = self.listing.line()
+        try:
+            result = reading()
+        except Misses:
+            raise Found(WRONG, line) from None
+        except Refused:
+            raise Found(UNCHECKED, line) from None
+        self.reports += 1
+        return result
+
+    # -- the run
+
+    def run(self):
+        try:
+            self.cards = cut(self.job)
+            program = Program(self.cards)
+            self.place = program.ends
+            self.statements(program)
+        except Stop as stop:
+            self.ends(stop.text)
+
+    def statements(self, program):
+        at = executed = 0
+        while at < len(program.statements):
+            if executed == MOST_STATEMENTS:
+                self.ends("STOP 17 STATEMENT LIMIT")
+            one = program.statements[at]
+            at, executed = at + 1, executed + 1
+            if one.verb == "EXIT":
+                break
+            if one.verb == "GOTO":
+                at = program.labels[one.arguments[0]]
+                continue
+            demand = self.execute(one, program.labels)
+            if demand:
+                if demand not in self.demands:
+                    self.ends("END 2" if demand == "XDOUNB" else "END 1")
+                at = self.demands[demand]
+        self.ends("END 0")
+
+    def execute(self, one, labels):
+        "a statement; the demand to which it goes, if any"
+        self.card = one.card
+        if one.verb == "MVADR":
+            self.demands[one.arguments[0]] = labels[one.arguments[1]]
+            return None
+        return getattr(self, "setup_" if one.verb == "SETUP" else one.verb.lower())(*one.arguments)
+
+    def fault(self, number):
+        return Stop(f"STOP 10 VERB FAULT {number} CARD {self.card}")
+
+    def clear_mark(self):
+        self.open_pending()
+        self.mark = None
+
+    def initialz(self):
+        self.clear_mark()
+        self.cells, self.demands = dict(DEFAULTS), {}
+
+    def title(self, text):
+        self.reported("TITLE " + text)
+
+    def move(self, cell, value):
+        self.cells[cell] = value
+        if cell in ("XOBJ", "XRHS"):
+            self.clear_mark()
+
+    # -- decks and problems
+
+    def deck(self):
+        "the next deck, with the number of its first card; where XDATA was moved the next one of that name"
+        while True:
+            while self.place < len(self.cards) and is_skipped(self.cards[self.place]):
+                self.place += 1
+            first = self.place
+            if first == len(self.cards):
+                raise self.fault(1)
+            while self.place < len(self.cards):
+                self.place += 1
+                if word_of(self.cards[self.place - 1]) == "ENDATA":
+                    break
+            name = name_field(self.cards[first]) if word_of(self.cards[first]) == "NAME" else None
+            if "XDATA" not in self.cells or self.cells["XDATA"] == name:
+                return self.cards[first:self.place], first + 1, name
+
+    def filed(self, cell):
+        name = self.cells.get(cell, self.last)
+        if name not in self.problems:
+            raise self.fault(2)
+        return self.problems[name]
+
+    def convert(self):
+        cards, first, name = self.deck()
+        self.file("CONVERT", DataDeck(cards, first, len(self.cards)), name)
+
+    def revise(self):
+        old = self.filed("XOLDNAME")
+        cards, first, name = self.deck()
+        self.file("REVISE", RevisionDeck(old, cards, first, len(self.cards)), name)
+
+    def file(self, verb, deck, name):
+        deck.read()
+        problem = deck.problem
+        problem.name = self.cells.get("XPBNAME", name)
+        self.open_stop()
+        self.clear_mark()
+        self.reported(f"{verb:<7} {problem.name:<8} ROWS {len(problem.rows)} COLUMNS {len(problem.columns)} ENTRIES {problem.entries()}")
+        self.problems[problem.name], self.last, self.setup = problem, problem.name, None
+
+    def bcdout(self):
+        problem = self.filed("XPBNAME")
+        self.reported(f"BCDOUT  {problem.name:<8} CARDS {problem.punched_cards()}")
+
+    def setup_lp(self, setup):
+        problem, options = setup
+        try:
+            return LinearProgram(problem, self.cells.get("XOBJ"), self.cells.get("XRHS"), options)
+        except SelectionFault as fault:
+            raise self.fault(fault.args[0]) from None
+
+    def select(self):
+        if self.setup is None:
+            raise self.fault(3)
+        return self.setup_lp(self.setup)
+
+    def not_refused(self, lp):
+        if lp.is_refused:
+            raise Found(UNCHECKED, self.listing.line())
+
+    def setup_(self, *options):
+        problem = self.filed("XPBNAME")
+        lp = self.setup_lp((problem, options))
+        self.open_stop()
+        self.clear_mark()
+        self.not_refused(lp)
+        self.reported(f"SETUP   {problem.name:<8} {options[2]}")
+        self.setup = problem, options
+
+    # -- verdicts
+
+    def claim(self, verb, lp, kinds):
+        "a verdict of one of these kinds, read"
+        words, sheet = (self.listing.peek() or "").split(" "), Sheet(lp)
+        ask(len(words) > 5 and words[0] == verb and words[1] in kinds and words[2] == "STEPS")
+        kind, steps, end = words[1], count(words[3]), words[4]
+        if kind == "INFEASIBLE" and end == "RAY":
+            word = is_checked(words[5:])
+            self.listing.take()
+            return Claim(kind, word, ray=sheet.ray(self.listing))
+        word = is_checked(words[6:])
+        if kind == "INFEASIBLE":
+            ask(end == "CROSSED" and steps == 0)
+            crossed = count(words[5])
+            ask(1 <= crossed <= sheet.size)
+            self.listing.take()
+            return Claim(kind, word, crossed=crossed - 1)
+        ask(end == "OBJECTIVE")
+        objective = fraction(words[5])
+        self.listing.take()
+        if kind == "OPTIMAL":
+            return Claim(kind, word, objective=objective)
+        point, direction = sheet.table(self.listing, 0, 0)
+        return Claim(kind, word, objective=objective, point=point, direction=direction)
+
+    def tested_claim(self, verb, lp, kinds, made):
+        "a verdict that passes its test in a linear program, which is made once the verdict is read"
+        line, claim = self.listing.line(), self.claim(verb, lp, kinds)
+        lp = made()
+        claim.test(lp)
+        self.met(line, lp, claim)
+        return claim
+
+    def met(self, line, lp, claim):
+        "what follows of a claim that has passed its test; nothing here"
+
+    def primal(self):
+        return self.solve("PRIMAL")
+
+    def dual(self):
+        return self.solve("DUAL")
+
+    def solve(self, verb):
+        lp = self.select()
+        self.open_stop()
+        self.open_pending()
+        self.not_refused(lp)
+        line, kinds = self.listing.line(), ("OPTIMAL", "INFEASIBLE") + (("UNBOUNDED",) if verb == "PRIMAL" else ())
+        claim = self.read(lambda: self.tested_claim(verb, lp, kinds, lambda: lp))
+        self.mark, self.pending = claim.kind, (line, claim) if claim.kind == "OPTIMAL" else None
+        return DEMAND_OF.get(claim.kind)
+
+    # -- SOLUTION, and what can't be read without a basis
+
+    def needs_mark(self, *marks):
+        if self.setup is None or self.mark is None or self.mark not in marks:
+            raise self.fault(3 if self.setup is None else 4 if self.mark is None else 5)
+
+    def solution(self):
+        self.needs_mark("OPTIMAL", "INFEASIBLE", "UNBOUNDED")
+        self.open_stop()
+        lp, line = self.setup_lp(self.setup), self.listing.line()
+        shown = self.read(lambda: self.tested_solution(lp))
+        if self.mark != "OPTIMAL":
+            return
+        if self.pending:
+            first, claim = self.pending
+            if claim.objective != shown.objective or not claim.is_checked:
+                raise Found(WRONG, first)
+            self.pending = None
+        self.met(line, lp, shown)
+
+    def tested_solution(self, lp):
+        listing, sheet = self.listing, Sheet(lp)
+        ask(listing.take() == f"SOLUTION {self.mark}")
+        point, prices, slacks = [], [], []
+        for k in range(sheet.size + 1):
+            if k == 0:
+                ask((listing.take(), listing.take()) == ("SECTION 1 - ROWS", "NUMBER ROW AT ACTIVITY SLACK LOWER UPPER DUAL"))
+            if k == lp.m:
+                ask((listing.take(), listing.take()) == ("SECTION 2 - COLUMNS", "NUMBER COLUMN AT ACTIVITY COST LOWER UPPER REDUCED"))
+            if k == sheet.size:
+                break
+            words = sheet.values(listing.take(), k)
+            ask(len(words) == 6)
+            read_code(words[0])
+            point.append(fraction(words[1]))
+            if k < lp.m:
+                slacks.append(fraction(words[2]))
+            else:
+                ask(words[2] == str(cost(lp, lp.columns[k - lp.m])))
+            ask(words[3:5] == [shown(lp.lower[k]), shown(lp.upper[k])])
+            prices.append(fraction(words[5]))
+        check_equations(lp, point)
+        check_prices(lp, prices)
+        for right, value, slack in zip(lp.rhs, point, slacks):
+            ask(subtract(right, value) == slack)
+        if self.mark == "OPTIMAL":
+            check_optimal(lp, point, prices)
+        return Claim("OPTIMAL", True, objective=point[lp.objective], point=point, prices=prices)
+
+    def is_by_basis(self, text, has_count=False):
+        "whether the line of a report that needs the basis is due there, which then is open: a text, and where it has one a count"
+        self.open_stop()
+        line = self.listing.peek() or ""
+        if not (line.startswith(text) and has_form([line[len(text):]], ["#"]) if has_count else line == text):
+            return False
+        self.untold()
+        return True
+
+    def untold(self):
+        "the report that can't be tested begins at the next line"
+        raise Found(OPEN, self.listing.line())
+
+    def wrong(self):
+        return Found(WRONG, self.listing.line())
+
+    def range(self):
+        self.needs_mark("OPTIMAL")
+        if not self.is_by_basis("RANGE"):
+            raise self.wrong()
+
+    def punch(self):
+        lp = self.select()
+        if not self.is_by_basis(f"PUNCH   {self.setup[0].name:<8} CARDS ", has_count=True):
+            self.not_refused(lp)
+            raise self.wrong()
+
+    def insert(self):
+        lp = self.select()
+        try:
+            cards, first, name = self.deck()
+            BasisDeck(lp, cards, first, len(self.cards)).read()
+        except Stop:
+            self.open_stop()
+            self.open_pending()
+            self.not_refused(lp)
+            raise
+        if not self.is_by_basis(f"INSERT  {name:<8} BASIC ", has_count=True):
+            self.open_pending()
+            self.not_refused(lp)
+            raise self.wrong()
+        self.clear_mark()
+
+    # -- parametric runs
+
+    def paraobj(self):
+        return self.parametric("PARAOBJ")
+
+    def pararhs(self):
+        return self.parametric("PARARHS")
+
+    def parametric(self, verb):
+        lp = self.select()
+        if lp.is_refused:
+            self.open_stop()
+            self.open_pending()
+            self.not_refused(lp)
+        problem, cells = self.setup[0], self.cells
+        change = cells.get("XCHROW" if verb == "PARAOBJ" else "XCHCOL")
+        if verb == "PARAOBJ" and (change not in problem.rows or problem.rows[change].kind != "N"):
+            raise self.fault(6)
+        if verb == "PARARHS" and change not in problem.rhs:
+            raise self.fault(7)
+        if "XPARMAX" not in cells:
+            raise self.fault(8)
+        if cells["XPARMAX"] < cells["XPARAM"]:
+            raise self.fault(9)
+        self.open_stop()
+        self.clear_mark()
+        if verb == "PARAOBJ":
+            changing = Changing(lp, row=lp.row_names.index(change))
+        else:
+            changing = Changing(lp, shift=[problem.rhs[change].get(name, Fraction(0)) for name in lp.row_names])
+        head = f"{verb} FROM {cells['XPARAM']} CHANGE {change}"
+        return self.read(lambda: self.chain(verb, changing) if self.listing.peek() == head else self.opening(verb, changing))
+
+    def opening(self, verb, changing):
+        made = lambda: changing.at(self.cells["XPARAM"])
+        return DEMAND_OF[self.tested_claim(verb, changing.lp, tuple(DEMAND_OF), made).kind]
+
+    def chain(self, verb, changing):
+        listing, sheet, last, most, number = self.listing, Sheet(changing.lp), self.cells["XPARAM"], self.cells["XPARMAX"], 0
+        listing.take()
+        while (listing.peek() or "").startswith("INTERVAL "):
+            number += 1
+            words = listing.take().split(" ")
+            ask(len(words) == 6 and words[:5] == ["INTERVAL", str(number), "FROM", str(last), "TO"])
+            end = fraction(words[5])
+            columns = sheet.table(listing, None, 0, 0, 0, 0)
+            check_interval(changing, number == 1, last, end, most, columns)
+            last = end
+        ask(number)
+        self.closing(verb, changing, sheet, last, most)
+        self.cells["XPARAM"] = last
+
+    def closing(self, verb, changing, sheet, last, most):
+        line, lp = self.listing.take(), changing.lp
+        if line == f"{verb} ENDS AT {most}":
+            ask(last == most)
+            return
+        ask(line == f"{verb} {'UNBOUNDED' if verb == 'PARAOBJ' else 'INFEASIBLE'} PAST {last}" and last < most)
+        if verb == "PARAOBJ":
+            point, direction = sheet.table(self.listing, 0, 0)
+            check_direction(lp, point, direction)
+            ask(worth_of(changing.at(last), direction) <= 0 and for_min(lp, direction[changing.row]) < 0)
+            return
+        ray = sheet.ray(self.listing)
+        ask(ray_sum(changing.at(last), ray) <= 0)
+        ask(total(Fraction(0), zip(ray, changing.shift)) < 0)
+
+
+def attest(job, listing):
+    "the status, and the line that is printed"
+    if len(listing) > MOST_LISTING:
+        return LONG, "LONG LISTING"
+    try:
+        Walk(job, listing).run()
+    except Found as found:
+        word = {ATTESTED: "ATTESTED {} REPORTS", WRONG: "WRONG LINE {}", OPEN: "OPEN LINE {}", UNCHECKED: "UNCHECKED LINE {}"}[found.status]
+        return found.status, word.format(found.number)
+    raise AssertionError("a walk has an end")
+
+
+def as_program(words):
+    "the status, and the line that is printed, as the program has them"
+    if words:
+        return 4, "STOP 4 WORDS"
+    job = sys.stdin.buffer.read()
+    try:
+        listing = pathlib.Path("LISTING").read_bytes()
+    except OSError:
+        return 27, "STOP 27 LISTING FAULT"
+    return attest(job, listing)
+
+
+def main(words):
+    if words[:1] == ["--as-program"]:
+        status, line = as_program(words[1:])
+        print(line)
+        return status
+    if len(words) != 2 or words[0].startswith("-"):
+        print(__doc__)
+        return 0 if words[:1] in (["-h"], ["--help"]) else 64
+    try:
+        job, listing = (pathlib.Path(word).read_bytes() for word in words)
+    except OSError as cause:
+        print(f"oracle attesting: can't read {cause.filename}: {cause.strerror}", file=sys.stderr)
+        return 66
+    status, line = attest(job, listing)
+    print(line)
+    return status
+
+
+if __name__ == "__main__":
+    sys.exit(main(sys.argv[1:]))

@@ -1,0 +1,256 @@
+"""The routes to a proof, by stand-ins for solvers, program and checker that tell which was called, and by real solvers with the program of
+MPS360_PROGRAM or, where none is named, the reading of the rules in Python that stands apart from the product."""
+import os
+import pathlib
+import sys
+import time
+
+import fakes
+import places
+import pytest
+from mps360 import at_hand, routes, runs, solvers
+from mps360.jobs.write import job_of
+from mps360.mps import Reading, read_text
+from test_solvers import GLASS, HIGHS_SOLUTION
+
+GOOD_DECK = b"NAME    PLAIN\n XU C1 R2\n XU C2 R3\nENDATA\n"
+SOLUTION = b"status = OPTIMAL\n\tValue = -36\nVARS:\nC1 = 2\nC2 = 6\nREDUCED COST:\nPI:\nR2 = -3/2\nR3 = -1\nSLACK:\nR1 = 2\n"
+# (esolver is asked twice: with -O for its exact answer)
+ESOLVER = """
+    words = sys.argv[1:]
+    if "-O" in words:
+        open(words[words.index("-O") + 1], "wb").write({solution!r})
+    if "-b" in words:
+        open(words[words.index("-b") + 1], "wb").write({deck!r})
+"""
+
+
+def job():
+    return job_of(read_text(GLASS, Reading()))
+
+
+class Told:
+    "what an observer was told"
+    def __init__(self, stop=None):
+        self.said, self.waited, self.stop = [], [], stop
+
+    def observer(self):
+        return runs.Observer(say=self.said.append, going=self.said.append, tick=self.tick)
+
+    def tick(self, seconds, waits):
+        self.waited.append(waits())
+        if self.stop and self.stop(self.waited[-1]):
+            raise KeyboardInterrupt
+
+
+def run(folder, plan, *, opening="overflow", inserted="answers", checker=None, told=None, begin=None):
+    "the outcome of the routes with a stand-in for the program"
+    program = fakes.program(folder, "program", fakes.PROGRAM, opening=opening, inserted=inserted)
+    status = 0 if checker and checker.startswith("ATTESTED") else 40
+    attests = checker and at_hand.Tool((fakes.program(folder, "checker", fakes.CHECKER, answer=checker, status=status),), "other")
+    way = routes.Routes(job(), at_hand.Tool((program,), "other"), plan, attests, (told or Told()).observer())
+    if begin:
+        way.begin_at(begin, "model.bas")
+    return way.run()
+
+
+def plan(**more):
+    return routes.Plan(**{"opening_seconds": 0.5, "solver_seconds": 2.0, "run_seconds": 2.0, "processors": 2, **more})
+
+
+
+def words_of(outcome):
+    return [tried.words for tried in outcome.routes], [tried.why for tried in outcome.routes]
+
+
+# ---- the order
+
+def test_the_opening_basis_is_enough(tmp_path):
+    with fakes.only_path(tmp_path):
+        outcome = run(tmp_path, plan(), opening="answers")
+    assert (outcome.status, outcome.attempt.words, outcome.attempt.by_checker) == (0, routes.OPENING, False)
+    assert words_of(outcome) == ([routes.OPENING], [None])
+
+
+def test_a_basis_of_the_next_solver(tmp_path):
+    "clp crashes, glpsol gives nonsense, lp_solve a basis"
+    told = Told()
+    with fakes.only_path(tmp_path):
+        fakes.program(tmp_path, "clp", fakes.CRASHES)
+        fakes.program(tmp_path, "glpsol", fakes.WRITES, content=b"nonsense")
+        fakes.program(tmp_path, "lp_solve", fakes.WRITES, content=GOOD_DECK)
+        outcome = run(tmp_path, plan(solvers=("clp", "glpsol", "lp_solve")), told=told)
+    words, why = words_of(outcome)
+    assert words == [routes.OPENING, *(f"INSERT of {name}'s basis and PRIMAL" for name in ("clp", "glpsol", "lp_solve"))]
+    assert why[0] == "a number doesn't fit" and why[3] is None
+    assert why[1].startswith("no basis of clp: it wrote no basis; signal 11") and why[2].startswith("no basis of glpsol: line 1: ")
+    assert outcome.attempt.solver.name == "lp_solve" and outcome.attempt.verdict[3] == "36"
+    assert "asking lp_solve for a basis" in told.said
+
+
+def test_the_exact_answer_is_attested(tmp_path):
+    "each basis is singular: esolver's exact answer goes to the checker, as the listing of the model's own names"
+    with fakes.only_path(tmp_path):
+        fakes.program(tmp_path, "esolver", ESOLVER, solution=SOLUTION, deck=GOOD_DECK)
+        outcome = run(tmp_path, plan(solvers=("esolver",)), inserted="singular", checker="ATTESTED 5 REPORTS")
+    words, why = words_of(outcome)
+    assert words == [routes.OPENING, "INSERT of esolver's basis and PRIMAL", "esolver's exact answer, attested by the checker"]
+    assert why == ["a number doesn't fit", "the basis is singular", None]
+    assert outcome.attempt.by_checker and outcome.status == 0
+    lines = outcome.attempt.lines()
+    assert "PRIMAL OPTIMAL STEPS 0 OBJECTIVE 36 CHECKED" in lines and any(line.split()[1:4] == ["P2", "UL", "12"] for line in lines)
+    assert outcome.attempt.basis is not None and outcome.attempt.basis.columns == {"doors": "BS", "windows": "BS"}
+
+
+@pytest.mark.parametrize("checker, words", [("WRONG LINE 9", "the checker of listings says WRONG LINE 9 and ends with 40"), (None, "no checker of listings is at hand")])
+def test_an_exact_answer_that_nobody_attests(tmp_path, checker, words):
+    with fakes.only_path(tmp_path):
+        fakes.program(tmp_path, "esolver", ESOLVER, solution=SOLUTION, deck=GOOD_DECK)
+        outcome = run(tmp_path, plan(solvers=("esolver",)), inserted="overflow", checker=checker)
+    assert outcome.status == 20 and outcome.attempt.words == routes.OPENING
+    assert outcome.routes[-1].why.startswith("no exact answer of esolver: ") and words in outcome.routes[-1].why
+
+
+@pytest.mark.parametrize("solution", [b"", b"status = INFEASIBLE\n", b"status = OPTIMAL\n nonsense", SOLUTION.replace(b"C1 = 2", b"C1 = 3"), b"\xff\x00", SOLUTION.replace(b"PI:\n", b"")])
+def test_an_exact_answer_that_is_none(tmp_path, solution):
+    "it ends this route alone, whatever the checker would say"
+    with fakes.only_path(tmp_path):
+        fakes.program(tmp_path, "esolver", ESOLVER, solution=solution, deck=b"")
+        outcome = run(tmp_path, plan(solvers=("esolver",)), checker="ATTESTED 5 REPORTS")
+    assert outcome.status == 20 and not outcome.attempt.by_checker
+    assert outcome.routes[-1].why.startswith("no exact answer of esolver: ")
+
+
+def test_a_basis_that_is_handed_in_comes_first(tmp_path):
+    from mps360 import bases
+    basis = bases.opening(job().model)
+    with fakes.only_path(tmp_path):
+        outcome = run(tmp_path, plan(), begin=basis)
+    assert words_of(outcome) == (["INSERT of model.bas and PRIMAL"], [None])
+
+
+def test_without_a_solver_it_is_primal(tmp_path):
+    with fakes.only_path(tmp_path):
+        for solved_by in ((), ("clp",)):
+            if solved_by:
+                with pytest.raises(solvers.NoBasis, match=r"clp isn't installed \(apt-get install coinor-clp\)"):
+                    run(tmp_path, plan(solvers=solved_by))
+            else:
+                outcome = run(tmp_path, plan(solvers=solved_by))
+                assert (outcome.status, words_of(outcome)[0]) == (20, [routes.OPENING])
+
+
+@pytest.mark.parametrize("only, words", [("primal", [routes.OPENING]), ("basis", ["INSERT of esolver's basis and PRIMAL"]), ("exact", ["esolver's exact answer, attested by the checker"])])
+def test_only_one_route(tmp_path, only, words):
+    with fakes.only_path(tmp_path):
+        fakes.program(tmp_path, "esolver", ESOLVER, solution=SOLUTION, deck=GOOD_DECK)
+        outcome = run(tmp_path, plan(solvers=("esolver",), only=only), checker="ATTESTED 5 REPORTS")
+    assert words_of(outcome)[0] == words
+
+
+# ---- time
+
+def test_primal_goes_on_beside(tmp_path):
+    "clp hangs; PRIMAL from the opening basis, which takes 1.5 s, goes on and decides; nothing is left"
+    with fakes.only_path(tmp_path) as pids:
+        fakes.program(tmp_path, "clp", fakes.HANGS)
+        outcome = run(tmp_path, plan(solvers=("clp",), opening_seconds=0.2, solver_seconds=60.0), opening="late")
+        assert (outcome.status, outcome.attempt.words, outcome.routes[-1].why) == (0, routes.OPENING, None)
+        assert fakes.left_over(pids) == []
+
+
+def test_one_processor(tmp_path):
+    "PRIMAL is ended before a solver is asked, and begins again in the end"
+    with fakes.only_path(tmp_path):
+        fakes.program(tmp_path, "clp", fakes.FAILS)
+        outcome = run(tmp_path, plan(solvers=("clp",), opening_seconds=0.3, processors=1), opening="late")
+    words, why = words_of(outcome)
+    assert words == [routes.OPENING, "INSERT of clp's basis and PRIMAL", routes.OPENING] and outcome.status == 0
+    assert why[0] == "no end in 0.3 seconds" and why[2] is None
+
+
+def test_seconds_bound_all(tmp_path):
+    with fakes.only_path(tmp_path) as pids:
+        fakes.program(tmp_path, "clp", fakes.HANGS)
+        begun = time.monotonic()
+        outcome = run(tmp_path, plan(solvers=("clp",), seconds=1.5), opening="hangs")
+        assert time.monotonic() - begun < 10
+        assert outcome.status == 124 and outcome.attempt.lines() == ["TITLE FAKE"]
+        assert fakes.left_over(pids) == []
+
+
+def test_a_run_from_a_basis_that_hangs(tmp_path):
+    with fakes.only_path(tmp_path) as pids:
+        fakes.program(tmp_path, "clp", fakes.WRITES, content=GOOD_DECK)
+        outcome = run(tmp_path, plan(solvers=("clp",), run_seconds=0.5), inserted="hangs")
+        assert words_of(outcome)[1] == ["a number doesn't fit", "no end in 0.5 seconds"] and outcome.status == 20
+        assert fakes.left_over(pids) == []
+
+
+# ---- what ends all
+
+def test_interrupted(tmp_path):
+    "what stands is said, and nothing is left"
+    with fakes.only_path(tmp_path) as pids:
+        told = Told(stop=lambda waits: "1 lines" in waits and pids.exists())
+        outcome = run(tmp_path, plan(solvers=()), opening="hangs", told=told)
+        assert outcome.attempt.interrupted and outcome.status == 130 and outcome.attempt.lines() == ["TITLE FAKE"]
+        assert fakes.left_over(pids) == []
+
+
+def test_interrupted_while_a_solver_runs(tmp_path):
+    with fakes.only_path(tmp_path) as pids:
+        fakes.program(tmp_path, "clp", fakes.HANGS)
+        told = Told(stop=lambda waits: "basis of clp" in waits and pids.exists() and pids.read_text().endswith("\n"))
+        outcome = run(tmp_path, plan(solvers=("clp",), solver_seconds=60.0), told=told)
+        assert outcome.attempt.interrupted and outcome.attempt.lines()[-1].startswith("STOP 20")
+        assert fakes.left_over(pids) == []
+
+
+def test_a_program_that_gives_no_answer(tmp_path):
+    with fakes.only_path(tmp_path):
+        with pytest.raises(runs.NoAnswer) as none:
+            run(tmp_path, plan(solvers=()), opening="fails")
+    assert none.value.status == 70
+
+
+def test_a_program_that_cant_be_run(tmp_path):
+    with pytest.raises(OSError):
+        routes.Routes(job(), at_hand.Tool((str(tmp_path / "none"),), "other"), plan(solvers=())).run()
+
+
+# ---- real solvers
+
+def real_program(folder):
+    "the program of MPS360_PROGRAM, or a script that runs the oracle"
+    if os.environ.get("MPS360_PROGRAM"):
+        return os.environ["MPS360_PROGRAM"]
+    path = pathlib.Path(folder, "oracle-program")
+    path.write_text(f"#!/bin/sh\nexec {sys.executable} {places.ORACLE} listing\n", encoding="utf-8")
+    path.chmod(0o755)
+    return str(path)
+
+
+@pytest.mark.parametrize("name", solvers.NAMES)
+def test_a_real_basis_takes_no_step(tmp_path, name):
+    if solvers.find(name) is None:
+        pytest.skip(f"{name} isn't installed")
+    outcome = routes.Routes(job(), at_hand.Tool((real_program(tmp_path),), "other"), routes.Plan(solvers=(name,), only="basis")).run()
+    assert outcome.status == 0 and outcome.attempt.verdict.groups() == ("OPTIMAL", "0", "36")
+    assert outcome.attempt.solver.name == name and outcome.version
+
+
+def test_highs_goes_before_clp(tmp_path):
+    "the order is that of NAMES where no solver is named"
+    with fakes.only_path(tmp_path):
+        fakes.program(tmp_path, "highs", fakes.WRITES, content=HIGHS_SOLUTION.encode())
+        fakes.program(tmp_path, "clp", fakes.WRITES, content=GOOD_DECK)
+        outcome = run(tmp_path, plan())
+    assert outcome.attempt.words == "INSERT of HiGHS's basis and PRIMAL"
+
+
+def test_an_only_route_that_comes_to_nothing(tmp_path):
+    with fakes.only_path(tmp_path):
+        fakes.program(tmp_path, "clp", fakes.SILENT)
+        with pytest.raises(solvers.NoBasis, match="no basis of clp: it wrote no basis"):
+            run(tmp_path, plan(solvers=("clp",), only="basis"))
