@@ -26,7 +26,6 @@ class Tool:
     kind: Kind
     prepare: tuple[str, ...] = ()     # a command that is to run once before, and compiles it; none where that is done
     name: str = PROGRAM
-    has_limit: bool = True            # whether numbers past 127 bits are refused
 
     @property
     def file(self) -> str | None:

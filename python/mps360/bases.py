@@ -302,6 +302,9 @@ def read_file(path, model, writer=None):
 def deck_of(basis, job):
     "the basis deck, as PUNCH would write it: the k-th basic column beside the k-th row that isn't, then the columns at their upper limit"
     model = job.model
+    if job.split:
+        from mps360.long_answers import basis_in_short
+        basis = basis_in_short(basis, job.split)
     columns = [column for column, status in basis.columns.items() if status == BASIC]
     rows = [row for row, status in basis.rows.items() if status != BASIC]
     cards = [f"NAME          {job.problem}".rstrip()]

@@ -7,7 +7,7 @@ import time
 from collections.abc import Callable, Sequence
 from typing import TextIO
 
-from mps360.text import as_text
+from mps360.text import as_lines, as_text
 
 FIRST, MOST, SILENT = 5.0, 60.0, 8.0   # seconds: before the first line, between two at most, after a line of the program itself
 WIDTH = 79
@@ -57,7 +57,7 @@ class Life:
     def say(self, words: str) -> None:
         "a line of the command itself"
         self.clear()
-        print(f"{self.name}: {as_text(str(words))}", file=self.stream, flush=True)
+        print(f"{self.name}: {as_lines(str(words))}", file=self.stream, flush=True)
 
     def heard(self, line: str) -> None:
         "a line that a program says on standard error"

@@ -1,5 +1,6 @@
 """Makes of another solver's answer, or of a basis, of a model with long numbers one of the model of short numbers that long_numbers has made.
 
+    listing_of(job, answer)        the listing of an answer of the file, also where its job has no long number
     in_short(answer, split)        a listings.write.Answer by the names of split.model, of one by the names of split.file
     basis_in_short(basis, split)   the same of a bases.Basis
 
@@ -9,14 +10,18 @@ from __future__ import annotations
 
 from dataclasses import replace
 from fractions import Fraction
-from typing import Callable
+from typing import Any, Callable
 
 from mps360.bases import BASIC, FREE, LOWER, UPPER, Basis
+from mps360.jobs.write import Job
+from mps360.listings import write
 from mps360.listings.write import Answer
 from mps360.long_numbers import Entries, Split
 from mps360.model import Sums
 
 ZERO, UNIT = Fraction(0), Fraction(1)
+# of which names the tables of an answer are
+TABLES = {"columns": "columns", "prices": "rows", "reduced": "columns", "ray": "rows", "column_ray": "columns", "direction": "columns"}
 ENDS = {LOWER: "lower", UPPER: "upper"}
 
 
@@ -106,3 +111,15 @@ def basis_in_short(basis: Basis, split: Split) -> Basis:
         if status not in (BASIC, FREE) and end in ends:
             rows[ends[end]], statuses[name] = (LOWER if end == "both" else status), BASIC
     return Basis(rows, columns, basis.writer, list(basis.said))
+
+
+def listing_of(job: Job, answer: Answer) -> str:
+    "the listing of a job, were this the answer of its file, by the names of that; listings.write.Refused where a number doesn't fit"
+    short = in_short(answer, job.split) if job.split else answer
+
+    def named(table: Entries | None, names: dict[str, str]) -> Any:
+        return None if table is None else {names[name]: value for name, value in table.items()}
+
+    crossed = short.crossed and (short.crossed[0], (job.rows if short.crossed[0] == "row" else job.columns)[short.crossed[1]])
+    tables = {key: named(getattr(short, key), getattr(job, kind)) for key, kind in TABLES.items()}
+    return str(write.listing_of(job, replace(short, crossed=crossed, **tables)))

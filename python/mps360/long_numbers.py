@@ -71,7 +71,9 @@ class Split:
         moved = {job.rows[row]: {"of": limit.of, "name": short[limit.of][limit.name], "end": limit.end, "shift": str(limit.shift)}
                  for row, limit in self.moved.items()}
         places = [{"name": short[of][name], "number": numbers[of, name], **self.place(of, name)} for of, name in changed]
-        return {"rows": [job.rows[row] for row in self.added], "columns": [job.columns[self.one]] if self.one else [], "places": places, "moved": moved}
+        entries = sum(len(column) or 1 for column in self.file.columns.values())
+        return {"rows": [job.rows[row] for row in self.added], "columns": [job.columns[self.one]] if self.one else [], "places": places, "moved": moved,
+                "counts": {"rows": len(self.file.rows), "columns": len(self.file.columns), "entries": entries}}
 
     def place(self, of: str, name: str) -> dict[str, str | None]:
         "the limits that a row or a column has in the file, and what its activity lacks in the job"
@@ -176,6 +178,7 @@ class Splitter:
         self.taken, self.count = {*model.rows, *model.columns}, 0
         self.rhs, self.ranges = self.new.rhs.get(model.rhs_set, {}), self.new.ranges.get(model.range_set, {})
         self.entries = self.rows_to_cut()
+        self.long_multipliers: list[str] = []
 
     def run(self) -> Split:
         for row, kind in self.file.rows.items():
@@ -267,6 +270,8 @@ class Splitter:
         parts: Entries = {}
         for part, times in self.file.parts[row].items():
             parts |= self.multiples(part, times)
+        if any(map(is_long, self.file.parts[row].values())):
+            self.long_multipliers.append(row)
         if more:
             name = self.add_row("P")
             self.put_entries(name, "N", more)
@@ -347,7 +352,7 @@ class Splitter:
 
     def tell(self) -> None:
         more = [counted(len(self.split.added), "row")] + (["a column fixed at 1"] if self.split.one else [])
-        cut = [*self.entries, *self.split.shifts, *(moved.name for moved in self.split.moved.values())]
+        cut = [*self.entries, *self.long_multipliers, *self.split.shifts, *(moved.name for moved in self.split.moved.values())]
         self.new.said.append(f"numbers of more than 12 columns ({some_of(list(dict.fromkeys(cut)))}) are kept exactly: the job has {' and '.join(more)} "
                              "more, which no answer shows")
 

@@ -8,6 +8,7 @@ one that a job can't hold, "round" rounds to the nearest number that 12 columns 
 import codecs, re, sys
 from dataclasses import dataclass, replace
 from fractions import Fraction
+from mps360.commands import called
 from mps360.errors import Refused
 from mps360.model import MOST, Limits, Model, Place
 from mps360.model_checks import Choices, warnings
@@ -213,6 +214,8 @@ class Reader:
             if rest:
                 self.take_word(line, 1 if len(line.words) > 1 else 0, rest[0])
             return
+        elif section in ("VAR", "PARAM", "SET") and not self.named and self.section is None:
+            raise Refused(MATHPROG, 0)
         elif section not in (*SECTIONS, "ENDATA"):
             raise Refused(f"the section {section[:30]} can't be kept", 0)
         elif rest:
@@ -229,7 +232,7 @@ class Reader:
         elif self.section == "OBJSENSE":
             raise Refused(f"OBJSENSE is MAX or MIN, not {word[:30]}", place)
         elif word == "PROGRAM":
-            raise Refused("this is a job already, and no MPS file: scripts/mps360 runs it", place)
+            raise Refused(f"this is a job already, and no MPS file: {called('mps360')} runs it, {called('solve')} too", place)
         else:
             raise Refused("a data line where no section takes one", place)
         self.section = None
@@ -418,8 +421,9 @@ class Reader:
         if self.model.rows[row] == "N" and isinstance(value, float):
             raise Refused("a constant can't be infinite", at)
         if self.model.rows[row] != "N" and abs(value) >= self.reading.infinity:
+            also = " (or say --infinity NUMBER, of more than it)" if not isinstance(value, float) and nearest(value) is not None else ""
             raise Refused(f"a right-hand side of {decimal_text(self.reading.infinity)} and more is infinite in some programs; "
-                          "make the row an N row, or leave it out (or say --infinity)", at)
+                          f"make the row an N row, or leave it out{also}", at)
         items[row] = value
 
     def take_range(self, items, row, at, line):
@@ -601,6 +605,11 @@ def numbers_told(model):
         yield told
 
 
+# forms that files of models come in, and what helps
+COMPRESSED = ((b"\xfd7zXZ\0", "xz", "unxz"), (b"BZh", "bzip2", "bunzip2"), (b"\x28\xb5\x2f\xfd", "zstd", "unzstd"), (b"PK\x03\x04", "zip", "unzip"))
+MATHPROG = "it is a model in the language MathProg or AMPL: glpsol --check -m MODEL.mod --wfreemps MODEL.mps makes an MPS file of a MathProg model"
+
+
 def is_lp(text, name=""):
     "whether a text is a CPLEX LP file: by its first word, or by its name where that word begins no MPS file either"
     found = FIRST_WORD.match(text)
@@ -616,7 +625,17 @@ def read_text(text, reading=Reading(), name=""):
     return Reader(reading).read(text)
 
 
+def refuse_other_forms(data, name):
+    "refuses what is compressed otherwise than by gzip, and models in another language, and says what makes an MPS file of it"
+    for begin, how, unpacks in COMPRESSED:
+        if data.startswith(begin):
+            raise Refused(f"it is compressed by {how}: {unpacks} unpacks it (what gzip has compressed is read as it is)")
+    if name.lower().endswith(".mod"):
+        raise Refused(MATHPROG)
+
+
 def read_bytes(data, reading=Reading(), name=""):
+    refuse_other_forms(data, name)
     if data[:2] == b"\x1f\x8b":
         import gzip, io, zlib
         try:

@@ -17,6 +17,8 @@ import tempfile
 import time
 from collections.abc import Callable, Iterable, Mapping, Sequence
 
+from mps360.output import make_folder, write_file
+
 GRACE = 2.0               # seconds that a process group has between the request to end and the kill
 SHORTEST, LONGEST = 0.001, 0.05   # seconds between two looks at what runs
 MOST_FILE = 100_000_000   # bytes: a file of a program that grows past it ends the program
@@ -42,7 +44,7 @@ class Process:
         self.output = folder / "output" if keeps else None
         self.said = folder / "said"
         self.room = folder / "room"
-        (folder / "given").write_bytes(given)
+        write_file(folder / "given", given)
         with open(folder / "given", "rb") as source, open(self.said, "wb") as said, open(self.output or os.devnull, "wb") as output:
             self.child = subprocess.Popen(list(command), stdin=source, stdout=output, stderr=said, cwd=place or self.room, start_new_session=True)
 
@@ -122,11 +124,11 @@ class Processes:
     def start(self, command: Sequence[str], given: bytes = b"", *, files: Mapping[str, bytes] | None = None, keeps: bool = True,
               tell: Tell | None = None, place: Place = None) -> Process:
         """starts a program in a new folder, which has these files, or in another place; given is its standard input. keeps says whether its standard
-        output is kept; tell gets its lines on standard error. OSError where it can't be run."""
+        output is kept; tell gets its lines on standard error. OSError where it can't be run; CantWrite where its files can't be written."""
         folder = pathlib.Path(self.folder.name, str(len(self.all)))
-        (folder / "room").mkdir(parents=True)
+        make_folder(folder / "room")
         for name, content in (files or {}).items():
-            (folder / "room" / name).write_bytes(content)
+            write_file(folder / "room" / name, content)
         process = Process(command, folder, given, keeps=keeps, tell=tell, place=place)
         self.all.append(process)
         return process

@@ -58,6 +58,8 @@ class Provenance:
 
     def route_sentence(self) -> str:
         "by which route it was found, for people"
+        if not self.has_verdict:
+            return f"No route came to a verdict: {tried_words(self.routes)}." if self.routes else ""
         others = f" ({self.solver_words})" if self.version else ""
         failed = [f"{tried.words}: {tried.why}" for tried in self.routes if tried.why]
         if not self.routes:

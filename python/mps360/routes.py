@@ -23,6 +23,7 @@ from mps360.bases import Basis
 from mps360.errors import Refused
 from mps360.jobs.write import Job
 from mps360.listings import write
+from mps360.long_answers import listing_of
 from mps360.plain import Plain
 from mps360.processes import Process, Processes
 from mps360.runs import NO_END, Attempt, NoAnswer, Observer, shown, waits_for
@@ -35,19 +36,25 @@ ROUTES = ("primal", "basis", "exact")
 EXACT_SOLVER = "esolver"
 
 
+def processors_here() -> int:
+    "how many processors this process may use"
+    return len(os.sched_getaffinity(0)) if hasattr(os, "sched_getaffinity") else os.cpu_count() or 1
+
+
 @dataclass(frozen=True)
 class Plan:
     "which routes are tried, for how many seconds each; None is without an end"
     solvers: tuple[str, ...] | None = None      # who may be asked, in this order; None: those that are installed
     only: str | None = None                     # one of ROUTES, and no other
-    seconds: float | None = None                # all of it
+    seconds: float | None = None                # all of it, since `begun` of time.monotonic, or since the routes begin
+    begun: float | None = None
     opening_first: bool = True                  # whether PRIMAL from the opening basis begins before a solver is asked
     exact: bool = True                          # whether an exact answer goes to the checker
     opening_seconds: float | None = OPENING_SECONDS
     solver_seconds: float | None = SOLVER_SECONDS
     run_seconds: float | None = RUN_SECONDS
     last_seconds: float | None = None           # of the last run of PRIMAL from the opening basis
-    processors: int = field(default_factory=lambda: len(os.sched_getaffinity(0)) if hasattr(os, "sched_getaffinity") else os.cpu_count() or 1)
+    processors: int = field(default_factory=processors_here)   # from two on PRIMAL goes on beside the others
 
     def takes(self, route: str) -> bool:
         return self.only in (None, route)
@@ -103,7 +110,7 @@ class Routes:
     def run(self) -> Outcome:
         """tries the routes. NoAnswer where a program ends as none of a job ends; OSError where one can't be run; solvers.NoBasis where a route that
         was asked for has no solver. KeyboardInterrupt ends what runs, and what stands is the outcome."""
-        self.begun = time.monotonic()
+        self.begun = time.monotonic() if self.plan.begun is None else self.plan.begun
         with Processes() as processes:
             self.processes = processes
             try:
@@ -147,6 +154,11 @@ class Routes:
     def seconds_for(self, wanted: float | None) -> float | None:
         left = self.left()
         return left if wanted is None else wanted if left is None else min(wanted, left)
+
+    def limit_of(self, wanted: float | None) -> float | None:
+        "the limit by which something ends that is to have these seconds: they, or those of all"
+        left = self.left()
+        return wanted if left is None or wanted is not None and wanted <= left else self.plan.seconds
 
     def is_late(self) -> bool:
         return self.left() == 0
@@ -244,13 +256,11 @@ class Routes:
 
     def try_opening(self) -> None:
         "PRIMAL from the opening basis, to its end"
-        seconds = limit = self.seconds_for(self.plan.last_seconds)
+        seconds, limit = self.seconds_for(self.plan.last_seconds), self.limit_of(self.plan.last_seconds)
         if self.opening is None:
             if any(one.words == OPENING and one.status != NO_END for one in self.kept):
                 return
             self.opening = self.start(Attempt(OPENING, self.job.text))
-        elif seconds is not None and self.opening.process:
-            limit = self.opening.process.seconds + seconds
         if not self.wait_opening(seconds):
             self.end_opening(limit)
 
@@ -271,17 +281,17 @@ class Routes:
         self.note(attempt, cause)
 
     def plain_form(self) -> Plain:
-        self.plain = self.plain or Plain(self.job.model)
+        self.plain = self.plain or Plain(self.job.file)
         return self.plain
 
     def asked(self, ask: Callable[[], Request], solver: Solver) -> Request:
         "a solver's request once the solver has ended; NoBasis where it doesn't"
-        seconds = self.seconds_for(self.plan.solver_seconds)
+        seconds, limit = self.seconds_for(self.plan.solver_seconds), self.limit_of(self.plan.solver_seconds)
         request = ask()
         ended = self.wait(request.process, seconds, lambda: f"waits for a basis of {solver.title}")
         request.process.end()
         if not ended:
-            raise NoBasis(f"no end in {shown(seconds)} seconds")
+            raise NoBasis(f"no end in {shown(limit)} seconds")
         return request
 
     def try_basis(self, attempt: Attempt, seconds: float | None) -> None:
@@ -291,8 +301,8 @@ class Routes:
             self.observer.say(sentence)
         attempt.job = bases.with_insert(self.job, attempt.basis)
         self.running = self.start(attempt)
-        limit = self.seconds_for(seconds)
-        self.wait(self.running_process(), limit, lambda: waits_for(attempt))
+        limit = self.limit_of(seconds)
+        self.wait(self.running_process(), self.seconds_for(seconds), lambda: waits_for(attempt))
         self.running_process().end()
         self.running = None
         attempt.read(limit)
@@ -325,12 +335,8 @@ class Routes:
 
     def listing_of(self, text: str) -> str:
         "the listing of a solution that esolver wrote of the plain model"
-        plain, job = self.plain_form(), self.job
-        answer = plain.answer_back(solutions.read_bytes(text.encode("latin-1"), plain.model))
-        named = write.Answer("optimal", columns={job.columns[name]: value for name, value in answer.columns.items()},
-                             prices={job.rows[name]: value for name, value in answer.prices.items()},
-                             reduced=None if answer.reduced is None else {job.columns[name]: value for name, value in answer.reduced.items()})
-        return write.listing_of(job, named)
+        plain = self.plain_form()
+        return listing_of(self.job, plain.answer_back(solutions.read_bytes(text.encode("latin-1"), plain.model)))
 
     def attest(self, attempt: Attempt) -> None:
         "asks the checker of listings; NoBasis where it doesn't attest"

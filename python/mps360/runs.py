@@ -14,10 +14,13 @@ from dataclasses import dataclass, field
 from mps360.at_hand import Tool
 from mps360.bases import Basis
 from mps360.life import awaited
+from mps360.output import CANT_WRITE
 from mps360.processes import Process, Processes
 from mps360.solvers import Solver
 
 NO_END, NO_ANSWER, WRONG_USE = 124, 70, 64
+# what a program couldn't write that ended with this status
+NOT_WRITTEN = {25: "the listing", 26: "the punched deck"}
 VERDICT = re.compile(r"PRIMAL (OPTIMAL|INFEASIBLE|UNBOUNDED) STEPS (\d+)(?: OBJECTIVE (\S+))?")
 ITSELF = "the job's own statements"
 
@@ -33,6 +36,8 @@ class NoAnswer(Exception):
     @classmethod
     def of(cls, status: int, lines: Sequence[str] = ()) -> NoAnswer:
         "of an exit status, which is kept where it means something"
+        if status in NOT_WRITTEN:
+            return cls(f"the program couldn't write {NOT_WRITTEN[status]} (it ended with {status})", CANT_WRITE, lines)
         return cls(f"the program gave no answer (it ended with {status})", status if WRONG_USE <= status < 128 else NO_ANSWER, lines)
 
 
@@ -115,13 +120,13 @@ def waits_for(attempt: Attempt) -> str:
     return awaited(attempt.job, attempt.lines())
 
 
-def run_alone(job: bytes, program: Tool, *, seconds: float | None = None, observer: Observer | None = None) -> Attempt:
-    """runs a job that others wrote, in the present folder, for so many seconds at most. NoAnswer where the program gives none; OSError where it can't be
-    run."""
+def run_alone(job: bytes, program: Tool, *, seconds: float | None = None, begun: float | None = None, observer: Observer | None = None) -> Attempt:
+    """runs a job that others wrote, in the present folder, for so many seconds at most since `begun` of time.monotonic, or since now. NoAnswer where
+    the program gives none; OSError where it can't be run."""
     observer, attempt = observer or Observer(), Attempt(ITSELF, job.decode("latin-1"))
     with Processes() as processes:
         process = attempt.process = processes.start(program.command, job, tell=observer.heard, place=pathlib.Path.cwd())
-        until = None if seconds is None else attempt.begun + seconds
+        until = None if seconds is None else (attempt.begun if begun is None else begun) + seconds
         try:
             processes.wait([process], until, lambda: observer.tick(time.monotonic() - attempt.begun, lambda: waits_for(attempt)))
         except KeyboardInterrupt:

@@ -68,7 +68,7 @@ def basis_file(point: Point) -> str:
     within = sum(stands == BASIC for _, stands in columns)
     if within != len(rows):
         raise Refused(f"{within} columns are basic, and {len(rows)} rows aren't: this is no basis")
-    name = "".join(letter if letter.isalnum() or letter in "-_." else "_" for letter in point.problem) or "PROBLEM"
+    name = next(iter(point.problem.split()), "PROBLEM")
     return basis_cards(name, rows, columns)
 
 

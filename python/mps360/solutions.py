@@ -8,6 +8,7 @@ solvers describes. Numbers are whole, or fractions such as -7/3: a decimal numbe
 import gzip, io, json, re, zlib
 from fractions import Fraction
 
+from mps360.commands import called
 from mps360.listings.write import Answer
 from mps360.model import Sums
 
@@ -21,13 +22,18 @@ TABLES = {"columns": "columns", "prices": "rows", "reduced": "columns", "ray": "
 NEEDED = {"optimal": ("columns", "prices"), "infeasible": (), "unbounded": ("columns", "direction")}
 
 
+# what helps where a solver gives rounded numbers
+OF_FLOATS = (f"Of rounded numbers nothing is proved, but of the basis at which a solver ended: {called('solve')} --with highs MODEL.mps asks the solver for it, "
+             f"and {called('prove')} --basis BASIS MODEL.mps takes one that was written")
+
+
 class NoSolution(Exception):
     "why a file isn't taken"
 
 
 def number(word):
     if DECIMAL.fullmatch(word) and not FRACTION.fullmatch(word):
-        raise NoSolution(f"{word[:40]} is a decimal number, which may be rounded: an exact one is whole, or a fraction such as -7/3")
+        raise NoSolution(f"{word[:40]} is a decimal number, which may be rounded: an exact one is whole, or a fraction such as -7/3. {OF_FLOATS}")
     if not FRACTION.fullmatch(word) or re.search(r"/0+$", word):
         raise NoSolution(f"{word[:40]!r} isn't a number, whole or a fraction such as -7/3")
     return Fraction(word)
@@ -53,7 +59,7 @@ def read_esolver(text, model):
     status = re.match(r"status(?: =)? (\S+)", lines[0])
     if status[1] != "OPTIMAL":
         raise NoSolution(f"esolver says {status[1]}, and writes no ray and no direction that would prove it. PRIMAL finds them: "
-                         "scripts/solve MODEL.mps, or with another solver's basis scripts/solve --basis BASIS MODEL.mps")
+                         f"{called('solve')} MODEL.mps, or with another solver's basis {called('solve')} --basis BASIS MODEL.mps")
     names, tables, told, section = Names(model), {}, None, None
     for place, line in enumerate(lines, 1):
         try:
@@ -92,7 +98,7 @@ def check_objective(told, columns, model):
 # ---- JSON
 
 def no_float(word):
-    raise NoSolution(f"{word[:40]} is a decimal number, which may be rounded: write an exact one as text, such as \"-7/3\"")
+    raise NoSolution(f"{word[:40]} is a decimal number, which may be rounded: write an exact one as text, such as \"-7/3\". {OF_FLOATS}")
 
 
 def no_twice(pairs):
@@ -177,7 +183,7 @@ def read_bytes(data, model):
         return read_json(text, model)
     if re.match(r"status(?: =)? \S", text):
         return read_esolver(text, model)
-    raise NoSolution("it is neither what esolver -O writes, which begins with status, nor a JSON object")
+    raise NoSolution(f"it is neither what esolver -O writes, which begins with status, nor a JSON object. {OF_FLOATS}")
 
 
 def read_file(path, model):

@@ -12,7 +12,6 @@ crashes, hangs, or writes nonsense or a basis of other names comes to NoBasis, a
 from __future__ import annotations
 
 import functools
-import importlib.util
 import json
 import os
 import pathlib
@@ -23,7 +22,7 @@ import sys
 from collections.abc import Iterable
 from dataclasses import dataclass
 
-from mps360 import bases, highs_files, value_bases
+from mps360 import bases
 from mps360.bases import Basis
 from mps360.errors import Refused
 from mps360.plain import Plain
@@ -119,6 +118,7 @@ class Request:
             if self.solver.by_scipy:
                 return self.of_values(text), ""
             if self.solver.name == "highs":
+                from mps360 import highs_files
                 return self.plain.back(highs_files.read_basis(text, self.plain.model)), text
             return self.plain.back(bases.read_text(text, self.plain.model, self.solver.name)), text
         except Refused as cause:
@@ -133,6 +133,7 @@ class Request:
 
     def of_values(self, text: str) -> Basis:
         "the basis of what mps360.highs prints"
+        from mps360 import value_bases
         model, plain = self.plain.source, self.plain
         try:
             found = json.loads(text)
@@ -161,6 +162,7 @@ def installed(names: Iterable[str] = NAMES) -> list[Solver]:
 
 def scipy_highs() -> Solver | None:
     "HiGHS by the first Python that has scipy 1.9 or later: the one that runs, else Debian's own"
+    import importlib.util
     for python in dict.fromkeys((sys.executable, DEBIAN_PYTHON)):
         if python == sys.executable and importlib.util.find_spec("scipy") is None or not os.access(python, os.X_OK):
             continue

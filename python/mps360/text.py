@@ -18,13 +18,18 @@ def as_text(text):
     return UNSEEN.sub(escape, text)
 
 
+def as_lines(text):
+    "the same of a text of several lines, which stay lines"
+    return "\n".join(as_text(line) for line in text.split("\n"))
+
+
 class Shown:
     "a stream on which only line feeds are obeyed, and what it can't write is escaped"
     def __init__(self, stream):
         self.stream = stream
 
     def write(self, text):
-        seen = "\n".join(as_text(line) for line in text.split("\n"))
+        seen = as_lines(text)
         encoding = getattr(self.stream, "encoding", None) or "utf-8"
         self.stream.write(seen.encode(encoding, "backslashreplace").decode(encoding))
 

@@ -1,6 +1,6 @@
 #!/usr/bin/env python3
-"""Checks a VIPR certificate (VER 1.0) of a linear program, by a reading of the format of its own: that its solution keeps each constraint,
-that each derived constraint follows by its multipliers, and that the last one proves what RTP states.
+"""Checks a VIPR certificate (VER 1.0, and of VER 1.1 what has all multipliers) of a linear program, by a reading of the format of its own: that
+its solution keeps each constraint, that each derived constraint follows by its multipliers, and that the last one proves what RTP states.
 
 usage: check_vipr.py CERTIFICATE      CERTIFICATE may be gzipped; - is standard input
 
@@ -113,7 +113,7 @@ class Reader:
 def parse(text):
     reader, found = Reader(text), Certificate()
     reader.literal("VER")
-    reader.literal("1.0")
+    reader.literal("1.0", "1.1")
     reader.literal("VAR")
     found.variables = [reader.word() for _ in range(reader.whole(0, 10 ** 7))]
     count = len(found.variables)
@@ -166,6 +166,8 @@ def derived(reader, found):
     kind = reader.word()
     if kind != "lin":
         raise reader.refuse(f"the derivation {one.name[:40]} is by {kind[:20]!r}, and of a linear program all are by lin")
+    if reader.at < len(reader.words) and (word := reader.words[reader.at][0]) in ("weak", "incomplete"):
+        raise reader.refuse(f"the derivation {one.name[:40]} is {word}, and leaves multipliers to a solver: viprcomp of VIPR writes them all")
     one.lin = reader.entries(len(found.constraints))
     reader.literal("}")
     reader.whole(-1, 10 ** 9)

@@ -78,7 +78,7 @@ ENDATA
 """
 DOOMED = {
     "a MARKER": ("    M1  'MARKER'  'INTORG'\n", "MARKER"),
-    "a long number": ("    X  COST  0.1234567890123\n", "12 columns"),
+    "a long number": ("    X  COST  0.123456789123456789123456789123456789123\n", "more than 38 digits"),
     "an unknown row": ("    X  PROFIT  1\n", "PROFIT"),
 }
 

@@ -19,7 +19,7 @@ import exact_answers
 from mps360 import bases, long_answers, long_numbers, mps, programs, solutions
 from mps360.errors import Refused
 from mps360.listings import read as listing_read, restore
-from mps360.listings.write import Answer, listing_of
+from mps360.listings.write import Answer
 from oracle import attesting, listing as oracle_listing
 
 assert places
@@ -306,16 +306,14 @@ def check_against_esolver(model, text, verdict):
 def check_attested(model, solution):
     "esolver's answer of the file is one of the job, and is attested"
     job = long_numbers.exact_job(model)
-    answer = long_answers.in_short(solutions.read_esolver(solution, model), job.split) if job.split else solutions.read_esolver(solution, model)
-    status, said = attesting.attest(job.text.encode(), listing_of(job, answer).encode())
+    status, said = attesting.attest(job.text.encode(), long_answers.listing_of(job, solutions.read_esolver(solution, model)).encode())
     assert status in (0, 42), said
 
 
 def check_basis(model, text, objective):
     "esolver's basis of the file is one of the job, and PRIMAL makes no step from there"
     job = long_numbers.exact_job(model)
-    basis = bases.read_text(text, model, "esolver")
-    listing = listing_by_program(bases.with_insert(job, long_answers.basis_in_short(basis, job.split) if job.split else basis))
+    listing = listing_by_program(bases.with_insert(job, bases.read_text(text, model, "esolver")))
     assert f"PRIMAL OPTIMAL STEPS 0 OBJECTIVE {objective} CHECKED" in listing or "STOP 20" in listing, listing
 
 
@@ -354,11 +352,11 @@ def test_prices_of_limits_that_are_rows():
     answer = Answer("optimal", columns={"X": x, "Y": 3 - x}, prices={"NEED": Fraction(2)})
     for reduced in (None, {"X": Fraction(-1), "Y": Fraction(0)}):
         answer.reduced = reduced
-        listing = listing_of(job, long_answers.in_short(answer, job.split))
+        listing = long_answers.listing_of(job, answer)
         assert attesting.attest(job.text.encode(), listing.encode())[1].startswith("ATTESTED"), listing
         exact_answers.check_solution(model, report_of(restored(job, listing), "solution"), x + 2 * (3 - x))
     answer.reduced = {"X": Fraction(-2), "Y": Fraction(0)}
-    listing = listing_of(job, long_answers.in_short(answer, job.split))
+    listing = long_answers.listing_of(job, answer)
     assert attesting.attest(job.text.encode(), listing.encode())[1].startswith("WRONG")
 
 
@@ -366,11 +364,11 @@ def test_ray_of_limits_that_are_rows():
     model = model_of(["N COST", "G NEED"], ["X COST 1", "X NEED 1"], ["B NEED 3.00000000000000001"], (), ["UP BND X 3"])
     job = long_numbers.exact_job(model)
     for ray, answer in (({"NEED": Fraction(-1)}, "ATTESTED"), ({"NEED": Fraction(1)}, "WRONG")):
-        listing = listing_of(job, long_answers.in_short(Answer("infeasible", ray=ray), job.split))
+        listing = long_answers.listing_of(job, Answer("infeasible", ray=ray))
         assert attesting.attest(job.text.encode(), listing.encode())[1].startswith(answer), listing
     model = model_of(["N COST", "L R"], ["X COST 1", "X R 1"], ["B R 9"], (), ["LO BND X 1.00000000000000002", "UP BND X 1.00000000000000001"])
     job = long_numbers.exact_job(model)
-    listing = listing_of(job, long_answers.in_short(Answer("infeasible", crossed=("column", "X")), job.split))
+    listing = long_answers.listing_of(job, Answer("infeasible", crossed=("column", "X")))
     assert attesting.attest(job.text.encode(), listing.encode())[1].startswith("ATTESTED"), listing
 
 

@@ -1,4 +1,6 @@
 "A write that fails is 73 in every command, with one line on standard error: never a traceback, never a status that means an answer."
+import contextlib
+import io
 import os
 import pathlib
 import subprocess
@@ -206,9 +208,10 @@ def test_a_closed_standard_error(tmp_path):
     assert ended.returncode == 0 and ended.stdout.splitlines()[-1] == b"ENDATA" and b"mps2job.py" not in ended.stdout
 
 
-def test_ctrl_c_is_told(capsys):
+def test_ctrl_c_is_told():
     @output.command("name")
     def main(_words):
         raise KeyboardInterrupt
-    assert main([]) == output.INTERRUPTED and capsys.readouterr().err == "name: interrupted\n"
-    assert not isinstance(sys.stdout, output.Stream)
+    with contextlib.redirect_stderr(io.StringIO()) as told:
+        assert main([]) == output.INTERRUPTED
+    assert told.getvalue() == "name: interrupted\n" and not isinstance(sys.stdout, output.Stream)

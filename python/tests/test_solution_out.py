@@ -5,12 +5,14 @@ import shutil
 import subprocess
 from fractions import Fraction
 
-import places  # pylint: disable=unused-import  (the packages are known from here on)
+import check_bases
 import pytest
-from mps360 import bases, highs_files, solution_out
+from mps360 import at_hand, bases, highs_files, routes, solution_out
 from mps360.errors import Refused
+from mps360.jobs.write import job_of
 from mps360.mps import Reading, read_text
 from mps360.solution_out import Line, Point
+from test_routes import real_program
 from test_solvers import GLASS
 
 TEN, ZERO = Fraction(10), Fraction(0)
@@ -80,6 +82,30 @@ def test_solvers_begin_there(tmp_path, solver):
     (tmp_path / "m.bas").write_text(solution_out.basis_file(glass()))
     (tmp_path / "m.sol").write_text(solution_out.solution_file(glass(), "glpsol"))
     assert steps_of(tmp_path, solver) == 0
+
+
+@pytest.mark.parametrize("seed", range(1, 9))
+def test_solvers_begin_at_random_bases(tmp_path, seed):
+    "models with rows and columns of all kinds: the basis of the program's own plan"
+    text = check_bases.made_model(seed)
+    model = read_text(text, Reading(negative_up="free"))
+    job = job_of(model)
+    outcome = routes.Routes(job, at_hand.Tool((real_program(tmp_path),), "other"), routes.Plan(only="primal")).run()
+    rows, columns = ([(line[2], Fraction(line[3]), Fraction(line[-1])) for line in lines] for lines in solution_of(outcome.attempt.lines(), len(model.rows)))
+    point = solution_out.point_of(model, rows, columns)
+    (tmp_path / "m.mps").write_text(text)
+    (tmp_path / "m.bas").write_text(solution_out.basis_file(point))
+    (tmp_path / "m.sol").write_text(solution_out.solution_file(point, "glpsol"))
+    there = [solver for solver in ("clp", "esolver", "glpsol") if shutil.which(solver)]
+    if not there:
+        pytest.skip("none of clp, esolver and glpsol is installed")
+    assert [steps_of(tmp_path, solver) for solver in there] == [0] * len(there)
+
+
+def solution_of(lines, count):
+    "the words of the table lines of SOLUTION: those of rows, and those of columns; the names of the made models have no blanks"
+    table = [line.split() for line in lines[lines.index("SOLUTION OPTIMAL"):] if re.match(r" +\d+ ", line)]
+    return table[:count], table[count:]
 
 
 def steps_of(folder, solver):

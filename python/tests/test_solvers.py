@@ -116,14 +116,39 @@ def test_an_exact_answer():
 
 # ---- recorded files
 
-def test_a_highs_command(tmp_path):
-    "the program highs goes before scipy: its own basis is read"
+# what each wrote of the plain form of GLASS
+RECORDED = {
+    "clp": "NAME          PLAIN       VALUES\n XU C1             R2     2.          \n XU C2             R3     6.          \nENDATA\n",
+    "esolver": "NAME    PLAIN\n XL C1 R2\n XL C2 R3\nENDATA\n",
+    "glpsol": "c Problem:    PLAIN\nc Rows:       3\nc Columns:    2\nc Non-zeros:  4\nc Status:     OPTIMAL\nc Objective:  COST = -36 (MINimum)\nc\ns bas 3 2 f f -36\n"
+              "i 1 b 2 0\ni 2 u 12 -1.5\ni 3 u 18 -1\nj 1 b 2 0\nj 2 b 6 0\ne o f\n",
+    "lp_solve": "NAME          PLAIN Rows 3 Cols 2 Iters 2\n XL C1        R2      \n XL C2        R3      \nENDATA\n",
+    "highs": HIGHS_SOLUTION}
+RECORDED_BY_SCIPY = {"status": 0, "rows": [[2.0, 12.0, 18.0], [0.0, -1.5, -1.0]], "columns": [[2.0, 6.0], [0.0, 0.0]]}
+
+
+@pytest.mark.parametrize("name", solvers.NAMES)
+def test_a_recorded_file(tmp_path, name):
     with fakes.only_path(tmp_path):
-        fakes.program(tmp_path, "highs", fakes.WRITES, content=HIGHS_SOLUTION.encode())
-        assert not solvers.find("highs").by_scipy
-        basis = asked("highs")
+        fakes.program(tmp_path, name, fakes.WRITES, content=RECORDED[name].encode())
+        basis = asked(name)
     assert {row: at for row, at in basis.rows.items() if row != "PROFIT"} == BEST
     assert basis.columns == {"doors": BASIC, "windows": BASIC}
+
+
+def test_a_recorded_answer_of_scipy(tmp_path):
+    says = fakes.program(tmp_path, "says", "print({answer!r})", answer=json.dumps(RECORDED_BY_SCIPY))
+    with Processes() as processes:
+        request = solvers.Solver("highs", (says,), by_scipy=True).ask(Plain(model()), processes)
+        assert processes.wait([request.process], time.monotonic() + 30)
+        basis, text = request.basis()
+    assert {row: at for row, at in basis.rows.items() if row != "PROFIT"} == BEST and text == ""
+
+
+def test_a_highs_command_goes_before_scipy(tmp_path):
+    with fakes.only_path(tmp_path):
+        fakes.program(tmp_path, "highs", fakes.SILENT)
+        assert not solvers.find("highs").by_scipy
 
 
 @pytest.mark.parametrize("change, line, words", [

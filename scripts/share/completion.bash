@@ -26,7 +26,7 @@ _mps360check() {
 _mps360_batch() {
     local word=${COMP_WORDS[COMP_CWORD]}
     if [[ $word == -* ]]; then
-        _mps360_words "-j --time-limit --resume --mps2job --out --help" "$word"
+        _mps360_words "-j --seconds --time-limit --with --resume --mps2job --old-codes --out --help" "$word"
     else
         _mps360_files '!*.@(job|mps|mps.gz)' "$word"
     fi

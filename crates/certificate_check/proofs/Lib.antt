@@ -1,5 +1,4 @@
 pub mod No_refusal
-pub mod Products
 pub mod Meaning
 pub mod True_claims
 pub mod Left

@@ -24,9 +24,9 @@ use Rattle.check_definitions.specs.declared.Verdict.TheVariants.{Checked, Failed
 use Rattle.check_definitions.specs.Steps.{Step, operation, comparison, verdict_of, Product, product_of, sum_steps, sum_of, followed_by}
 use Rattle.check_definitions.specs.Checks.{is_not_below, is_not_above, is_at, is_crossed, by_sign, change_steps, combined_steps, row_products, equation, equations, within_limit, within_limits, feasible_point, column_products, reduced_cost, reduced_costs, standing_price, standing_prices, ray_column, ray_columns, multiplied, limit_product, ray_limits, ray_sum, free_to_move, free_direction, improving, crossed_check}
 use Rattle.check_definitions.proofs.Passing.{verdict-append}
-use Rattle.certificate_check.specs.Parts.{AreReducedCosts, VanishesOnColumns, MeetsLimits, IsFreeDirection}
-use Rattle.certificate_check.proofs.Products.{sum_of-all}
-use Rattle.certificate_check.proofs.Meaning.{multiplied_from, products_of_column, sum_of_met}
+use Rattle.certificate_laws.specs.Parts.{AreReducedCosts, VanishesOnColumns, MeetsLimits, IsFreeDirection}
+use Rattle.certificate_laws.proofs.Products.{sum_of-all}
+use Rattle.certificate_laws.proofs.Meaning.{multiplied_from, products_of_column, sum_of_met}
 
 -- no comparison of these steps fails before an operation is refused
 pub record NeverFails (steps : List Step) : Type 0 where

@@ -190,7 +190,7 @@ module _ (S : Solving) (program : Program) (cards : List (List ℕ)) where
 -- ---- the job
 
 module _ (S : Solving) (program : Program) (job : Job) (failures : Failures) (bytes : List ℕ) (of_job : bytes_of job ≡ Some bytes) (is_program : IsProgramOf bytes program) (punch_failed punch_wanted : Type 0) (punch_fails_too : punch_failed → failures.punch) where
-  may_end : {reports : List Report} {punched : List (List ℕ)} {ending : Ending} → CanEnd S program (cards_of bytes) punch_failed punch_wanted reports punched ending → MayEnd S job failures reports punched ending
+  may_end : {reports : List Report} {punched deck : List (List ℕ)} {ending : Ending} → CanEnd S program (cards_of bytes) punch_failed punch_wanted reports punched deck ending → MayEnd S job failures reports punched deck ending
   may_end (by_itself is_run) = ends_by_itself bytes of_job (run program is_program is_run)
   may_end (for_memory {state = state} reaches) = memory_in_run bytes program state of_job (record { is_program = is_program; reaches = reaches })
   may_end (for_memory_of_punch {state = state} deck wanted reaches punching) = memory_at_punch bytes program state deck of_job (record { is_program = is_program; reaches = reaches }) punching
@@ -209,7 +209,7 @@ module _ (S : Solving) (program : Program) (job : Job) (failures : Failures) (by
       punch_gains,
       answers.in_report bytes program state outcome part of_job (record { is_program = is_program; reaches = reaches }) step is_part refl refl,
     )
-    cut status (in_end {reports} {punched} {ending} part can is_part gains punch_gains) =
+    cut status (in_end {reports} {punched} {deck} {ending} part can is_part gains punch_gains) =
         (reports_text reports ++ part, punch_gains.0, gains, punch_gains.1, answers.in_end ending part (may_end can) is_part refl punch_gains.2)
 
     answer_of : {failed wanted : Type 0} {status : ℕ} → (failed → failures.print) → (wanted → failures.memory) →

@@ -25,7 +25,7 @@ use Rattle.run_machine.specs.Ends.{end_view}
 use Rattle.run_setup.specs.Standing.{IsSound, Represents}
 use Rattle.run_machine.specs.Punching.{gain_cards}
 use Rattle.control_run.specs.Running.{decks_after, by_itself, for_memory, for_memory_of_punch, for_punch_fault, Turns, IsStepCut, IsDeckCut, Steps, RunsTo, IsRunCut, Runs}
-use Rattle.control_run.proofs.Gains.{printed_text, reports_text_more, card_text_more, gains_whole, gains_prefix_at_fault, gains_prefix_for_memory}
+use Rattle.control_run.proofs.Gains.{printed_text, reports_text_more, card_text_more, gains_whole, gains_part_at_fault, gains_part_for_memory}
 use Rattle.control_run.proofs.Reported.{left}
 
 module _ (S : Solving) (program : Program) (cards : List (List ℕ)) where
@@ -68,11 +68,6 @@ module _ (S : Solving) (program : Program) (cards : List (List ℕ)) where
         Writes {T = Unit {0}} punch_old punch_later (Ok tt) (card_text (u.punched ++ punched_by gain))
     punches_more gain w = writes_same (card_text_more u.punched (punched_by gain)) (writes_then u.punches w)
 
-    -- the punch stops in a deck
-    punches_cut : {punch_later : SinkState} (stop : WriteStop) (deck : List (List ℕ)) → Writes {T = Unit {0}} punch_now punch_later (Err stop) (card_text deck) →
-        Writes {T = Unit {0}} punch_old punch_later (Err stop) (card_text (u.punched ++ deck))
-    punches_cut stop deck w = writes_same (card_text_more u.punched deck) (writes_then u.punches w)
-
     -- what is printed stays as it was, and what is punched
     prints_same : (later : SinkState) → later ≡ now → Writes {T = Unit {0}} old later (Ok tt) (reports_text u.reports)
     prints_same later same = subst (λ (p : SinkState). Writes {T = Unit {0}} old p (Ok tt) (reports_text u.reports)) (sym same) u.prints
@@ -105,9 +100,10 @@ module _ (S : Solving) (program : Program) (cards : List (List ℕ)) where
     underway_ended end t = record {
       reports = u.reports ++ printed_by t.gain;
       punched = u.punched ++ punched_by t.gain;
+      deck = [];
       can_end = by_itself (is_ended t.gain u.reaches t.leads);
       prints = writes_same (reports_text_more u.reports t.gain) (writes_then u.prints t.prints);
-      gains = gains_whole (end_view end) punch_old.written punch_later.written (card_text (u.punched ++ punched_by t.gain)) (punches_more u t.gain t.punches).bytes;
+      gains = gains_whole (end_view end) punch_old.written punch_later.written (u.punched ++ punched_by t.gain) (punches_more u t.gain t.punches).bytes;
       leaves = left (punches_more u t.gain t.punches);
     }
 
@@ -134,23 +130,25 @@ module _ (S : Solving) (program : Program) (cards : List (List ℕ)) where
     underway_deck_cut : (stop : WriteStop) → IsDeckCut S program cards now later punch_now punch_later u.state stop →
         Runs S program cards old later punch_old punch_later (Err (halt.Punch stop))
     underway_deck_cut Failed t =
-        let w = punches_cut u Failed t.deck t.punches in
+        let w = writes_then u.punches t.punches in
         record {
           reports = u.reports;
-          punched = u.punched ++ t.deck;
+          punched = u.punched;
+          deck = t.deck;
           can_end = for_punch_fault t.deck (w.cause.failed refl) u.reaches t.punching;
           prints = prints_same u later t.is_quiet;
-          gains = gains_prefix_at_fault punch_old.written punch_later.written (card_text (u.punched ++ t.deck)) w.bytes;
+          gains = gains_part_at_fault punch_old.written punch_now.written punch_later.written u.punched t.deck u.punches.bytes t.punches.bytes;
           leaves = left w;
         }
     underway_deck_cut NoMemory t =
-        let w = punches_cut u NoMemory t.deck t.punches in
+        let w = writes_then u.punches t.punches in
         record {
           reports = u.reports;
-          punched = u.punched ++ t.deck;
+          punched = u.punched;
+          deck = t.deck;
           can_end = for_memory_of_punch t.deck (w.cause.no_memory refl) u.reaches t.punching;
           prints = prints_same u later t.is_quiet;
-          gains = gains_prefix_for_memory punch_old.written punch_later.written (card_text (u.punched ++ t.deck)) w.bytes;
+          gains = gains_part_for_memory punch_old.written punch_now.written punch_later.written u.punched t.deck u.punches.bytes t.punches.bytes;
           leaves = left w;
         }
 
@@ -159,9 +157,10 @@ module _ (S : Solving) (program : Program) (cards : List (List ℕ)) where
     underway_without_memory same same_punch = record {
       reports = u.reports;
       punched = u.punched;
+      deck = [];
       can_end = for_memory u.reaches;
       prints = prints_same u later same;
-      gains = gains_whole Memory punch_old.written punch_later.written (card_text u.punched) (punches_same u punch_later same_punch).bytes;
+      gains = gains_whole Memory punch_old.written punch_later.written u.punched (punches_same u punch_later same_punch).bytes;
       leaves = left (punches_same u punch_later same_punch);
     }
 
@@ -173,9 +172,10 @@ module _ (S : Solving) (program : Program) (cards : List (List ℕ)) where
     underway_over over = record {
       reports = u.reports;
       punched = u.punched;
+      deck = [];
       can_end = by_itself (is_over u.reaches (at_end (rw u.stands.is_position over)));
       prints = u.prints;
-      gains = gains_whole (Ended 0) punch_old.written punch_now.written (card_text u.punched) u.punches.bytes;
+      gains = gains_whole (Ended 0) punch_old.written punch_now.written u.punched u.punches.bytes;
       leaves = left u.punches;
     }
 
@@ -185,9 +185,10 @@ module _ (S : Solving) (program : Program) (cards : List (List ℕ)) where
     underway_at_limit within most = record {
       reports = u.reports;
       punched = u.punched;
+      deck = [];
       can_end = by_itself (is_over u.reaches (at_limit (rw u.stands.is_position within) (rw u.stands.is_executed most)));
       prints = u.prints;
-      gains = gains_whole StatementLimit punch_old.written punch_now.written (card_text u.punched) u.punches.bytes;
+      gains = gains_whole StatementLimit punch_old.written punch_now.written u.punched u.punches.bytes;
       leaves = left u.punches;
     }
 

@@ -1,11 +1,11 @@
 -- What a program's run has printed and punched, and how it may be answered.
 --     Leads state turn             executing a statement of the program leads there
 --     Steps result                 a statement leads somewhere, with its report printed and its deck punched; or it is cut off
---     CanEnd reports punched ending    the run ends so by itself, because memory ran out, or because the punch takes no more
+--     CanEnd reports punched deck ending    the run ends so by itself, because memory ran out, or because the punch takes no more
 --     IsCut ..                     the print has stopped in a report or in the lines of an end
 --     Runs result                  the run ends, with its reports printed and its decks punched; or it is cut off
 --     IsRunAnswer status ..        what a run may be answered
-use Rattle.std.specs.Prelude.{◌≡◌, ℕ, ◌+◌, ◌-◌, ◌<◌, ◌≤◌, List, ◌++◌, Option, Result, Ok, Err, drop}
+use Rattle.std.specs.Prelude.{◌≡◌, ℕ, ◌+◌, ◌-◌, ◌<◌, ◌≤◌, List, [], ◌++◌, Option, Result, Ok, Err, drop}
 use Rattle.std.specs.Io.KnownBytes.{Appends}
 use Rattle.job_devices.specs.States.{SinkState}
 use Rattle.job_devices.specs.declared.device.WriteStop.{WriteStop}
@@ -45,9 +45,10 @@ abbrev pub punch_end : WriteStop → Ending
 punch_end Failed = PunchFault
 punch_end NoMemory = Memory
 
--- known bytes grow by what the punch gains of a text by this end: all of it, or a prefix where its deck may be broken off
-abbrev pub GainsBy : Ending → Option (List ℕ) → Option (List ℕ) → List ℕ → Type 0
-GainsBy ending old new text = (gained : List ℕ) × Appends old new gained × Gains ending gained text
+-- known bytes grow by what the punch has gained by this end: the text of the cards of the reports before, and then a prefix of that of
+-- the deck in hand
+abbrev pub GainsBy : Ending → List (List ℕ) → List (List ℕ) → Option (List ℕ) → Option (List ℕ) → Type 0
+GainsBy ending cards deck old new = (gained : List ℕ) × Appends old new gained × Gains ending cards deck gained
 
 module _ (S : Solving) (program : Program) (cards : List (List ℕ)) where
   -- the run goes on at a position, with a state that the machine shows; or it ends
@@ -57,36 +58,34 @@ module _ (S : Solving) (program : Program) (cards : List (List ℕ)) where
 
   module _ (punch_failed punch_wanted : Type 0) where
     -- The run ends so by itself; or it has come so far, and there is no memory; or it has come to a statement that punches a deck, and
-    -- the punch has run out of memory itself, or has failed. Then that deck is the last of the cards.
-    pub data CanEnd : List Report → List (List ℕ) → Ending → Type 0 where
+    -- the punch has run out of memory itself, or has failed. Then that deck is in hand; else none is.
+    pub data CanEnd : List Report → List (List ℕ) → List (List ℕ) → Ending → Type 0 where
       by_itself : {reports : List Report} {punched : List (List ℕ)} {ending : Ending} →
-          IsRun S program (decks_after program cards) reports punched ending → CanEnd reports punched ending
+          IsRun S program (decks_after program cards) reports punched ending → CanEnd reports punched [] ending
       for_memory : {reports : List Report} {punched : List (List ℕ)} {state : State} →
-          Reaches S program (decks_after program cards) reports punched state → CanEnd reports punched Memory
+          Reaches S program (decks_after program cards) reports punched state → CanEnd reports punched [] Memory
       for_memory_of_punch : {reports : List Report} {punched : List (List ℕ)} {state : State} (deck : List (List ℕ)) → punch_wanted →
-          Reaches S program (decks_after program cards) reports punched state → IsPunching S program state deck → CanEnd reports (punched ++ deck) Memory
+          Reaches S program (decks_after program cards) reports punched state → IsPunching S program state deck → CanEnd reports punched deck Memory
       for_punch_fault : {reports : List Report} {punched : List (List ℕ)} {state : State} (deck : List (List ℕ)) → punch_failed →
-          Reaches S program (decks_after program cards) reports punched state → IsPunching S program state deck → CanEnd reports (punched ++ deck) PunchFault
+          Reaches S program (decks_after program cards) reports punched state → IsPunching S program state deck → CanEnd reports punched deck PunchFault
 
     -- The print has stopped in a report, or in the lines of an end. The reports before stand whole, and of the text in which it stopped a
     -- prefix stands. Where that is the report of a statement to which the run has come, the cards of the reports before and those of
-    -- this statement are punched; where it is the end, what is punched by this end, or a prefix of that where the deck in hand isn't
-    -- whole.
+    -- this statement are punched; where it is the end, what the punch has gained by this end.
     pub data IsCut (old new punch_old punch_new : Option (List ℕ)) : Type 0 where
       in_report : {reports : List Report} {punched : List (List ℕ)} {state : State} (outcome : StatementOutcome) (part : List ℕ) →
           Reaches S program (decks_after program cards) reports punched state → Step S program state outcome →
           IsPrefix part (reports_text (printed_by (gain_of outcome))) → Appends old new (reports_text reports ++ part) →
           Appends punch_old punch_new (card_text (punched ++ punched_by (gain_of outcome))) → IsCut old new punch_old punch_new
-      in_end : {reports : List Report} {punched : List (List ℕ)} {ending : Ending} (part : List ℕ) → CanEnd reports punched ending →
-          IsPrefix part (ending_text ending) → Appends old new (reports_text reports ++ part) → GainsBy ending punch_old punch_new (card_text punched) →
+      in_end : {reports : List Report} {punched deck : List (List ℕ)} {ending : Ending} (part : List ℕ) → CanEnd reports punched deck ending →
+          IsPrefix part (ending_text ending) → Appends old new (reports_text reports ++ part) → GainsBy ending punched deck punch_old punch_new →
           IsCut old new punch_old punch_new
 
-  -- What a run may be answered: the status of an end, with the whole listing, and with all that is punched by then, or a prefix of it
-  -- where the deck in hand isn't whole; or the print has failed, or run out of memory itself, and has stopped in a report or in the
-  -- lines of an end.
+  -- What a run may be answered: the status of an end, with the whole listing, and with what the punch has gained by this end; or the
+  -- print has failed, or run out of memory itself, and has stopped in a report or in the lines of an end.
   pub data IsRunAnswer (print_failed print_wanted punch_failed punch_wanted : Type 0) (status : ℕ) (old new punch_old punch_new : Option (List ℕ)) : Type 0 where
-    whole : {reports : List Report} {punched : List (List ℕ)} {ending : Ending} → CanEnd punch_failed punch_wanted reports punched ending →
-        status ≡ status_of ending → Appends old new (listing reports ending) → GainsBy ending punch_old punch_new (card_text punched) →
+    whole : {reports : List Report} {punched deck : List (List ℕ)} {ending : Ending} → CanEnd punch_failed punch_wanted reports punched deck ending →
+        status ≡ status_of ending → Appends old new (listing reports ending) → GainsBy ending punched deck punch_old punch_new →
         IsRunAnswer print_failed print_wanted punch_failed punch_wanted status old new punch_old punch_new
     print_fails : print_failed → status ≡ status_of PrintFault → IsCut punch_failed punch_wanted old new punch_old punch_new →
         IsRunAnswer print_failed print_wanted punch_failed punch_wanted status old new punch_old punch_new
@@ -124,16 +123,18 @@ module _ (S : Solving) (program : Program) (cards : List (List ℕ)) where
     Steps position old new (Err halt.NoMemory) = (print_new ≡ print_old) × (punch_new ≡ punch_old)
 
     -- how the run can end, where the punch has failed or run out of memory only as its counts say
-    abbrev pub CanEndNow : List Report → List (List ℕ) → Ending → Type 0
+    abbrev pub CanEndNow : List Report → List (List ℕ) → List (List ℕ) → Ending → Type 0
     CanEndNow = CanEnd (Rose punch_old.faults punch_new.faults) (Rose punch_old.refusals punch_new.refusals)
 
-    -- the reports are printed up to this end, and the decks are punched, where the last write to the punch came to this result
+    -- the reports are printed up to this end, and their decks are punched, with a prefix of the deck in hand, where the last write to the
+    -- punch came to this result
     pub record RunsTo (result : Result (Unit {0}) WriteStop) (ending : Ending) : Type 0 where
       pub reports : List Report
       pub punched : List (List ℕ)
-      pub can_end : CanEndNow reports punched ending
+      pub deck : List (List ℕ)
+      pub can_end : CanEndNow reports punched deck ending
       pub prints : Writes {T = Unit {0}} print_old print_new (Ok tt) (reports_text reports)
-      pub gains : GainsBy ending punch_old.written punch_new.written (card_text punched)
+      pub gains : GainsBy ending punched deck punch_old.written punch_new.written
       pub leaves : Leaves punch_old punch_new result
 
     -- the print stops in what a statement prints, to which the run has come

@@ -87,7 +87,7 @@ fn run<E: Engine, P: Sink, U: Sink>(
 ///
 /// A run ends by itself; where memory runs out, or a write to the punch fails, the listing ends with that, if it can. After a
 /// fault of the print, or where the print itself runs out of memory, nothing more is printed. After a fault of the punch, or where it
-/// runs out of memory, nothing more is punched: it has gained all that was punched so far, and a prefix of the deck in hand. The
+/// runs out of memory, nothing more is punched: it has gained all cards of the reports so far, and a prefix of the deck in hand. The
 /// status reports whichever of these came.
 pub fn run_on<E: Engine, P: Sink, U: Sink>(
     alloc: Global,

@@ -7,4 +7,4 @@ pub mod Statements
 pub mod Steps
 pub mod Stops
 pub mod Runs
-pub mod Complete
+pub mod Decided

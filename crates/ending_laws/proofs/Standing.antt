@@ -5,9 +5,8 @@ use Rattle.listing_definitions.specs.Report.{Report}
 use Rattle.listing_definitions.specs.Ending.{Ending, Ended, WordsRefused, ControlStop, VerbStop, SingularStop, PriceStop, DeckStop, CardStop, LimitStop, StatementLimit, OverflowStop, ReadFault, PrintFault, PunchFault, Memory, status_of}
 use Rattle.listing_definitions.specs.Listing.{listing}
 use Rattle.question_definitions.specs.Solving.{Solving}
-use Rattle.card_definitions.specs.Prefixes.{IsPrefix}
 use Rattle.run_definitions.specs.Answer as run
-use Rattle.run_definitions.specs.Answer.{Job, bytes_of, Failures, Gains, IsJobRun, MayEnd, IsAnswer, whole, print_fails, print_wants_memory}
+use Rattle.run_definitions.specs.Answer.{Job, bytes_of, Failures, IsPunchedTo, Gains, IsJobRun, MayEnd, IsAnswer, whole, print_fails, print_wants_memory}
 use Rattle.soundness_laws.specs.Headline.{IsTrueAnswer}
 use Rattle.ending_laws.specs.Stands as stands
 use Rattle.ending_laws.specs.Stands.{IsOwnEnd, StandsWhole, StandsAlone, StandsBrokenOff, StandsAfter}
@@ -36,7 +35,7 @@ module _ (S : Solving) (job : Job) (failures : Failures) (status : ℕ) (PrintGa
     )
 
     by_itself : (ending : Ending) → IsOwnEnd reports cards ending → IsJobRun S bytes reports cards ending → status ≡ status_of ending → printed ≡ listing reports ending →
-        Gains ending punched (card_text cards) → StandsAfter S job failures PrintGains PunchGains status
+        Gains ending cards [] punched → StandsAfter S job failures PrintGains PunchGains status
     by_itself (Ended code) own runs is text gains =
         subst (StandsAfter S job failures PrintGains PunchGains) (sym is) (stands.ended own (all_stands (Ended code) runs text gains))
     by_itself WordsRefused own runs is text gains = absurd own
@@ -55,34 +54,35 @@ module _ (S : Solving) (job : Job) (failures : Failures) (status : ℕ) (PrintGa
     by_itself Memory own runs is text gains = absurd own
 
   -- a run that is broken off
-  broken_off : (reports : List Report) (cards : List (List ℕ)) (ending : Ending) → MayEnd S job failures reports cards ending → printed ≡ listing reports ending → IsPrefix punched (card_text cards) →
+  broken_off : (reports : List Report) (cards deck : List (List ℕ)) (ending : Ending) → MayEnd S job failures reports cards deck ending → printed ≡ listing reports ending → IsPunchedTo cards deck punched →
       StandsBrokenOff S job failures PrintGains PunchGains ending
-  broken_off reports cards ending may_end text prefix = record {
+  broken_off reports cards deck ending may_end text is_punched = record {
     reports = reports;
     cards = cards;
+    deck = deck;
     may_end = may_end;
     print_gains = subst PrintGains text print_gains;
     punched = punched;
-    is_prefix = prefix;
+    is_punched = is_punched;
     punch_gains = punch_gains;
   }
 
-  by_end : (reports : List Report) (cards : List (List ℕ)) (ending : Ending) → MayEnd S job failures reports cards ending → status ≡ status_of ending → printed ≡ listing reports ending →
-      Gains ending punched (card_text cards) → StandsAfter S job failures PrintGains PunchGains status
-  by_end _ _ _ (run.words_refused refused) is text gains = stands.words_refused is refused (subst PrintGains text print_gains, subst PunchGains gains punch_gains)
-  by_end _ _ _ (run.read_fails bytes is_read failed) is text gains = stands.read_fails bytes is is_read failed (subst PrintGains text print_gains, subst PunchGains gains punch_gains)
-  by_end reports cards ending (run.by_itself bytes of_job runs) is text gains =
+  by_end : (reports : List Report) (cards deck : List (List ℕ)) (ending : Ending) → MayEnd S job failures reports cards deck ending → status ≡ status_of ending → printed ≡ listing reports ending →
+      Gains ending cards deck punched → StandsAfter S job failures PrintGains PunchGains status
+  by_end _ _ _ _ (run.words_refused refused) is text gains = stands.words_refused is refused (subst PrintGains text print_gains, subst PunchGains gains punch_gains)
+  by_end _ _ _ _ (run.read_fails bytes is_read failed) is text gains = stands.read_fails bytes is is_read failed (subst PrintGains text print_gains, subst PunchGains gains punch_gains)
+  by_end reports cards _ ending (run.by_itself bytes of_job runs) is text gains =
       by_itself bytes of_job reports cards ending (own_end S bytes reports cards ending runs) runs is text gains
-  by_end reports cards _ run.memory_at_start is text gains = stands.memory_wanted is (broken_off _ _ Memory run.memory_at_start text gains)
-  by_end reports cards _ (run.memory_in_run bytes program state of_job so_far) is text gains =
-      stands.memory_wanted is (broken_off _ _ Memory (run.memory_in_run bytes program state of_job so_far) text gains)
-  by_end reports cards _ (run.memory_at_punch bytes program state deck of_job so_far punching) is text gains =
-      stands.memory_wanted is (broken_off _ _ Memory (run.memory_at_punch bytes program state deck of_job so_far punching) text gains)
-  by_end reports cards _ (run.punch_fails bytes program state deck failed of_job so_far punching) is text gains =
-      stands.punch_fails is failed (broken_off _ _ PunchFault (run.punch_fails bytes program state deck failed of_job so_far punching) text gains)
+  by_end _ _ _ _ run.memory_at_start is text gains = stands.memory_wanted is (broken_off _ _ _ Memory run.memory_at_start text gains)
+  by_end _ _ _ _ (run.memory_in_run bytes program state of_job so_far) is text gains =
+      stands.memory_wanted is (broken_off _ _ _ Memory (run.memory_in_run bytes program state of_job so_far) text gains)
+  by_end _ _ _ _ (run.memory_at_punch bytes program state deck of_job so_far punching) is text gains =
+      stands.memory_wanted is (broken_off _ _ _ Memory (run.memory_at_punch bytes program state deck of_job so_far punching) text gains)
+  by_end _ _ _ _ (run.punch_fails bytes program state deck failed of_job so_far punching) is text gains =
+      stands.punch_fails is failed (broken_off _ _ _ PunchFault (run.punch_fails bytes program state deck failed of_job so_far punching) text gains)
 
   by_answer : IsAnswer S job failures (record { status = status; printed = printed; punched = punched }) → StandsAfter S job failures PrintGains PunchGains status
-  by_answer (whole {reports} {cards} ending may_end is text gains) = by_end reports cards ending may_end is text gains
+  by_answer (whole {reports} {cards} {deck} ending may_end is text gains) = by_end reports cards deck ending may_end is text gains
   by_answer (print_fails failed is cut) = stands.print_fails is failed (record { printed = printed; punched = punched; print_gains = print_gains; punch_gains = punch_gains; is_cut_short = cut })
   by_answer (print_wants_memory wanted is cut) =
       stands.print_wants_memory is wanted (record { printed = printed; punched = punched; print_gains = print_gains; punch_gains = punch_gains; is_cut_short = cut })

@@ -11,10 +11,9 @@ use Rattle.control_definitions.specs.declared.ControlFault.{ControlFault}
 use Rattle.listing_definitions.specs.Report.{Report}
 use Rattle.listing_definitions.specs.Ending.{StatementFault, SingularBasis, WrongPrice, DeckCardFault, LimitReached, Overflow, Ending, Ended, WordsRefused, ControlStop, VerbStop, SingularStop, PriceStop, DeckStop, CardStop, LimitStop, StatementLimit, OverflowStop, ReadFault, PunchFault, Memory}
 use Rattle.listing_definitions.specs.Listing.{ending_text, reports_text}
-use Rattle.card_definitions.specs.Prefixes.{IsPrefix}
 use Rattle.question_definitions.specs.Solving.{Solving}
 use Rattle.answer_definitions.specs.Real.{linear_programming}
-use Rattle.run_definitions.specs.Answer.{Job, WithoutBytes, Read, bytes_of, Failures, IsJobRun, MayEnd, IsCutShort}
+use Rattle.run_definitions.specs.Answer.{Job, WithoutBytes, Read, bytes_of, Failures, IsPunchedTo, IsJobRun, MayEnd, IsCutShort}
 
 -- Where nothing fails a job ends with 0, 1 or 2, at a statement or a deck that is refused, at a singular
 -- basis or wrong prices, at a limit, or with an overflow; or its cards or its control program are refused, before anything is reported.
@@ -47,15 +46,16 @@ module _ (S : Solving) (job : Job) (failures : Failures) (PrintGains PunchGains 
   abbrev pub StandsAlone : Ending → Type 0
   StandsAlone ending = PrintGains (ending_text ending) × PunchGains []
 
-  -- The run has been broken off. The text of its reports so far stands whole with the lines of this end.
-  -- Of the cards that are punched by then, with the deck of the statement in hand, a prefix stands.
+  -- The run has been broken off. The text of its reports so far stands whole with the lines of this end,
+  -- and so do all cards of those reports; then comes a prefix of the deck in hand, and no more.
   pub record StandsBrokenOff (ending : Ending) : Type 0 where
     pub reports : List Report
     pub cards : List (List ℕ)
-    pub may_end : MayEnd S job failures reports cards ending
+    pub deck : List (List ℕ)
+    pub may_end : MayEnd S job failures reports cards deck ending
     pub print_gains : PrintGains (reports_text reports ++ ending_text ending)
     pub punched : List ℕ
-    pub is_prefix : IsPrefix punched (card_text cards)
+    pub is_punched : IsPunchedTo cards deck punched
     pub punch_gains : PunchGains punched
 
   -- The print has stopped in a report or in the lines of an end: all that comes before stands, with a
@@ -71,9 +71,10 @@ module _ (S : Solving) (job : Job) (failures : Failures) (PrintGains PunchGains 
   -- WHAT STANDS AFTER EACH STATUS. A job of the words, of its cards or of its control program that is
   -- refused, and one of which a read fails, leaves the line of this stop alone. A job that ends by
   -- itself leaves its whole listing and all its cards. Where the punch fails, or memory runs out, it is
-  -- broken off: the reports so far and the stop's line stand, and a prefix of the cards. Where the print
-  -- fails, or runs out of memory itself, it has stopped in a report or in the lines of an end: all that
-  -- comes before stands, with a prefix of this text, and the cards that are punched by then.
+  -- broken off: the reports so far and the stop's line stand, and all cards of these reports, then a
+  -- prefix of the deck in hand. Where the print fails, or runs out of memory itself, it has stopped in a
+  -- report or in the lines of an end: all that comes before stands, with a prefix of this text, and the
+  -- cards that are punched by then.
   pub data StandsAfter (status : ℕ) : Type 0 where
     ended : status ≤ 2 → StandsWhole (Ended status) → StandsAfter status
     words_refused : status ≡ 4 → job ≡ WithoutBytes → StandsAlone WordsRefused → StandsAfter status

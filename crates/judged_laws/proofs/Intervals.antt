@@ -12,19 +12,20 @@ use Rattle.exact_values.proofs.Tests_laws.{same_from_test, lt_from_test, le_from
 use Rattle.exact_values.proofs.Order.{lt_not_le, le_of_lt, le_refl, apart_from_above}
 use Rattle.lp_definitions.specs.LinearProgram.{LinearProgram, Vector, size, IsVariable, IsLinearProgram, lower_of, upper_of, for_min}
 use Rattle.check_definitions.specs.declared.Verdict.TheVariants.{Checked}
-use Rattle.check_definitions.specs.Steps.{Step, verdict_of}
-use Rattle.check_definitions.specs.Checks.{is_at, by_sign, optimal_check}
-use Rattle.check_definitions.proofs.Passing.{checked-append, holds_if_checked, each_checked as checked_at}
+use Rattle.check_definitions.specs.Steps.{Step, AllHold}
+use Rattle.check_definitions.specs.Checks.{is_at, by_sign, optimal_steps}
+use Rattle.check_definitions.proofs.Holding.{checked_hold, hold-append, each_hold}
 use Rattle.simplex_definitions.specs.Chain.{Part, along}
 use Rattle.parametric_laws.specs.Truth.{IsSolvedBy, IsTruePart}
 use Rattle.interval_laws.specs.Laws.{StandAtBoth, IsProvedAtEnds, HoldsBetween, BetweenLaws, point_at, prices_at}
 use Rattle.question_definitions.specs.Answers.{Sheet, Changing, Row, Set}
 use Rattle.answer_definitions.specs.ParametricRuns.{row_of, shifts_of, family_of}
 use Rattle.listing_definitions.specs.Report.{ParametricInterval}
-use Rattle.walk_definitions.specs.Tests.{asked, making_steps, along_steps, end_test, keeps_limit, keeping_steps, part_test, interval_test}
+use Rattle.walk_definitions.specs.Checkers.{Checker}
+use Rattle.walk_definitions.specs.Tests.{says, asked, making_steps, along_steps, end_test, keeps_limit, keeping_steps, part_test, interval_test}
 use Rattle.judged_laws.specs.Views.{part_of, MayChange}
 use Rattle.judged_laws.proofs.Judging.{asked_holds, each_checked}
-use Rattle.judged_laws.proofs.Solution.{solved_if_checked}
+use Rattle.judged_laws.proofs.Solution.{solved_if_held}
 use Rattle.judged_laws.proofs.Openings.{lawful_family}
 
 -- what is proved at both ends is so between them
@@ -60,15 +61,15 @@ at_both : (one other : Option ℚ) (v w : ℚ) → (is_at one v && is_at other w
 at_both one other v w h = let parts = and_parts (is_at one v) (is_at other w) h in (at_limit one v parts.0, at_limit other w parts.1)
 
 module _ (p q : LinearProgram) (z w : Vector) (y : Vector) where
-  stand_at_both : ((k : ℕ) → IsVariable p.matrix k → verdict_of (keeps_limit p q z w (y k) k) ≡ Checked) → StandAtBoth p q z w y
-  stand_at_both checked = record {
+  stand_at_both : ((k : ℕ) → IsVariable p.matrix k → AllHold (keeps_limit p q z w (y k) k)) → StandAtBoth p q z w y
+  stand_at_both kept = record {
     lower = λ k is above. at_both (lower_of p k) (lower_of q k) (z k) (w k) (of_positive _ _ _ (holds k is) above);
     upper = λ k is below. at_both (upper_of p k) (upper_of q k) (z k) (w k) (of_negative _ _ _ (holds k is) below);
   }
     where
       holds : (k : ℕ) (is : IsVariable p.matrix k)
           → by_sign (compare_ℚ (for_min p.sense (y k)) zero_ℚ) (is_at (upper_of p k) (z k) && is_at (upper_of q k) (w k)) (is_at (lower_of p k) (z k) && is_at (lower_of q k) (w k)) ≡ true
-      holds k is = holds_if_checked 6 k _ (checked k is)
+      holds k is = (kept k is).0
 
 -- ---- an interval
 
@@ -91,16 +92,17 @@ pub record IsTrueInterval (family : ℚ → LinearProgram) (is_first : Bool) (ma
   pub is_true : IsTruePart family max part
   pub long : (part.from <ℚ part.to) ⊎ ((is_first ≡ true) × (part.from ≡ part.to))
 
-module _ (between : BetweenLaws) (sheet : Sheet) (changing : Changing) (lawful : IsLinearProgram sheet.lp) (may : MayChange sheet changing) where
+module _ (C : Checker) (between : BetweenLaws) (sheet : Sheet) (changing : Changing) (lawful : IsLinearProgram sheet.lp) (may : MayChange sheet changing) where
   abbrev family : ℚ → LinearProgram
   family = family_of sheet changing
 
-  solved_at_end : (theta : ℚ) (value value_rate price price_rate : List ℚ) → end_test sheet changing theta value value_rate price price_rate ≡ Checked
+  solved_at_end : (theta : ℚ) (value value_rate price price_rate : List ℚ) → end_test C sheet changing theta value value_rate price price_rate ≡ Checked
       → IsSolvedBy (family theta) (along theta value value_rate) (along theta price price_rate)
   solved_at_end theta value value_rate price price_rate e =
-      let each = each_checked (verdict_of (making_steps sheet changing theta) ∷ verdict_of (along_steps sheet theta value value_rate) ∷ verdict_of (along_steps sheet theta price price_rate)
-      ∷ optimal_check (family theta) (along theta value value_rate) (along theta price price_rate) ∷ []) e in
-      solved_if_checked (family theta) (lawful_family sheet changing lawful may theta) (along theta value value_rate) (along theta price price_rate) each.1.1.1.0
+      let each = each_checked (says C (making_steps sheet changing theta) ∷ says C (along_steps sheet theta value value_rate) ∷ says C (along_steps sheet theta price price_rate)
+      ∷ says C (optimal_steps (family theta) (along theta value value_rate) (along theta price price_rate)) ∷ []) e in
+      solved_if_held (family theta) (lawful_family sheet changing lawful may theta) (along theta value value_rate) (along theta price price_rate)
+      (checked_hold C.arithmetic (optimal_steps (family theta) (along theta value value_rate) (along theta price price_rate)) each.1.1.1.0)
 
   module _ (part : Part) where
     abbrev one_end : ℚ → ℕ → List Step
@@ -109,19 +111,19 @@ module _ (between : BetweenLaws) (sheet : Sheet) (changing : Changing) (lawful :
         (along theta part.price part.price_rate k) k
 
     -- what both ends keep is checked at each variable
-    kept_at : verdict_of (keeping_steps sheet changing part.from part.to part.value part.value_rate part.price part.price_rate) ≡ Checked → (k : ℕ) → IsVariable sheet.lp.matrix k
-        → (verdict_of (one_end part.from k) ≡ Checked) × (verdict_of (one_end part.to k) ≡ Checked)
-    kept_at e k is = checked-append (one_end part.from k) (one_end part.to k)
-        (checked_at (λ k. one_end part.from k ++ one_end part.to k) 1 (size sheet.lp.matrix) k e is.0 (omega (arith, is.1)))
+    kept_at : AllHold (keeping_steps sheet changing part.from part.to part.value part.value_rate part.price part.price_rate) → (k : ℕ) → IsVariable sheet.lp.matrix k
+        → AllHold (one_end part.from k) × AllHold (one_end part.to k)
+    kept_at e k is = hold-append (one_end part.from k) (one_end part.to k)
+        (each_hold (λ k. one_end part.from k ++ one_end part.to k) 1 (size sheet.lp.matrix) k e is.0 (omega (arith, is.1)))
 
-    part_is_true : (is_first : Bool) (max : ℚ) → part_test sheet changing part.from part.to part.value part.value_rate part.price part.price_rate is_first max ≡ Checked
+    part_is_true : (is_first : Bool) (max : ℚ) → part_test C sheet changing part.from part.to part.value part.value_rate part.price part.price_rate is_first max ≡ Checked
         → IsTrueInterval family is_first max part
     part_is_true is_first max e =
         let each = each_checked (asked (lt_ℚ part.from part.to || (is_first && eq_ℚ part.from part.to)) ∷ asked (le_ℚ part.to max)
-        ∷ end_test sheet changing part.from part.value part.value_rate part.price part.price_rate ∷ end_test sheet changing part.to part.value part.value_rate part.price part.price_rate
-        ∷ verdict_of (keeping_steps sheet changing part.from part.to part.value part.value_rate part.price part.price_rate) ∷ []) e in
+        ∷ end_test C sheet changing part.from part.value part.value_rate part.price part.price_rate ∷ end_test C sheet changing part.to part.value part.value_rate part.price part.price_rate
+        ∷ says C (keeping_steps sheet changing part.from part.to part.value part.value_rate part.price part.price_rate) ∷ []) e in
         let long = begins_before is_first part.from part.to (asked_holds _ each.0) in
-        let kept = kept_at each.1.1.1.1.0 in
+        let kept = kept_at (checked_hold C.arithmetic (keeping_steps sheet changing part.from part.to part.value part.value_rate part.price part.price_rate) each.1.1.1.1.0) in
         let proved : IsProvedAtEnds family part = record {
           forward = not_after long;
           first = solved_at_end part.from part.value part.value_rate part.price part.price_rate each.1.1.0;
@@ -137,5 +139,5 @@ module _ (between : BetweenLaws) (sheet : Sheet) (changing : Changing) (lawful :
         not_after (inl less) = le_of_lt less
         not_after (inr same) = subst (λ (x : ℚ). part.from ≤ℚ x) same.1 (le_refl part.from)
 
-  pub interval_is_true : (is_first : Bool) (max : ℚ) (interval : ParametricInterval) → interval_test sheet changing is_first max interval ≡ Checked → IsTrueInterval family is_first max (part_of interval)
+  pub interval_is_true : (is_first : Bool) (max : ℚ) (interval : ParametricInterval) → interval_test C sheet changing is_first max interval ≡ Checked → IsTrueInterval family is_first max (part_of interval)
   interval_is_true is_first max interval e = part_is_true (part_of interval) is_first max e

@@ -1,11 +1,14 @@
 -- What is judged right was read so, and passed each of its tests.
-use Rattle.std.proofs.Common.{◌≡◌, ℕ, List, [], ◌∷◌, Bool, true, Some, None, refl, sym, ap, ◌∙◌}
+use Rattle.std.proofs.Common.{◌≡◌, ℕ, List, [], ◌∷◌, Bool, true, false, if◌then◌else◌, Option, Some, None, refl, sym, ap, ◌∙◌}
+use Rattle.std.specs.Prelude.{◌&&◌, is_some}
+use Rattle.exact_values.specs.Rational.{ℚ}
 use Rattle.check_definitions.specs.declared.Verdict.{Verdict}
 use Rattle.check_definitions.specs.declared.Verdict.TheVariants.{Checked, Failed, Unchecked}
 use Rattle.check_definitions.specs.Steps.{in_turn}
 use Rattle.check_definitions.proofs.Passing.{both_checked, holds_if_checked}
-use Rattle.walk_definitions.specs.Words.{Parsed}
-use Rattle.walk_definitions.specs.Reading.{Judged, Right, Fails, Refuses, by_verdict, tested, judged_map}
+use Rattle.walk_definitions.specs.Checkers.{Checker}
+use Rattle.walk_definitions.specs.Words.{Parsed, fraction_in, form_in}
+use Rattle.walk_definitions.specs.Reading.{Judged, Right, Fails, Refuses, by_verdict, tested_or, unread, tested_by, judged_map}
 use Rattle.walk_definitions.specs.Tests.{asked}
 
 pub asked_holds : (b : Bool) → asked b ≡ Checked → b ≡ true
@@ -25,9 +28,9 @@ pub record IsPassed {X : Type 0} (test : X → Verdict) (parsed : Parsed X) (x :
   pub is_read : parsed ≡ Some (x, after)
   pub passes : test x ≡ Checked
 
-pub right_is_passed : {X : Type 0} (test : X → Verdict) (parsed : Parsed X) (x : X) (after : List ℕ) → tested test parsed ≡ Right x after → IsPassed test parsed x after
-right_is_passed test None x after e = cc
-right_is_passed {X = X} test (Some got) x after e = by (test got.0) refl e
+passed : {X : Type 0} (otherwise : Judged X) (test : X → Verdict) (parsed : Parsed X) (x : X) (after : List ℕ) → (otherwise ≡ Right x after → ⊥) → tested_or otherwise test parsed ≡ Right x after → IsPassed test parsed x after
+passed otherwise test None x after never e = absurd (never e)
+passed {X = X} otherwise test (Some got) x after never e = by (test got.0) refl e
   where
     by : (v : Verdict) → test got.0 ≡ v → by_verdict v got.0 got.1 ≡ Right x after → IsPassed test (Some got) x after
     by Checked is e =
@@ -36,6 +39,16 @@ right_is_passed {X = X} test (Some got) x after e = by (test got.0) refl e
         record { is_read = λ i. Some (same i, left i); passes = ap test (sym same) ∙ is }
     by (Failed part number) is e = cc
     by (Unchecked refused) is e = cc
+
+-- what isn't read isn't right
+never_right : {X : Type 0} (b : Bool) (x : X) (after : List ℕ) → ◌≡◌ {A = Judged X} (if b then Refuses else Fails) (Right x after) → ⊥
+never_right true x after e = cc e
+never_right false x after e = cc e
+
+pub right_is_passed : (C : Checker) {X : Type 0} (test : X → Verdict) (reads : (List ℕ → Option ℚ) → List ℕ → Parsed X) (rest : List ℕ) (x : X) (after : List ℕ) →
+    tested_by C test reads rest ≡ Right x after → IsPassed test (reads (fraction_in C) rest) x after
+right_is_passed C test reads rest x after e =
+    passed (unread C reads rest) test (reads (fraction_in C) rest) x after (never_right (is_some C.most_digits && is_some (reads (form_in C) rest)) x after) e
 
 -- what it was made of is right
 pub record IsMadeOf {X Y : Type 0} (f : X → Y) (judged : Judged X) (y : Y) (after : List ℕ) : Type 0 where

@@ -8,6 +8,7 @@ use Rattle.card_definitions.specs.Words.{named}
 use Rattle.listing_definitions.specs.Numbers.{digits}
 use Rattle.listing_definitions.specs.Report.{Check}
 use Rattle.listing_definitions.specs.Report as reports
+use Rattle.walk_definitions.specs.Checkers.{checker_of_128_bits}
 use Rattle.walk_definitions.specs.Words.{Parsed, left_after, with_text, word_in, with_word, fraction_in, count_in}
 use Rattle.walk_definitions.specs.Forms.{all_operations}
 use Rattle.walk_definitions.specs.Tables.{then_more}
@@ -42,8 +43,8 @@ module _ {X : Type 0} (P : X → Type 0) where
       one_or_other (with_text (codes "CHECKED\n") (reads reports.Checked) rest) _
       (after_text (codes "CHECKED\n") (reads reports.Checked) rest (h reports.Checked))
       (after_text (codes "UNCHECKED ") _ rest (λ at. after_word (named all_operations) _ at (λ op known on.
-      after_text (codes " ") _ on (λ on. after_word fraction_in _ on (λ left known on.
-      after_text (codes " ") _ on (λ on. after_word fraction_in _ on (λ right known on.
+      after_text (codes " ") _ on (λ on. after_word (fraction_in checker_of_128_bits) _ on (λ left known on.
+      after_text (codes " ") _ on (λ on. after_word (fraction_in checker_of_128_bits) _ on (λ right known on.
       after_text (codes "\n") _ on (h (reports.Unchecked (record { op = op; left = left; right = right }))))))))))
 
   -- what is made of what is read

@@ -11,7 +11,7 @@ use Rattle.simplex_laws.proofs.Ends.{value_at-listed}
 use Rattle.listing_definitions.specs.Report.{Value, Number, Line}
 use Rattle.question_definitions.specs.Answers.{Sheet}
 use Rattle.answer_definitions.specs.Lines.{lines_of, pair_lines, ray_lines}
-use Rattle.walk_definitions.specs.Words.{Parsed, left_after, fraction_in}
+use Rattle.walk_definitions.specs.Words.{Parsed, left_after}
 use Rattle.walk_definitions.specs.Tables.{Slot, AnyNumber, value_in, slot_in, values_in, then_more, number_at, numbered, begins_table_line, pair_slots, line_head, line_of, line_in, table_in, multiplier_in, ray_in, multipliers, column_of}
 use Rattle.judged_laws.proofs.Readings.{after_text, after_word, if_none_else, gone_on, listed_more}
 
@@ -26,38 +26,38 @@ IsOne values = (x : ℚ) × (values ≡ Number x ∷ [])
 abbrev AreTwo : List Value → Type 0
 AreTwo values = (x : ℚ) × (y : ℚ) × (values ≡ Number x ∷ Number y ∷ [])
 
-number_is : (word : List ℕ) (value : Value) → value_in AnyNumber word ≡ Some value → IsNumber value
-number_is word value e = by (fraction_in word) e
+number_is : (of : List ℕ → Option ℚ) (word : List ℕ) (value : Value) → value_in of AnyNumber word ≡ Some value → IsNumber value
+number_is of word value e = by (of word) e
   where
     by : (o : Option ℚ) → option_map Number o ≡ Some value → IsNumber value
     by None e = cc
     by (Some x) e = (x, cc)
 
-slot_is : (rest : List ℕ) → IfSome (slot_in AnyNumber rest) (λ got. IsNumber got.0)
-slot_is rest =
+slot_is : (of : List ℕ → Option ℚ) (rest : List ℕ) → IfSome (slot_in of AnyNumber rest) (λ got. IsNumber got.0)
+slot_is of rest =
     after_text (λ (got : Value × List ℕ). IsNumber got.0) (codes " ") _ rest (λ left.
-    after_word (λ (got : Value × List ℕ). IsNumber got.0) (value_in AnyNumber) (λ value left. Some (value, left)) left (λ value is on. number_is _ value is))
+    after_word (λ (got : Value × List ℕ). IsNumber got.0) (value_in of AnyNumber) (λ value left. Some (value, left)) left (λ value is on. number_is of _ value is))
 
-none_more : (rest : List ℕ) → IfSome (values_in [] rest) (λ got. got.0 ≡ [])
-none_more rest = refl
+none_more : (of : List ℕ → Option ℚ) (rest : List ℕ) → IfSome (values_in of [] rest) (λ got. got.0 ≡ [])
+none_more of rest = refl
 
-one_is : (rest : List ℕ) → IfSome (values_in (AnyNumber ∷ []) rest) (λ got. IsOne got.0)
-one_is rest =
-    listed_more IsNumber (λ values. values ≡ []) IsOne (slot_in AnyNumber rest) (values_in []) (slot_is rest) none_more
+one_is : (of : List ℕ → Option ℚ) (rest : List ℕ) → IfSome (values_in of (AnyNumber ∷ []) rest) (λ got. IsOne got.0)
+one_is of rest =
+    listed_more IsNumber (λ values. values ≡ []) IsOne (slot_in of AnyNumber rest) (values_in of []) (slot_is of rest) (none_more of)
     (λ value values is none. (is.0, ap₂ (λ (v : Value) (vs : List Value). v ∷ vs) is.1 none))
 
-two_are : (rest : List ℕ) → IfSome (values_in (AnyNumber ∷ AnyNumber ∷ []) rest) (λ got. AreTwo got.0)
-two_are rest =
-    listed_more IsNumber IsOne AreTwo (slot_in AnyNumber rest) (values_in (AnyNumber ∷ [])) (slot_is rest) one_is
+two_are : (of : List ℕ → Option ℚ) (rest : List ℕ) → IfSome (values_in of (AnyNumber ∷ AnyNumber ∷ []) rest) (λ got. AreTwo got.0)
+two_are of rest =
+    listed_more IsNumber IsOne AreTwo (slot_in of AnyNumber rest) (values_in of (AnyNumber ∷ [])) (slot_is of rest) (one_is of)
     (λ value values is one. (is.0, one.0, ap₂ (λ (v : Value) (vs : List Value). v ∷ vs) is.1 one.1))
 
-module _ (sheet : Sheet) where
+module _ (of : List ℕ → Option ℚ) (sheet : Sheet) where
   -- a line is made of the values that are read
-  line_is : (P : List Value → Type 0) (slots : List Slot) (k : ℕ) (rest : List ℕ) → ((left : List ℕ) → IfSome (values_in slots left) (λ got. P got.0))
-      → IfSome (line_in sheet slots k rest) (λ got. (values : List Value) × P values × (got.0 ≡ line_of sheet k values))
+  line_is : (P : List Value → Type 0) (slots : List Slot) (k : ℕ) (rest : List ℕ) → ((left : List ℕ) → IfSome (values_in of slots left) (λ got. P got.0))
+      → IfSome (line_in of sheet slots k rest) (λ got. (values : List Value) × P values × (got.0 ≡ line_of sheet k values))
   line_is P slots k rest h =
       gone_on (λ (got : Line × List ℕ). (values : List Value) × P values × (got.0 ≡ line_of sheet k values)) (λ (got : List Value × List ℕ). P got.0) _ _
-      (after_text (λ (got : List Value × List ℕ). P got.0) (line_head sheet k) (values_in slots) rest h)
+      (after_text (λ (got : List Value × List ℕ). P got.0) (line_head sheet k) (values_in of slots) rest h)
       (λ got p. ended got p (left_after (codes "\n") got.1))
     where
       ended : (got : List Value × List ℕ) → P got.0 → (o : Option (List ℕ))
@@ -81,12 +81,12 @@ module _ (sheet : Sheet) where
   ArePairs first (suc n) [] = ⊥
   ArePairs first (suc n) (line ∷ lines) = IsPair first line × ArePairs (suc first) n lines
 
-  pairs_are : (first n : ℕ) (rest : List ℕ) → IfSome (table_in sheet pair_slots (numbers_from first n) rest) (λ got. ArePairs first n got.0)
+  pairs_are : (first n : ℕ) (rest : List ℕ) → IfSome (table_in of sheet pair_slots (numbers_from first n) rest) (λ got. ArePairs first n got.0)
   pairs_are first zero rest = refl
   pairs_are first (suc n) rest =
       listed_more (IsPair first) (ArePairs (suc first) n) (ArePairs first (suc n))
-      (line_in sheet (pair_slots first) first rest) (table_in sheet pair_slots (numbers_from (suc first) n))
-      (weaker (line_in sheet (pair_slots first) first rest) (line_is AreTwo (pair_slots first) first rest two_are))
+      (line_in of sheet (pair_slots first) first rest) (table_in of sheet pair_slots (numbers_from (suc first) n))
+      (weaker (line_in of sheet (pair_slots first) first rest) (line_is AreTwo (pair_slots first) first rest (two_are of)))
       (pairs_are (suc first) n) (λ line lines is are. (is, are))
     where
       weaker : (o : Parsed Line) → IfSome o (λ got. (values : List Value) × AreTwo values × (got.0 ≡ line_of sheet first values)) → IfSome o (λ got. IsPair first got.0)
@@ -107,8 +107,8 @@ module _ (sheet : Sheet) where
       (pairs_of f g (suc first) n lines are.1 (λ i. ap f (omega arith) ∙ a (suc i)) (λ i. ap g (omega arith) ∙ b (suc i)))
 
   pub pair_lines_are : (rest : List ℕ)
-      → IfSome (table_in sheet pair_slots (variables sheet.lp.matrix) rest) (λ got. got.0 ≡ pair_lines sheet (column_of 0 got.0) (column_of 1 got.0))
-  pair_lines_are rest = by (table_in sheet pair_slots (variables sheet.lp.matrix) rest) (pairs_are 1 (size sheet.lp.matrix) rest)
+      → IfSome (table_in of sheet pair_slots (variables sheet.lp.matrix) rest) (λ got. got.0 ≡ pair_lines sheet (column_of 0 got.0) (column_of 1 got.0))
+  pair_lines_are rest = by (table_in of sheet pair_slots (variables sheet.lp.matrix) rest) (pairs_are 1 (size sheet.lp.matrix) rest)
     where
       by : (o : Parsed (List Line)) → IfSome o (λ got. ArePairs 1 (size sheet.lp.matrix) got.0) → IfSome o (λ got. got.0 ≡ pair_lines sheet (column_of 0 got.0) (column_of 1 got.0))
       by None h = tt
@@ -124,11 +124,11 @@ module _ (sheet : Sheet) where
     pub is_apart : eq_ℚ number zero_ℚ ≡ false
     pub is_line : line ≡ line_of sheet k (Number number ∷ [])
 
-  multiplier_is : (k : ℕ) (rest : List ℕ) → IfSome (multiplier_in sheet k rest) (λ got. IsMultiplier k got.0)
+  multiplier_is : (k : ℕ) (rest : List ℕ) → IfSome (multiplier_in of sheet k rest) (λ got. IsMultiplier k got.0)
   multiplier_is k rest =
       gone_on (λ (got : Line × List ℕ). IsMultiplier k got.0) (λ (got : Line × List ℕ). (values : List Value) × IsOne values × (got.0 ≡ line_of sheet k values))
-      (λ got. if eq_ℚ (number_at 0 got.0) zero_ℚ then None else Some got) (line_in sheet (AnyNumber ∷ []) k rest)
-      (line_is IsOne (AnyNumber ∷ []) k rest one_is)
+      (λ got. if eq_ℚ (number_at 0 got.0) zero_ℚ then None else Some got) (line_in of sheet (AnyNumber ∷ []) k rest)
+      (line_is IsOne (AnyNumber ∷ []) k rest (one_is of))
       (λ got h. if_none_else (λ (got : Line × List ℕ). IsMultiplier k got.0) (eq_ℚ (number_at 0 got.0) zero_ℚ) (Some got) (made got h.0 h.1 h.2))
     where
       made : (got : Line × List ℕ) (values : List Value) → IsOne values → got.0 ≡ line_of sheet k values → eq_ℚ (number_at 0 got.0) zero_ℚ ≡ false → IsMultiplier k got.0
@@ -142,23 +142,23 @@ module _ (sheet : Sheet) where
   AreOfSome first (suc n) lines =
       AreOfSome (suc first) n lines ⊎ ((line : Line) × (later : List Line) × (lines ≡ line ∷ later) × IsMultiplier first line × AreOfSome (suc first) n later)
 
-  some_are : (first n : ℕ) (rest : List ℕ) → IfSome (ray_in sheet (numbers_from first n) rest) (λ got. AreOfSome first n got.0)
+  some_are : (first n : ℕ) (rest : List ℕ) → IfSome (ray_in of sheet (numbers_from first n) rest) (λ got. AreOfSome first n got.0)
   some_are first zero rest = if_none_else (λ (got : List Line × List ℕ). got.0 ≡ []) (begins_table_line rest) (Some ([], rest)) (λ none. refl)
   some_are first (suc n) rest = by (left_after (line_head sheet first) rest) (some_are (suc first) n)
     where
-      by : (o : Option (List ℕ)) → ((rest : List ℕ) → IfSome (ray_in sheet (numbers_from (suc first) n) rest) (λ got. AreOfSome (suc first) n got.0))
+      by : (o : Option (List ℕ)) → ((rest : List ℕ) → IfSome (ray_in of sheet (numbers_from (suc first) n) rest) (λ got. AreOfSome (suc first) n got.0))
           → IfSome {T = List Line × List ℕ} (elim o [
-            | None ↦ ray_in sheet (numbers_from (suc first) n) rest
-            | Some values ↦ then_more (multiplier_in sheet first rest) (ray_in sheet (numbers_from (suc first) n))
+            | None ↦ ray_in of sheet (numbers_from (suc first) n) rest
+            | Some values ↦ then_more (multiplier_in of sheet first rest) (ray_in of sheet (numbers_from (suc first) n))
           ]) (λ got. AreOfSome first (suc n) got.0)
-      by None later = skipped (ray_in sheet (numbers_from (suc first) n) rest) (later rest)
+      by None later = skipped (ray_in of sheet (numbers_from (suc first) n) rest) (later rest)
         where
           skipped : (o : Parsed (List Line)) → IfSome o (λ got. AreOfSome (suc first) n got.0) → IfSome o (λ got. AreOfSome first (suc n) got.0)
           skipped None h = tt
           skipped (Some got) h = inl h
       by (Some values) later =
-          listed_more (IsMultiplier first) (AreOfSome (suc first) n) (AreOfSome first (suc n)) (multiplier_in sheet first rest)
-          (ray_in sheet (numbers_from (suc first) n)) (multiplier_is first rest) later (λ line lines is are. inr (line, lines, refl, is, are))
+          listed_more (IsMultiplier first) (AreOfSome (suc first) n) (AreOfSome first (suc n)) (multiplier_in of sheet first rest)
+          (ray_in of sheet (numbers_from (suc first) n)) (multiplier_is first rest) later (λ line lines is are. inr (line, lines, refl, is, are))
 
 -- ---- the number of a variable
 
@@ -179,12 +179,12 @@ own_number k line lines same = by (nat_eq line.number k) refl
     by true e = refl
     by false e = absurd (grind (arith, nat_tests))
 
-module _ (sheet : Sheet) where
-  number_of_line : (k : ℕ) (line : Line) → (is : IsMultiplier sheet k line) → line.number ≡ k
+module _ (of : List ℕ → Option ℚ) (sheet : Sheet) where
+  number_of_line : (k : ℕ) (line : Line) → (is : IsMultiplier of sheet k line) → line.number ≡ k
   number_of_line k line is = ap (λ (l : Line). l.number) is.is_line
 
   -- a variable before them has no line
-  none_before : (first n k : ℕ) (lines : List Line) → k < first → AreOfSome sheet first n lines → numbered k lines ≡ zero_ℚ
+  none_before : (first n k : ℕ) (lines : List Line) → k < first → AreOfSome of sheet first n lines → numbered k lines ≡ zero_ℚ
   none_before first zero k lines below are = ap (numbered k) are
   none_before first (suc n) k lines below (inl later) = none_before (suc first) n k lines (omega arith) later
   none_before first (suc n) k lines below (inr h) =
@@ -192,7 +192,7 @@ module _ (sheet : Sheet) where
       ap (numbered k) h.2 ∙ other_number k h.0 h.1 (λ same. absurd (omega (arith, same, number))) ∙ none_before (suc first) n k h.1 (omega arith) h.4
 
   -- the lines of a vector that has these numbers
-  some_of : (f : Vector) (first n : ℕ) (lines : List Line) → AreOfSome sheet first n lines → ((k : ℕ) → first ≤ k → k < first + n → f k ≡ numbered k lines)
+  some_of : (f : Vector) (first n : ℕ) (lines : List Line) → AreOfSome of sheet first n lines → ((k : ℕ) → first ≤ k → k < first + n → f k ≡ numbered k lines)
       → lines ≡ lines_of sheet (λ k. Number (f k) ∷ []) (filter (λ k. not (eq_ℚ (f k) zero_ℚ)) (numbers_from first n))
   some_of f first zero lines are is = are
   some_of f first (suc n) lines (inl later) is =
@@ -210,10 +210,10 @@ module _ (sheet : Sheet) where
       ∙ ap (λ b. lines_of sheet (λ k. Number (f k) ∷ []) (cond (not b) (first ∷ filter (λ k. not (eq_ℚ (f k) zero_ℚ)) (numbers_from (suc first) n)) (filter (λ k. not (eq_ℚ (f k) zero_ℚ)) (numbers_from (suc first) n))))
       (sym apart)
 
-  pub ray_lines_are : (rest : List ℕ) → IfSome (ray_in sheet (variables sheet.lp.matrix) rest) (λ got. got.0 ≡ ray_lines sheet (multipliers sheet got.0))
-  ray_lines_are rest = by (ray_in sheet (variables sheet.lp.matrix) rest) (some_are sheet 1 (size sheet.lp.matrix) rest)
+  pub ray_lines_are : (rest : List ℕ) → IfSome (ray_in of sheet (variables sheet.lp.matrix) rest) (λ got. got.0 ≡ ray_lines sheet (multipliers sheet got.0))
+  ray_lines_are rest = by (ray_in of sheet (variables sheet.lp.matrix) rest) (some_are of sheet 1 (size sheet.lp.matrix) rest)
     where
-      by : (o : Parsed (List Line)) → IfSome o (λ got. AreOfSome sheet 1 (size sheet.lp.matrix) got.0) → IfSome o (λ got. got.0 ≡ ray_lines sheet (multipliers sheet got.0))
+      by : (o : Parsed (List Line)) → IfSome o (λ got. AreOfSome of sheet 1 (size sheet.lp.matrix) got.0) → IfSome o (λ got. got.0 ≡ ray_lines sheet (multipliers sheet got.0))
       by None h = tt
       by (Some got) h =
           some_of (value_at (multipliers sheet got.0)) 1 (size sheet.lp.matrix) got.0 h

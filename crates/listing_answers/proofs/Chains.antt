@@ -11,6 +11,7 @@ use Rattle.card_definitions.specs.Numbers.{digits_value}
 use Rattle.card_definitions.specs.Words.{named}
 use Rattle.listing_definitions.specs.Numbers.{digits}
 use Rattle.listing_definitions.specs.Report.{Check, Checked, Unchecked}
+use Rattle.walk_definitions.specs.Checkers.{checker_of_128_bits}
 use Rattle.walk_definitions.specs.Words.{Parsed, left_after, with_text, word_in, with_word, fraction_in, count_in, max_count}
 use Rattle.walk_definitions.specs.Forms.{all_operations}
 use Rattle.walk_definitions.specs.Reading.{with_check, Claim}
@@ -74,36 +75,36 @@ module _ (next : Check → List ℕ → Parsed Claim) where
   abbrev made : Op → ℚ → ℚ → List ℕ → Parsed Refused
   made op left right rest = Some (record { op = op; left = left; right = right }, rest)
 
-  at_right : (op : Op) (left : ℚ) (rest : List ℕ) → with_word fraction_in (λ right. with_text (codes "\n") (λ rest. option_and_then after_refusal (made op left right rest))) rest
-      ≡ option_and_then after_refusal (with_word fraction_in (λ right. with_text (codes "\n") (made op left right)) rest)
+  at_right : (op : Op) (left : ℚ) (rest : List ℕ) → with_word (fraction_in checker_of_128_bits) (λ right. with_text (codes "\n") (λ rest. option_and_then after_refusal (made op left right rest))) rest
+      ≡ option_and_then after_refusal (with_word (fraction_in checker_of_128_bits) (λ right. with_text (codes "\n") (made op left right)) rest)
   at_right op left rest =
-      (λ i. with_word fraction_in (λ right rest. text_then (codes "\n") after_refusal (made op left right) rest i) rest)
-      ∙ word_then fraction_in after_refusal (λ right. with_text (codes "\n") (made op left right)) rest
+      (λ i. with_word (fraction_in checker_of_128_bits) (λ right rest. text_then (codes "\n") after_refusal (made op left right) rest i) rest)
+      ∙ word_then (fraction_in checker_of_128_bits) after_refusal (λ right. with_text (codes "\n") (made op left right)) rest
 
   abbrev from_left : Op → ℚ → List ℕ → Parsed Refused
-  from_left op left = with_text (codes " ") (with_word fraction_in (λ right. with_text (codes "\n") (made op left right)))
+  from_left op left = with_text (codes " ") (with_word (fraction_in checker_of_128_bits) (λ right. with_text (codes "\n") (made op left right)))
 
-  at_left : (op : Op) (rest : List ℕ) → with_word fraction_in (λ left. with_text (codes " ") (with_word fraction_in (λ right. with_text (codes "\n") (λ rest. option_and_then after_refusal (made op left right rest))))) rest
-      ≡ option_and_then after_refusal (with_word fraction_in (from_left op) rest)
+  at_left : (op : Op) (rest : List ℕ) → with_word (fraction_in checker_of_128_bits) (λ left. with_text (codes " ") (with_word (fraction_in checker_of_128_bits) (λ right. with_text (codes "\n") (λ rest. option_and_then after_refusal (made op left right rest))))) rest
+      ≡ option_and_then after_refusal (with_word (fraction_in checker_of_128_bits) (from_left op) rest)
   at_left op rest =
-      (λ i. with_word fraction_in (λ left rest. with_text (codes " ") (λ rest. at_right op left rest i) rest) rest)
-      ∙ (λ i. with_word fraction_in (λ left rest. text_then (codes " ") after_refusal (with_word fraction_in (λ right. with_text (codes "\n") (made op left right))) rest i) rest)
-      ∙ word_then fraction_in after_refusal (from_left op) rest
+      (λ i. with_word (fraction_in checker_of_128_bits) (λ left rest. with_text (codes " ") (λ rest. at_right op left rest i) rest) rest)
+      ∙ (λ i. with_word (fraction_in checker_of_128_bits) (λ left rest. text_then (codes " ") after_refusal (with_word (fraction_in checker_of_128_bits) (λ right. with_text (codes "\n") (made op left right))) rest i) rest)
+      ∙ word_then (fraction_in checker_of_128_bits) after_refusal (from_left op) rest
 
   abbrev from_op : Op → List ℕ → Parsed Refused
-  from_op op = with_text (codes " ") (with_word fraction_in (from_left op))
+  from_op op = with_text (codes " ") (with_word (fraction_in checker_of_128_bits) (from_left op))
 
-  at_op : (rest : List ℕ) → with_word (named all_operations) (λ op. with_text (codes " ") (with_word fraction_in (λ left. with_text (codes " ") (with_word fraction_in (λ right. with_text (codes "\n") (λ rest. option_and_then after_refusal (made op left right rest))))))) rest
+  at_op : (rest : List ℕ) → with_word (named all_operations) (λ op. with_text (codes " ") (with_word (fraction_in checker_of_128_bits) (λ left. with_text (codes " ") (with_word (fraction_in checker_of_128_bits) (λ right. with_text (codes "\n") (λ rest. option_and_then after_refusal (made op left right rest))))))) rest
       ≡ option_and_then after_refusal (with_word (named all_operations) from_op rest)
   at_op rest =
       (λ i. with_word (named all_operations) (λ op rest. with_text (codes " ") (λ rest. at_left op rest i) rest) rest)
-      ∙ (λ i. with_word (named all_operations) (λ op rest. text_then (codes " ") after_refusal (with_word fraction_in (from_left op)) rest i) rest)
+      ∙ (λ i. with_word (named all_operations) (λ op rest. text_then (codes " ") after_refusal (with_word (fraction_in checker_of_128_bits) (from_left op)) rest i) rest)
       ∙ word_then (named all_operations) after_refusal from_op rest
 
   -- where the other word doesn't stand
   pub not_made : (old : List ℕ) → left_after (codes "CHECKED\n") old ≡ None → with_check next old ≡ option_and_then after_refusal (refusal_in old)
   not_made old none =
-      ap (λ o. option_or (option_and_then (next Checked) o) (with_text (codes "UNCHECKED ") (with_word (named all_operations) (λ op. with_text (codes " ") (with_word fraction_in (λ left. with_text (codes " ") (with_word fraction_in (λ right. with_text (codes "\n") (λ rest. option_and_then after_refusal (made op left right rest)))))))) old)) none
+      ap (λ o. option_or (option_and_then (next Checked) o) (with_text (codes "UNCHECKED ") (with_word (named all_operations) (λ op. with_text (codes " ") (with_word (fraction_in checker_of_128_bits) (λ left. with_text (codes " ") (with_word (fraction_in checker_of_128_bits) (λ right. with_text (codes "\n") (λ rest. option_and_then after_refusal (made op left right rest)))))))) old)) none
       ∙ (λ i. with_text (codes "UNCHECKED ") (λ rest. at_op rest i) old)
       ∙ text_then (codes "UNCHECKED ") after_refusal (with_word (named all_operations) from_op) old
 

@@ -15,7 +15,8 @@ use Rattle.answer_definitions.specs.ParametricRuns.{family_of}
 use Rattle.run_definitions.specs.Verbs.{mark_of}
 use Rattle.walk_definitions.specs.Words.{Parsed}
 use Rattle.walk_definitions.specs.Tables.{numbered, multipliers, column_of}
-use Rattle.walk_definitions.specs.Tests.{asked, says_checked, verdict_test}
+use Rattle.walk_definitions.specs.Checkers.{says_checked, checker_of_128_bits}
+use Rattle.walk_definitions.specs.Tests.{asked, verdict_test}
 use Rattle.walk_definitions.specs.Reading.{Right, Fails, by_verdict, tested, judged_map}
 use Rattle.listing_answers.specs.declared.claims.Claim as declared
 use Rattle.listing_answers.specs.declared.claims.Claim.TheVariants as claims
@@ -29,7 +30,7 @@ use Rattle.listing_answers.specs.Claims.{Says, Fits, stated_test, conclusion_by,
 -- ---- the test of a claim, in a linear program of the same variables
 
 pub stated_is : (sheet other : Sheet) → other.lp.matrix ≡ sheet.lp.matrix → (claim : declared.Claim) (is_checked : Bool) (verdict : PathVerdict) (check : Check) → Says sheet claim verdict → is_checked ≡ says_checked check →
-    stated_test other.lp claim is_checked ≡ verdict_test other verdict check
+    stated_test other.lp claim is_checked ≡ verdict_test checker_of_128_bits other verdict check
 stated_is sheet other m (claims.Optimal objective) b (OptimalAt steps printed) check says e = refl
 stated_is sheet other m (claims.Crossed k) b (CrossedAt number) check says e = ap₂ (λ n c. in_turn (crossed_check other.lp n ∷ asked c ∷ [])) says e
 stated_is sheet other m (claims.Infeasible ray) b (InfeasibleBy steps lines) check says e =
@@ -45,7 +46,7 @@ stated_is sheet other m claim b verdict check says e = absurd says
 
 -- the verdict that a call gave in such a linear program
 pub stated_given : (sheet other : Sheet) → other.lp.matrix ≡ sheet.lp.matrix → (claim : declared.Claim) (is_checked : Bool) (verdict : PathVerdict) (check : Check) → Says sheet claim verdict → is_checked ≡ says_checked check →
-    (p : LinearProgram) → p ≡ other.lp → (given : Verdict) → given ≡ stated_test p claim is_checked → given ≡ verdict_test other verdict check
+    (p : LinearProgram) → p ≡ other.lp → (given : Verdict) → given ≡ stated_test p claim is_checked → given ≡ verdict_test checker_of_128_bits other verdict check
 stated_given sheet other m claim b verdict check says e p is given h = h ∙ ap (λ (q : LinearProgram). stated_test q claim b) is ∙ stated_is sheet other m claim b verdict check says e
 
 pub concluded : (sheet : Sheet) (claim : declared.Claim) (is_checked : Bool) (verdict : PathVerdict) (check : Check) → Says sheet claim verdict → is_checked ≡ says_checked check → conclusion_by claim is_checked ≡ conclusion_of verdict check

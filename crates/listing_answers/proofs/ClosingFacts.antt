@@ -12,7 +12,8 @@ use Rattle.lp_model.specs.declared.NoMemory.{NoMemory}
 use Rattle.question_definitions.specs.Answers.{Sheet, Changing, Row, Set, parametric_solver}
 use Rattle.answer_definitions.specs.ParametricRuns.{row_of, shifts_of}
 use Rattle.run_definitions.specs.Verbs.{last_value}
-use Rattle.walk_definitions.specs.Words.{Parsed, left_after}
+use Rattle.walk_definitions.specs.Checkers.{checker_of_128_bits}
+use Rattle.walk_definitions.specs.Words.{Parsed, left_after, fraction_in}
 use Rattle.walk_definitions.specs.Tests.{asked, past_test, unbounded_past, infeasible_past, close_test}
 use Rattle.walk_definitions.specs.Reading.{close_in}
 use Rattle.listing_answers.specs.declared.closing.Closing as declared
@@ -36,7 +37,7 @@ module _ (sheet : Sheet) (second : List ℕ → Parsed ChainEnd) (old new : List
     end_then (Ok found) h = end_second found h
     end_then (Err none) h = h
 
-pub close_taken : (sheet : Sheet) (changing : Changing) (old left : List ℕ) → left_after (solver_text (parametric_solver changing)) old ≡ Some left → close_in sheet (parametric_solver changing) old ≡ close_after_in sheet changing left
+pub close_taken : (sheet : Sheet) (changing : Changing) (old left : List ℕ) → left_after (solver_text (parametric_solver changing)) old ≡ Some left → close_in (fraction_in checker_of_128_bits) sheet (parametric_solver changing) old ≡ close_after_in sheet changing left
 close_taken sheet (Row name) old left e = ap (option_and_then (close_after_in sheet (Row name))) e
 close_taken sheet (Set name) old left e = ap (option_and_then (close_after_in sheet (Set name))) e
 
@@ -54,13 +55,13 @@ closing_value sheet (closings.Unbounded t pair) (UnboundedPast printed lines) cl
 closing_value sheet (closings.Infeasible t ray) (InfeasiblePast printed lines) closes = closes.0
 closing_value sheet closing end closes = absurd closes
 
-pub closing_tested : (sheet : Sheet) (changing : Changing) (max last : ℚ) (closing : declared.Closing) (end : ChainEnd) → Closes sheet closing end → closing_test sheet changing max last closing ≡ close_test sheet changing max last end
+pub closing_tested : (sheet : Sheet) (changing : Changing) (max last : ℚ) (closing : declared.Closing) (end : ChainEnd) → Closes sheet closing end → closing_test sheet changing max last closing ≡ close_test checker_of_128_bits sheet changing max last end
 closing_tested sheet (Row name) max last (closings.At t) (EndsAt printed) closes = ap (λ t. in_turn (asked (eq_ℚ t last) ∷ asked (eq_ℚ t max) ∷ [])) closes
 closing_tested sheet (Set name) max last (closings.At t) (EndsAt printed) closes = ap (λ t. in_turn (asked (eq_ℚ t last) ∷ asked (eq_ℚ t max) ∷ [])) closes
 closing_tested sheet (Row name) max last (closings.Unbounded t pair) (UnboundedPast printed lines) closes =
-    λ i. past_test max last (closes.0 i) (unbounded_past sheet (Row name) (row_of sheet.problem name) (closes.0 i) (value_at (closes.1.is_point i)) (value_at (closes.1.is_direction i)))
+    λ i. past_test max last (closes.0 i) (unbounded_past checker_of_128_bits sheet (Row name) (row_of sheet.problem name) (closes.0 i) (value_at (closes.1.is_point i)) (value_at (closes.1.is_direction i)))
 closing_tested sheet (Set name) max last (closings.Unbounded t pair) (UnboundedPast printed lines) closes = refl
 closing_tested sheet (Row name) max last (closings.Infeasible t ray) (InfeasiblePast printed lines) closes = refl
 closing_tested sheet (Set name) max last (closings.Infeasible t ray) (InfeasiblePast printed lines) closes =
-    λ i. past_test max last (closes.0 i) (infeasible_past sheet (Set name) (shifts_of sheet.problem name) (closes.0 i) (value_at (closes.1 i)))
+    λ i. past_test max last (closes.0 i) (infeasible_past checker_of_128_bits sheet (Set name) (shifts_of sheet.problem name) (closes.0 i) (value_at (closes.1 i)))
 closing_tested sheet changing max last closing end closes = absurd closes

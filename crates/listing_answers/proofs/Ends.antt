@@ -15,6 +15,7 @@ use Rattle.simplex_definitions.specs.Chain.{along}
 use Rattle.listing_definitions.specs.Report.{ParametricInterval}
 use Rattle.question_definitions.specs.Answers.{Sheet, Changing}
 use Rattle.answer_definitions.specs.ParametricRuns.{family_of}
+use Rattle.walk_definitions.specs.Checkers.{checker_of_128_bits}
 use Rattle.walk_definitions.specs.Tests.{along_steps, keeps_limit, keeping_steps, part_test, interval_test}
 use Rattle.listing_answers.specs.declared.intervals.Columns.{Columns}
 use Rattle.listing_answers.specs.declared.intervals.IntervalEnd.{IntervalEnd}
@@ -70,11 +71,11 @@ best_given sheet changing theta columns counted program a b point prices is is_p
 
 -- the test of an interval that was read
 pub part_tested : (sheet : Sheet) (changing : Changing) (is_first : Bool) (max from : ℚ) (part : Part) (interval : ParametricInterval) → IsPart sheet from part interval →
-    part_verdict sheet changing from part.to part.columns is_first max ≡ interval_test sheet changing is_first max interval
+    part_verdict sheet changing from part.to part.columns is_first max ≡ interval_test checker_of_128_bits sheet changing is_first max interval
 part_tested sheet changing is_first max from part interval shows =
     let begins = sym shows.begins in
     let ends = sym shows.ends in
-    λ i. part_test sheet changing (begins i) (ends i) (shows.columns.value i) (shows.columns.value_rate i) (shows.columns.price i) (shows.columns.price_rate i) is_first max
+    λ i. part_test checker_of_128_bits sheet changing (begins i) (ends i) (shows.columns.value i) (shows.columns.value_rate i) (shows.columns.price i) (shows.columns.price_rate i) is_first max
 
 -- ---- at both ends
 

@@ -5,6 +5,7 @@ use Rattle.std.proofs.lemmas.Result.{err_from_is_err_and}
 use Rattle.exact_values.specs.Rational.{ℚ}
 use Rattle.listing_definitions.specs.declared.Mark.{Mark}
 use Rattle.question_definitions.specs.Answers.{Sheet, ParametricRun, ParametricRunEnd, Chained}
+use Rattle.walk_definitions.specs.Checkers.{checker_of_128_bits}
 use Rattle.walk_definitions.specs.Words.{left_after}
 use Rattle.walk_definitions.specs.Reading.{Judged, judged_map, Run, run_in, parametric_run_head, opening_in, parametric_run_in}
 use Rattle.listing_answers.specs.declared.answer.ParametricRunAnswer.{ParametricRunAnswer}
@@ -22,29 +23,29 @@ taken_stop {A} {X} Shows judged new result stop h handed =
 
 module _ (sheet : Sheet) (parametric_run : ParametricRun) (old : List ℕ) where
   abbrev whole : Judged ParametricRunEnd
-  whole = parametric_run_in sheet parametric_run old (left_after (parametric_run_head parametric_run) old)
+  whole = parametric_run_in checker_of_128_bits sheet parametric_run old (left_after (parametric_run_head parametric_run) old)
 
   module _ (missing : left_after (parametric_run_head parametric_run) old ≡ None) where
-    opens : whole ≡ opening_in sheet parametric_run old
-    opens = ap (parametric_run_in sheet parametric_run old) missing
+    opens : whole ≡ opening_in checker_of_128_bits sheet parametric_run old
+    opens = ap (parametric_run_in checker_of_128_bits sheet parametric_run old) missing
 
-    pub parametric_run_opened : (mark : Mark) (new : List ℕ) → Taken IsOpened (opening_in sheet parametric_run old) new (Ok mark) → Taken IsParametricRunAnswer whole new (Ok (Opened mark))
+    pub parametric_run_opened : (mark : Mark) (new : List ℕ) → Taken IsOpened (opening_in checker_of_128_bits sheet parametric_run old) new (Ok mark) → Taken IsParametricRunAnswer whole new (Ok (Opened mark))
     parametric_run_opened mark new taken = record { answer = taken.answer; is_right = opens ∙ taken.is_right; shows = taken.shows }
 
-    opening_stops : (stop : Stop) (new : List ℕ) → Taken IsOpened (opening_in sheet parametric_run old) new (Err stop) → Taken IsParametricRunAnswer whole new (Err stop)
+    opening_stops : (stop : Stop) (new : List ℕ) → Taken IsOpened (opening_in checker_of_128_bits sheet parametric_run old) new (Err stop) → Taken IsParametricRunAnswer whole new (Err stop)
     opening_stops stops.Wrong new wrong = opens ∙ wrong
     opening_stops stops.Unchecked new refused = opens ∙ refused
     opening_stops stops.NoMemory new none = tt
 
-    pub parametric_run_opening_stops : (stop : Stop) (new : List ℕ) (result : Result ParametricRunAnswer Stop) → Taken IsOpened (opening_in sheet parametric_run old) new (Err stop) → IsErrAnd result (λ y. y ≡ stop) → Taken IsParametricRunAnswer whole new result
+    pub parametric_run_opening_stops : (stop : Stop) (new : List ℕ) (result : Result ParametricRunAnswer Stop) → Taken IsOpened (opening_in checker_of_128_bits sheet parametric_run old) new (Err stop) → IsErrAnd result (λ y. y ≡ stop) → Taken IsParametricRunAnswer whole new result
     parametric_run_opening_stops stop new result h handed = taken_stop IsParametricRunAnswer whole new result stop (opening_stops stop new h) handed
 
   module _ (after : List ℕ) (stands : left_after (parametric_run_head parametric_run) old ≡ Some after) where
     abbrev run : Judged Run
-    run = run_in sheet parametric_run after 1 parametric_run.from after
+    run = run_in checker_of_128_bits sheet parametric_run after 1 parametric_run.from after
 
     goes : whole ≡ judged_map (λ run. Chained [] run.0 run.1) run
-    goes = ap (parametric_run_in sheet parametric_run old) stands
+    goes = ap (parametric_run_in checker_of_128_bits sheet parametric_run old) stands
 
     pub parametric_ran : (last : ℚ) (new : List ℕ) → Taken EndsRun run new (Ok last) → Taken IsParametricRunAnswer whole new (Ok (RanThrough last))
     parametric_ran last new taken = record {

@@ -8,6 +8,7 @@ use Rattle.check_definitions.specs.Steps.{verdict_of, in_turn, sum_steps, sum_of
 use Rattle.check_definitions.specs.Checks.{ray_columns, multiplied, limit_product, ray_limits}
 use Rattle.question_definitions.specs.Answers.{Sheet, Changing}
 use Rattle.answer_definitions.specs.ParametricRuns.{family_of}
+use Rattle.walk_definitions.specs.Checkers.{checker_of_128_bits}
 use Rattle.walk_definitions.specs.Tests.{asked, making_steps, shift_products, infeasible_past}
 use Rattle.listing_answers.specs.declared.answer.Stop.{Stop}
 use Rattle.listing_answers.specs.Passing.{Judges}
@@ -35,5 +36,5 @@ module _ (sheet : Sheet) (changing : Changing) (shift : List ℚ) (t : ℚ) (w :
     abbrev pub past_at : Verdict
     past_at = in_turn (making ∷ combined ∷ met ∷ low ∷ falling ∷ fallen ∷ [])
 
-    pub past_is : (result : Result (Unit {0}) Stop) → q ≡ family_of sheet changing t → Judges past_at result → Judges (infeasible_past sheet changing shift t w) result
+    pub past_is : (result : Result (Unit {0}) Stop) → q ≡ family_of sheet changing t → Judges past_at result → Judges (infeasible_past checker_of_128_bits sheet changing shift t w) result
     past_is result is h = subst (λ (p : LinearProgram). Judges (in_turn (making ∷ verdict_of (ray_columns p w) ∷ verdict_of (ray_limits p w zero_ℚ (multiplied p w)) ∷ asked (le_ℚ (sum_of zero_ℚ (map (limit_product p w) (multiplied p w))) zero_ℚ) ∷ falling ∷ fallen ∷ [])) result) is h

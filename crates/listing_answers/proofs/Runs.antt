@@ -8,7 +8,8 @@ use Rattle.exact_values.specs.Rational.{ℚ}
 use Rattle.listing_definitions.specs.Report.{ParametricInterval, ChainEnd}
 use Rattle.question_definitions.specs.Answers.{Sheet, ParametricRun, parametric_solver}
 use Rattle.run_definitions.specs.Verbs.{last_value}
-use Rattle.walk_definitions.specs.Words.{left_after}
+use Rattle.walk_definitions.specs.Checkers.{checker_of_128_bits}
+use Rattle.walk_definitions.specs.Words.{left_after, fraction_in}
 use Rattle.walk_definitions.specs.Tests.{interval_test, close_test}
 use Rattle.walk_definitions.specs.Reading.{Judged, Right, Fails, Refuses, tested, judged_map, Run, interval_in, close_in, onward, part_in, run_in}
 use Rattle.listing_answers.specs.declared.answer.Stop.{Stop}
@@ -42,10 +43,10 @@ module _ (sheet : Sheet) (parametric_run : ParametricRun) where
   -- some intervals were read
   pub record IsRunSoFar (whole : Judged Run) (room : List ℕ) (number : ℕ) (last : ℚ) (rest : List ℕ) : Type 0 where
     pub intervals : List ParametricInterval
-    pub decides : whole ≡ after intervals (run_in sheet parametric_run room number last rest)
+    pub decides : whole ≡ after intervals (run_in checker_of_128_bits sheet parametric_run room number last rest)
 
-  pub run_begins : (room : List ℕ) (number : ℕ) (last : ℚ) (rest : List ℕ) → IsRunSoFar (run_in sheet parametric_run room number last rest) room number last rest
-  run_begins room number last rest = record { intervals = []; decides = sym (after_none (run_in sheet parametric_run room number last rest)) }
+  pub run_begins : (room : List ℕ) (number : ℕ) (last : ℚ) (rest : List ℕ) → IsRunSoFar (run_in checker_of_128_bits sheet parametric_run room number last rest) room number last rest
+  run_begins room number last rest = record { intervals = []; decides = sym (after_none (run_in checker_of_128_bits sheet parametric_run room number last rest)) }
 
   -- each interval takes a byte of room
   pub room_left : (whole : Judged Run) (bytes : List ℕ) (i : ℕ) (last : ℚ) (rest : List ℕ) → i < length bytes → IsRunSoFar whole (drop i bytes) (i + 1) last rest → IsRunSoFar whole (get_or bytes i 0 ∷ drop (i + 1) bytes) (i + 1) last rest
@@ -53,29 +54,29 @@ module _ (sheet : Sheet) (parametric_run : ParametricRun) where
       subst (λ (room : List ℕ). IsRunSoFar whole room (i + 1) last rest) (drop-cons bytes i 0 below ∙ ap (λ j. get_or bytes i 0 ∷ drop j bytes) (sym (add-one i))) so_far
 
   abbrev part_judged : ℕ → ℚ → List ℕ → Judged ParametricInterval
-  part_judged number last rest = tested (interval_test sheet parametric_run.changing (nat_eq number 1) parametric_run.to) (interval_in sheet number last rest)
+  part_judged number last rest = tested (interval_test checker_of_128_bits sheet parametric_run.changing (nat_eq number 1) parametric_run.to) (interval_in (fraction_in checker_of_128_bits) sheet number last rest)
 
   abbrev close_judged : ℚ → List ℕ → Judged ChainEnd
-  close_judged last rest = tested (close_test sheet parametric_run.changing parametric_run.to last) (close_in sheet (parametric_solver parametric_run.changing) rest)
+  close_judged last rest = tested (close_test checker_of_128_bits sheet parametric_run.changing parametric_run.to last) (close_in (fraction_in checker_of_128_bits) sheet (parametric_solver parametric_run.changing) rest)
 
   module _ (whole : Judged Run) (byte : ℕ) (room : List ℕ) (number : ℕ) (last : ℚ) (rest : List ℕ) (so_far : IsRunSoFar whole (byte ∷ room) number last rest) where
     -- an interval stands here
     module _ (left : List ℕ) (stands : left_after (codes "INTERVAL ") rest ≡ Some left) where
-      here : whole ≡ after so_far.intervals (onward sheet parametric_run (run_in sheet parametric_run room (number + 1)) (part_judged number last rest))
-      here = so_far.decides ∙ ap (λ o. after so_far.intervals (part_in sheet parametric_run (run_in sheet parametric_run room (number + 1)) number last rest o)) stands
+      here : whole ≡ after so_far.intervals (onward (run_in checker_of_128_bits sheet parametric_run room (number + 1)) (part_judged number last rest))
+      here = so_far.decides ∙ ap (λ o. after so_far.intervals (part_in checker_of_128_bits sheet parametric_run (run_in checker_of_128_bits sheet parametric_run room (number + 1)) number last rest o)) stands
 
       pub run_goes_on : (to : ℚ) (new : List ℕ) → Taken EndsPart (part_judged number last rest) new (Ok to) → IsRunSoFar whole room (number + 1) to new
       run_goes_on to new taken = record {
         intervals = so_far.intervals ++ taken.answer ∷ [];
         decides =
-            here ∙ ap (λ j. after so_far.intervals (onward sheet parametric_run (run_in sheet parametric_run room (number + 1)) j)) taken.is_right
-            ∙ after_more so_far.intervals taken.answer (run_in sheet parametric_run room (number + 1) taken.answer.to new)
-            ∙ ap (λ t. after (so_far.intervals ++ taken.answer ∷ []) (run_in sheet parametric_run room (number + 1) t new)) (sym taken.shows);
+            here ∙ ap (λ j. after so_far.intervals (onward (run_in checker_of_128_bits sheet parametric_run room (number + 1)) j)) taken.is_right
+            ∙ after_more so_far.intervals taken.answer (run_in checker_of_128_bits sheet parametric_run room (number + 1) taken.answer.to new)
+            ∙ ap (λ t. after (so_far.intervals ++ taken.answer ∷ []) (run_in checker_of_128_bits sheet parametric_run room (number + 1) t new)) (sym taken.shows);
       }
 
       stops_by : (stop : Stop) (new : List ℕ) → Taken EndsPart (part_judged number last rest) new (Err stop) → Taken EndsRun whole new (Err stop)
-      stops_by stops.Wrong new wrong = here ∙ ap (λ j. after so_far.intervals (onward sheet parametric_run (run_in sheet parametric_run room (number + 1)) j)) wrong
-      stops_by stops.Unchecked new refused = here ∙ ap (λ j. after so_far.intervals (onward sheet parametric_run (run_in sheet parametric_run room (number + 1)) j)) refused
+      stops_by stops.Wrong new wrong = here ∙ ap (λ j. after so_far.intervals (onward (run_in checker_of_128_bits sheet parametric_run room (number + 1)) j)) wrong
+      stops_by stops.Unchecked new refused = here ∙ ap (λ j. after so_far.intervals (onward (run_in checker_of_128_bits sheet parametric_run room (number + 1)) j)) refused
       stops_by stops.NoMemory new none = tt
 
       pub run_stops : (stop : Stop) (new : List ℕ) (result : Result ℚ Stop) → Taken EndsPart (part_judged number last rest) new (Err stop) → IsErrAnd result (λ y. y ≡ stop) → Taken EndsRun whole new result
@@ -86,7 +87,7 @@ module _ (sheet : Sheet) (parametric_run : ParametricRun) where
     -- none stands here
     module _ (missing : left_after (codes "INTERVAL ") rest ≡ None) where
       over : whole ≡ after so_far.intervals (if nat_eq number 1 then Fails else judged_map (λ end. ([], end)) (close_judged last rest))
-      over = so_far.decides ∙ ap (λ o. after so_far.intervals (part_in sheet parametric_run (run_in sheet parametric_run room (number + 1)) number last rest o)) missing
+      over = so_far.decides ∙ ap (λ o. after so_far.intervals (part_in checker_of_128_bits sheet parametric_run (run_in checker_of_128_bits sheet parametric_run room (number + 1)) number last rest o)) missing
 
       pub run_fails : number ≡ 1 → whole ≡ Fails
       run_fails first =
@@ -110,4 +111,4 @@ module _ (sheet : Sheet) (parametric_run : ParametricRun) where
 
   -- there is no more room
   pub run_over : (whole : Judged Run) (room : List ℕ) (number : ℕ) (last : ℚ) (rest : List ℕ) → IsRunSoFar whole room number last rest → room ≡ [] → whole ≡ Fails
-  run_over whole room number last rest so_far none = so_far.decides ∙ ap (λ r. after so_far.intervals (run_in sheet parametric_run r number last rest)) none
+  run_over whole room number last rest so_far none = so_far.decides ∙ ap (λ r. after so_far.intervals (run_in checker_of_128_bits sheet parametric_run r number last rest)) none

@@ -7,7 +7,8 @@ use Rattle.listing_definitions.specs.declared.Mark.{Mark}
 use Rattle.listing_definitions.specs.Report.{Line, SolutionLines}
 use Rattle.question_definitions.specs.Answers.{Sheet}
 use Rattle.answer_definitions.specs.Lines.{row_numbers, column_numbers}
-use Rattle.walk_definitions.specs.Words.{Parsed, left_after, with_text}
+use Rattle.walk_definitions.specs.Checkers.{checker_of_128_bits}
+use Rattle.walk_definitions.specs.Words.{Parsed, left_after, with_text, fraction_in}
 use Rattle.walk_definitions.specs.Tables.{table_in, number_at}
 use Rattle.walk_definitions.specs.Tests.{solution_test}
 use Rattle.walk_definitions.specs.Reading.{row_slots, column_slots, solution_in}
@@ -18,7 +19,7 @@ use Rattle.listing_answers.specs.Solutions.{rows_head, columns_head, AreLines, I
 use Rattle.listing_answers.proofs.Tables.{column_is}
 
 abbrev with_columns : (sheet : Sheet) → List Line × List ℕ → Parsed SolutionLines
-with_columns sheet got = option_map (λ more. (record { rows = got.0; columns = more.0 }, more.1)) (with_text columns_head (table_in sheet (column_slots sheet) (column_numbers sheet.lp)) got.1)
+with_columns sheet got = option_map (λ more. (record { rows = got.0; columns = more.0 }, more.1)) (with_text columns_head (table_in (fraction_in checker_of_128_bits) sheet (column_slots sheet) (column_numbers sheet.lp)) got.1)
 
 pub solution_read : (sheet : Sheet) (mark : Mark) (old first middle second new : List ℕ) (rows columns : List Line) → left_after (rows_head mark) old ≡ Some first → table_in sheet (row_slots sheet) (row_numbers sheet.lp) first ≡ Some (rows, middle) →
     left_after columns_head middle ≡ Some second → table_in sheet (column_slots sheet) (column_numbers sheet.lp) second ≡ Some (columns, new) → solution_in sheet mark old ≡ Some (record { rows = rows; columns = columns }, new)
@@ -49,5 +50,5 @@ module _ (sheet : Sheet) (read : Lines) (lines : SolutionLines) (printed : Print
   }
 
 pub printed_tested : (sheet : Sheet) (mark : Mark) (printed : Printed) (lines : SolutionLines) → Shows printed lines →
-    printed_test sheet mark (value_at printed.point.items) (value_at printed.prices.items) (value_at printed.slacks.items) ≡ solution_test sheet mark lines
+    printed_test sheet mark (value_at printed.point.items) (value_at printed.prices.items) (value_at printed.slacks.items) ≡ solution_test checker_of_128_bits sheet mark lines
 printed_tested sheet mark printed lines shows = λ i. printed_test sheet mark (value_at (shows.point i)) (value_at (shows.prices i)) (value_at (shows.slacks i))

@@ -21,9 +21,10 @@ use Rattle.listing_definitions.specs.declared.Solver.{Solver}
 use Rattle.listing_definitions.specs.declared.Solver.TheVariants.{Primal, Dual}
 use Rattle.listing_definitions.specs.Report.{Line, PathVerdict, OptimalAt, CrossedAt, InfeasibleBy, UnboundedBy}
 use Rattle.question_definitions.specs.Answers.{Sheet}
-use Rattle.walk_definitions.specs.Words.{Parsed}
+use Rattle.walk_definitions.specs.Words.{Parsed, fraction_in}
 use Rattle.walk_definitions.specs.Tables.{pair_slots, table_in, column_of, multipliers}
-use Rattle.walk_definitions.specs.Tests.{asked, says_checked}
+use Rattle.walk_definitions.specs.Checkers.{says_checked, checker_of_128_bits}
+use Rattle.walk_definitions.specs.Tests.{asked}
 use Rattle.walk_definitions.specs.Reading.{Claim, optimal_in, infeasible_in, unbounded_in}
 use Rattle.listing_answers.specs.declared.claims.Pair.{Pair}
 use Rattle.listing_answers.specs.declared.claims.Claim as declared
@@ -46,8 +47,8 @@ pub record IsPair (sheet : Sheet) (pair : Pair) (lines : List Line) : Type 0 whe
   pub fits : IsPairOf sheet.lp pair
 
 abbrev pub IsPairRead : Sheet → List ℕ → List ℕ → Option Pair → Type 0
-IsPairRead sheet old new None = table_in sheet pair_slots (variables sheet.lp.matrix) old ≡ None
-IsPairRead sheet old new (Some pair) = (lines : List Line) × (table_in sheet pair_slots (variables sheet.lp.matrix) old ≡ Some (lines, new)) × IsPair sheet pair lines
+IsPairRead sheet old new None = table_in (fraction_in checker_of_128_bits) sheet pair_slots (variables sheet.lp.matrix) old ≡ None
+IsPairRead sheet old new (Some pair) = (lines : List Line) × (table_in (fraction_in checker_of_128_bits) sheet pair_slots (variables sheet.lp.matrix) old ≡ Some (lines, new)) × IsPair sheet pair lines
 
 abbrev pub Says : Sheet → declared.Claim → PathVerdict → Type 0
 Says sheet (claims.Optimal objective) (OptimalAt steps printed) = objective ≡ printed
@@ -78,14 +79,14 @@ Tried sheet claims_in old new (Some stated) = IsFound (IsStated sheet) (claims_i
 module _ (sheet : Sheet) where
   -- that there is a best point, where the verb may find one
   abbrev pub optimum_in : Solver → List ℕ → Parsed Claim
-  optimum_in Primal rest = optimal_in sheet rest
-  optimum_in Dual rest = optimal_in sheet rest
+  optimum_in Primal rest = optimal_in (fraction_in checker_of_128_bits) sheet rest
+  optimum_in Dual rest = optimal_in (fraction_in checker_of_128_bits) sheet rest
   optimum_in solver rest = None
 
   -- that no point is feasible by a ray, or that there is no best point, where the verb may find that
   abbrev pub shown_in : Solver → List ℕ → Parsed Claim
-  shown_in Dual rest = infeasible_in sheet rest
-  shown_in solver rest = option_or (infeasible_in sheet rest) (unbounded_in sheet rest)
+  shown_in Dual rest = infeasible_in (fraction_in checker_of_128_bits) sheet rest
+  shown_in solver rest = option_or (infeasible_in (fraction_in checker_of_128_bits) sheet rest) (unbounded_in (fraction_in checker_of_128_bits) sheet rest)
 
 -- ---- the test of a claim
 

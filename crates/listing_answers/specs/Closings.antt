@@ -14,6 +14,7 @@ use Rattle.check_definitions.specs.Steps.{verdict_of, in_turn, sum_steps}
 use Rattle.listing_definitions.specs.Report.{ChainEnd, EndsAt, UnboundedPast, InfeasiblePast}
 use Rattle.question_definitions.specs.Answers.{Sheet, Changing, Row, Set}
 use Rattle.answer_definitions.specs.ParametricRuns.{row_of, shifts_of}
+use Rattle.walk_definitions.specs.Checkers.{checker_of_128_bits}
 use Rattle.walk_definitions.specs.Words.{Parsed, with_text, with_word, fraction_in}
 use Rattle.walk_definitions.specs.Tables.{pair_slots, table_in, ray_in, multipliers}
 use Rattle.walk_definitions.specs.Tests.{asked, past_test, unbounded_past, infeasible_past}
@@ -25,7 +26,7 @@ use Rattle.listing_answers.specs.Claims.{IsPair, IsPairOf}
 
 -- whatever is read after it
 abbrev pub value_line_in : List ℕ → (ℚ → List ℕ → Parsed ChainEnd) → List ℕ → Parsed ChainEnd
-value_line_in text next = with_text text (with_word fraction_in (λ t. with_text (codes "\n") (λ after. next t after)))
+value_line_in text next = with_text text (with_word (fraction_in checker_of_128_bits) (λ t. with_text (codes "\n") (λ after. next t after)))
 
 abbrev pub IsValueRead : List ℕ → List ℕ → List ℕ → Option ℚ → Type 0
 IsValueRead text old new None = (next : ℚ → List ℕ → Parsed ChainEnd) → value_line_in text next old ≡ None
@@ -40,10 +41,10 @@ IsEndRead old new (Some t) = end_in old ≡ Some (EndsAt t, new)
 
 module _ (sheet : Sheet) where
   abbrev pub unbounded_in : List ℕ → Parsed ChainEnd
-  unbounded_in = value_line_in (codes " UNBOUNDED PAST ") (λ t after. option_map (λ got. (UnboundedPast t got.0, got.1)) (table_in sheet pair_slots (variables sheet.lp.matrix) after))
+  unbounded_in = value_line_in (codes " UNBOUNDED PAST ") (λ t after. option_map (λ got. (UnboundedPast t got.0, got.1)) (table_in (fraction_in checker_of_128_bits) sheet pair_slots (variables sheet.lp.matrix) after))
 
   abbrev pub infeasible_in : List ℕ → Parsed ChainEnd
-  infeasible_in = value_line_in (codes " INFEASIBLE PAST ") (λ t after. option_map (λ got. (InfeasiblePast t got.0, got.1)) (ray_in sheet (variables sheet.lp.matrix) after))
+  infeasible_in = value_line_in (codes " INFEASIBLE PAST ") (λ t after. option_map (λ got. (InfeasiblePast t got.0, got.1)) (ray_in (fraction_in checker_of_128_bits) sheet (variables sheet.lp.matrix) after))
 
   -- a run of the objective may go past its end unbounded, and one of the right-hand side infeasible
   abbrev pub past_in : Changing → List ℕ → Parsed ChainEnd
@@ -74,12 +75,12 @@ ClosingFits p (closings.Infeasible t ray) = length ray.items ≡ size p.matrix
 
 -- a run of the objective may close unbounded, and one of the right-hand side infeasible
 abbrev pub unbounded_test : Sheet → Changing → ℚ → ℚ → ℚ → List ℚ → List ℚ → Verdict
-unbounded_test sheet (Row name) max last t z d = past_test max last t (unbounded_past sheet (Row name) (row_of sheet.problem name) t (value_at z) (value_at d))
+unbounded_test sheet (Row name) max last t z d = past_test max last t (unbounded_past checker_of_128_bits sheet (Row name) (row_of sheet.problem name) t (value_at z) (value_at d))
 unbounded_test sheet (Set name) max last t z d = Failed 6 0
 
 abbrev pub infeasible_test : Sheet → Changing → ℚ → ℚ → ℚ → List ℚ → Verdict
 infeasible_test sheet (Row name) max last t w = Failed 6 0
-infeasible_test sheet (Set name) max last t w = past_test max last t (infeasible_past sheet (Set name) (shifts_of sheet.problem name) t (value_at w))
+infeasible_test sheet (Set name) max last t w = past_test max last t (infeasible_past checker_of_128_bits sheet (Set name) (shifts_of sheet.problem name) t (value_at w))
 
 abbrev pub closing_test : Sheet → Changing → ℚ → ℚ → declared.Closing → Verdict
 closing_test sheet changing max last (closings.At t) = in_turn (asked (eq_ℚ t last) ∷ asked (eq_ℚ t max) ∷ [])

@@ -16,6 +16,7 @@ use Rattle.listing_definitions.specs.Numbers.{digits, rational_text}
 use Rattle.listing_definitions.specs.Report.{Line, ParametricInterval}
 use Rattle.question_definitions.specs.Answers.{Sheet, Changing}
 use Rattle.answer_definitions.specs.ParametricRuns.{family_of}
+use Rattle.walk_definitions.specs.Checkers.{checker_of_128_bits}
 use Rattle.walk_definitions.specs.Words.{Parsed, with_text, with_word, fraction_in}
 use Rattle.walk_definitions.specs.Tables.{table_in, part_slots, column_of}
 use Rattle.walk_definitions.specs.Tests.{end_test, part_test, keeps_limit}
@@ -28,7 +29,7 @@ part_head number from = codes "INTERVAL " ++ (digits number ++ (codes " FROM " +
 
 -- whatever is read after it
 abbrev pub part_end_in : ℕ → ℚ → (ℚ → List ℕ → Parsed ParametricInterval) → List ℕ → Parsed ParametricInterval
-part_end_in number from next = with_text (part_head number from) (with_word fraction_in (λ to. with_text (codes "\n") (λ rest. next to rest)))
+part_end_in number from next = with_text (part_head number from) (with_word (fraction_in checker_of_128_bits) (λ to. with_text (codes "\n") (λ rest. next to rest)))
 
 abbrev pub IsPartEnd : ℕ → ℚ → List ℕ → List ℕ → Option ℚ → Type 0
 IsPartEnd number from old new None = (next : ℚ → List ℕ → Parsed ParametricInterval) → part_end_in number from next old ≡ None
@@ -49,8 +50,8 @@ pub record AreColumns (sheet : Sheet) (columns : Columns) (lines : List Line) : 
   pub counted : Counted sheet.lp columns
 
 abbrev pub AreColumnsRead : Sheet → List ℕ → List ℕ → Option Columns → Type 0
-AreColumnsRead sheet old new None = table_in sheet part_slots (variables sheet.lp.matrix) old ≡ None
-AreColumnsRead sheet old new (Some columns) = (lines : List Line) × (table_in sheet part_slots (variables sheet.lp.matrix) old ≡ Some (lines, new)) × AreColumns sheet columns lines
+AreColumnsRead sheet old new None = table_in (fraction_in checker_of_128_bits) sheet part_slots (variables sheet.lp.matrix) old ≡ None
+AreColumnsRead sheet old new (Some columns) = (lines : List Line) × (table_in (fraction_in checker_of_128_bits) sheet part_slots (variables sheet.lp.matrix) old ≡ Some (lines, new)) × AreColumns sheet columns lines
 
 pub record IsPart (sheet : Sheet) (from : ℚ) (part : Part) (interval : ParametricInterval) : Type 0 where
   pub begins : interval.from ≡ from
@@ -60,7 +61,7 @@ pub record IsPart (sheet : Sheet) (from : ℚ) (part : Part) (interval : Paramet
 -- ---- tests
 
 abbrev pub end_verdict : Sheet → Changing → ℚ → Columns → Verdict
-end_verdict sheet changing theta columns = end_test sheet changing theta columns.value.items columns.value_rate.items columns.price.items columns.price_rate.items
+end_verdict sheet changing theta columns = end_test checker_of_128_bits sheet changing theta columns.value.items columns.value_rate.items columns.price.items columns.price_rate.items
 
 pub record IsEnd (sheet : Sheet) (changing : Changing) (theta : ℚ) (columns : Columns) (end : IntervalEnd) : Type 0 where
   pub program : end.program ≡ family_of sheet changing theta
@@ -68,7 +69,7 @@ pub record IsEnd (sheet : Sheet) (changing : Changing) (theta : ℚ) (columns : 
   pub prices : end.prices.items ≡ map (along theta columns.price.items columns.price_rate.items) (variables sheet.lp.matrix)
 
 abbrev pub part_verdict : Sheet → Changing → ℚ → ℚ → Columns → Bool → ℚ → Verdict
-part_verdict sheet changing from to columns = part_test sheet changing from to columns.value.items columns.value_rate.items columns.price.items columns.price_rate.items
+part_verdict sheet changing from to columns = part_test checker_of_128_bits sheet changing from to columns.value.items columns.value_rate.items columns.price.items columns.price_rate.items
 
 -- ---- at both ends
 

@@ -14,6 +14,7 @@ use Rattle.listing_definitions.specs.declared.Mark.{Mark}
 use Rattle.listing_definitions.specs.Report.{Line, SolutionLines}
 use Rattle.listing_definitions.specs.Text.{mark_text}
 use Rattle.question_definitions.specs.Answers.{Sheet}
+use Rattle.walk_definitions.specs.Checkers.{checker_of_128_bits}
 use Rattle.walk_definitions.specs.Tables.{column_of}
 use Rattle.walk_definitions.specs.Tests.{slack_steps, best_test}
 use Rattle.listing_readers.specs.declared.tables.Numbers.{Numbers}
@@ -58,4 +59,4 @@ pub record Counted (p : LinearProgram) (printed : Printed) : Type 0 where
 -- the test of them
 abbrev pub printed_test : Sheet → Mark → Vector → Vector → Vector → Verdict
 printed_test sheet mark z y slack =
-    in_turn (verdict_of (equations sheet.lp 1 z) ∷ verdict_of (reduced_costs sheet.lp y) ∷ verdict_of (flat_map (slack_steps sheet z slack) (row_numbers sheet.lp)) ∷ best_test sheet mark z y ∷ [])
+    in_turn (verdict_of (equations sheet.lp 1 z) ∷ verdict_of (reduced_costs sheet.lp y) ∷ verdict_of (flat_map (slack_steps sheet z slack) (row_numbers sheet.lp)) ∷ best_test checker_of_128_bits sheet mark z y ∷ [])

@@ -8,7 +8,7 @@ use Rattle.listing_definitions.specs.declared.Mark.{Mark}
 use Rattle.listing_definitions.specs.Report.{PathVerdict, OptimalAt, CrossedAt, InfeasibleBy, UnboundedBy, Check}
 use Rattle.question_definitions.specs.Answers.{PathEnd, Reached, ParametricRunEnd, Opening, Chained}
 use Rattle.run_definitions.specs.Verbs.{mark_of, last_value}
-use Rattle.walk_definitions.specs.Tests.{says_checked}
+use Rattle.walk_definitions.specs.Checkers.{says_checked}
 use Rattle.walk_definitions.specs.Reading.{Judged, Right, Fails, Refuses}
 use Rattle.listing_answers.specs.declared.answer.Conclusion.{Conclusion}
 use Rattle.listing_answers.specs.declared.answer.Conclusion.TheVariants.{Optimal, Infeasible, Unbounded}

@@ -11,7 +11,7 @@ use Rattle.card_definitions.specs.Words.{named}
 use Rattle.listing_definitions.specs.Report.{Check}
 use Rattle.walk_definitions.specs.Words.{Parsed, with_text, with_word, fraction_in, count_in, max_count}
 use Rattle.walk_definitions.specs.Forms.{all_operations}
-use Rattle.walk_definitions.specs.Tests.{says_checked}
+use Rattle.walk_definitions.specs.Checkers.{says_checked, checker_of_128_bits}
 use Rattle.walk_definitions.specs.Reading.{with_check, Claim}
 use Rattle.listing_answers.specs.declared.words.Head.{Head}
 
@@ -68,7 +68,7 @@ IsRayHeadRead old new (Some is_checked) = IsRayHead old new is_checked
 
 -- a text, a number of steps, an objective, and the word of a check
 abbrev pub head_in : List ℕ → (ℕ → ℚ → Check → List ℕ → Parsed Claim) → List ℕ → Parsed Claim
-head_in text next = with_text text (with_word (count_in max_count) (λ steps. with_text (codes " OBJECTIVE ") (with_word fraction_in (λ objective.
+head_in text next = with_text text (with_word (count_in max_count) (λ steps. with_text (codes " OBJECTIVE ") (with_word (fraction_in checker_of_128_bits) (λ objective.
     with_text (codes " ") (with_check (λ check rest. next steps objective check rest))))))
 
 pub record IsHead (text old new : List ℕ) (head : Head) : Type 0 where

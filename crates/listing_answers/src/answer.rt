@@ -4,6 +4,7 @@ ghost use Rattle.lp_definitions.specs.LinearProgram.{IsLinearProgram};
 ghost use Rattle.listing_tables.specs.Sheets.{IsSheet};
 ghost use Rattle.question_definitions.specs.Answers.{OfPath, OfSolution, OfParametricRun};
 ghost use Rattle.parametric_request.specs.Asking.{Serves, parametric_run_of};
+ghost use Rattle.walk_definitions.specs.Checkers.{checker_of_128_bits};
 ghost use Rattle.walk_definitions.specs.Tests.{point_of};
 ghost use Rattle.walk_definitions.specs.Reading.{judged};
 ghost use Rattle.listing_readers.specs.Read.{sheet_view};
@@ -102,7 +103,7 @@ pub fn answer_to_path(
     requires sheet { IsSheet sheet }
     requires lawful { IsLinearProgram sheet.lp.now }
     requires no_change { sheet.lp.now.change ≡ None }
-    ensures { (limit : Option ℕ) → Taken IsConclusion (judged (OfPath solver limit) (sheet_view sheet.entry) cursor.old)
+    ensures { (limit : Option ℕ) → Taken IsConclusion (judged checker_of_128_bits (OfPath solver limit) (sheet_view sheet.entry) cursor.old)
         cursor.new result }
 {
     let Some(stated) = read_verdict(alloc, cursor, sheet, solver)? else {
@@ -123,7 +124,7 @@ pub fn answer_to_solution(
     requires lawful { IsLinearProgram sheet.lp.now }
     requires no_change { sheet.lp.now.change ≡ None }
     ensures { Taken (λ objective lines. objective ≡ point_of (sheet_view sheet.entry) lines sheet.entry.lp.now.objective)
-        (judged (OfSolution mark) (sheet_view sheet.entry) cursor.old) cursor.new result }
+        (judged checker_of_128_bits (OfSolution mark) (sheet_view sheet.entry) cursor.old) cursor.new result }
 {
     let Some(lines) = read_lines(alloc, cursor, sheet, mark)? else {
         return Err(Stop::Wrong);
@@ -144,7 +145,7 @@ pub fn answer_to_parametric_run(
     requires lawful { IsLinearProgram sheet.lp.now }
     requires no_change { sheet.lp.now.change ≡ None }
     requires serves { Serves sheet.problem.now sheet.lp.now request.now }
-    ensures { (limit : ℕ) → Taken IsParametricRunAnswer (judged (OfParametricRun (parametric_run_of limit request.now)) (sheet_view sheet.entry) cursor.old)
+    ensures { (limit : ℕ) → Taken IsParametricRunAnswer (judged checker_of_128_bits (OfParametricRun (parametric_run_of limit request.now)) (sheet_view sheet.entry) cursor.old)
         cursor.new result }
 {
     let mut ahead = Cursor::new(cursor.left());

@@ -3,7 +3,8 @@ ghost use Rattle.std.specs.Prelude.{◌≡◌, ◌++◌, IfOk, codes};
 ghost use Rattle.std.specs.Option.{option_or};
 ghost use Rattle.listing_definitions.specs.Text.{solver_text};
 ghost use Rattle.listing_tables.specs.Sheets.{IsSheet};
-ghost use Rattle.walk_definitions.specs.Words.{left_after};
+ghost use Rattle.walk_definitions.specs.Checkers.{checker_of_128_bits};
+ghost use Rattle.walk_definitions.specs.Words.{left_after, fraction_in};
 ghost use Rattle.walk_definitions.specs.Reading.{optimal_in, crossed_in, infeasible_in, unbounded_in, claim_in, verdict_in};
 ghost use Rattle.listing_readers.specs.Read.{taken, sheet_view};
 ghost use Rattle.listing_answers.specs.Words.{Found, IsRayHeadRead};
@@ -66,7 +67,7 @@ pub fn read_pair(
 
 // That there is a best point.
 fn optimal(cursor: &mut Cursor<'_>, sheet: Sheet<'_>) -> Option<Stated>
-    ensures { Found (IsStated (sheet_view sheet.entry)) (optimal_in (sheet_view sheet.entry) cursor.old) cursor.new result }
+    ensures { Found (IsStated (sheet_view sheet.entry)) (optimal_in (fraction_in checker_of_128_bits) (sheet_view sheet.entry) cursor.old) cursor.new result }
 {
     let head = read_head(cursor, b"OPTIMAL STEPS ")?;
     Some(Stated {
@@ -106,7 +107,7 @@ fn infeasible(
     sheet: Sheet<'_>,
 ) -> Result<Option<Stated>, NoMemory>
     requires { IsSheet sheet }
-    ensures { IfOk result (Found (IsStated (sheet_view sheet.entry)) (infeasible_in (sheet_view sheet.entry) cursor.old) cursor.new) }
+    ensures { IfOk result (Found (IsStated (sheet_view sheet.entry)) (infeasible_in (fraction_in checker_of_128_bits) (sheet_view sheet.entry) cursor.old) cursor.new) }
 {
     let Some(is_checked) = ray_head(cursor) else {
         return Ok(None);
@@ -127,7 +128,7 @@ fn unbounded(
     sheet: Sheet<'_>,
 ) -> Result<Option<Stated>, NoMemory>
     requires { IsSheet sheet }
-    ensures { IfOk result (Found (IsStated (sheet_view sheet.entry)) (unbounded_in (sheet_view sheet.entry) cursor.old) cursor.new) }
+    ensures { IfOk result (Found (IsStated (sheet_view sheet.entry)) (unbounded_in (fraction_in checker_of_128_bits) (sheet_view sheet.entry) cursor.old) cursor.new) }
 {
     let Some(head) = read_head(cursor, b"UNBOUNDED STEPS ") else {
         return Ok(None);
@@ -145,7 +146,7 @@ fn unbounded(
 
 // That there is a best point, if it stands here.
 fn try_optimal(cursor: &mut Cursor<'_>, sheet: Sheet<'_>) -> Option<Stated>
-    ensures { Tried (sheet_view sheet.entry) optimal_in cursor.old cursor.new result }
+    ensures { Tried (sheet_view sheet.entry) (optimal_in (fraction_in checker_of_128_bits)) cursor.old cursor.new result }
 {
     let mut ahead = Cursor::new(cursor.left());
     let stated = optimal(&mut ahead, sheet)?;
@@ -170,7 +171,7 @@ fn try_infeasible(
     sheet: Sheet<'_>,
 ) -> Result<Option<Stated>, NoMemory>
     requires { IsSheet sheet }
-    ensures { IfOk result (Tried (sheet_view sheet.entry) infeasible_in cursor.old cursor.new) }
+    ensures { IfOk result (Tried (sheet_view sheet.entry) (infeasible_in (fraction_in checker_of_128_bits)) cursor.old cursor.new) }
 {
     let mut ahead = Cursor::new(cursor.left());
     let Some(stated) = infeasible(alloc, &mut ahead, sheet)? else {
@@ -197,8 +198,8 @@ fn infeasible_or_unbounded(
     sheet: Sheet<'_>,
 ) -> Result<Option<Stated>, NoMemory>
     requires { IsSheet sheet }
-    ensures { IfOk result (Found (IsStated (sheet_view sheet.entry)) (option_or (infeasible_in (sheet_view sheet.entry) cursor.old)
-        (unbounded_in (sheet_view sheet.entry) cursor.old)) cursor.new) }
+    ensures { IfOk result (Found (IsStated (sheet_view sheet.entry)) (option_or (infeasible_in (fraction_in checker_of_128_bits) (sheet_view sheet.entry) cursor.old)
+        (unbounded_in (fraction_in checker_of_128_bits) (sheet_view sheet.entry) cursor.old)) cursor.new) }
 {
     if let Some(stated) = try_infeasible(alloc, cursor, sheet)? {
         return Ok(Some(stated));
@@ -232,7 +233,7 @@ fn read_claim(
     solver: Solver,
 ) -> Result<Option<Stated>, NoMemory>
     requires { IsSheet sheet }
-    ensures { IfOk result (Found (IsStated (sheet_view sheet.entry)) (claim_in (sheet_view sheet.entry) solver cursor.old) cursor.new) }
+    ensures { IfOk result (Found (IsStated (sheet_view sheet.entry)) (claim_in (fraction_in checker_of_128_bits) (sheet_view sheet.entry) solver cursor.old) cursor.new) }
 {
     if let Some(stated) = try_optimum(cursor, sheet, solver) {
         return Ok(Some(stated));
@@ -259,7 +260,7 @@ pub fn read_verdict(
     solver: Solver,
 ) -> Result<Option<Stated>, NoMemory>
     requires { IsSheet sheet }
-    ensures { IfOk result (Found (IsStated (sheet_view sheet.entry)) (verdict_in (sheet_view sheet.entry) solver cursor.old) cursor.new) }
+    ensures { IfOk result (Found (IsStated (sheet_view sheet.entry)) (verdict_in (fraction_in checker_of_128_bits) (sheet_view sheet.entry) solver cursor.old) cursor.new) }
 {
     if !take_solver(cursor, solver) {
         return Ok(None);

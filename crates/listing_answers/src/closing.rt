@@ -4,6 +4,8 @@ ghost use Rattle.listing_tables.specs.Sheets.{IsSheet};
 ghost use Rattle.question_definitions.specs.Answers.{parametric_solver};
 ghost use Rattle.parametric_request.specs.Asking.{changing_of};
 ghost use Rattle.run_definitions.specs.Verbs.{last_value};
+ghost use Rattle.walk_definitions.specs.Checkers.{checker_of_128_bits};
+ghost use Rattle.walk_definitions.specs.Words.{fraction_in};
 ghost use Rattle.walk_definitions.specs.Tests.{close_test};
 ghost use Rattle.walk_definitions.specs.Reading.{close_in, tested};
 ghost use Rattle.listing_readers.specs.Read.{sheet_view};
@@ -134,7 +136,7 @@ fn read_closing(
     request: &ParametricRequest,
 ) -> Result<Option<Closing>, NoMemory>
     requires { IsSheet sheet }
-    ensures { IfOk result (Found (Closes (sheet_view sheet.entry)) (close_in (sheet_view sheet.entry) (parametric_solver
+    ensures { IfOk result (Found (Closes (sheet_view sheet.entry)) (close_in (fraction_in checker_of_128_bits) (sheet_view sheet.entry) (parametric_solver
         (changing_of request.now.name request.now.change)) cursor.old) cursor.new) }
 {
     if !cursor.take(solver_word(solver_of(request))) {
@@ -154,7 +156,7 @@ pub fn read_close(
     requires sheet { IsSheet sheet }
     requires asked { IsAskedOf sheet request.now }
     ensures { let changing = changing_of request.now.name request.now.change in
-        Taken (λ end close. end ≡ last_value close) (tested (close_test (sheet_view sheet.entry) changing request.now.to last) (close_in
+        Taken (λ end close. end ≡ last_value close) (tested (close_test checker_of_128_bits (sheet_view sheet.entry) changing request.now.to last) (close_in (fraction_in checker_of_128_bits)
         (sheet_view sheet.entry) (parametric_solver changing) cursor.old)) cursor.new result }
 {
     let Some(closing) = read_closing(alloc, cursor, sheet, request)? else {

@@ -7,6 +7,7 @@ ghost use Rattle.check_definitions.specs.Steps.{comparison, verdict_of, in_turn,
 ghost use Rattle.check_definitions.specs.Checks.{limit_product, ray_limits, multiplied, multiplied_among};
 ghost use Rattle.question_definitions.specs.Answers.{Changing};
 ghost use Rattle.parametric_request.specs.Asking.{Serves, changing_of};
+ghost use Rattle.walk_definitions.specs.Checkers.{checker_of_128_bits};
 ghost use Rattle.walk_definitions.specs.Tests.{asked, past_test, unbounded_past, infeasible_past, shift_products};
 ghost use Rattle.listing_readers.specs.Read.{sheet_view};
 ghost use Rattle.listing_answers.specs.Asked.{IsAskedOf};
@@ -55,7 +56,7 @@ fn check_unbounded_past(
     requires row { IsRow sheet.lp.now.matrix row }
     requires point_places { length point.now ≡ size sheet.lp.now.matrix }
     requires direction_places { length direction.now ≡ size sheet.lp.now.matrix }
-    ensures { (changing : Changing) → Judges (unbounded_past (sheet_view sheet.entry) changing row value (value_at point.now)
+    ensures { (changing : Changing) → Judges (unbounded_past checker_of_128_bits (sheet_view sheet.entry) changing row value (value_at point.now)
         (value_at direction.now)) result }
 {
     judge(check_point(sheet.lp, point))?;
@@ -132,7 +133,7 @@ fn check_infeasible_past(
     requires asked { IsAskedOf sheet request.now }
     requires shifts { length shift.now ≡ sheet.lp.now.matrix.rows }
     requires places { length ray.now ≡ size sheet.lp.now.matrix }
-    ensures { Judges (infeasible_past (sheet_view sheet.entry) (changing_of request.now.name request.now.change) shift.now value
+    ensures { Judges (infeasible_past checker_of_128_bits (sheet_view sheet.entry) (changing_of request.now.name request.now.change) shift.now value
         (value_at ray.now)) result }
 {
     let program = program_at(alloc, sheet, request, value)?;
@@ -164,7 +165,7 @@ fn check_past_unbounded(
 ) -> Result<(), Stop>
     requires row { IsRow sheet.lp.now.matrix row }
     requires pair { IsPairOf sheet.lp.now pair.now }
-    ensures { (changing : Changing) → Judges (past_test max last value (unbounded_past (sheet_view sheet.entry) changing row value
+    ensures { (changing : Changing) → Judges (past_test max last value (unbounded_past checker_of_128_bits (sheet_view sheet.entry) changing row value
         (value_at pair.now.point.items) (value_at pair.now.direction.items))) result }
 {
     ask(is_equal(value, last))?;
@@ -210,7 +211,7 @@ fn check_past_infeasible(
     requires asked { IsAskedOf sheet request.now }
     requires shifts { length shift.now ≡ sheet.lp.now.matrix.rows }
     requires places { length past.now.ray.now ≡ size sheet.lp.now.matrix }
-    ensures { Judges (past_test request.now.to last past.now.value (infeasible_past (sheet_view sheet.entry)
+    ensures { Judges (past_test request.now.to last past.now.value (infeasible_past checker_of_128_bits (sheet_view sheet.entry)
         (changing_of request.now.name request.now.change) shift.now past.now.value (value_at past.now.ray.now))) result }
 {
     let value = past.value;

@@ -8,7 +8,8 @@ ghost use Rattle.check_definitions.specs.Checks.{is_at};
 ghost use Rattle.listing_definitions.specs.Numbers.{digits};
 ghost use Rattle.listing_tables.specs.Sheets.{IsSheet};
 ghost use Rattle.parametric_request.specs.Asking.{changing_of};
-ghost use Rattle.walk_definitions.specs.Words.{left_after};
+ghost use Rattle.walk_definitions.specs.Checkers.{checker_of_128_bits};
+ghost use Rattle.walk_definitions.specs.Words.{left_after, fraction_in};
 ghost use Rattle.walk_definitions.specs.Tests.{keeps_limit, interval_test};
 ghost use Rattle.walk_definitions.specs.Reading.{interval_in, tested};
 ghost use Rattle.listing_readers.specs.Read.{taken, sheet_view};
@@ -170,7 +171,7 @@ fn read_interval(
     from: Frac,
 ) -> Result<Option<Part>, NoMemory>
     requires { IsSheet sheet }
-    ensures { IfOk result (Found (IsPart (sheet_view sheet.entry) from) (interval_in
+    ensures { IfOk result (Found (IsPart (sheet_view sheet.entry) from) (interval_in (fraction_in checker_of_128_bits)
         (sheet_view sheet.entry) number from cursor.old) cursor.new) }
 {
     let Some(to) = part_end(cursor, number, from) else {
@@ -309,8 +310,8 @@ pub fn read_part(
     requires sheet { IsSheet sheet }
     requires asked { IsAskedOf sheet request.now }
     ensures { let changing = changing_of request.now.name request.now.change in
-        Taken (λ to interval. to ≡ interval.to) (tested (interval_test (sheet_view sheet.entry) changing
-        (nat_eq number 1) request.now.to) (interval_in (sheet_view sheet.entry) number last cursor.old)) cursor.new result }
+        Taken (λ to interval. to ≡ interval.to) (tested (interval_test checker_of_128_bits (sheet_view sheet.entry) changing
+        (nat_eq number 1) request.now.to) (interval_in (fraction_in checker_of_128_bits) (sheet_view sheet.entry) number last cursor.old)) cursor.new result }
 {
     let Some(part) = read_interval(alloc, cursor, sheet, number, last)? else {
         return Err(Stop::Wrong);

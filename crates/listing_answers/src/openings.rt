@@ -3,6 +3,7 @@ ghost use Rattle.std.specs.Prelude.{◌≡◌, ◌++◌, ℕ, codes};
 ghost use Rattle.listing_tables.specs.Sheets.{IsSheet};
 ghost use Rattle.question_definitions.specs.Answers.{parametric_solver};
 ghost use Rattle.parametric_request.specs.Asking.{changing_of, parametric_run_of};
+ghost use Rattle.walk_definitions.specs.Checkers.{checker_of_128_bits};
 ghost use Rattle.walk_definitions.specs.Words.{left_after};
 ghost use Rattle.walk_definitions.specs.Reading.{parametric_run_head, opening_in};
 ghost use Rattle.listing_readers.specs.Read.{taken, sheet_view};
@@ -115,7 +116,7 @@ pub fn read_opening(
 ) -> Result<Mark, Stop>
     requires sheet { IsSheet sheet }
     requires asked { IsAskedOf sheet request.now }
-    ensures { (limit : ℕ) → Taken IsOpened (opening_in (sheet_view sheet.entry)
+    ensures { (limit : ℕ) → Taken IsOpened (opening_in checker_of_128_bits (sheet_view sheet.entry)
         (parametric_run_of limit request.now) cursor.old) cursor.new result }
 {
     let Some(stated) = read_verdict(alloc, cursor, sheet, solver_of(request))? else {

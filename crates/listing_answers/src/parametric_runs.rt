@@ -2,6 +2,7 @@
 ghost use Rattle.std.specs.Prelude.{◌≡◌, ℕ, List, codes};
 ghost use Rattle.listing_tables.specs.Sheets.{IsSheet};
 ghost use Rattle.parametric_request.specs.Asking.{parametric_run_of};
+ghost use Rattle.walk_definitions.specs.Checkers.{checker_of_128_bits};
 ghost use Rattle.walk_definitions.specs.Words.{left_after};
 ghost use Rattle.walk_definitions.specs.Reading.{run_in};
 ghost use Rattle.run_definitions.specs.Verbs.{last_value};
@@ -35,7 +36,7 @@ pub fn read_run(
 ) -> Result<Frac, Stop>
     requires sheet { IsSheet sheet }
     requires asked { IsAskedOf sheet request.now }
-    ensures { (limit : ℕ) → Taken (λ last run. last ≡ last_value run.1) (run_in (sheet_view sheet.entry)
+    ensures { (limit : ℕ) → Taken (λ last run. last ≡ last_value run.1) (run_in checker_of_128_bits (sheet_view sheet.entry)
         (parametric_run_of limit request.now) cursor.old 1 request.now.from cursor.old) cursor.new result }
 {
     let room = cursor.rest().len();

@@ -4,7 +4,8 @@ ghost use Rattle.lp_definitions.specs.LinearProgram.{IsLinearProgram};
 ghost use Rattle.listing_definitions.specs.Text.{mark_text};
 ghost use Rattle.listing_tables.specs.Sheets.{IsSheet};
 ghost use Rattle.answer_definitions.specs.Lines.{row_numbers, column_numbers};
-ghost use Rattle.walk_definitions.specs.Words.{left_after};
+ghost use Rattle.walk_definitions.specs.Checkers.{checker_of_128_bits};
+ghost use Rattle.walk_definitions.specs.Words.{left_after, fraction_in};
 ghost use Rattle.walk_definitions.specs.Reading.{solution_in};
 ghost use Rattle.listing_readers.specs.Read.{taken, sheet_view};
 ghost use Rattle.listing_readers.specs.Tables.{IsTableRead};
@@ -105,7 +106,7 @@ pub fn read_lines(
     requires sheet { IsSheet sheet }
     requires lawful { IsLinearProgram sheet.lp.now }
     requires no_change { sheet.lp.now.change ≡ None }
-    ensures { IfOk result (Found (AreLines (sheet_view sheet.entry)) (solution_in (sheet_view sheet.entry) mark cursor.old) cursor.new) }
+    ensures { IfOk result (Found (AreLines (sheet_view sheet.entry)) (solution_in (fraction_in checker_of_128_bits) (sheet_view sheet.entry) mark cursor.old) cursor.new) }
 {
     if !take_rows_head(cursor, mark) {
         return Ok(None);

@@ -4,6 +4,7 @@ ghost use Rattle.std.specs.List.{flat_map};
 ghost use Rattle.lp_definitions.specs.LinearProgram.{IsLinearProgram, IsRow, size, value_at};
 ghost use Rattle.check_definitions.specs.Steps.{verdict_of};
 ghost use Rattle.answer_definitions.specs.Lines.{row_numbers};
+ghost use Rattle.walk_definitions.specs.Checkers.{checker_of_128_bits};
 ghost use Rattle.walk_definitions.specs.Tests.{slack_steps, best_test};
 ghost use Rattle.listing_readers.specs.Read.{sheet_view};
 ghost use Rattle.listing_answers.specs.Passing.{Judges};
@@ -50,7 +51,7 @@ fn check_slacks(sheet: Sheet<'_>, point: &[Frac], slacks: &[Frac]) -> Result<(),
 fn check_best(sheet: Sheet<'_>, mark: Mark, point: &[Frac], prices: &[Frac]) -> Verdict
     requires point_places { length point.now ≡ size sheet.lp.now.matrix }
     requires price_places { length prices.now ≡ size sheet.lp.now.matrix }
-    ensures { result ≡ best_test (sheet_view sheet.entry) mark (value_at point.now) (value_at prices.now) }
+    ensures { result ≡ best_test checker_of_128_bits (sheet_view sheet.entry) mark (value_at point.now) (value_at prices.now) }
 {
     match mark {
         Mark::Optimal => check_optimal(sheet.lp, point, prices),

@@ -1,5 +1,6 @@
 // The words of verdicts.
 ghost use Rattle.std.specs.Prelude.{◌≡◌, option_map};
+ghost use Rattle.walk_definitions.specs.Checkers.{checker_of_128_bits};
 ghost use Rattle.walk_definitions.specs.Words.{fraction_in, count_in};
 ghost use Rattle.listing_answers.specs.Words.{labelled, refusal_in, IsCheckRead, IsCheckAfter, IsHeadRead};
 
@@ -25,7 +26,7 @@ pub fn count_after(cursor: &mut Cursor<'_>, text: &[u8], most: u32) -> Option<u3
 
 /// A fraction after a text.
 pub fn fraction_after(cursor: &mut Cursor<'_>, text: &[u8]) -> Option<Frac>
-    ensures { labelled text.now fraction_in cursor.old ≡ option_map (λ x. (x, cursor.new)) result }
+    ensures { labelled text.now (fraction_in checker_of_128_bits) cursor.old ≡ option_map (λ x. (x, cursor.new)) result }
 {
     if !cursor.take(text) {
         return None;

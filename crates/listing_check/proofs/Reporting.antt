@@ -8,6 +8,7 @@ use Rattle.job_devices.specs.States.{SinkState}
 use Rattle.job_devices.specs.Causes.{Rose}
 use Rattle.job_devices.specs.declared.device.WriteStop.{WriteStop}
 use Rattle.job_devices.specs.declared.device.WriteStop.TheVariants.{Failed, NoMemory}
+use Rattle.walk_definitions.specs.Checkers.{checker_of_128_bits}
 use Rattle.walk_definitions.specs.Found.{Answers, is_found, answer_text, answer_status}
 use Rattle.walk_definitions.specs.Walker.{Found}
 use Rattle.walk_definitions.specs.Walker as walks
@@ -131,20 +132,20 @@ module _ (c : Circumstances) where
 
 -- ---- an attested listing
 
-module _ (law : AttestedLaw) (bytes lines : List ℕ) (failures : CheckFailures) where
-  true_found : (answer : Option Found) → Answers bytes lines answer → answer_status answer ≡ 0 → IsTrueListing bytes lines
+module _ (law : AttestedLaw checker_of_128_bits) (bytes lines : List ℕ) (failures : CheckFailures) where
+  true_found : (answer : Option Found) → Answers checker_of_128_bits bytes lines answer → answer_status answer ≡ 0 → IsTrueListing checker_of_128_bits bytes lines
   true_found None is e = absurd (omega (arith, e))
   true_found (Some (walks.Attested reports)) (is_found within comes) e = (law bytes lines reports comes).0
   true_found (Some (walks.Wrong rest)) is e = absurd (omega (arith, e))
   true_found (Some (walks.Open rest)) is e = absurd (omega (arith, e))
   true_found (Some (walks.Unchecked rest)) is e = absurd (omega (arith, e))
 
-  true_print : (own : ℕ) (text : List ℕ) → MayPrint bytes lines failures own text → own ≡ 0 → IsTrueListing bytes lines
+  true_print : (own : ℕ) (text : List ℕ) → MayPrint bytes lines failures own text → own ≡ 0 → IsTrueListing checker_of_128_bits bytes lines
   true_print _ _ (job_fails fails) e = absurd (omega (arith, e))
   true_print _ _ (listing_fails fails) e = absurd (omega (arith, e))
   true_print _ _ (answers answer is) e = true_found answer is e
 
-  pub true_listing : (ended : ℕ) (Prints : List ℕ → Type 0) → IsCheckAnswer bytes lines failures ended Prints → ended ≡ 0 → IsTrueListing bytes lines
+  pub true_listing : (ended : ℕ) (Prints : List ℕ → Type 0) → IsCheckAnswer bytes lines failures ended Prints → ended ≡ 0 → IsTrueListing checker_of_128_bits bytes lines
   true_listing ended Prints (whole text may prints) e = true_print ended text may e
   true_listing ended Prints (memory is nothing) e = absurd (omega (arith, is, e))
   true_listing ended Prints (print_fails failed is cut) e = absurd (omega (arith, is, e))

@@ -5,6 +5,7 @@
 --     IsCheckAnswer bytes lines .. what a call answers to a job and a listing, so far as its print tells what it gains
 use Rattle.std.specs.Prelude.{◌≡◌, ℕ, List, [], Option, codes}
 use Rattle.card_definitions.specs.Prefixes.{IsPrefix}
+use Rattle.walk_definitions.specs.Checkers.{checker_of_128_bits}
 use Rattle.walk_definitions.specs.Walker.{Found}
 use Rattle.walk_definitions.specs.Found.{Answers, answer_text, answer_status}
 
@@ -29,7 +30,7 @@ module _ (bytes lines : List ℕ) (failures : CheckFailures) where
   pub data MayPrint : ℕ → List ℕ → Type 0 where
     job_fails : failures.job → MayPrint 24 read_fault_text
     listing_fails : failures.listing → MayPrint 27 listing_fault_text
-    answers : (answer : Option Found) → Answers bytes lines answer → MayPrint (answer_status answer) (answer_text lines answer)
+    answers : (answer : Option Found) → Answers checker_of_128_bits bytes lines answer → MayPrint (answer_status answer) (answer_text lines answer)
 
   -- a prefix of such a text stands
   pub record IsPrintCut (Prints : List ℕ → Type 0) : Type 0 where

@@ -4,6 +4,7 @@
 --     Tells reads .. status        it is printed, or the print stops in it; or there is no memory, and nothing is printed
 use Rattle.std.specs.Prelude.{◌≡◌, ℕ, List, Option}
 use Rattle.job_devices.specs.States.{SinkState}
+use Rattle.walk_definitions.specs.Checkers.{checker_of_128_bits}
 use Rattle.walk_definitions.specs.Walker.{Found}
 use Rattle.walk_definitions.specs.Found.{Answers, answer_text}
 use Rattle.listing_check.specs.declared.status.CheckStatus.{CheckStatus}
@@ -31,7 +32,7 @@ module _ (reads : Reads) where
     job_fault : reads.job_fails → reads.listing_same → IsDue read_fault_text ReadFault
     listing_fault : reads.job_quiet → reads.job_read → reads.listing_fails → IsDue listing_fault_text ListingFault
     found : (answer : Option Found) (text : List ℕ) → reads.job_quiet → reads.job_read → reads.listing_quiet → reads.listing_read →
-        ((bytes lines : List ℕ) → reads.is_job bytes → reads.is_listing lines → Answers bytes lines answer × (text ≡ answer_text lines answer)) →
+        ((bytes lines : List ℕ) → reads.is_job bytes → reads.is_listing lines → Answers checker_of_128_bits bytes lines answer × (text ≡ answer_text lines answer)) →
         IsDue text (status_of answer)
 
   pub data Tells (old new : SinkState) (status : CheckStatus) : Type 0 where

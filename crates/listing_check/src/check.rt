@@ -1,4 +1,5 @@
 // The top call.
+ghost use Rattle.walk_definitions.specs.Checkers.{checker_of_128_bits};
 ghost use Rattle.std.specs.Prelude.{◌≡◌, ◌≢◌, ◌<◌, List, ℕ, Some, length, take};
 ghost use Rattle.std.specs.Io.KnownBytes.{Appends};
 ghost use Rattle.job_devices.specs.Causes.{Rose};
@@ -153,7 +154,7 @@ pub fn check_listing<S: Source, L: Source, P: Sink>(
     // every value of the parameter.
     ensures truth { result ≡ CheckStatus.Attested → (bytes lines : List ℕ) →
         (S.given job.old).left ≡ Some bytes → (L.given listing.old).left ≡ Some lines →
-        IsTrueListing bytes lines }
+        IsTrueListing checker_of_128_bits bytes lines }
 
     // Which status, and what stands. Without words, and unless a read or the print fails or memory runs out, the line and the status are
     // those of what the listing is found to be, and of each job and each listing one thing is found.

@@ -1,5 +1,6 @@
 // What a check begins with: the program of a job, or why there is none.
 ghost use Rattle.std.specs.Prelude.{List, ℕ, IfOk};
+ghost use Rattle.walk_definitions.specs.Checkers.{checker_of_128_bits};
 ghost use Rattle.walk_definitions.specs.Found.{Comes};
 ghost use Rattle.listing_walk.specs.Ended.{found_view};
 ghost use Rattle.listing_check.specs.Starting.{IsStartOf};
@@ -25,7 +26,7 @@ pub enum Start {
 
 /// What a listing is found to be: the program is walked along, or the one end is compared.
 pub fn find<'a>(alloc: Global, start: &Start, listing: &'a [u8]) -> Result<Found<'a>, NoMemory>
-    ensures { IfOk result (λ found. (bytes : List ℕ) → IsStartOf bytes start.now → Comes bytes listing.now (found_view found)) }
+    ensures { IfOk result (λ found. (bytes : List ℕ) → IsStartOf bytes start.now → Comes checker_of_128_bits bytes listing.now (found_view found)) }
 {
     match start {
         Start::Program(prepared) => walk(alloc, &prepared.program, &prepared.cards, listing),

@@ -5,7 +5,8 @@ ghost use Rattle.card_definitions.specs.Words.{named};
 ghost use Rattle.listing_definitions.specs.Report.{limit_value, Number, Code};
 ghost use Rattle.listing_definitions.specs.Text.{number5, name8};
 ghost use Rattle.listing_tables.specs.Sheets.{IsSheet};
-ghost use Rattle.walk_definitions.specs.Words.{left_after};
+ghost use Rattle.walk_definitions.specs.Checkers.{checker_of_128_bits};
+ghost use Rattle.walk_definitions.specs.Words.{left_after, fraction_in};
 ghost use Rattle.walk_definitions.specs.Forms.{all_operations};
 ghost use Rattle.walk_definitions.specs.Tables.{all_codes, AnyCode, AnyNumber, Known, slot_in, line_head};
 ghost use Rattle.listing_readers.specs.Read.{taken, sheet_view};
@@ -108,7 +109,7 @@ pub fn operation_of(word: &[u8]) -> Option<Op>
 
 /// Where a variable stands, after a blank.
 pub fn code(cursor: &mut Cursor<'_>) -> Option<At>
-    ensures { slot_in AnyCode cursor.old ≡ option_map (λ at. (Code at, cursor.new)) result }
+    ensures { slot_in (fraction_in checker_of_128_bits) AnyCode cursor.old ≡ option_map (λ at. (Code at, cursor.new)) result }
 {
     if !cursor.take(b" ") {
         return None;
@@ -118,7 +119,7 @@ pub fn code(cursor: &mut Cursor<'_>) -> Option<At>
 
 /// A number after a blank.
 pub fn number(cursor: &mut Cursor<'_>) -> Option<Frac>
-    ensures { slot_in AnyNumber cursor.old ≡ option_map (λ x. (Number x, cursor.new)) result }
+    ensures { slot_in (fraction_in checker_of_128_bits) AnyNumber cursor.old ≡ option_map (λ x. (Number x, cursor.new)) result }
 {
     if !cursor.take(b" ") {
         return None;
@@ -128,7 +129,7 @@ pub fn number(cursor: &mut Cursor<'_>) -> Option<Frac>
 
 /// This number after a blank.
 pub fn known_number(cursor: &mut Cursor<'_>, value: Frac) -> bool
-    ensures { slot_in (Known (Number value)) cursor.old
+    ensures { slot_in (fraction_in checker_of_128_bits) (Known (Number value)) cursor.old
         ≡ (if result then Some (Number value, cursor.new) else None) }
 {
     let text = fraction(value);
@@ -137,7 +138,7 @@ pub fn known_number(cursor: &mut Cursor<'_>, value: Frac) -> bool
 
 /// This limit after a blank.
 pub fn known_limit(cursor: &mut Cursor<'_>, limit: Option<Frac>) -> bool
-    ensures { slot_in (Known (limit_value limit)) cursor.old
+    ensures { slot_in (fraction_in checker_of_128_bits) (Known (limit_value limit)) cursor.old
         ≡ (if result then Some (limit_value limit, cursor.new) else None) }
 {
     match limit {

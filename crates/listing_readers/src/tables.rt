@@ -4,6 +4,8 @@ ghost use Rattle.exact_values.specs.Rational.{zero_ℚ};
 ghost use Rattle.lp_definitions.specs.LinearProgram.{IsVariable, lower_of, upper_of, cost, numbers_from};
 ghost use Rattle.listing_definitions.specs.Report.{limit_value, Code, Number};
 ghost use Rattle.listing_tables.specs.Sheets.{IsSheet};
+ghost use Rattle.walk_definitions.specs.Checkers.{checker_of_128_bits};
+ghost use Rattle.walk_definitions.specs.Words.{fraction_in};
 ghost use Rattle.walk_definitions.specs.Tables.{AnyCode, AnyNumber, Known, pair_slots, part_slots, values_in};
 ghost use Rattle.walk_definitions.specs.Reading.{row_slots, column_slots};
 ghost use Rattle.listing_readers.specs.Read.{sheet_view};
@@ -44,7 +46,7 @@ pub struct Numbers {
 
 // Two numbers.
 fn two_numbers(cursor: &mut Cursor<'_>) -> Option<(Frac, Frac)>
-    ensures { values_in (AnyNumber ∷ AnyNumber ∷ []) cursor.old
+    ensures { values_in (fraction_in checker_of_128_bits) (AnyNumber ∷ AnyNumber ∷ []) cursor.old
         ≡ option_map (λ two. (Number two.0 ∷ Number two.1 ∷ [], cursor.new)) result }
 {
     let first = number(cursor)?;
@@ -54,7 +56,7 @@ fn two_numbers(cursor: &mut Cursor<'_>) -> Option<(Frac, Frac)>
 
 // One number.
 fn one_number(cursor: &mut Cursor<'_>) -> Option<Frac>
-    ensures { values_in (AnyNumber ∷ []) cursor.old ≡ option_map (λ x. (Number x ∷ [], cursor.new)) result }
+    ensures { values_in (fraction_in checker_of_128_bits) (AnyNumber ∷ []) cursor.old ≡ option_map (λ x. (Number x ∷ [], cursor.new)) result }
 {
     number(cursor)
 }
@@ -62,7 +64,7 @@ fn one_number(cursor: &mut Cursor<'_>) -> Option<Frac>
 // Four numbers.
 #[tactic(auto, using(walk_definitions::proofs::Lines::values_both))]
 fn four_numbers(cursor: &mut Cursor<'_>) -> Option<((Frac, Frac), (Frac, Frac))>
-    ensures { values_in (AnyNumber ∷ AnyNumber ∷ AnyNumber ∷ AnyNumber ∷ []) cursor.old
+    ensures { values_in (fraction_in checker_of_128_bits) (AnyNumber ∷ AnyNumber ∷ AnyNumber ∷ AnyNumber ∷ []) cursor.old
         ≡ option_map (λ four. (Number four.0.0 ∷ Number four.0.1 ∷ Number four.1.0 ∷ Number four.1.1 ∷ [], cursor.new)) result }
 {
     let two = two_numbers(cursor)?;
@@ -72,7 +74,7 @@ fn four_numbers(cursor: &mut Cursor<'_>) -> Option<((Frac, Frac), (Frac, Frac))>
 
 // This limit and a number.
 fn number_after_limit(cursor: &mut Cursor<'_>, high: Option<Frac>) -> Option<Frac>
-    ensures { values_in (Known (limit_value high) ∷ AnyNumber ∷ []) cursor.old
+    ensures { values_in (fraction_in checker_of_128_bits) (Known (limit_value high) ∷ AnyNumber ∷ []) cursor.old
         ≡ option_map (λ x. (limit_value high ∷ Number x ∷ [], cursor.new)) result }
 {
     if !known_limit(cursor, high) {
@@ -87,7 +89,7 @@ fn number_after_limits(
     low: Option<Frac>,
     high: Option<Frac>,
 ) -> Option<Frac>
-    ensures { values_in (Known (limit_value low) ∷ Known (limit_value high) ∷ AnyNumber ∷ []) cursor.old
+    ensures { values_in (fraction_in checker_of_128_bits) (Known (limit_value low) ∷ Known (limit_value high) ∷ AnyNumber ∷ []) cursor.old
         ≡ option_map (λ x. (limit_value low ∷ limit_value high ∷ Number x ∷ [], cursor.new)) result }
 {
     if !known_limit(cursor, low) {
@@ -103,7 +105,7 @@ fn number_after_cost(
     low: Option<Frac>,
     high: Option<Frac>,
 ) -> Option<Frac>
-    ensures { values_in (Known (Number cost) ∷ Known (limit_value low) ∷ Known (limit_value high) ∷ AnyNumber ∷ []) cursor.old
+    ensures { values_in (fraction_in checker_of_128_bits) (Known (Number cost) ∷ Known (limit_value low) ∷ Known (limit_value high) ∷ AnyNumber ∷ []) cursor.old
         ≡ option_map (λ x. (Number cost ∷ limit_value low ∷ limit_value high ∷ Number x ∷ [], cursor.new)) result }
 {
     if !known_number(cursor, cost) {
@@ -118,7 +120,7 @@ fn slack_and_price(
     low: Option<Frac>,
     high: Option<Frac>,
 ) -> Option<(Frac, Frac)>
-    ensures { values_in (AnyNumber ∷ Known (limit_value low) ∷ Known (limit_value high) ∷ AnyNumber ∷ []) cursor.old
+    ensures { values_in (fraction_in checker_of_128_bits) (AnyNumber ∷ Known (limit_value low) ∷ Known (limit_value high) ∷ AnyNumber ∷ []) cursor.old
         ≡ option_map (λ two. (Number two.0 ∷ limit_value low ∷ limit_value high ∷ Number two.1 ∷ [], cursor.new)) result }
 {
     let slack = number(cursor)?;
@@ -132,7 +134,7 @@ fn row_numbers(
     low: Option<Frac>,
     high: Option<Frac>,
 ) -> Option<(Frac, (Frac, Frac))>
-    ensures { values_in (AnyNumber ∷ AnyNumber ∷ Known (limit_value low) ∷ Known (limit_value high) ∷ AnyNumber ∷ []) cursor.old
+    ensures { values_in (fraction_in checker_of_128_bits) (AnyNumber ∷ AnyNumber ∷ Known (limit_value low) ∷ Known (limit_value high) ∷ AnyNumber ∷ []) cursor.old
         ≡ option_map (λ row. (Number row.0 ∷ Number row.1.0 ∷ limit_value low ∷ limit_value high ∷ Number row.1.1 ∷ [], cursor.new)) result }
 {
     let activity = number(cursor)?;
@@ -147,7 +149,7 @@ fn column_numbers(
     low: Option<Frac>,
     high: Option<Frac>,
 ) -> Option<(Frac, Frac)>
-    ensures { values_in (AnyNumber ∷ Known (Number cost) ∷ Known (limit_value low) ∷ Known (limit_value high) ∷ AnyNumber ∷ []) cursor.old
+    ensures { values_in (fraction_in checker_of_128_bits) (AnyNumber ∷ Known (Number cost) ∷ Known (limit_value low) ∷ Known (limit_value high) ∷ AnyNumber ∷ []) cursor.old
         ≡ option_map (λ two. (Number two.0 ∷ Number cost ∷ limit_value low ∷ limit_value high ∷ Number two.1 ∷ [], cursor.new)) result }
 {
     let activity = number(cursor)?;
@@ -157,7 +159,7 @@ fn column_numbers(
 
 // A place and four numbers.
 fn coded_numbers(cursor: &mut Cursor<'_>) -> Option<(At, ((Frac, Frac), (Frac, Frac)))>
-    ensures { values_in (AnyCode ∷ AnyNumber ∷ AnyNumber ∷ AnyNumber ∷ AnyNumber ∷ []) cursor.old
+    ensures { values_in (fraction_in checker_of_128_bits) (AnyCode ∷ AnyNumber ∷ AnyNumber ∷ AnyNumber ∷ AnyNumber ∷ []) cursor.old
         ≡ option_map (λ part. (Code part.0 ∷ Number part.1.0.0 ∷ Number part.1.0.1 ∷ Number part.1.1.0 ∷ Number part.1.1.1 ∷ [], cursor.new)) result }
 {
     let at = code(cursor)?;
@@ -171,7 +173,7 @@ fn coded_row(
     low: Option<Frac>,
     high: Option<Frac>,
 ) -> Option<(At, (Frac, (Frac, Frac)))>
-    ensures { values_in (AnyCode ∷ AnyNumber ∷ AnyNumber ∷ Known (limit_value low) ∷ Known (limit_value high) ∷ AnyNumber ∷ []) cursor.old
+    ensures { values_in (fraction_in checker_of_128_bits) (AnyCode ∷ AnyNumber ∷ AnyNumber ∷ Known (limit_value low) ∷ Known (limit_value high) ∷ AnyNumber ∷ []) cursor.old
         ≡ option_map (λ row. (Code row.0 ∷ Number row.1.0 ∷ Number row.1.1.0 ∷ limit_value low ∷ limit_value high ∷ Number row.1.1.1 ∷ [], cursor.new)) result }
 {
     let at = code(cursor)?;
@@ -186,7 +188,7 @@ fn coded_column(
     low: Option<Frac>,
     high: Option<Frac>,
 ) -> Option<(At, (Frac, Frac))>
-    ensures { values_in (AnyCode ∷ AnyNumber ∷ Known (Number cost) ∷ Known (limit_value low) ∷ Known (limit_value high) ∷ AnyNumber ∷ []) cursor.old
+    ensures { values_in (fraction_in checker_of_128_bits) (AnyCode ∷ AnyNumber ∷ Known (Number cost) ∷ Known (limit_value low) ∷ Known (limit_value high) ∷ AnyNumber ∷ []) cursor.old
         ≡ option_map (λ column. (Code column.0 ∷ Number column.1.0 ∷ Number cost ∷ limit_value low ∷ limit_value high ∷ Number column.1.1 ∷ [], cursor.new)) result }
 {
     let at = code(cursor)?;

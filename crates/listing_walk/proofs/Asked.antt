@@ -13,7 +13,8 @@ use Rattle.listing_definitions.specs.Report.{PathVerdict, OptimalAt, CrossedAt, 
 use Rattle.question_definitions.specs.Answers.{Sheet, Question, OfPath, OfSolution, OfParametricRun, ParametricRun, AnswerTo, PathEnd, Reached, PathLimit, PricesWrong}
 use Rattle.run_definitions.specs.Moves.{StatementOutcome}
 use Rattle.run_definitions.specs.Verbs.{mark_of}
-use Rattle.walk_definitions.specs.Tests.{says_checked, point_of}
+use Rattle.walk_definitions.specs.Checkers.{says_checked, checker_of_128_bits}
+use Rattle.walk_definitions.specs.Tests.{point_of}
 use Rattle.walk_definitions.specs.Reading.{Judged, Right, Fails, Refuses, judged}
 use Rattle.walk_definitions.specs.Walker as walks
 use Rattle.listing_answers.specs.declared.answer.Conclusion.{Conclusion}
@@ -79,19 +80,19 @@ module _ (question : Question) (sheet : Sheet) (old : ListingPlace) (open_there 
   pub found_open : (found : Found) → ((w : walks.Walker) → Faces old w → option_map found_view (Some found) ≡ open_there w) → (w : walks.Walker) (go : AnswerTo question → StatementOutcome) → Faces old w →
       asked_turn w question sheet go ≡ walks.Finds (found_view found)
   found_open found there_is w go f =
-      ap (λ (x : Option walks.Found). walks.unless_found x (walks.answered w question sheet go (judged question sheet w.rest))) (opens w go ∙ sym (there_is w f))
+      ap (λ (x : Option walks.Found). walks.unless_found x (walks.answered w question sheet go (judged checker_of_128_bits question sheet w.rest))) (opens w go ∙ sym (there_is w f))
 
   module _ (none : (w : walks.Walker) → Faces old w → None ≡ open_there w) where
     -- then the answer
-    pub turn_answered : (w : walks.Walker) (go : AnswerTo question → StatementOutcome) → Faces old w → (given : Judged (AnswerTo question)) → judged question sheet old.cursor ≡ given →
+    pub turn_answered : (w : walks.Walker) (go : AnswerTo question → StatementOutcome) → Faces old w → (given : Judged (AnswerTo question)) → judged checker_of_128_bits question sheet old.cursor ≡ given →
         asked_turn w question sheet go ≡ walks.answered w question sheet go given
     turn_answered w go f given is =
-        ap (λ (x : Option walks.Found). walks.unless_found x (walks.answered w question sheet go (judged question sheet w.rest))) (opens w go ∙ sym (none w f)) ∙
-        ap (λ (rest : List ℕ). walks.answered w question sheet go (judged question sheet rest)) f.rest ∙ ap (walks.answered w question sheet go) is
+        ap (λ (x : Option walks.Found). walks.unless_found x (walks.answered w question sheet go (judged checker_of_128_bits question sheet w.rest))) (opens w go ∙ sym (none w f)) ∙
+        ap (λ (rest : List ℕ). walks.answered w question sheet go (judged checker_of_128_bits question sheet rest)) f.rest ∙ ap (walks.answered w question sheet go) is
 
     -- it isn't right, or an operation of its test is refused
     pub stopped_answered : {X Y : Type 0} (Shows : X → AnswerTo question → Type 0) (Holds : Y → AnswerTo question → Type 0) (new : ListingPlace) (cursor : List ℕ) (stop : Stop) (rest : Bor (List ℕ)) → rest.now ≡ old.cursor →
-        Taken Shows (judged question sheet old.cursor) cursor (Err stop) → Answered question sheet old new Holds (Err (stopped_by stop rest))
+        Taken Shows (judged checker_of_128_bits question sheet old.cursor) cursor (Err stop) → Answered question sheet old new Holds (Err (stopped_by stop rest))
     stopped_answered Shows Holds new cursor stops.Wrong rest here taken = λ w go f. turn_answered w go f Fails taken ∙ ap (λ (left : List ℕ). walks.Finds (walks.Wrong left)) (f.rest ∙ sym here)
     stopped_answered Shows Holds new cursor stops.Unchecked rest here taken = λ w go f. turn_answered w go f Refuses taken ∙ ap (λ (left : List ℕ). walks.Finds (walks.Unchecked left)) (f.rest ∙ sym here)
     stopped_answered Shows Holds new cursor stops.NoMemory rest here taken = tt
@@ -113,7 +114,7 @@ pub record IsConcluded (conclusion : Conclusion) (mark : Mark) (pending : Option
 
 module _ (solver : Solver) (limit : Option ℕ) (sheet : Sheet) (old new : ListingPlace) (none : (w : walks.Walker) → Faces old w → None ≡ open_by true true w) (counted : new.reports ≡ old.reports + 1)
     (conclusion : Conclusion) (mark : Mark) (rest : List ℕ) (here : rest ≡ old.cursor) (c : IsConcluded conclusion mark new.pending rest) where
-  path_by : (answer : PathEnd) → judged (OfPath solver limit) sheet old.cursor ≡ Right answer new.cursor → IsConclusion conclusion answer → (w : walks.Walker) (go : PathEnd → StatementOutcome) → Faces old w →
+  path_by : (answer : PathEnd) → judged checker_of_128_bits (OfPath solver limit) sheet old.cursor ≡ Right answer new.cursor → IsConclusion conclusion answer → (w : walks.Walker) (go : PathEnd → StatementOutcome) → Faces old w →
       IsTaken (OfPath solver limit) (IsMarked mark) new (asked_turn w (OfPath solver limit) sheet go) go
   path_by (Reached bases verdict check) right is w go f = record {
     answer = Reached bases verdict check;
@@ -126,7 +127,7 @@ module _ (solver : Solver) (limit : Option ℕ) (sheet : Sheet) (old new : Listi
   path_by PathLimit right is w go f = absurd is
   path_by (PricesWrong j) right is w go f = absurd is
 
-  pub path_answered : Taken IsConclusion (judged (OfPath solver limit) sheet old.cursor) new.cursor (Ok conclusion) → Answered (OfPath solver limit) sheet old new IsMarked (Ok mark)
+  pub path_answered : Taken IsConclusion (judged checker_of_128_bits (OfPath solver limit) sheet old.cursor) new.cursor (Ok conclusion) → Answered (OfPath solver limit) sheet old new IsMarked (Ok mark)
   path_answered taken = λ w go f. path_by taken.answer taken.is_right taken.shows w go f
 
 -- ---- SOLUTION
@@ -174,7 +175,7 @@ IsReportedObjective sheet objective lines = objective ≡ point_of sheet lines s
 
 module _ (sheet : Sheet) (old : ListingPlace) (none : (w : walks.Walker) → Faces old w → None ≡ open_by true false w) (cursor : List ℕ) (objective : ℚ) where
   module _ (settling : IsSettling old.pending objective None) (new : ListingPlace) (is_cursor : new.cursor ≡ cursor) (is_none : new.pending ≡ None) (counted : new.reports ≡ old.reports + 1) where
-    pub optimal_answered : Taken (IsReportedObjective sheet) (judged (OfSolution marks.Optimal) sheet old.cursor) cursor (Ok objective) →
+    pub optimal_answered : Taken (IsReportedObjective sheet) (judged checker_of_128_bits (OfSolution marks.Optimal) sheet old.cursor) cursor (Ok objective) →
         Answered (OfSolution marks.Optimal) sheet old new (IsAny (OfSolution marks.Optimal)) (Ok tt)
     optimal_answered taken = λ w go f.
         let lines : SolutionLines = taken.answer in
@@ -189,7 +190,7 @@ module _ (sheet : Sheet) (old : ListingPlace) (none : (w : walks.Walker) → Fac
           holds = tt;
         }
 
-  pub unsettled : (found : Found) (new : ListingPlace) → IsSettling old.pending objective (Some found) → Taken (IsReportedObjective sheet) (judged (OfSolution marks.Optimal) sheet old.cursor) cursor (Ok objective) →
+  pub unsettled : (found : Found) (new : ListingPlace) → IsSettling old.pending objective (Some found) → Taken (IsReportedObjective sheet) (judged checker_of_128_bits (OfSolution marks.Optimal) sheet old.cursor) cursor (Ok objective) →
       Answered {X = Unit {0}} (OfSolution marks.Optimal) sheet old new (IsAny (OfSolution marks.Optimal)) (Err (Finds found))
   unsettled found new settling taken = λ w go f.
       let lines : SolutionLines = taken.answer in
@@ -205,7 +206,7 @@ module _ (sheet : Sheet) (old : ListingPlace) (none : (w : walks.Walker) → Fac
     reported_by marks.Infeasible other w go lines f = refl
     reported_by marks.Unbounded other w go lines f = refl
 
-    pub other_answered : (mark : Mark) → is_optimal mark ≡ false → Taken (IsReportedObjective sheet) (judged (OfSolution mark) sheet old.cursor) cursor (Ok objective) →
+    pub other_answered : (mark : Mark) → is_optimal mark ≡ false → Taken (IsReportedObjective sheet) (judged checker_of_128_bits (OfSolution mark) sheet old.cursor) cursor (Ok objective) →
         Answered (OfSolution mark) sheet old new (IsAny (OfSolution mark)) (Ok tt)
     other_answered mark other taken = λ w go f. record {
       answer = taken.answer;
@@ -232,7 +233,7 @@ module _ (sheet : Sheet) (old : ListingPlace) (none : (w : walks.Walker) → Fac
 -- ---- PARAOBJ and PARARHS
 
 pub parametric_run_answered : (parametric_run : ParametricRun) (sheet : Sheet) (old new : ListingPlace) → ((w : walks.Walker) → Faces old w → None ≡ open_by true true w) → new.reports ≡ old.reports + 1 → new.pending ≡ None → (x : ParametricRunAnswer) →
-    Taken IsParametricRunAnswer (judged (OfParametricRun parametric_run) sheet old.cursor) new.cursor (Ok x) → Answered (OfParametricRun parametric_run) sheet old new IsParametricRunAnswer (Ok x)
+    Taken IsParametricRunAnswer (judged checker_of_128_bits (OfParametricRun parametric_run) sheet old.cursor) new.cursor (Ok x) → Answered (OfParametricRun parametric_run) sheet old new IsParametricRunAnswer (Ok x)
 parametric_run_answered parametric_run sheet old new none counted is_none x taken = λ w go f. record {
   answer = taken.answer;
   walker = walker_after (OfParametricRun parametric_run) sheet old new w f counted None;

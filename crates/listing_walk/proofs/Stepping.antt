@@ -10,6 +10,7 @@ use Rattle.run_definitions.specs.State.{State, start}
 use Rattle.run_definitions.specs.Run.{counted, max_executed}
 use Rattle.run_machine.specs.declared.machine.Machine.{Machine}
 use Rattle.run_machine.specs.Standing as machines
+use Rattle.walk_definitions.specs.Checkers.{checker_of_128_bits}
 use Rattle.walk_definitions.specs.Walker as walks
 use Rattle.walk_definitions.specs.Found.{first_walker, Reaches, begun, walked}
 use Rattle.listing_walk.specs.declared.chosen.Chosen.{Chosen}
@@ -98,7 +99,7 @@ module _ (program : Program) (cards : List (List ℕ)) (listing : List ℕ) wher
     pub within : executed ≤ 100000
     pub few : place.reports ≤ executed
     pub walker : walks.Walker
-    pub reaches : Reaches program (decks_after program cards) listing walker
+    pub reaches : Reaches checker_of_128_bits program (decks_after program cards) listing walker
     pub stands : Represents cards machine position executed place walker
 
   pub underway_first : (machine : Machine Chosen) (place : ListingPlace) (decks_from : ℕ) → drop (decks_from - 1) (numbered_cards cards) ≡ drop (program.decks_from - 1) (numbered_cards cards) →

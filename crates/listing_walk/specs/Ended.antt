@@ -5,6 +5,7 @@ use Rattle.std.specs.Prelude.{◌≡◌, ℕ, ◌-◌, List, drop}
 use Rattle.card_definitions.specs.Cards.{Card, numbered_cards}
 use Rattle.deck_definitions.specs.Decks.{decks_of}
 use Rattle.control_definitions.specs.Program.{Program}
+use Rattle.walk_definitions.specs.Checkers.{checker_of_128_bits}
 use Rattle.walk_definitions.specs.Walker as walks
 use Rattle.walk_definitions.specs.Found.{Reaches}
 use Rattle.listing_walk.specs.declared.found.Found.{Found}
@@ -22,5 +23,5 @@ decks_after program cards = decks_of (drop (program.decks_from - 1) (numbered_ca
 
 pub record IsFoundBy (program : Program) (cards : List (List ℕ)) (listing : List ℕ) (found : Found) : Type 0 where
   pub walker : walks.Walker
-  pub reaches : Reaches program (decks_after program cards) listing walker
+  pub reaches : Reaches checker_of_128_bits program (decks_after program cards) listing walker
   pub finds : walks.turn program walker ≡ walks.Finds (found_view found)

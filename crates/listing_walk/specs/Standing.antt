@@ -14,7 +14,7 @@ use Rattle.run_definitions.specs.State.{Present}
 use Rattle.run_machine.specs.declared.machine.Machine.{Machine}
 use Rattle.run_machine.specs.Choosing.{IsSelected}
 use Rattle.run_machine.specs.Standing as machines
-use Rattle.walk_definitions.specs.Tests.{says_checked}
+use Rattle.walk_definitions.specs.Checkers.{says_checked}
 use Rattle.walk_definitions.specs.Walker as walks
 use Rattle.listing_walk.specs.declared.chosen.Chosen.{Chosen}
 use Rattle.listing_walk.specs.declared.place.Pending.{Pending}

@@ -7,7 +7,6 @@ use Rattle.job_devices.specs.Causes.{Rose}
 use Rattle.job_devices.specs.Text.{AppendsPrefix, Writes}
 use Rattle.job_devices.specs.declared.device.WriteStop.{WriteStop}
 use Rattle.job_devices.specs.declared.device.WriteStop.TheVariants.{Failed, NoMemory}
-use Rattle.deck_definitions.specs.Written.{card_text}
 use Rattle.listing_definitions.specs.Ending.{Ending, status_of}
 use Rattle.listing_definitions.specs.Listing.{ending_text}
 use Rattle.question_definitions.specs.Solving.{Solving}
@@ -37,12 +36,12 @@ keeps : (known : Option (List ℕ)) → Appends known known []
 keeps None = tt
 keeps (Some xs) = Appends-nothing (Some xs) (Some xs) refl
 
-gains_nothing : (stop : EarlyStop) → Gains (stop_view stop) [] (card_text [])
+gains_nothing : (stop : EarlyStop) → Gains (stop_view stop) [] [] []
 gains_nothing Words = refl
 gains_nothing ReadFault = refl
 gains_nothing (Card fault) = refl
 gains_nothing (Control fault) = refl
-gains_nothing Memory = ([], refl)
+gains_nothing Memory = record { part = []; is_prefix = ([], refl); is_gained = refl }
 
 -- ---- the status of a stop is that of its end
 
@@ -55,7 +54,7 @@ code_is Memory = refl
 
 -- ---- the answer
 
-module _ (S : Solving) (job : Job) (failures : Failures) (stop : EarlyStop) (may_end : MayEnd S job failures [] [] (stop_view stop)) where
+module _ (S : Solving) (job : Job) (failures : Failures) (stop : EarlyStop) (may_end : MayEnd S job failures [] [] [] (stop_view stop)) where
   cut : (status : ℕ) (prefix back : List ℕ) → prefix ++ back ≡ ending_text (stop_view stop) → IsCutShort S job failures (record { status = status; printed = prefix; punched = [] })
   cut status prefix back e = in_end (stop_view stop) prefix may_end (back, e) refl (gains_nothing stop)
 

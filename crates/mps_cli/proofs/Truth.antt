@@ -1,5 +1,5 @@
 -- The headline of a job: what it is answered, and that each report of this answer holds of the state in which it was made. Such an
--- answer is complete and decided.
+-- answer is decided by the job's own run.
 use Rattle.std.proofs.Common.{◌≡◌, ℕ, List, Option, None, Some, refl, subst}
 use Rattle.std.specs.Io.KnownBytes.{Appends}
 use Rattle.job_devices.specs.States.{SinkState}
@@ -10,9 +10,10 @@ use Rattle.run_definitions.specs.Answer.{Job, WithoutBytes, Read, Made, Failures
 use Rattle.soundness_laws.specs.Headline.{IsTrueAnswer}
 use Rattle.soundness_laws.proofs.Runs.{knows_linear_programming, answer_holds}
 use Rattle.determinism_laws.specs.Laws.{IsFunction}
-use Rattle.determinism_laws.specs.Complete.{IsComplete, IsDecided}
 use Rattle.determinism_laws.proofs.Runs.{is_function, answers_once}
-use Rattle.determinism_laws.proofs.Complete.{answer_is_complete, answer_is_decided}
+use Rattle.one_run_laws.specs.Laws.{IsAnsweredOnce}
+use Rattle.one_run_laws.proofs.AnsweredOnce.{answered_once}
+use Rattle.one_run_laws.proofs.OwnRuns.{own_runs}
 use Rattle.command_line.specs.declared.request.Request.{Request}
 use Rattle.command_line.specs.declared.request.Request.TheVariants as request
 use Rattle.control_run.specs.declared.status.RunStatus.{RunStatus}
@@ -42,17 +43,12 @@ true_answer is = record {
   each_holds = answer_holds linear_programming knows_linear_programming is.4;
 }
 
--- a true answer is complete
-pub complete_answer : {job : Job} {failures : Failures} {status : ℕ} {PrintGains PunchGains : List ℕ → Type 0} → IsTrueAnswer linear_programming job failures status PrintGains PunchGains →
-    IsComplete linear_programming job failures status PrintGains PunchGains
-complete_answer {job} {failures} {status} {PrintGains} {PunchGains} is =
-    answer_is_complete linear_programming job failures status PrintGains PunchGains is.printed is.punched runs_are_functions is.print_gains is.punch_gains is.is_answer
-
--- and decided
-pub decided_answer : {job : Job} {failures : Failures} {status : ℕ} {PrintGains PunchGains : List ℕ → Type 0} → IsTrueAnswer linear_programming job failures status PrintGains PunchGains →
-    IsDecided linear_programming job failures status PrintGains PunchGains
-decided_answer {job} {failures} {status} {PrintGains} {PunchGains} is =
-    answer_is_decided linear_programming job failures status PrintGains PunchGains is.printed is.punched runs_are_functions is.print_gains is.punch_gains is.is_answer
+-- a true answer is that of the job's own run, or the run was broken off, or cut off
+pub once_answer : {job : Job} {failures : Failures} {status : ℕ} {PrintGains PunchGains : List ℕ → Type 0} → IsTrueAnswer linear_programming job failures status PrintGains PunchGains →
+    IsAnsweredOnce linear_programming job failures status PrintGains PunchGains
+once_answer {job} {failures} {status} {PrintGains} {PunchGains} is =
+    answered_once linear_programming runs_are_functions own_runs job failures status PrintGains PunchGains
+    (is.printed, (is.punched, (is.print_gains, (is.punch_gains, is.is_answer))))
 
 -- ---- the job that is asked for
 

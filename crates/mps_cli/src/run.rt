@@ -8,7 +8,7 @@ ghost use Rattle.card_reader.specs.Reading.{ReadsJob, ReadsPrefix};
 ghost use Rattle.answer_definitions.specs.Real.{linear_programming};
 ghost use Rattle.deck_definitions.specs.Transport.{made_job};
 ghost use Rattle.run_definitions.specs.Answer.{Job, Made, IsAnswered};
-ghost use Rattle.determinism_laws.specs.Complete.{IsComplete, IsDecided};
+ghost use Rattle.one_run_laws.specs.Laws.{IsAnsweredOnce};
 ghost use Rattle.soundness_laws.specs.Headline.{IsTrueAnswer};
 ghost use Rattle.ending_laws.specs.Stands.{StandsAfter};
 ghost use Rattle.command_line.specs.Sizes.{max_size};
@@ -165,11 +165,12 @@ fn run_request<S: Source, P: Sink, U: Sink>(
 ///
 /// After a fault of the print, or where the print runs out of memory, nothing more is printed. A deck in which a write to the punch
 /// fails, or in which the punch runs out of memory, is broken off, and ends the job. The status reports each of these. Memory may
-/// run out at any time, which ends a job.
+/// run out at any time, which ends a job. Each deck is punched whole before its report is printed, so a deck that was reported
+/// stands whole, however the job ends.
 ///
-/// A job whose run meets no evidence that a number is too large has one run, and gets the status, the whole listing and all the
-/// cards of this run, unless a read, a write to the print or one to the punch fails, or the status is 28. That is a free answer:
-/// no clause ties it to a refused allocation.
+/// Each job has exactly one run that doesn't stop with an overflow, and gets the status, the whole listing and all the cards of this
+/// run; unless the status is 20, and the run is broken off where a number is too large, or a read, a write to the print or one to
+/// the punch fails, or the status is 28. That is a free answer: no clause ties it to a refused allocation.
 pub fn run_job<S: Source, P: Sink, U: Sink>(
     alloc: Global,
     words: &[String],
@@ -200,28 +201,13 @@ pub fn run_job<S: Source, P: Sink, U: Sink>(
         (Appends (P.taken print.old).written (P.taken print.new).written)
         (Appends (U.taken punch.old).written (U.taken punch.new).written) }
 
-    // Completeness. Where no evidence of an overflow holds at any moment of the run of the job's bytes, this run is the only
-    // one; the status is that of its end, the print gains its whole listing and the punch all its cards; unless a read has
-    // failed and the status is 24, or the print and it is 25, or the punch and it is 26, or it is 28, as memory ran out.
-    ensures complete { (asked : Job) →
+    // The job's own run. The job has exactly one run that doesn't stop with an overflow. The status is that of its end, the print gains
+    // its whole listing and the punch all its cards; or the status is 20, and what stands is a run that stops with an overflow where
+    // the own run goes on, and at some moment of a run of the job evidence of an overflow holds; or a read has failed and the status
+    // is 24, or the print and it is 25, or the punch and it is 26, or it is 28.
+    ensures one_run { (asked : Job) →
         IsAsked (requests.asked (map string_bytes words.now)) (S.given job.old).left asked →
-        IsComplete linear_programming asked
-        (record {
-          read = Rose (S.given job.old).faults (S.given job.new).faults;
-          print = Rose (P.taken print.old).faults (P.taken print.new).faults;
-          punch = Rose (U.taken punch.old).faults (U.taken punch.new).faults;
-          memory = Rose (P.taken print.old).refusals (P.taken print.new).refusals;
-        })
-        (code_of result)
-        (Appends (P.taken print.old).written (P.taken print.new).written)
-        (Appends (U.taken punch.old).written (U.taken punch.new).written) }
-
-    // What the status decides. Take any run of the job's bytes that doesn't stop with an overflow: the status is that of its end,
-    // and the print gains its whole listing and the punch all its cards; or the status is 20, and this run was broken off; or
-    // a read has failed and the status is 24, or the print and it is 25, or the punch and it is 26, or it is 28, as memory ran out.
-    ensures decided { (asked : Job) →
-        IsAsked (requests.asked (map string_bytes words.now)) (S.given job.old).left asked →
-        IsDecided linear_programming asked
+        IsAnsweredOnce linear_programming asked
         (record {
           read = Rose (S.given job.old).faults (S.given job.new).faults;
           print = Rose (P.taken print.old).faults (P.taken print.new).faults;
@@ -234,9 +220,9 @@ pub fn run_job<S: Source, P: Sink, U: Sink>(
 
     // What stands, by the status. With 0, 1, 2, 8, 10, 12, 13, 16, 17 and 20 the run of the job has this end; the whole
     // listing of the run stands, and all cards that it has punched; 8 and 13 leave their line alone, and so do 4 and 24. After
-    // 26 and 28 the reports so far stand with this line, and a prefix of the cards; and after 25, and where the print ran out of
-    // memory, the print has stopped in a report or in the lines of an end: all that comes before stands with a prefix of this
-    // text, and the cards that are punched by then.
+    // 26 and 28 the reports so far stand with this line, and all cards of these reports, then a prefix of the deck in hand, and no
+    // more; and after 25, and where the print ran out of memory, the print has stopped in a report or in the lines of an end: all
+    // that comes before stands with a prefix of this text, and the cards that are punched by then.
     ensures stands { (asked : Job) →
         IsAsked (requests.asked (map string_bytes words.now)) (S.given job.old).left asked →
         StandsAfter linear_programming asked

@@ -6,8 +6,8 @@ use Rattle.deck_definitions.specs.Written.{card_text}
 use Rattle.question_definitions.specs.Solving.{Solving}
 use Rattle.run_definitions.specs.Answer.{Job, Failures, IsAnswered}
 use Rattle.determinism_laws.specs.Laws.{IsFunction}
-use Rattle.determinism_laws.specs.Complete.{IsCutOff, IsBrokenOff}
-use Rattle.determinism_laws.proofs.Complete.{answer_is_decided}
+use Rattle.determinism_laws.specs.Decided.{IsCutOff, IsBrokenOff}
+use Rattle.determinism_laws.proofs.Decided.{answer_is_decided}
 use Rattle.one_run_laws.specs.Laws.{OwnRun, HasOwnRun, IsOfRun, StoppedShort, IsAnsweredOnce}
 use Rattle.one_run_laws.proofs.Stopping.{meets_evidence}
 

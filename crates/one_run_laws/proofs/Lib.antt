@@ -4,3 +4,4 @@ pub mod Asking
 pub mod Running
 pub mod Stopping
 pub mod AnsweredOnce
+pub mod OwnRuns

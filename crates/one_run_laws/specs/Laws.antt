@@ -19,7 +19,7 @@ use Rattle.run_definitions.specs.Verbs.{verb_move}
 use Rattle.run_definitions.specs.Run.{max_executed, counted}
 use Rattle.run_definitions.specs.Answer.{Job, bytes_of, Failures, IsJobRun, IsSoFar}
 use Rattle.determinism_laws.specs.Laws.{IsOverflow, AreSame, HasEvidence}
-use Rattle.determinism_laws.specs.Complete.{IsCutOff, IsBrokenOff}
+use Rattle.determinism_laws.specs.Decided.{IsCutOff, IsBrokenOff}
 use Rattle.one_run_laws.specs.Answers.{AnswersAlways}
 
 module _ (S : Solving) (bytes : List ℕ) where

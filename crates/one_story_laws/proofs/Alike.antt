@@ -25,6 +25,7 @@ use Rattle.run_definitions.specs.Verbs.{or_deck_fault, or_selection_fault, selec
 use Rattle.determinism_laws.specs.Laws.{IsOverflowStop}
 use Rattle.walk_laws.specs.Proved.{attested, Says}
 use Rattle.one_story_laws.specs.Story.{ReportsSame, TellSame}
+use Rattle.walk_definitions.specs.Checkers.{Checker}
 
 -- whatever basis the setup opened with, and whatever steps were gone since
 pub data SameSetup : Option Present → Option Present → Type 0 where
@@ -73,9 +74,9 @@ by_verdict_alike Unbounded report other state left right same setups = demanded_
 
 -- ---- moves
 
-module _ (S : Solving) (Speaks : State → Report → Type 0) (Open : Type 0) (at other : State) (card : ℕ) where
+module _ (C : Checker) (S : Solving) (Speaks : State → Report → Type 0) (Open : Type 0) (at other : State) (card : ℕ) where
   pub record IsAlike (first second : StatementMove) : Type 0 where
-    pub by : (a b : StatementOutcome) → Gives S card first a → Gives attested card second b → All (Speaks at) (printed_by (gain_of a)) → All (Says other) (printed_by (gain_of b)) →
+    pub by : (a b : StatementOutcome) → Gives S card first a → Gives (attested C) card second b → All (Speaks at) (printed_by (gain_of a)) → All (Says other) (printed_by (gain_of b)) →
         (IsOverflowStop b → ⊥) → AlikeOrStopped Open a b
 
   pub does : (a b : StatementOutcome) → Alike a b → IsAlike (Does a) (Does b)
@@ -86,14 +87,14 @@ module _ (S : Solving) (Speaks : State → Report → Type 0) (Open : Type 0) (a
   pub may_stop : (refusals others : Refusals) (first second : StatementMove) → IsAlike first second → IsAlike (MayStop refusals first) (MayStop others second)
   may_stop refusals others first second alike = record { by = stopping }
     where
-      stopping : (a b : StatementOutcome) → Gives S card (MayStop refusals first) a → Gives attested card (MayStop others second) b → All (Speaks at) (printed_by (gain_of a)) →
+      stopping : (a b : StatementOutcome) → Gives S card (MayStop refusals first) a → Gives (attested C) card (MayStop others second) b → All (Speaks at) (printed_by (gain_of a)) →
           All (Says other) (printed_by (gain_of b)) → (IsOverflowStop b → ⊥) → AlikeOrStopped Open a b
       stopping a b (inr stop) given speaks says unstopped = inr (OverflowStop _, tt, stop.3)
       stopping a b (inl gives) (inl given) speaks says unstopped = alike.by a b gives given speaks says unstopped
       stopping a b (inl gives) (inr stop) speaks says unstopped = absurd (unstopped (_, stop.3))
 
   pub asked : (question : Question) (sheet : Sheet) (s t : Basis) (go on : AnswerTo question → StatementOutcome) →
-      ((x y : AnswerTo question) → IsRight S question sheet s x → IsRight attested question sheet t y → All (Speaks at) (printed_by (gain_of (go x))) → All (Says other) (printed_by (gain_of (on y))) →
+      ((x y : AnswerTo question) → IsRight S question sheet s x → IsRight (attested C) question sheet t y → All (Speaks at) (printed_by (gain_of (go x))) → All (Says other) (printed_by (gain_of (on y))) →
       AlikeOrStopped Open (go x) (on y)) → IsAlike (Asks question sheet s go) (Asks question sheet t on)
   asked question sheet s t go on alike = record {
     by = λ a b first second speaks says unstopped.

@@ -24,6 +24,7 @@ use Rattle.soundness_laws.proofs.Moves.{HasProblem}
 use Rattle.soundness_laws.proofs.Filed.{job_reaching}
 use Rattle.determinism_laws.specs.Laws.{IsOverflow, HasEvidence}
 use Rattle.determinism_laws.proofs.Stops.{statement_evidence}
+use Rattle.walk_definitions.specs.Checkers.{Checker}
 use Rattle.walk_definitions.specs.Forms.{is_ranges, is_punched}
 use Rattle.walk_definitions.specs.Walker.{Walker, Found, Attested, Unchecked, WalkTurn, Finds, open_if, open_stop, open_pending, is_inserted_by, open_question, opened, refuses_selection, unless_found, closes, due, walk_move, walk_statement, turn}
 use Rattle.walk_definitions.specs.Found.{Comes, first_walker, of_cards, of_control, of_walk}
@@ -41,13 +42,13 @@ both_parts : (a b : Bool) → (not a || b) ≡ false → (a ≡ true) × (b ≡ 
 both_parts true b e = (refl, e)
 both_parts false b e = absurd (cc e)
 
-no_evidence : (move : StatementMove) → refuses_selection move ≡ false → HasEvidence attested move → ⊥
-no_evidence (Does outcome) e evidence = evidence
-no_evidence (MayStop (InSelection problem choice) move) e (inl viewed) = (made_iff problem choice).0 (both_parts (is_made problem choice) (refuses_selection move) e).0 viewed.0 viewed.2.0
-no_evidence (MayStop (InSelection problem choice) move) e (inr later) = no_evidence move (both_parts (is_made problem choice) (refuses_selection move) e).1 later
-no_evidence (MayStop (InAnswer question sheet bases) move) e (inl viewed) = viewed.2
-no_evidence (MayStop (InAnswer question sheet bases) move) e (inr later) = no_evidence move e later
-no_evidence (Asks question sheet s go) e evidence = evidence
+no_evidence : (C : Checker) (move : StatementMove) → refuses_selection move ≡ false → HasEvidence (attested C) move → ⊥
+no_evidence C (Does outcome) e evidence = evidence
+no_evidence C (MayStop (InSelection problem choice) move) e (inl viewed) = (made_iff problem choice).0 (both_parts (is_made problem choice) (refuses_selection move) e).0 viewed.0 viewed.2.0
+no_evidence C (MayStop (InSelection problem choice) move) e (inr later) = no_evidence C move (both_parts (is_made problem choice) (refuses_selection move) e).1 later
+no_evidence C (MayStop (InAnswer question sheet bases) move) e (inl viewed) = viewed.2
+no_evidence C (MayStop (InAnswer question sheet bases) move) e (inr later) = no_evidence C move e later
+no_evidence C (Asks question sheet s go) e evidence = evidence
 
 -- ---- what is open isn't attested
 
@@ -75,16 +76,16 @@ is_due (Some found) refused rest turn count never e =
     let same : found ≡ Attested count = cc in
     absurd (subst (λ (f : Found). NeverAttests (Some f)) same never)
 
-module _ (program : Program) (w : Walker) (count : ℕ) (outcome : StatementOutcome) (step : Step attested program w.state outcome) where
+module _ (C : Checker) (program : Program) (w : Walker) (count : ℕ) (outcome : StatementOutcome) (step : Step (attested C) program w.state outcome) where
   abbrev move : StatementMove
   move = verb_move step.statement.verb step.statement.card (counted w.state)
 
-  by_move : walk_move w move ≡ Finds (Attested count) → refuses_selection move ≡ false
-  by_move e = is_due (opened w move) (refuses_selection move) w.rest (due w move) count (never_opened w move) e
+  by_move : walk_move C w move ≡ Finds (Attested count) → refuses_selection move ≡ false
+  by_move e = is_due (opened w move) (refuses_selection move) w.rest (due C w move) count (never_opened w move) e
 
   by_limit : (below : Bool) → nat_lt w.state.executed max_executed ≡ below →
-      (if below then walk_statement w (slice_get program.statements (w.state.position - 1)) else closes w StatementLimit) ≡ Finds (Attested count) → refuses_selection move ≡ false
-  by_limit true is e = by_move (subst (λ (o : Option (Statement ℕ)). walk_statement w o ≡ Finds (Attested count)) step.is_at_position e)
+      (if below then walk_statement C w (slice_get program.statements (w.state.position - 1)) else closes w StatementLimit) ≡ Finds (Attested count) → refuses_selection move ≡ false
+  by_limit true is e = by_move (subst (λ (o : Option (Statement ℕ)). walk_statement C w o ≡ Finds (Attested count)) step.is_at_position e)
   by_limit false is e =
       let limit = ltb-false w.state.executed max_executed is in
       let below = step.is_within_limit in
@@ -92,7 +93,7 @@ module _ (program : Program) (w : Walker) (count : ℕ) (outcome : StatementOutc
 
   by_end : (past : Bool) → nat_lt (length program.statements) w.state.position ≡ past →
       (if past then closes w (Ended 0)
-      else if nat_lt w.state.executed max_executed then walk_statement w (slice_get program.statements (w.state.position - 1)) else closes w StatementLimit) ≡ Finds (Attested count) →
+      else if nat_lt w.state.executed max_executed then walk_statement C w (slice_get program.statements (w.state.position - 1)) else closes w StatementLimit) ≡ Finds (Attested count) →
       refuses_selection move ≡ false
   by_end true is e =
       let after = ltb-true (length program.statements) w.state.position is in
@@ -100,37 +101,37 @@ module _ (program : Program) (w : Walker) (count : ℕ) (outcome : StatementOutc
       absurd (omega (arith, after, within))
   by_end false is e = by_limit (nat_lt w.state.executed max_executed) refl e
 
-  not_refused : turn program w ≡ Finds (Attested count) → refuses_selection move ≡ false
+  not_refused : turn C program w ≡ Finds (Attested count) → refuses_selection move ≡ false
   unfolding turn
   not_refused e = by_end (nat_lt (length program.statements) w.state.position) refl e
 
-ends_unstopped : (program : Program) (w : Walker) (count : ℕ) (gain : Gain) (ending : Ending) → Step attested program w.state (Ends gain ending) → turn program w ≡ Finds (Attested count) → IsOverflow ending → ⊥
-ends_unstopped program w count gain ending step e stop =
-    no_evidence (verb_move step.statement.verb step.statement.card (counted w.state)) (not_refused program w count (Ends gain ending) step e)
-    (statement_evidence attested step.statement.card gain stop.0 step.statement.verb (counted w.state)
-    (subst (λ (x : Ending). Gives attested step.statement.card (verb_move step.statement.verb step.statement.card (counted w.state)) (Ends gain x)) stop.1 step.gives))
+ends_unstopped : (C : Checker) (program : Program) (w : Walker) (count : ℕ) (gain : Gain) (ending : Ending) → Step (attested C) program w.state (Ends gain ending) → turn C program w ≡ Finds (Attested count) → IsOverflow ending → ⊥
+ends_unstopped C program w count gain ending step e stop =
+    no_evidence C (verb_move step.statement.verb step.statement.card (counted w.state)) (not_refused C program w count (Ends gain ending) step e)
+    (statement_evidence (attested C) step.statement.card gain stop.0 step.statement.verb (counted w.state)
+    (subst (λ (x : Ending). Gives (attested C) step.statement.card (verb_move step.statement.verb step.statement.card (counted w.state)) (Ends gain x)) stop.1 step.gives))
 
-over_unstopped : (program : Program) (state : State) (ending : Ending) → IsOver attested program state ending → IsOverflow ending → ⊥
-over_unstopped program state _ (at_end past) stop = let e = stop.1 in cc e
-over_unstopped program state _ (at_limit within limit) stop = let e = stop.1 in cc e
+over_unstopped : (C : Checker) (program : Program) (state : State) (ending : Ending) → IsOver (attested C) program state ending → IsOverflow ending → ⊥
+over_unstopped C program state _ (at_end past) stop = let e = stop.1 in cc e
+over_unstopped C program state _ (at_limit within limit) stop = let e = stop.1 in cc e
 
 -- ---- a whole walk
 
-module _ (reading : ReadingLaw) (truth : JudgedLaws) (bytes lines : List ℕ) (program : Program) (is_program : IsProgramOf bytes program) where
+module _ (C : Checker) (reading : ReadingLaw C) (truth : JudgedLaws C) (bytes lines : List ℕ) (program : Program) (is_program : IsProgramOf bytes program) where
   abbrev decks : List (List Card)
   decks = job_decks program bytes
 
-  stays_inside : (reports : List Report) (cards : List (List ℕ)) (state : State) → Reaches attested program decks reports cards state → length program.statements ≤ state.position - 1 →
+  stays_inside : (reports : List Report) (cards : List (List ℕ)) (state : State) → Reaches (attested C) program decks reports cards state → length program.statements ≤ state.position - 1 →
       length program.statements < state.position
   stays_inside _ _ _ begun past = omega (arith, past)
   stays_inside _ _ after (stepped {reports} {cards} {state} gain _ before step) past =
       let within = slice_get_within program.statements (state.position - 1) step.statement step.is_at_position in omega (arith, within, past)
 
-  setup_lawful : (reports : List Report) (cards : List (List ℕ)) (state : State) → Reaches attested program decks reports cards state → HasProblem state.setup
-  setup_lawful reports cards state reaches = (job_reaching attested bytes program reports cards state (record { is_program = is_program; reaches = reaches })).setup
+  setup_lawful : (reports : List Report) (cards : List (List ℕ)) (state : State) → Reaches (attested C) program decks reports cards state → HasProblem state.setup
+  setup_lawful reports cards state reaches = (job_reaching (attested C) bytes program reports cards state (record { is_program = is_program; reaches = reaches })).setup
 
   abbrev Walked : Walker → Type 0
-  Walked w = IsWalked reading truth bytes lines program is_program w
+  Walked w = IsWalked C reading truth bytes lines program is_program w
 
   more_text : (reports more : List Report) (rest after : List ℕ) → lines ≡ reports_text reports ++ rest → rest ≡ reports_text more ++ after → lines ≡ reports_text (reports ++ more) ++ after
   more_text reports more rest after text next =
@@ -140,7 +141,7 @@ module _ (reading : ReadingLaw) (truth : JudgedLaws) (bytes lines : List ℕ) (p
   more_counted : (reports more : List Report) (n m : ℕ) → n ≡ length reports → m ≡ n + length more → m ≡ length (reports ++ more)
   more_counted reports more n m counted next = next ∙ ap (λ (k : ℕ). k + length more) counted ∙ sym (length-append reports more)
 
-  finished : (w : Walker) (count : ℕ) (is : Walked w) → turn program w ≡ Finds (Attested count) → Finishes program (HoldSoFar attested Says program decks is.reaches) w count → IsProvedListing bytes lines count
+  finished : (w : Walker) (count : ℕ) (is : Walked w) → turn C program w ≡ Finds (Attested count) → Finishes C program (HoldSoFar (attested C) Says program decks is.reaches) w count → IsProvedListing C bytes lines count
   finished w count is e (over ending ends text counted holds) = record {
     proved = record {
       reports = is.reports;
@@ -151,7 +152,7 @@ module _ (reading : ReadingLaw) (truth : JudgedLaws) (bytes lines : List ℕ) (p
       each = holds;
     };
     has_count = sym (counted ∙ is.counted);
-    unstopped = over_unstopped program w.state ending ends;
+    unstopped = over_unstopped C program w.state ending ends;
   }
   finished w count is e (by_statement gain ending step text counted holds) = record {
     proved = record {
@@ -163,15 +164,15 @@ module _ (reading : ReadingLaw) (truth : JudgedLaws) (bytes lines : List ℕ) (p
       each = (holds.0, holds.1, tt);
     };
     has_count = sym (more_counted is.reports (printed_by gain) w.reports count is.counted counted);
-    unstopped = ends_unstopped program w count gain ending step e;
+    unstopped = ends_unstopped C program w count gain ending step e;
   }
 
-  walk_reported : (w : Walker) (count : ℕ) → IsCome program decks lines w → turn program w ≡ Finds (Attested count) → IsProvedListing bytes lines count
+  walk_reported : (w : Walker) (count : ℕ) → IsCome C program decks lines w → turn C program w ≡ Finds (Attested count) → IsProvedListing C bytes lines count
   walk_reported w count come e =
-      let is : Walked w = is_walked reading truth bytes lines program is_program w come in
-      let Holds : Type 0 = HoldSoFar attested Says program decks is.reaches in
-      finished w count is e (subst (On (StepsTo program Holds w) (Finishes program Holds w)) e
-      (turned reading truth program Holds w is.owes (setup_lawful is.reports is.cards w.state is.reaches) (stays_inside is.reports is.cards w.state is.reaches)))
+      let is : Walked w = is_walked C reading truth bytes lines program is_program w come in
+      let Holds : Type 0 = HoldSoFar (attested C) Says program decks is.reaches in
+      finished w count is e (subst (On (StepsTo C program Holds w) (Finishes C program Holds w)) e
+      (turned C reading truth program Holds w is.owes (setup_lawful is.reports is.cards w.state is.reaches) (stays_inside is.reports is.cards w.state is.reaches)))
 
 -- a listing that has an end alone
 end_alone : (lines : List ℕ) (ending : Ending) (count : ℕ) → closes (first_walker [] lines) ending ≡ Finds (Attested count) → (lines ≡ ending_text ending) × (count ≡ 0)
@@ -179,19 +180,19 @@ end_alone lines ending count e =
     let EndedSo : ℕ → Type 0 = λ n. (lines ≡ ending_text ending) × (n ≡ 0) in
     subst (On (λ v. Unit {0}) EndedSo) e (on_closes (λ v. Unit {0}) EndedSo (first_walker [] lines) ending (λ settled text. (text, refl)))
 
-pub attested_reported : ReadingLaw → JudgedLaws → (bytes lines : List ℕ) (count : ℕ) → Comes bytes lines (Attested count) → IsProvedListing bytes lines count
-attested_reported reading truth bytes lines count (of_cards fault is e) =
+pub attested_reported : (C : Checker) → ReadingLaw C → JudgedLaws C → (bytes lines : List ℕ) (count : ℕ) → Comes C bytes lines (Attested count) → IsProvedListing C bytes lines count
+attested_reported C reading truth bytes lines count (of_cards fault is e) =
     let alone = end_alone lines (CardStop fault) count e in
     record {
       proved = record { reports = []; cards = []; ending = CardStop fault; runs = card_fault fault is; is_listing = alone.0; each = tt };
       has_count = sym alone.1;
       unstopped = λ stop. let same = stop.1 in cc same;
     }
-attested_reported reading truth bytes lines count (of_control fault is stops e) =
+attested_reported C reading truth bytes lines count (of_control fault is stops e) =
     let alone = end_alone lines (ControlStop fault) count e in
     record {
       proved = record { reports = []; cards = []; ending = ControlStop fault; runs = control_fault fault is stops; is_listing = alone.0; each = tt };
       has_count = sym alone.1;
       unstopped = λ stop. let same = stop.1 in cc same;
     }
-attested_reported reading truth bytes lines count (of_walk program w is_program come e) = walk_reported reading truth bytes lines program is_program w count come e
+attested_reported C reading truth bytes lines count (of_walk program w is_program come e) = walk_reported C reading truth bytes lines program is_program w count come e

@@ -33,6 +33,7 @@ use Rattle.run_definitions.specs.Run.{counted, Reaches, begun, stepped, IsRun, i
 use Rattle.run_definitions.specs.Answer.{IsJobRun, card_fault, control_fault, run}
 use Rattle.walk_laws.specs.Proved.{attested}
 use Rattle.one_story_laws.specs.Story.{IsOfNoBasis}
+use Rattle.walk_definitions.specs.Checkers.{Checker}
 
 abbrev NoneOf : StatementOutcome → Type 0
 NoneOf outcome = All IsOfNoBasis (printed_by (gain_of outcome))
@@ -54,9 +55,9 @@ by_verdict_none Unbounded report state none = demanded_none state.cells.xdounb 2
 
 -- ---- moves
 
-module _ (card : ℕ) where
+module _ (C : Checker) (card : ℕ) where
   record ShowsNone (move : StatementMove) : Type 0 where
-    by : (outcome : StatementOutcome) → Gives attested card move outcome → NoneOf outcome
+    by : (outcome : StatementOutcome) → Gives (attested C) card move outcome → NoneOf outcome
 
   does : (outcome : StatementOutcome) → NoneOf outcome → ShowsNone (Does outcome)
   does outcome none = record { by = λ given e. subst NoneOf (sym e) none }
@@ -64,11 +65,11 @@ module _ (card : ℕ) where
   may_stop : (refusals : Refusals) (move : StatementMove) → ShowsNone move → ShowsNone (MayStop refusals move)
   may_stop refusals move shows = record { by = stopping }
     where
-      stopping : (given : StatementOutcome) → Gives attested card (MayStop refusals move) given → NoneOf given
+      stopping : (given : StatementOutcome) → Gives (attested C) card (MayStop refusals move) given → NoneOf given
       stopping given (inl gives) = shows.by given gives
       stopping given (inr stop) = subst NoneOf (sym stop.3) nothing
 
-  asked : (question : Question) (sheet : Sheet) (s : Basis) (go : AnswerTo question → StatementOutcome) → ((answer : AnswerTo question) → IsRight attested question sheet s answer → NoneOf (go answer)) →
+  asked : (question : Question) (sheet : Sheet) (s : Basis) (go : AnswerTo question → StatementOutcome) → ((answer : AnswerTo question) → IsRight (attested C) question sheet s answer → NoneOf (go answer)) →
       ShowsNone (Asks question sheet s go)
   asked question sheet s go none = record { by = λ given a. subst NoneOf (sym a.2) (none a.0 a.1) }
 
@@ -191,20 +192,20 @@ module _ (card : ℕ) where
 
 -- ---- runs
 
-module _ (program : Program) (decks : List (List Card)) where
-  so_far_none : (reports : List Report) (cards : List (List ℕ)) (state : State) → Reaches attested program decks reports cards state → All IsOfNoBasis reports
+module _ (C : Checker) (program : Program) (decks : List (List Card)) where
+  so_far_none : (reports : List Report) (cards : List (List ℕ)) (state : State) → Reaches (attested C) program decks reports cards state → All IsOfNoBasis reports
   so_far_none _ _ _ begun = nothing
   so_far_none _ _ _ (stepped {reports} {cards} {state} gain after before step) =
       All-append IsOfNoBasis reports (printed_by gain) (so_far_none reports cards state before)
-      ((verb_none step.statement.card step.statement.verb (counted state)).by (Goes gain after) step.gives)
+      ((verb_none C step.statement.card step.statement.verb (counted state)).by (Goes gain after) step.gives)
 
-  run_none : (reports : List Report) (cards : List (List ℕ)) (ending : Ending) → IsRun attested program decks reports cards ending → All IsOfNoBasis reports
+  run_none : (reports : List Report) (cards : List (List ℕ)) (ending : Ending) → IsRun (attested C) program decks reports cards ending → All IsOfNoBasis reports
   run_none reports cards ending (is_over {reports = _} {cards = _} {state} before over) = so_far_none reports cards state before
   run_none _ _ ending (is_ended {reports} {cards} {state} gain before step) =
       All-append IsOfNoBasis reports (printed_by gain) (so_far_none reports cards state before)
-      ((verb_none step.statement.card step.statement.verb (counted state)).by (Ends gain ending) step.gives)
+      ((verb_none C step.statement.card step.statement.verb (counted state)).by (Ends gain ending) step.gives)
 
-pub job_of_no_basis : (bytes : List ℕ) (reports : List Report) (cards : List (List ℕ)) (ending : Ending) → IsJobRun attested bytes reports cards ending → All IsOfNoBasis reports
-job_of_no_basis bytes _ _ _ (card_fault fault is) = nothing
-job_of_no_basis bytes _ _ _ (control_fault fault fine is) = nothing
-job_of_no_basis bytes reports cards ending (run program is runs) = run_none program _ reports cards ending runs
+pub job_of_no_basis : (C : Checker) (bytes : List ℕ) (reports : List Report) (cards : List (List ℕ)) (ending : Ending) → IsJobRun (attested C) bytes reports cards ending → All IsOfNoBasis reports
+job_of_no_basis C bytes _ _ _ (card_fault fault is) = nothing
+job_of_no_basis C bytes _ _ _ (control_fault fault fine is) = nothing
+job_of_no_basis C bytes reports cards ending (run program is runs) = run_none C program _ reports cards ending runs

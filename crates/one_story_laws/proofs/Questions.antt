@@ -29,6 +29,7 @@ use Rattle.one_story_laws.proofs.Marks.{FailsAt, same_verdict, same_failure, fai
 use Rattle.one_story_laws.proofs.Ends.{HasRun, same_close}
 use Rattle.one_story_laws.proofs.Reported.{Fails, Runs, SaysEnough, attested_says}
 use Rattle.one_story_laws.proofs.Alike.{SameSetup, one_setup, Alike, AlikeOrStopped, goes_alike, by_verdict_alike, IsAlike, may_stop, asked}
+use Rattle.walk_definitions.specs.Checkers.{Checker}
 
 -- ---- the linear program, and the parametric run, of which something is reported
 
@@ -82,7 +83,7 @@ same_last (InfeasiblePast value lines) (UnboundedPast other others) same = absur
 one_verdict : (P : Report → Type 0) (mark : Mark) (report : Report) (state : State) → All P (printed_by (gain_of (by_verdict mark report state))) → P report
 one_verdict P mark report state all = All-head P report [] (subst (All P) (printed_verdict mark report state) all)
 
-module _ (S : Solving) (Speaks : State → Report → Type 0) (Open : Type 0) (enough : SaysEnough S Speaks Open) (card : ℕ) (state : State) (problem : Problem ℕ) (options : SetupOptions)
+module _ (C : Checker) (S : Solving) (Speaks : State → Report → Type 0) (Open : Type 0) (enough : SaysEnough S Speaks Open) (card : ℕ) (state : State) (problem : Problem ℕ) (options : SetupOptions)
     (opening other : Basis) (steps others : List Basis) (lp : LinearProgram) (is : selected problem (choice_of state.cells options) ≡ Ok lp) where
   abbrev one : Present
   one = record { problem = problem; options = options; opening = opening; steps = steps }
@@ -125,27 +126,27 @@ module _ (S : Solving) (Speaks : State → Report → Type 0) (Open : Type 0) (e
     abbrev path_on : PathEnd → StatementOutcome
     path_on = after_path solver card two (counted second)
 
-    paths_alike : (x y : PathEnd) → S.Solves solver sheet (present_basis one) limit x → attested.Solves solver sheet (present_basis two) limit y → All (Speaks first) (printed_by (gain_of (path_go x))) →
+    paths_alike : (x y : PathEnd) → S.Solves solver sheet (present_basis one) limit x → (attested C).Solves solver sheet (present_basis two) limit y → All (Speaks first) (printed_by (gain_of (path_go x))) →
         All (Says second) (printed_by (gain_of (path_on y))) → AlikeOrStopped Open (path_go x) (path_on y)
     paths_alike PathLimit y right taken speaks says = inr (LimitStop _, enough.path_limits solver sheet (present_basis one) limit right, refl)
     paths_alike (PricesWrong j) y right taken speaks says = inr (PriceStop _, enough.price_stops solver sheet (present_basis one) limit j right, refl)
-    paths_alike (Reached bases verdict check) PathLimit right taken speaks says = absurd (attested_says.path_limits solver sheet (present_basis two) limit taken)
-    paths_alike (Reached bases verdict check) (PricesWrong j) right taken speaks says = absurd (attested_says.price_stops solver sheet (present_basis two) limit j taken)
+    paths_alike (Reached bases verdict check) PathLimit right taken speaks says = absurd ((attested_says C).path_limits solver sheet (present_basis two) limit taken)
+    paths_alike (Reached bases verdict check) (PricesWrong j) right taken speaks says = absurd ((attested_says C).price_stops solver sheet (present_basis two) limit j taken)
     paths_alike (Reached bases verdict check) (Reached more another other_check) right taken speaks says =
         let spoken = enough.paths first solver verdict check is_path (one_verdict (Speaks first) (mark_of verdict) (Solved solver verdict check) _ speaks) in
-        let said = attested_says.paths second solver another other_check is_path (one_verdict (Says second) (mark_of another) (Solved solver another other_check) _ says) in
+        let said = (attested_says C).paths second solver another other_check is_path (one_verdict (Says second) (mark_of another) (Solved solver another other_check) _ says) in
         inl (verdicts_alike solver verdict another check other_check bases more (λ m. Some m)
         (same_verdict sheet verdict another (true_here (Some one) one verdict refl is spoken.0 spoken.1) (true_here (Some two) two another refl is said.0 said.1)))
 
-    pub path_asked : IsAlike S Speaks Open first second card (asks (OfPath solver limit) sheet one path_go) (asks (OfPath solver limit) sheet two path_on)
-    path_asked = may_stop S Speaks Open first second card _ _ _ _ (asked S Speaks Open first second card (OfPath solver limit) sheet (present_basis one) (present_basis two) path_go path_on paths_alike)
+    pub path_asked : IsAlike C S Speaks Open first second card (asks (OfPath solver limit) sheet one path_go) (asks (OfPath solver limit) sheet two path_on)
+    path_asked = may_stop C S Speaks Open first second card _ _ _ _ (asked C S Speaks Open first second card (OfPath solver limit) sheet (present_basis one) (present_basis two) path_go path_on paths_alike)
 
   -- ---- SOLUTION
 
-  pub solution_asked : (mark : Mark) → IsAlike S Speaks Open first second card (asks (OfSolution mark) sheet one (λ lines. next (Prints (Solution mark lines)) (counted first)))
+  pub solution_asked : (mark : Mark) → IsAlike C S Speaks Open first second card (asks (OfSolution mark) sheet one (λ lines. next (Prints (Solution mark lines)) (counted first)))
       (asks (OfSolution mark) sheet two (λ lines. next (Prints (Solution mark lines)) (counted second)))
   solution_asked mark =
-      may_stop S Speaks Open first second card _ _ _ _ (asked S Speaks Open first second card (OfSolution mark) sheet (present_basis one) (present_basis two) _ _ (λ x y right taken speaks says.
+      may_stop C S Speaks Open first second card _ _ _ _ (asked C S Speaks Open first second card (OfSolution mark) sheet (present_basis one) (present_basis two) _ _ (λ x y right taken speaks says.
       inl (goes_alike (Prints (Solution mark x)) (Prints (Solution mark y)) (record (counted state) { position = state.position + 1 }) (Some one) (Some two) (refl, tt)
       (one_setup problem options opening other steps others))))
 
@@ -198,7 +199,7 @@ module _ (S : Solving) (Speaks : State → Report → Type 0) (Open : Type 0) (e
     said_opening : (verdict : PathVerdict) (check : Check) (bases : List Basis) → All (Says second) (printed_by (gain_of (parametric_run_on (Opening bases verdict check)))) → FailsAt (family parametric_run.from) verdict
     said_opening verdict check bases says =
         fails_here (Some two) two verdict refl is
-        (attested_says.openings second parametric_run.changing verdict check (one_verdict (Says second) (mark_of verdict) (Solved (parametric_solver parametric_run.changing) verdict check) _ says))
+        ((attested_says C).openings second parametric_run.changing verdict check (one_verdict (Says second) (mark_of verdict) (Solved (parametric_solver parametric_run.changing) verdict check) _ says))
 
     spoken_run : (intervals : List ParametricInterval) (end : ChainEnd) → All (Speaks first) (Parametric (parametric_solver parametric_run.changing) (chain_of intervals end) ∷ []) → HasRun family parametric_run.from parametric_run.to end
     spoken_run intervals end speaks =
@@ -206,13 +207,13 @@ module _ (S : Solving) (Speaks : State → Report → Type 0) (Open : Type 0) (e
 
     said_run : (intervals : List ParametricInterval) (end : ChainEnd) → All (Says second) (Parametric (parametric_solver parametric_run.changing) (chain_of intervals end) ∷ []) → HasRun family parametric_run.from parametric_run.to end
     said_run intervals end says =
-        runs_here (Some two) two end refl is (attested_says.chains second (parametric_solver parametric_run.changing) (chain_of intervals end) (All-head (Says second) _ [] says))
+        runs_here (Some two) two end refl is ((attested_says C).chains second (parametric_solver parametric_run.changing) (chain_of intervals end) (All-head (Says second) _ [] says))
 
-    parametric_runs_alike : (x y : ParametricRunEnd) → S.ParametricRuns sheet (present_basis one) parametric_run x → attested.ParametricRuns sheet (present_basis two) parametric_run y → All (Speaks first) (printed_by (gain_of (parametric_run_go x))) →
+    parametric_runs_alike : (x y : ParametricRunEnd) → S.ParametricRuns sheet (present_basis one) parametric_run x → (attested C).ParametricRuns sheet (present_basis two) parametric_run y → All (Speaks first) (printed_by (gain_of (parametric_run_go x))) →
         All (Says second) (printed_by (gain_of (parametric_run_on y))) → AlikeOrStopped Open (parametric_run_go x) (parametric_run_on y)
     parametric_runs_alike ParametricRunLimit y right taken speaks says = inr (LimitStop _, enough.parametric_run_limits sheet (present_basis one) parametric_run right, refl)
-    parametric_runs_alike (Opening bases verdict check) ParametricRunLimit right taken speaks says = absurd (attested_says.parametric_run_limits sheet (present_basis two) parametric_run taken)
-    parametric_runs_alike (Chained bases intervals end) ParametricRunLimit right taken speaks says = absurd (attested_says.parametric_run_limits sheet (present_basis two) parametric_run taken)
+    parametric_runs_alike (Opening bases verdict check) ParametricRunLimit right taken speaks says = absurd ((attested_says C).parametric_run_limits sheet (present_basis two) parametric_run taken)
+    parametric_runs_alike (Chained bases intervals end) ParametricRunLimit right taken speaks says = absurd ((attested_says C).parametric_run_limits sheet (present_basis two) parametric_run taken)
     parametric_runs_alike (Opening bases verdict check) (Opening more another other_check) right taken speaks says =
         inl (verdicts_alike (parametric_solver parametric_run.changing) verdict another check other_check bases more (λ m. None)
         (same_failure (family parametric_run.from) verdict another (spoken_opening verdict check bases speaks) (said_opening another other_check more says)))
@@ -223,7 +224,7 @@ module _ (S : Solving) (Speaks : State → Report → Type 0) (Open : Type 0) (e
     parametric_runs_alike (Chained bases intervals end) (Chained more others_intervals another) right taken speaks says =
         inl (chains_alike bases more intervals others_intervals end another
         (same_close family parametric_run.from parametric_run.to end another (spoken_run intervals end speaks) (said_run others_intervals another says)
-        (enough.lasts sheet (present_basis one) parametric_run bases intervals end right) (attested_says.lasts sheet (present_basis two) parametric_run more others_intervals another taken)))
+        (enough.lasts sheet (present_basis one) parametric_run bases intervals end right) ((attested_says C).lasts sheet (present_basis two) parametric_run more others_intervals another taken)))
 
-    pub parametric_run_asked : IsAlike S Speaks Open first second card (asks (OfParametricRun parametric_run) sheet one parametric_run_go) (asks (OfParametricRun parametric_run) sheet two parametric_run_on)
-    parametric_run_asked = may_stop S Speaks Open first second card _ _ _ _ (asked S Speaks Open first second card (OfParametricRun parametric_run) sheet (present_basis one) (present_basis two) parametric_run_go parametric_run_on parametric_runs_alike)
+    pub parametric_run_asked : IsAlike C S Speaks Open first second card (asks (OfParametricRun parametric_run) sheet one parametric_run_go) (asks (OfParametricRun parametric_run) sheet two parametric_run_on)
+    parametric_run_asked = may_stop C S Speaks Open first second card _ _ _ _ (asked C S Speaks Open first second card (OfParametricRun parametric_run) sheet (present_basis one) (present_basis two) parametric_run_go parametric_run_on parametric_runs_alike)

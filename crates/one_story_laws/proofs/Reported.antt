@@ -21,6 +21,7 @@ use Rattle.walk_laws.proofs.Answered.{IsPathSolver}
 use Rattle.one_story_laws.proofs.Marks.{FailsAt, fails_at_first, fails_by_ending}
 use Rattle.one_story_laws.proofs.Ends.{HasRun, run_as_viewed, run_as_reported, IsLast}
 use Rattle.one_story_laws.proofs.Taken.{parametric_run_taken, path_taken}
+use Rattle.walk_definitions.specs.Checkers.{Checker}
 
 abbrev pub IsTrueVerdict : State → PathVerdict → Type 0
 IsTrueVerdict state verdict = (program : PresentProgram state.setup state.cells) × IsTrueOf (sheet_of program) verdict
@@ -76,15 +77,15 @@ reported_opening state (Set name) verdict check says = reported_map (FailsAsView
 runs_as_viewed : (chain : Chain) (sheet : Sheet) (parametric_run : ParametricRun) → ShowsProvedChain chain sheet parametric_run → Runs chain.end sheet parametric_run
 runs_as_viewed chain sheet parametric_run shows = run_as_viewed (family_of sheet parametric_run.changing) sheet parametric_run.from parametric_run.to (map part_of chain.intervals) chain.end shows.is_true
 
-pub attested_says : SaysEnough attested Says ⊥
-attested_says = record {
+pub attested_says : (C : Checker) → SaysEnough (attested C) Says ⊥
+attested_says C = record {
   paths = reported_path;
   openings = reported_opening;
   chains = λ state solver chain says. reported_map (ShowsProvedChain chain) (Runs chain.end) (runs_as_viewed chain) says;
-  lasts = λ sheet s parametric_run bases intervals end taken. parametric_run_taken sheet parametric_run (Chained bases intervals end) taken;
-  path_limits = λ solver sheet s limit taken. path_taken solver limit sheet PathLimit taken;
-  price_stops = λ solver sheet s limit j taken. path_taken solver limit sheet (PricesWrong j) taken;
-  parametric_run_limits = λ sheet s parametric_run taken. parametric_run_taken sheet parametric_run ParametricRunLimit taken;
+  lasts = λ sheet s parametric_run bases intervals end taken. parametric_run_taken C sheet parametric_run (Chained bases intervals end) taken;
+  path_limits = λ solver sheet s limit taken. path_taken C solver limit sheet PathLimit taken;
+  price_stops = λ solver sheet s limit j taken. path_taken C solver limit sheet (PricesWrong j) taken;
+  parametric_run_limits = λ sheet s parametric_run taken. parametric_run_taken C sheet parametric_run ParametricRunLimit taken;
 }
 
 -- ---- the run itself

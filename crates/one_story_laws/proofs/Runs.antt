@@ -29,6 +29,7 @@ use Rattle.one_story_laws.specs.Views.{made_by, made_so_far, made_in_run, AreBes
 use Rattle.one_story_laws.proofs.Reported.{SaysEnough}
 use Rattle.one_story_laws.proofs.Alike.{no_setup, SameStanding, standing, Alike, CutsOff, IsStopped, AlikeOrStopped}
 use Rattle.one_story_laws.proofs.Verbs.{verb_alike}
+use Rattle.walk_definitions.specs.Checkers.{Checker}
 
 -- ---- reports
 
@@ -136,18 +137,18 @@ never_stops gain after stop = let e = stop.1 in cc e
 ends_unstopped : (gain : Gain) (ending : Ending) → (IsOverflow ending → ⊥) → IsOverflowStop (Ends gain ending) → ⊥
 ends_unstopped gain ending none stop = let e = stop.1 in none (stop.0, cc)
 
-module _ (S : Solving) (Speaks : State → Report → Type 0) (Open : Type 0) (enough : SaysEnough S Speaks Open) (Same : State → Report → Report → Type 0)
+module _ (C : Checker) (S : Solving) (Speaks : State → Report → Type 0) (Open : Type 0) (enough : SaysEnough S Speaks Open) (Same : State → Report → Report → Type 0)
     (shows : (a b : State) → SameStanding a b → (report other : Report) → ReportsSame report other → Speaks a report → Says b other → Same a report other) (program : Program) where
-  step_alike : (a b : State) (x y : StatementOutcome) → SameStanding a b → Step S program a x → Step attested program b y → All (Speaks a) (printed_by (gain_of x)) → All (Says b) (printed_by (gain_of y)) →
+  step_alike : (a b : State) (x y : StatementOutcome) → SameStanding a b → Step S program a x → Step (attested C) program b y → All (Speaks a) (printed_by (gain_of x)) → All (Says b) (printed_by (gain_of y)) →
       (IsOverflowStop y → ⊥) → AlikeOrStopped Open x y
   step_alike _ _ x y (standing state left right setups) first second speaks says unstopped =
-      (verb_alike S Speaks Open enough first.statement.card state first.statement.verb left right setups).by x y first.gives moved speaks says unstopped
+      (verb_alike C S Speaks Open enough first.statement.card state first.statement.verb left right setups).by x y first.gives moved speaks says unstopped
     where
       same : second.statement ≡ first.statement
       same = same_Some second.statement first.statement (sym second.is_at_position ∙ first.is_at_position)
 
-      moved : Gives attested first.statement.card (verb_move first.statement.verb first.statement.card (counted (record state { setup = right }))) y
-      moved = subst (λ (s : Statement ℕ). Gives attested s.card (verb_move s.verb s.card (counted (record state { setup = right }))) y) same second.gives
+      moved : Gives (attested C) first.statement.card (verb_move first.statement.verb first.statement.card (counted (record state { setup = right }))) y
+      moved = subst (λ (s : Statement ℕ). Gives (attested C) s.card (verb_move s.verb s.card (counted (record state { setup = right }))) y) same second.gives
 
   show_all : (a b : State) → SameStanding a b → (reports others : List Report) → TellSame reports others → All (Speaks a) reports → All (Says b) others →
       AreBeside Same (map (λ (report : Report). (a, report)) reports) others
@@ -178,17 +179,17 @@ module _ (S : Solving) (Speaks : State → Report → Type 0) (Open : Type 0) (e
     Came reports cards state = Reaches S program decks reports cards state
 
     abbrev Seen : List Report → List (List ℕ) → State → Type 0
-    Seen reports cards state = Reaches attested program decks reports cards state
+    Seen reports cards state = Reaches (attested C) program decks reports cards state
 
     abbrev count : {reports : List Report} {cards : List (List ℕ)} {state : State} → Came reports cards state → ℕ
     count came = steps S Speaks program decks came
 
     abbrev seen_count : {reports : List Report} {cards : List (List ℕ)} {state : State} → Seen reports cards state → ℕ
-    seen_count seen = steps attested Says program decks seen
+    seen_count seen = steps (attested C) Says program decks seen
 
     -- after as many statements
     same_so_far : (reports others : List Report) (cards other_cards : List (List ℕ)) (state other : State) (first : Came reports cards state) (second : Seen others other_cards other) →
-        HoldSoFar S Speaks program decks first → HoldSoFar attested Says program decks second → count first ≡ seen_count second → AreAlike (made_so_far S program decks first) reports others state other
+        HoldSoFar S Speaks program decks first → HoldSoFar (attested C) Says program decks second → count first ≡ seen_count second → AreAlike (made_so_far S program decks first) reports others state other
     same_so_far _ _ _ _ _ _ begun begun holds also e = record { tell = tt; stand = standing (start decks) None None no_setup; beside = tt }
     same_so_far _ _ _ _ _ _ begun (stepped gain after before step) holds also e = absurd (omega arith)
     same_so_far _ _ _ _ _ _ (stepped gain after before step) begun holds also e = absurd (omega arith)
@@ -207,11 +208,11 @@ module _ (S : Solving) (Speaks : State → Report → Type 0) (Open : Type 0) (e
       beside : AreBeside Same made front
       gain : Gain
       after : State
-      step : Step attested program other (Goes gain after)
+      step : Step (attested C) program other (Goes gain after)
       says : All (Says other) (printed_by gain)
 
     ahead : (reports others : List Report) (cards other_cards : List (List ℕ)) (state other : State) (first : Came reports cards state) (second : Seen others other_cards other) →
-        HoldSoFar S Speaks program decks first → HoldSoFar attested Says program decks second → count first < seen_count second →
+        HoldSoFar S Speaks program decks first → HoldSoFar (attested C) Says program decks second → count first < seen_count second →
         IsAhead (made_so_far S program decks first) reports state others
     ahead _ _ _ _ _ _ first begun holds also e = absurd (omega (arith, e))
     ahead reports _ cards _ state _ first (stepped {reports = others} {cards = other_cards} {state = other} gain after before step) holds also e =
@@ -257,7 +258,7 @@ module _ (S : Solving) (Speaks : State → Report → Type 0) (Open : Type 0) (e
       speaks : All (Speaks state) (printed_by gain)
 
     behind : (reports others : List Report) (cards other_cards : List (List ℕ)) (state other : State) (first : Came reports cards state) (second : Seen others other_cards other) →
-        HoldSoFar S Speaks program decks first → HoldSoFar attested Says program decks second → seen_count second < count first → IsBehind other
+        HoldSoFar S Speaks program decks first → HoldSoFar (attested C) Says program decks second → seen_count second < count first → IsBehind other
     behind _ _ _ _ _ _ begun second holds also e = absurd (omega (arith, e))
     behind _ others _ other_cards _ other (stepped {reports} {cards} {state} gain after before step) second holds also e =
         by (eq-or-lt_of_le {n = seen_count second} {m = count before} (omega (arith, e))) (behind reports others cards other_cards state other before second holds.0 also)
@@ -304,24 +305,24 @@ module _ (S : Solving) (Speaks : State → Report → Type 0) (Open : Type 0) (e
       )
       both_end gain another ending other speaks says (inr stop) = inr (cut_here made a before (earlier ++ printed_by another) earlier (printed_by another) gain ending refl so_far.tell so_far.beside stop)
 
-      two_lasts : (gain another : Gain) (ending other : Ending) → (IsOverflow other → ⊥) → Last S Speaks program decks a gain ending → Last attested Says program decks b another other →
+      two_lasts : (gain another : Gain) (ending other : Ending) → (IsOverflow other → ⊥) → Last S Speaks program decks a gain ending → Last (attested C) Says program decks b another other →
           EndSame gain another ending other
       two_lasts _ _ ending other none (over first) (over second) = inl (
         tell_append before earlier [] [] so_far.tell tt,
-        one_over S attested program a b ending other (same_position a b so_far.stand) (same_executed a b so_far.stand) first second,
+        one_over S (attested C) program a b ending other (same_position a b so_far.stand) (same_executed a b so_far.stand) first second,
         beside_append Same made [] earlier [] so_far.beside tt,
       )
       two_lasts _ another ending other none (over first) (ended second says) =
-          absurd (over_or_step S attested program a b ending (Ends another other) (same_position a b so_far.stand) (same_executed a b so_far.stand) first second)
+          absurd (over_or_step S (attested C) program a b ending (Ends another other) (same_position a b so_far.stand) (same_executed a b so_far.stand) first second)
       two_lasts gain _ ending other none (ended first speaks) (over second) =
-          absurd (over_or_step attested S program b a other (Ends gain ending) (sym (same_position a b so_far.stand)) (sym (same_executed a b so_far.stand)) second first)
+          absurd (over_or_step (attested C) S program b a other (Ends gain ending) (sym (same_position a b so_far.stand)) (sym (same_executed a b so_far.stand)) second first)
       two_lasts gain another ending other none (ended first speaks) (ended second says) =
           both_end gain another ending other speaks says (step_alike a b (Ends gain ending) (Ends another other) so_far.stand first second speaks says (ends_unstopped another other none))
 
     -- the first run ends where the second one goes on
     ends_early : (made : List (State × Report)) (before others : List Report) (state : State) (gain : Gain) (ending : Ending) (rest : IsAhead made before state others) → Last S Speaks program decks state gain ending → Breaks Open Same (made ++ made_by state gain) (before ++ printed_by gain) others ending
     ends_early made before others state _ ending rest (over first) =
-        absurd (over_or_step S attested program state rest.other ending (Goes rest.gain rest.after) (same_position state rest.other rest.stand) (same_executed state rest.other rest.stand) first rest.step)
+        absurd (over_or_step S (attested C) program state rest.other ending (Goes rest.gain rest.after) (same_position state rest.other rest.stand) (same_executed state rest.other rest.stand) first rest.step)
     ends_early made before others state gain ending rest (ended first speaks) =
         by (step_alike state rest.other (Ends gain ending) (Goes rest.gain rest.after) rest.stand first rest.step speaks rest.says (never_stops rest.gain rest.after))
       where
@@ -331,9 +332,9 @@ module _ (S : Solving) (Speaks : State → Report → Type 0) (Open : Type 0) (e
 
     -- it doesn't go on where the second one ends
     goes_late : (other_state : State) (another : Gain) (other : Ending) (rest : IsBehind other_state) → (IsOverflow other → ⊥) →
-        Last attested Says program decks other_state another other → ⊥
+        Last (attested C) Says program decks other_state another other → ⊥
     goes_late b _ other rest none (over second) =
-        over_or_step attested S program b rest.state other (Goes rest.gain rest.after) (sym (same_position rest.state b rest.stand)) (sym (same_executed rest.state b rest.stand)) second rest.step
+        over_or_step (attested C) S program b rest.state other (Goes rest.gain rest.after) (sym (same_position rest.state b rest.stand)) (sym (same_executed rest.state b rest.stand)) second rest.step
     goes_late b another other rest none (ended second says) =
         by (step_alike rest.state b (Goes rest.gain rest.after) (Ends another other) rest.stand rest.step second rest.speaks says (ends_unstopped another other none))
       where
@@ -352,7 +353,7 @@ module _ (S : Solving) (Speaks : State → Report → Type 0) (Open : Type 0) (e
     }
 
     module _ (made mades : List (State × Report)) (reports others : List Report) (ending other : Ending) (first : Whole S Speaks program decks made reports ending)
-        (second : Whole attested Says program decks mades others other) (none : IsOverflow other → ⊥) where
+        (second : Whole (attested C) Says program decks mades others other) (none : IsOverflow other → ⊥) where
       abbrev EndsSame : Type 0
       EndsSame = Story Open Same (made_so_far S program decks first.came ++ made_by first.state first.gain) (first.before ++ printed_by first.gain) (second.before ++ printed_by second.gain) ending other
 

@@ -30,6 +30,7 @@ use Rattle.one_story_laws.proofs.Shows.{shows_same}
 use Rattle.one_story_laws.proofs.Runs.{Whole, whole_of, Story, two_runs}
 use Rattle.one_story_laws.proofs.NoBasis.{job_of_no_basis}
 use Rattle.one_story_laws.proofs.Attested.{attested_reported}
+use Rattle.walk_definitions.specs.Checkers.{Checker}
 
 -- ---- how a run is cut off
 
@@ -55,21 +56,21 @@ of_cut Open Memory cut = absurd cut
 one_program : (bytes : List ℕ) (program other : Program) → IsProgramOf bytes program → IsProgramOf bytes other → other ≡ program
 one_program bytes program other first second = let e = sym second.is_compiled ∙ first.is_compiled in cc
 
-module _ (S : Solving) (Speaks : State → Report → Type 0) (AtEnd : State → Ending → Type 0) (Open : Type 0) (enough : SaysEnough S Speaks Open)
+module _ (C : Checker) (S : Solving) (Speaks : State → Report → Type 0) (AtEnd : State → Ending → Type 0) (Open : Type 0) (enough : SaysEnough S Speaks Open)
     (Same : State → Report → Report → Type 0) (shows : (a b : State) → SameStanding a b → (report other : Report) → ReportsSame report other → Speaks a report → Says b other → Same a report other)
     (bytes : List ℕ) where
   same_program : (program other : Program) (reports others : List Report) (cards other_cards : List (List ℕ)) (ending another : Ending) → IsProgramOf bytes program → IsProgramOf bytes other →
-      (first : IsRun S program (job_decks program bytes) reports cards ending) (second : IsRun attested other (job_decks other bytes) others other_cards another) →
-      HoldInRun S Speaks AtEnd program (job_decks program bytes) first → HoldInRun attested Says SaysAtEnd other (job_decks other bytes) second → (IsOverflow another → ⊥) →
+      (first : IsRun S program (job_decks program bytes) reports cards ending) (second : IsRun (attested C) other (job_decks other bytes) others other_cards another) →
+      HoldInRun S Speaks AtEnd program (job_decks program bytes) first → HoldInRun (attested C) Says SaysAtEnd other (job_decks other bytes) second → (IsOverflow another → ⊥) →
       Story Open Same (made_in_run S program (job_decks program bytes) first) reports others ending another
   same_program program other reports others cards other_cards ending another is also first second holds says none =
-      two_runs S Speaks Open enough Same shows program (job_decks program bytes) (made_in_run S program (job_decks program bytes) first) (made_in_run attested other (job_decks other bytes) second)
+      two_runs C S Speaks Open enough Same shows program (job_decks program bytes) (made_in_run S program (job_decks program bytes) first) (made_in_run (attested C) other (job_decks other bytes) second)
       reports others ending another (whole_of S Speaks program (job_decks program bytes) AtEnd reports cards ending first holds)
-      (subst (λ (x : Program). Whole attested Says x (job_decks x bytes) (made_in_run attested other (job_decks other bytes) second) others another) (one_program bytes program other is also)
-      (whole_of attested Says other (job_decks other bytes) SaysAtEnd others other_cards another second says)) none
+      (subst (λ (x : Program). Whole (attested C) Says x (job_decks x bytes) (made_in_run (attested C) other (job_decks other bytes) second) others another) (one_program bytes program other is also)
+      (whole_of (attested C) Says other (job_decks other bytes) SaysAtEnd others other_cards another second says)) none
 
-  two_jobs : (reports others : List Report) (cards other_cards : List (List ℕ)) (ending other : Ending) (first : IsJobRun S bytes reports cards ending) (second : IsJobRun attested bytes others other_cards other) →
-      HoldInJob S Speaks AtEnd first → HoldInJob attested Says SaysAtEnd second → (IsOverflow other → ⊥) → Story Open Same (made_in_job S first) reports others ending other
+  two_jobs : (reports others : List Report) (cards other_cards : List (List ℕ)) (ending other : Ending) (first : IsJobRun S bytes reports cards ending) (second : IsJobRun (attested C) bytes others other_cards other) →
+      HoldInJob S Speaks AtEnd first → HoldInJob (attested C) Says SaysAtEnd second → (IsOverflow other → ⊥) → Story Open Same (made_in_job S first) reports others ending other
   two_jobs _ _ _ _ _ _ (card_fault fault is) (card_fault other also) holds says none = let e = sym is ∙ also in inl (tt, cc, tt)
   two_jobs _ _ _ _ _ _ (card_fault fault is) (control_fault other fine also) holds says none = let e = sym is ∙ fine in absurd (cc e)
   two_jobs _ _ _ _ _ _ (card_fault fault is) (run program fine runs) holds says none = let e = sym is ∙ fine.is_read in absurd (cc e)
@@ -83,22 +84,22 @@ module _ (S : Solving) (Speaks : State → Report → Type 0) (AtEnd : State →
 
 -- ---- an attested listing beside another, and beside the run
 
-two_listings : (bytes lines others : List ℕ) (n m : ℕ) (one : IsProvedListing bytes lines n) (two : IsProvedListing bytes others m) →
-    IsOneStory (made_in_job attested one.proved.runs) one.proved.reports two.proved.reports one.proved.ending two.proved.ending
-two_listings bytes lines others n m one two =
-    by (two_jobs attested Says SaysAtEnd ⊥ attested_says ShowsSame (shows_same Says attested_worth) bytes one.proved.reports two.proved.reports one.proved.cards two.proved.cards one.proved.ending
+two_listings : (C D : Checker) (bytes lines others : List ℕ) (n m : ℕ) (one : IsProvedListing C bytes lines n) (two : IsProvedListing D bytes others m) →
+    IsOneStory (made_in_job (attested C) one.proved.runs) one.proved.reports two.proved.reports one.proved.ending two.proved.ending
+two_listings C D bytes lines others n m one two =
+    by (two_jobs D (attested C) Says SaysAtEnd ⊥ (attested_says C) ShowsSame (shows_same Says attested_worth) bytes one.proved.reports two.proved.reports one.proved.cards two.proved.cards one.proved.ending
     two.proved.ending one.proved.runs two.proved.runs one.proved.each two.proved.each two.unstopped)
   where
-    by : Story ⊥ ShowsSame (made_in_job attested one.proved.runs) one.proved.reports two.proved.reports one.proved.ending two.proved.ending →
-        IsOneStory (made_in_job attested one.proved.runs) one.proved.reports two.proved.reports one.proved.ending two.proved.ending
+    by : Story ⊥ ShowsSame (made_in_job (attested C) one.proved.runs) one.proved.reports two.proved.reports one.proved.ending two.proved.ending →
+        IsOneStory (made_in_job (attested C) one.proved.runs) one.proved.reports two.proved.reports one.proved.ending two.proved.ending
     by (inl story) = record { tell = story.0; end = story.1; show = story.2 }
     by (inr breaks) = absurd (one.unstopped ((of_cut ⊥ one.proved.ending breaks.cut).1 (λ (none : ⊥). none)))
 
-beside_run : RunLaws → (bytes lines : List ℕ) (count : ℕ) (one : IsProvedListing bytes lines count) (reports : List Report) (cards : List (List ℕ)) (ending : Ending) →
+beside_run : (C : Checker) → RunLaws → (bytes lines : List ℕ) (count : ℕ) (one : IsProvedListing C bytes lines count) (reports : List Report) (cards : List (List ℕ)) (ending : Ending) →
     (runs : IsJobRun linear_programming bytes reports cards ending) →
     IsOneStory (made_in_job linear_programming runs) reports one.proved.reports ending one.proved.ending ⊎ IsBrokenOff (made_in_job linear_programming runs) reports one.proved.reports ending
-beside_run laws bytes lines count one reports cards ending runs =
-    by (two_jobs linear_programming Holds HoldsAtEnd (Unit {0}) real_says ShowsSame (shows_same Holds real_worth) bytes reports one.proved.reports cards one.proved.cards ending one.proved.ending runs
+beside_run C laws bytes lines count one reports cards ending runs =
+    by (two_jobs C linear_programming Holds HoldsAtEnd (Unit {0}) real_says ShowsSame (shows_same Holds real_worth) bytes reports one.proved.reports cards one.proved.cards ending one.proved.ending runs
     one.proved.runs (laws.truth.job bytes reports cards ending runs) one.proved.each one.unstopped)
   where
     by : Story (Unit {0}) ShowsSame (made_in_job linear_programming runs) reports one.proved.reports ending one.proved.ending →
@@ -160,15 +161,15 @@ each_of_no_basis (report ∷ reports) (other ∷ others) tell none =
     All-cons IsOfNoBasis report reports (of_no_basis report other tell.0 (All-head IsOfNoBasis other others none)) (each_of_no_basis reports others tell.1 (All-tail IsOfNoBasis other others none))
 each_of_no_basis (report ∷ reports) [] tell none = absurd tell
 
-listing_of_no_basis : (bytes lines : List ℕ) (one : IsTrueListing bytes lines) → All IsOfNoBasis one.reports
-listing_of_no_basis bytes lines one = job_of_no_basis bytes one.reports one.cards one.ending one.runs
+listing_of_no_basis : (C : Checker) (bytes lines : List ℕ) (one : IsTrueListing C bytes lines) → All IsOfNoBasis one.reports
+listing_of_no_basis C bytes lines one = job_of_no_basis C bytes one.reports one.cards one.ending one.runs
 
-run_of_no_basis : RunLaws → (bytes lines : List ℕ) (count : ℕ) → IsProvedListing bytes lines count → (reports : List Report) (cards : List (List ℕ)) (ending : Ending) →
+run_of_no_basis : (C : Checker) → RunLaws → (bytes lines : List ℕ) (count : ℕ) → IsProvedListing C bytes lines count → (reports : List Report) (cards : List (List ℕ)) (ending : Ending) →
     IsJobRun linear_programming bytes reports cards ending → All IsOfNoBasis reports
-run_of_no_basis laws bytes lines count one reports cards ending runs = by (beside_run laws bytes lines count one reports cards ending runs)
+run_of_no_basis C laws bytes lines count one reports cards ending runs = by (beside_run C laws bytes lines count one reports cards ending runs)
   where
     none : All IsOfNoBasis one.proved.reports
-    none = listing_of_no_basis bytes lines one.proved
+    none = listing_of_no_basis C bytes lines one.proved
 
     by : IsOneStory (made_in_job linear_programming runs) reports one.proved.reports ending one.proved.ending ⊎ IsBrokenOff (made_in_job linear_programming runs) reports one.proved.reports ending →
         All IsOfNoBasis reports
@@ -181,17 +182,17 @@ tell_as_many (report ∷ reports) (other ∷ others) tell = ap suc (tell_as_many
 tell_as_many [] (other ∷ others) tell = absurd tell
 tell_as_many (report ∷ reports) [] tell = absurd tell
 
-pub stories : ReadingLaw → JudgedLaws → RunLaws → OneStoryLaws
+pub stories : ((C : Checker) → ReadingLaw C) → ((C : Checker) → JudgedLaws C) → RunLaws → OneStoryLaws
 stories reading truth laws = record {
-  is_proved = attested_reported reading truth;
+  is_proved = λ C. attested_reported C (reading C) (truth C);
   one_story = two_listings;
-  as_many = λ bytes lines others n m first second.
-      let one = attested_reported reading truth bytes lines n first in
-      let two = attested_reported reading truth bytes others m second in
-      sym one.has_count ∙ tell_as_many one.proved.reports two.proved.reports (two_listings bytes lines others n m one two).tell ∙ two.has_count;
-  run = beside_run laws;
-  made = λ bytes lines one. made_job attested bytes one.reports one.cards one.ending one.runs;
+  as_many = λ C D bytes lines others n m first second.
+      let one = attested_reported C (reading C) (truth C) bytes lines n first in
+      let two = attested_reported D (reading D) (truth D) bytes others m second in
+      sym one.has_count ∙ tell_as_many one.proved.reports two.proved.reports (two_listings C D bytes lines others n m one two).tell ∙ two.has_count;
+  run = λ C. beside_run C laws;
+  made = λ C bytes lines one. made_job (attested C) bytes one.reports one.cards one.ending one.runs;
   made_by_run = made_job linear_programming;
   no_basis = listing_of_no_basis;
-  no_basis_in_run = run_of_no_basis laws;
+  no_basis_in_run = λ C. run_of_no_basis C laws;
 }

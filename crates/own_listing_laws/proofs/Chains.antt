@@ -33,7 +33,8 @@ use Rattle.parametric_laws.specs.Laws.{HasTrueRuns}
 use Rattle.parametric_laws.specs.Truth.{IsTruePart, AreLongPast, last_end, IsTrueEnd, IsTrueRun}
 use Rattle.parametric_laws.proofs.TrueRuns.{objective_runs, rhs_runs}
 use Rattle.control_definitions.specs.Cells.{steps_allowed}
-use Rattle.walk_definitions.specs.Words.{Parsed, left_after, max_count}
+use Rattle.walk_definitions.specs.Checkers.{checker_of_128_bits}
+use Rattle.walk_definitions.specs.Words.{Parsed, left_after, max_count, fraction_in}
 use Rattle.walk_definitions.specs.Tables.{begins_table_line}
 use Rattle.walk_definitions.specs.Tests.{interval_test, close_test}
 use Rattle.walk_definitions.specs.Reading.{Judged, Right, Fails, Refuses, by_verdict, tested, judged_map, interval_in, close_in, Run, onward, part_in, run_in, parametric_run_head, parametric_run_in, judged}
@@ -66,11 +67,11 @@ fine_tested test x rest passes = by (test x) passes
 
 -- ---- readers of the linear program at a value are those of the linear program
 
-same_interval_in : (sheet : Sheet) (changing : Changing) (theta : ℚ) (number : ℕ) (from : ℚ) (rest : List ℕ) → interval_in sheet number from rest ≡ interval_in (sheet_at sheet changing theta) number from rest
+same_interval_in : (sheet : Sheet) (changing : Changing) (theta : ℚ) (number : ℕ) (from : ℚ) (rest : List ℕ) → interval_in (fraction_in checker_of_128_bits) sheet number from rest ≡ interval_in (fraction_in checker_of_128_bits) (sheet_at sheet changing theta) number from rest
 same_interval_in sheet (Row name) theta number from rest = refl
 same_interval_in sheet (Set name) theta number from rest = refl
 
-same_close_in : (sheet : Sheet) (changing : Changing) (theta : ℚ) (rest : List ℕ) → close_in sheet (parametric_solver changing) rest ≡ close_in (sheet_at sheet changing theta) (parametric_solver changing) rest
+same_close_in : (sheet : Sheet) (changing : Changing) (theta : ℚ) (rest : List ℕ) → close_in (fraction_in checker_of_128_bits) sheet (parametric_solver changing) rest ≡ close_in (fraction_in checker_of_128_bits) (sheet_at sheet changing theta) (parametric_solver changing) rest
 same_close_in sheet (Row name) theta rest = refl
 same_close_in sheet (Set name) theta rest = refl
 
@@ -121,14 +122,14 @@ module _ (problem : Problem ℕ) (lp : LinearProgram) (parametric_run : Parametr
   -- ---- the close
 
   close_fine : (room : List ℕ) (number : ℕ) (last : ℚ) (v : Vector) (past : PastBreakpoint) → 1 ≤ length room → nat_eq number 1 ≡ false → IsBest (family last) v → IsKind parametric_run.changing past →
-      IsTrueEnd family parametric_run.to last past → EndFits (end_of first parametric_run.to past) → IsFine ([], end_of first parametric_run.to past) more (run_in sheet parametric_run room number last (chain_end_text solver (end_of first parametric_run.to past) ++ more))
+      IsTrueEnd family parametric_run.to last past → EndFits (end_of first parametric_run.to past) → IsFine ([], end_of first parametric_run.to past) more (run_in checker_of_128_bits sheet parametric_run room number last (chain_end_text solver (end_of first parametric_run.to past) ++ more))
   close_fine [] number last v past some later best kind is fit = absurd (omega (arith, some))
   close_fine (byte ∷ room) number last v past some later best kind is fit =
-      subst (λ (o : Option (List ℕ)). IsFine ([], end) more (part_in sheet parametric_run (run_in sheet parametric_run room (number + 1)) number last text o)) (sym (no_interval parametric_run.changing end more))
-      (subst (λ b. IsFine ([], end) more (if b then Fails else judged_map {Y = Run} (λ e. ([], e)) (tested (close_test sheet parametric_run.changing parametric_run.to last) (close_in sheet solver text)))) (sym later)
-      (fine_map {Y = Run} (λ e. ([], e)) end more (tested (close_test sheet parametric_run.changing parametric_run.to last) (close_in sheet solver text))
-      (subst (λ (parsed : Parsed ChainEnd). IsFine end more (tested (close_test sheet parametric_run.changing parametric_run.to last) parsed)) (sym read)
-      (fine_tested (close_test sheet parametric_run.changing parametric_run.to last) end more (close_passes problem lp parametric_run.changing lawful free parametric_run.from parametric_run.to last v best past kind is)))))
+      subst (λ (o : Option (List ℕ)). IsFine ([], end) more (part_in checker_of_128_bits sheet parametric_run (run_in checker_of_128_bits sheet parametric_run room (number + 1)) number last text o)) (sym (no_interval parametric_run.changing end more))
+      (subst (λ b. IsFine ([], end) more (if b then Fails else judged_map {Y = Run} (λ e. ([], e)) (tested (close_test checker_of_128_bits sheet parametric_run.changing parametric_run.to last) (close_in (fraction_in checker_of_128_bits) sheet solver text)))) (sym later)
+      (fine_map {Y = Run} (λ e. ([], e)) end more (tested (close_test checker_of_128_bits sheet parametric_run.changing parametric_run.to last) (close_in (fraction_in checker_of_128_bits) sheet solver text))
+      (subst (λ (parsed : Parsed ChainEnd). IsFine end more (tested (close_test checker_of_128_bits sheet parametric_run.changing parametric_run.to last) parsed)) (sym read)
+      (fine_tested (close_test checker_of_128_bits sheet parametric_run.changing parametric_run.to last) end more (close_passes problem lp parametric_run.changing lawful free parametric_run.from parametric_run.to last v best past kind is)))))
     where
       end : ChainEnd
       end = end_of first parametric_run.to past
@@ -136,28 +137,28 @@ module _ (problem : Problem ℕ) (lp : LinearProgram) (parametric_run : Parametr
       text : List ℕ
       text = chain_end_text solver (end_of first parametric_run.to past) ++ more
 
-      read : close_in sheet solver (chain_end_text solver (end_of first parametric_run.to past) ++ more) ≡ Some (end_of first parametric_run.to past, more)
+      read : close_in (fraction_in checker_of_128_bits) sheet solver (chain_end_text solver (end_of first parametric_run.to past) ++ more) ≡ Some (end_of first parametric_run.to past, more)
       read =
           same_close_in sheet parametric_run.changing parametric_run.from (chain_end_text solver (end_of first parametric_run.to past) ++ more)
           ∙ close_read first solver (end_of first parametric_run.to past) more (is_end_of first parametric_run.changing parametric_run.to past kind) fit plain
 
   -- ---- an interval, and what follows it
 
-  part_fine : (byte : ℕ) (room : List ℕ) (number : ℕ) (last : ℚ) (part : Part) (rest : List ℕ) (run : Run) → part.from ≡ last → Passes (interval_test sheet parametric_run.changing (nat_eq number 1) parametric_run.to (interval_of first part)) →
-      TermsFit part.to → LinesFit (interval_of first part).lines → IsFine run more (run_in sheet parametric_run room (number + 1) part.to rest) →
-      IsFine (interval_of first part ∷ run.0, run.1) more (run_in sheet parametric_run (byte ∷ room) number last (interval_text (number, interval_of first part) ++ rest))
+  part_fine : (byte : ℕ) (room : List ℕ) (number : ℕ) (last : ℚ) (part : Part) (rest : List ℕ) (run : Run) → part.from ≡ last → Passes (interval_test checker_of_128_bits sheet parametric_run.changing (nat_eq number 1) parametric_run.to (interval_of first part)) →
+      TermsFit part.to → LinesFit (interval_of first part).lines → IsFine run more (run_in checker_of_128_bits sheet parametric_run room (number + 1) part.to rest) →
+      IsFine (interval_of first part ∷ run.0, run.1) more (run_in checker_of_128_bits sheet parametric_run (byte ∷ room) number last (interval_text (number, interval_of first part) ++ rest))
   part_fine byte room number last part rest run begins passes fit lines_fit later =
-      subst (λ (o : Option (List ℕ)). IsFine (interval ∷ run.0, run.1) more (part_in sheet parametric_run go number last text o)) (sym there)
-      (subst (λ (parsed : Parsed ParametricInterval). IsFine (interval ∷ run.0, run.1) more (onward sheet parametric_run go (tested test parsed))) (sym read) (by (test interval) passes))
+      subst (λ (o : Option (List ℕ)). IsFine (interval ∷ run.0, run.1) more (part_in checker_of_128_bits sheet parametric_run go number last text o)) (sym there)
+      (subst (λ (parsed : Parsed ParametricInterval). IsFine (interval ∷ run.0, run.1) more (onward go (tested test parsed))) (sym read) (by (test interval) passes))
     where
       interval : ParametricInterval
       interval = interval_of first part
 
       go : ℚ → List ℕ → Judged Run
-      go = run_in sheet parametric_run room (number + 1)
+      go = run_in checker_of_128_bits sheet parametric_run room (number + 1)
 
       test : ParametricInterval → Verdict
-      test = interval_test sheet parametric_run.changing (nat_eq number 1) parametric_run.to
+      test = interval_test checker_of_128_bits sheet parametric_run.changing (nat_eq number 1) parametric_run.to
 
       text : List ℕ
       text = interval_text (number, interval_of first part) ++ rest
@@ -165,13 +166,13 @@ module _ (problem : Problem ℕ) (lp : LinearProgram) (parametric_run : Parametr
       there : left_after (codes "INTERVAL ") (interval_text (number, interval_of first part) ++ rest) ≡ Some (drop 9 (interval_text (number, interval_of first part) ++ rest))
       there = stands (codes "INTERVAL ") (drop 9 (interval_text (number, interval_of first part) ++ rest))
 
-      read : interval_in sheet number last (interval_text (number, interval_of first part) ++ rest) ≡ Some (interval_of first part, rest)
+      read : interval_in (fraction_in checker_of_128_bits) sheet number last (interval_text (number, interval_of first part) ++ rest) ≡ Some (interval_of first part, rest)
       read =
           same_interval_in sheet parametric_run.changing parametric_run.from number last (interval_text (number, interval_of first part) ++ rest)
-          ∙ ap (λ (x : ℚ). interval_in first number x (interval_text (number, interval_of first part) ++ rest)) (sym begins) ∙ interval_read first number part rest fit lines_fit
+          ∙ ap (λ (x : ℚ). interval_in (fraction_in checker_of_128_bits) first number x (interval_text (number, interval_of first part) ++ rest)) (sym begins) ∙ interval_read first number part rest fit lines_fit
 
-      by : (v : Verdict) → Passes v → IsFine (interval_of first part ∷ run.0, run.1) more (onward sheet parametric_run (run_in sheet parametric_run room (number + 1)) (by_verdict v (interval_of first part) rest))
-      by Checked passes = fine_map {Y = Run} (λ (r : Run). (interval_of first part ∷ r.0, r.1)) run more (run_in sheet parametric_run room (number + 1) part.to rest) later
+      by : (v : Verdict) → Passes v → IsFine (interval_of first part ∷ run.0, run.1) more (onward (run_in checker_of_128_bits sheet parametric_run room (number + 1)) (by_verdict v (interval_of first part) rest))
+      by Checked passes = fine_map {Y = Run} (λ (r : Run). (interval_of first part ∷ r.0, r.1)) run more (run_in checker_of_128_bits sheet parametric_run room (number + 1) part.to rest) later
       by (Failed one two) passes = absurd (passes.never one two refl)
       by (Unchecked refused) passes = fine_refused
 
@@ -197,7 +198,7 @@ module _ (problem : Problem ℕ) (lp : LinearProgram) (parametric_run : Parametr
   run_of parts past = (map (interval_of first) parts, end_of first parametric_run.to past)
 
   abbrev Fine : List ℕ → ℕ → ℚ → List Part → PastBreakpoint → Type 0
-  Fine room number last parts past = IsFine (run_of parts past) more (run_in sheet parametric_run room number last (body number parts (end_of first parametric_run.to past)))
+  Fine room number last parts past = IsFine (run_of parts past) more (run_in checker_of_128_bits sheet parametric_run room number last (body number parts (end_of first parametric_run.to past)))
 
   -- an interval before a run that is fine
   one_more : (room : List ℕ) (number : ℕ) (last : ℚ) (s : List Status) (part : Part) (parts : List Part) (past : PastBreakpoint) → length parts + 2 ≤ length room → IsPart family last parametric_run.to s part → IsTruePart family parametric_run.to part →
@@ -205,7 +206,7 @@ module _ (problem : Problem ℕ) (lp : LinearProgram) (parametric_run : Parametr
       Fine room number last (part ∷ parts) past
   one_more [] number last s part parts past enough is truth long fit lines_fit later = absurd (omega (arith, enough))
   one_more (byte ∷ room) number last s part parts past enough is truth long fit lines_fit later =
-      subst (λ (text : List ℕ). IsFine (run_of (part ∷ parts) past) more (run_in sheet parametric_run (byte ∷ room) number last text)) (sym (body_more number part parts (end_of first parametric_run.to past)))
+      subst (λ (text : List ℕ). IsFine (run_of (part ∷ parts) past) more (run_in checker_of_128_bits sheet parametric_run (byte ∷ room) number last text)) (sym (body_more number part parts (end_of first parametric_run.to past)))
       (part_fine byte room number last part (body (number + 1) parts (end_of first parametric_run.to past)) (run_of parts past) is.begins
       (part_passes sheet parametric_run.changing lawful free parametric_run.to part truth last s is parametric_run.from (nat_eq number 1) long) fit lines_fit (later room (omega (arith, enough))))
 
@@ -267,10 +268,10 @@ module _ (problem : Problem ℕ) (lp : LinearProgram) (parametric_run : Parametr
   abbrev body_here : List ℕ
   body_here = flat_map interval_text (enumerate_from 1 intervals) ++ (chain_end_text (parametric_solver parametric_run.changing) end ++ more)
 
-  run_fine : IsChained sheet_here basis parametric_run bases intervals end → begins_table_line more ≡ false → IntervalsFit intervals → EndFits end → IsFine (intervals, end) more (run_in sheet_here parametric_run body_here 1 parametric_run.from body_here)
+  run_fine : IsChained sheet_here basis parametric_run bases intervals end → begins_table_line more ≡ false → IntervalsFit intervals → EndFits end → IsFine (intervals, end) more (run_in checker_of_128_bits sheet_here parametric_run body_here 1 parametric_run.from body_here)
   run_fine chained plain fits end_fits =
-      subst (λ (is : List ParametricInterval). IsFine (is, end) more (run_in sheet_here parametric_run (text_of is end) 1 parametric_run.from (text_of is end))) (sym chained.are_intervals)
-      (subst (λ (e : ChainEnd). IsFine (all, e) more (run_in sheet_here parametric_run (text_of all e) 1 parametric_run.from (text_of all e))) (sym end_is)
+      subst (λ (is : List ParametricInterval). IsFine (is, end) more (run_in checker_of_128_bits sheet_here parametric_run (text_of is end) 1 parametric_run.from (text_of is end))) (sym chained.are_intervals)
+      (subst (λ (e : ChainEnd). IsFine (all, e) more (run_in checker_of_128_bits sheet_here parametric_run (text_of all e) 1 parametric_run.from (text_of all e))) (sym end_is)
       (chain_fine problem lp parametric_run lawful free more plain (text_of all close) 1 parametric_run.from (last_of basis chained.is_run.opening) chained.parts chained.past chained.is_run.faces
       (room_enough problem lp parametric_run lawful free more plain 1 chained.parts close) (omega arith) chained.is_run.chain truth.intervals (first_long chained.parts) truth.long truth.closes
       (subst IntervalsFit chained.are_intervals fits) (subst EndFits end_is end_fits)))
@@ -299,10 +300,10 @@ module _ (problem : Problem ℕ) (lp : LinearProgram) (parametric_run : Parametr
 
   -- a parametric run is read of its text
   pub answer_fine : (rest : List ℕ) → rest ≡ chain_text (parametric_solver parametric_run.changing) (chain_of parametric_run intervals end) ++ more → IsChained sheet_here basis parametric_run bases intervals end → begins_table_line more ≡ false →
-      IntervalsFit intervals → EndFits end → IsFine (Chained [] intervals end) more (judged (OfParametricRun parametric_run) sheet_here rest)
+      IntervalsFit intervals → EndFits end → IsFine (Chained [] intervals end) more (judged checker_of_128_bits (OfParametricRun parametric_run) sheet_here rest)
   answer_fine rest is chained plain fits end_fits =
-      subst (λ (o : Option (List ℕ)). IsFine (Chained [] intervals end) more (parametric_run_in sheet_here parametric_run rest o)) (sym head)
-      (fine_map f (intervals, end) more (run_in sheet_here parametric_run body_here 1 parametric_run.from body_here) (run_fine chained plain fits end_fits))
+      subst (λ (o : Option (List ℕ)). IsFine (Chained [] intervals end) more (parametric_run_in checker_of_128_bits sheet_here parametric_run rest o)) (sym head)
+      (fine_map f (intervals, end) more (run_in checker_of_128_bits sheet_here parametric_run body_here 1 parametric_run.from body_here) (run_fine chained plain fits end_fits))
     where
       f : Run → ParametricRunEnd
       f run = Chained [] run.0 run.1
@@ -335,11 +336,11 @@ module _ (w : Walker) (s : State) (opening : Basis) (steps : List Basis) (limits
   own = after_parametric_run card parametric_run present (counted s)
 
   module _ (bases : List Basis) (intervals : List ParametricInterval) (end : ChainEnd) (more : List ℕ) where
-    fine_lands : (j : Judged ParametricRunEnd) → IsFine (Chained [] intervals end) more j → Lands (own (Chained bases intervals end)) more (answered w (OfParametricRun parametric_run) sheet_walked go j)
+    fine_lands : (j : Judged ParametricRunEnd) → IsFine (Chained [] intervals end) more j → Lands (own (Chained bases intervals end)) more (answered checker_of_128_bits w (OfParametricRun parametric_run) sheet_walked go j)
     fine_lands _ fine_right = record { like = record { opening = opening; steps = steps ++ []; is = refl; limits = limits }; is_rest = refl; waits = tt }
     fine_lands _ fine_refused = tt
 
     pub chain_lands : IsChained sheet_walked (present_basis present) parametric_run bases intervals end → ParametricRunLands w s opening steps limits card parametric_run present lp (Chained bases intervals end) more
     chain_lands chained given =
-        fine_lands (judged (OfParametricRun parametric_run) sheet_walked w.rest)
+        fine_lands (judged checker_of_128_bits (OfParametricRun parametric_run) sheet_walked w.rest)
         (answer_fine present.problem lp parametric_run lawful free (present_basis present) at bases intervals end more w.rest given.text chained given.plain given.fits.0 given.fits.1)

@@ -20,8 +20,8 @@ use Rattle.check_definitions.specs.declared.Verdict.{Verdict}
 use Rattle.check_definitions.specs.Steps.{verdict_of, in_turn, sum_steps, sum_of}
 use Rattle.check_definitions.specs.Checks.{feasible_point, equations, free_direction, ray_columns, ray_limits, multiplied, limit_product}
 use Rattle.certificate_check.proofs.True_claims.{never_point, never_equations, never_free, never_columns, never_limits_met}
-use Rattle.certificate_check.proofs.Meaning.{sum_of_met}
-use Rattle.certificate_check.proofs.Products.{sum_of-all}
+use Rattle.certificate_laws.proofs.Meaning.{sum_of_met}
+use Rattle.certificate_laws.proofs.Products.{sum_of-all}
 use Rattle.sensitivity_laws.proofs.MovedLimits.{moved, lower_is, upper_is}
 use Rattle.sensitivity_laws.proofs.Signs.{for_min-add}
 use Rattle.simplex_definitions.specs.Path.{listed}
@@ -34,6 +34,7 @@ use Rattle.problem_definitions.specs.Names.{Name}
 use Rattle.problem_definitions.specs.Problem.{Problem}
 use Rattle.question_definitions.specs.Answers.{Sheet, Changing, Set}
 use Rattle.answer_definitions.specs.ParametricRuns.{shifts_of}
+use Rattle.walk_definitions.specs.Checkers.{checker_of_128_bits}
 use Rattle.walk_definitions.specs.Tests.{asked, making_steps, unbounded_past, shift_products, infeasible_past}
 use Rattle.own_listing_laws.proofs.Tests.{Passes, pass_none, pass_then, passes_steps, passes_asked, never_sum}
 use Rattle.own_listing_laws.proofs.Openings.{never_making}
@@ -136,7 +137,7 @@ module _ (p : LinearProgram) (h : ℕ) (lawful : IsLinearProgram p) (row : IsRow
   improves : for_min p.sense (printed_direction h) <ℚ zero_ℚ
   improves = subst (λ (y : ℚ). y <ℚ zero_ℚ) (sym (ap (for_min p.sense) change_is)) at_end.1
 
-  pub unbounded_passes : (problem : Problem ℕ) (changed : Changing) → Passes (unbounded_past (record { problem = problem; lp = p }) changed h t printed_point printed_direction)
+  pub unbounded_passes : (problem : Problem ℕ) (changed : Changing) → Passes (unbounded_past checker_of_128_bits (record { problem = problem; lp = p }) changed h t printed_point printed_direction)
   unbounded_passes problem changed =
       (pass_then (verdict_of (feasible_point p printed_point)) _ (passes_steps _ (never_point p printed_point
       (IsFeasible-same p (value_at point) printed_point (λ k is. sym (same point k is)) (record { keeps = proof.feasible.keeps; within = proof.feasible.within }))))
@@ -279,7 +280,7 @@ module _ (p : LinearProgram) (shift : List ℚ) (lawful : (theta : ℚ) → IsLi
   shift_sum : sum_of zero_ℚ (map (λ i. record { left = printed_ray i; right = value_at shift i }) (numbers_from 1 p.rows)) <ℚ zero_ℚ
   shift_sum = subst (λ (y : ℚ). y <ℚ zero_ℚ) (sym (sum_of-all (λ i. record { left = printed_ray i; right = value_at shift i }) p.rows)) at_end_too.1
 
-  pub infeasible_passes : (problem : Problem ℕ) (name : Name) → shifts_of problem name ≡ shift → Passes (infeasible_past (record { problem = problem; lp = p }) (Set name) shift t printed_ray)
+  pub infeasible_passes : (problem : Problem ℕ) (name : Name) → shifts_of problem name ≡ shift → Passes (infeasible_past checker_of_128_bits (record { problem = problem; lp = p }) (Set name) shift t printed_ray)
   infeasible_passes problem name is = subst (λ (own : LinearProgram). Passes (test_at own)) (ap (λ (own : List ℚ). rhs_family p own t) (sym is))
       (pass_then _ _ (passes_steps _ (never_making sheet (Set name) t))
       (pass_then (verdict_of (ray_columns here printed_ray)) _ (passes_steps _ (never_columns here (lawful t).is_matrix printed_ray later.vanishes))

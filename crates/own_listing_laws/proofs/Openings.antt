@@ -24,7 +24,8 @@ use Rattle.run_definitions.specs.Verbs.{asks, mark_of, after_parametric_run}
 use Rattle.run_definitions.specs.Run.{counted}
 use Rattle.soundness_laws.proofs.Runs.{knows_linear_programming}
 use Rattle.control_definitions.specs.Cells.{steps_allowed}
-use Rattle.walk_definitions.specs.Words.{Parsed, left_after, max_count}
+use Rattle.walk_definitions.specs.Checkers.{checker_of_128_bits}
+use Rattle.walk_definitions.specs.Words.{Parsed, left_after, max_count, fraction_in}
 use Rattle.walk_definitions.specs.Forms.{is_open_stop}
 use Rattle.walk_definitions.specs.Tests.{verdict_test, moving_steps, making_steps}
 use Rattle.walk_definitions.specs.Reading.{Judged, Right, tested, judged_map, judged, Claim, verdict_in, parametric_run_head, parametric_run_in}
@@ -134,11 +135,11 @@ module _ (w : Walker) (s : State) (opening : Basis) (steps : List Basis) (limits
   question = OfParametricRun parametric_run
 
   abbrev pub ParametricRunLands : ParametricRunEnd → List ℕ → Type 0
-  ParametricRunLands end more = IsDue w (own end) more → Lands (own end) more (answered w question sheet go (judged question sheet w.rest))
+  ParametricRunLands end more = IsDue w (own end) more → Lands (own end) more (answered checker_of_128_bits w question sheet go (judged checker_of_128_bits question sheet w.rest))
 
   opening_lands : (bases : List Basis) (verdict : PathVerdict) (check : Check) (more : List ℕ) → FailsToOpen sheet (present_basis present) parametric_run bases verdict check → ParametricRunLands (Opening bases verdict check) more
   opening_lands bases verdict check more failed given =
-      subst (λ (o : Option (List ℕ)). LandsSo (parametric_run_in sheet parametric_run w.rest o)) (sym none)
+      subst (λ (o : Option (List ℕ)). LandsSo (parametric_run_in checker_of_128_bits sheet parametric_run w.rest o)) (sym none)
       (subst (λ (parsed : Parsed Claim). LandsSo (judged_map f (tested test parsed))) (sym read) (judged_so (test (verdict, check)) (verdict, check) more (λ j. LandsSo (judged_map f j)) passes (λ checked. right) tt))
     where
       f : Claim → ParametricRunEnd
@@ -148,7 +149,7 @@ module _ (w : Walker) (s : State) (opening : Basis) (steps : List Basis) (limits
       first = sheet_at sheet parametric_run.changing parametric_run.from
 
       test : Claim → Verdict
-      test claim = in_turn (verdict_of (making_steps sheet parametric_run.changing parametric_run.from) ∷ verdict_test first claim.0 claim.1 ∷ [])
+      test claim = in_turn (verdict_of (making_steps sheet parametric_run.changing parametric_run.from) ∷ verdict_test checker_of_128_bits first claim.0 claim.1 ∷ [])
 
       after : State
       after = record (counted s) { setup = Some (gone_through bases present); mark = None }
@@ -160,7 +161,7 @@ module _ (w : Walker) (s : State) (opening : Basis) (steps : List Basis) (limits
       fits = subst GainFits gain given.fits
 
       LandsSo : Judged ParametricRunEnd → Type 0
-      LandsSo j = Lands (own (Opening bases verdict check)) more (answered w question sheet go j)
+      LandsSo j = Lands (own (Opening bases verdict check)) more (answered checker_of_128_bits w question sheet go j)
 
       there : Basis
       there = last_of (present_basis present) bases
@@ -177,14 +178,14 @@ module _ (w : Walker) (s : State) (opening : Basis) (steps : List Basis) (limits
       printed : IsPrinted sheet verdict
       printed = same_lines sheet parametric_run.changing parametric_run.from verdict (verdict_printed first there failed.opens.opens.ends.tableau (length bases) failed.ending verdict of failed.is_verdict.is_verdict)
 
-      read : verdict_in sheet (parametric_solver parametric_run.changing) w.rest ≡ Some ((verdict, check), more)
+      read : verdict_in (fraction_in checker_of_128_bits) sheet (parametric_solver parametric_run.changing) w.rest ≡ Some ((verdict, check), more)
       read =
-          ap (verdict_in sheet (parametric_solver parametric_run.changing)) (given.text ∙ ap (λ (g : Gain). gain_text g ++ more) gain)
+          ap (verdict_in (fraction_in checker_of_128_bits) sheet (parametric_solver parametric_run.changing)) (given.text ∙ ap (λ (g : Gain). gain_text g ++ more) gain)
           ∙ verdict_read sheet check fits.1 more (parametric_solver parametric_run.changing) verdict readable printed fits.0 given.plain
 
       passes : Passes (test (verdict, check))
       passes = (pass_then (verdict_of (making_steps sheet parametric_run.changing parametric_run.from)) _ (passes_steps _ (never_making sheet parametric_run.changing parametric_run.from))
-          (pass_then (verdict_test first verdict check) [] (verdict_passes first there failed.opens.opens.ends.tableau (length bases) failed.ending verdict check of failed.is_verdict) pass_none)).passes
+          (pass_then (verdict_test checker_of_128_bits first verdict check) [] (verdict_passes first there failed.opens.opens.ends.tableau (length bases) failed.ending verdict check of failed.is_verdict) pass_none)).passes
 
       right : LandsSo (Right (Opening [] verdict check) more)
       right = follows_lands (record (passed more 1 w) { pending = None }) (go (Opening [] verdict check)) (own (Opening bases verdict check)) more
@@ -197,7 +198,7 @@ module _ (w : Walker) (s : State) (opening : Basis) (steps : List Basis) (limits
       (asked_lands w card question sheet (present_basis set_up) (present_basis present) go own lands)
     where
       lands : card ≤ max_count → (answer : ParametricRunEnd) (more : List ℕ) → IsRight linear_programming question sheet (present_basis present) answer → IsDue w (own answer) more → open_question w question sheet go ≡ None →
-          Lands (own answer) more (answered w question sheet go (judged question sheet w.rest))
+          Lands (own answer) more (answered checker_of_128_bits w question sheet go (judged checker_of_128_bits question sheet w.rest))
       lands small (Opening bases verdict check) more right given none =
           opening_lands bases verdict check more (knows_linear_programming.parametric_runs sheet (present_basis present) parametric_run (Opening bases verdict check) right) given
       lands small (Chained bases intervals end) more right given none =

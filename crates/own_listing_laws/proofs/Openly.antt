@@ -5,6 +5,7 @@ use Rattle.std.specs.Option.{option_or}
 use Rattle.lp_definitions.specs.LinearProgram.{LinearProgram, size, numbers_from}
 use Rattle.lp_definitions.specs.Basis.{is_basic, status_of}
 use Rattle.lp_laws.proofs.Opening.{length-numbers_from}
+use Rattle.walk_definitions.specs.Checkers.{checker_of_128_bits}
 use Rattle.walk_definitions.specs.Words.{max_count}
 use Rattle.own_listing_laws.proofs.Counted.{filter_short}
 use Rattle.card_definitions.specs.Cards.{Card, live}
@@ -92,7 +93,7 @@ module _ (w : Walker) (s : State) (opening : Basis) (steps : List Basis) (card :
         name = deck_name (live taken.0)
 
         lands : card ≤ max_count → (answer : InstallEnd) (more : List ℕ) → IsRight linear_programming (OfInstall t) sheet (present_basis present) answer → IsDue w (install_own answer) more → open_question w (OfInstall t) sheet install_go ≡ None →
-            Lands (install_own answer) more (answered w (OfInstall t) sheet install_go (judged (OfInstall t) sheet w.rest))
+            Lands (install_own answer) more (answered checker_of_128_bits w (OfInstall t) sheet install_go (judged checker_of_128_bits (OfInstall t) sheet w.rest))
         lands small Installed more right given none =
             absurd (stands_open w (is_inserted name w.rest) (open_pending w) (ap (is_inserted name) given.text ∙ inserted_stands name (length (basic_columns lp t)) more few_basic) none)
         lands small (DependsBy lines) more right given none =

@@ -21,6 +21,7 @@ use Rattle.run_definitions.specs.Run.{max_executed, counted, Step, IsOver, at_en
 use Rattle.run_definitions.specs.Answer.{job_decks, IsProgramOf, card_fault, control_fault, run}
 use Rattle.soundness_laws.proofs.Moves.{HasProblem, Knows}
 use Rattle.soundness_laws.proofs.Runs.{has_problem, known, knows_linear_programming}
+use Rattle.walk_definitions.specs.Checkers.{checker_of_128_bits}
 use Rattle.walk_definitions.specs.Tables.{begins_table_line}
 use Rattle.walk_definitions.specs.Walker.{Walker, Found, WalkTurn, Walks, Finds, closes, walk_move, walk_statement, turn}
 use Rattle.walk_definitions.specs.Found.{first_walker, Reaches as Walked, begun as not_begun, walked, of_cards, of_control, of_walk}
@@ -145,22 +146,22 @@ module _ (program : Program) (small : AreSmall program) where
   after_right (Finds found) right = right
 
   module _ (w : Walker) where
-    turn_at_end : nat_lt (length program.statements) w.state.position ≡ true → turn program w ≡ closes w (Ended 0)
+    turn_at_end : nat_lt (length program.statements) w.state.position ≡ true → turn checker_of_128_bits program w ≡ closes w (Ended 0)
     unfolding turn
-    turn_at_end e = ap (λ b. if b then closes w (Ended 0) else if nat_lt w.state.executed max_executed then walk_statement w (slice_get program.statements (w.state.position - 1)) else closes w StatementLimit) e
+    turn_at_end e = ap (λ b. if b then closes w (Ended 0) else if nat_lt w.state.executed max_executed then walk_statement checker_of_128_bits w (slice_get program.statements (w.state.position - 1)) else closes w StatementLimit) e
 
     turn_before_end : nat_lt (length program.statements) w.state.position ≡ false →
-        turn program w ≡ (if nat_lt w.state.executed max_executed then walk_statement w (slice_get program.statements (w.state.position - 1)) else closes w StatementLimit)
+        turn checker_of_128_bits program w ≡ (if nat_lt w.state.executed max_executed then walk_statement checker_of_128_bits w (slice_get program.statements (w.state.position - 1)) else closes w StatementLimit)
     unfolding turn
-    turn_before_end e = ap (λ b. if b then closes w (Ended 0) else if nat_lt w.state.executed max_executed then walk_statement w (slice_get program.statements (w.state.position - 1)) else closes w StatementLimit) e
+    turn_before_end e = ap (λ b. if b then closes w (Ended 0) else if nat_lt w.state.executed max_executed then walk_statement checker_of_128_bits w (slice_get program.statements (w.state.position - 1)) else closes w StatementLimit) e
 
-    turn_at_limit : nat_lt (length program.statements) w.state.position ≡ false → nat_lt w.state.executed max_executed ≡ false → turn program w ≡ closes w StatementLimit
-    turn_at_limit e f = turn_before_end e ∙ ap (λ b. if b then walk_statement w (slice_get program.statements (w.state.position - 1)) else closes w StatementLimit) f
+    turn_at_limit : nat_lt (length program.statements) w.state.position ≡ false → nat_lt w.state.executed max_executed ≡ false → turn checker_of_128_bits program w ≡ closes w StatementLimit
+    turn_at_limit e f = turn_before_end e ∙ ap (λ b. if b then walk_statement checker_of_128_bits w (slice_get program.statements (w.state.position - 1)) else closes w StatementLimit) f
 
     turn_at_statement : (statement : Statement ℕ) → nat_lt (length program.statements) w.state.position ≡ false → nat_lt w.state.executed max_executed ≡ true →
-        slice_get program.statements (w.state.position - 1) ≡ Some statement → turn program w ≡ walk_move w (verb_move statement.verb statement.card (counted w.state))
+        slice_get program.statements (w.state.position - 1) ≡ Some statement → turn checker_of_128_bits program w ≡ walk_move checker_of_128_bits w (verb_move statement.verb statement.card (counted w.state))
     turn_at_statement statement e f at =
-        turn_before_end e ∙ ap (λ b. if b then walk_statement w (slice_get program.statements (w.state.position - 1)) else closes w StatementLimit) f ∙ ap (walk_statement w) at
+        turn_before_end e ∙ ap (λ b. if b then walk_statement checker_of_128_bits w (slice_get program.statements (w.state.position - 1)) else closes w StatementLimit) f ∙ ap (walk_statement checker_of_128_bits w) at
 
     -- a turn at a state that is the run's but for the bases
     module _ (s : State) (like : IsLike w.state s) (waits : WaitsAt w.pending s) (is_known : IsKnown s) where
@@ -170,7 +171,7 @@ module _ (program : Program) (small : AreSmall program) where
       executed_is : w.state.executed ≡ s.executed
       executed_is = ap (λ (st : State). st.executed) like.is
 
-      over_after : (ending : Ending) → IsOver linear_programming program s ending → w.rest ≡ ending_text ending → StandsAfter (turn program w)
+      over_after : (ending : Ending) → IsOver linear_programming program s ending → w.rest ≡ ending_text ending → StandsAfter (turn checker_of_128_bits program w)
       over_after _ (at_end past) rest =
           subst StandsAfter (sym (turn_at_end (ap (λ n. nat_lt (length program.statements) n) position_is ∙ lt-ltb (length program.statements) s.position past)))
           (after_right (closes w (Ended 0)) (closes_right w (Ended 0) rest))
@@ -179,7 +180,7 @@ module _ (program : Program) (small : AreSmall program) where
           (ap (λ n. nat_lt n max_executed) executed_is ∙ le-ltb s.executed max_executed limit)))
           (after_right (closes w StatementLimit) (closes_right w StatementLimit rest))
 
-      step_turn : (outcome : StatementOutcome) (step : Step linear_programming program s outcome) → turn program w ≡ walk_move w (verb_move step.statement.verb step.statement.card (counted w.state))
+      step_turn : (outcome : StatementOutcome) (step : Step linear_programming program s outcome) → turn checker_of_128_bits program w ≡ walk_move checker_of_128_bits w (verb_move step.statement.verb step.statement.card (counted w.state))
       step_turn outcome step =
           let within : s.position - 1 < length program.statements = slice_get_within program.statements (s.position - 1) step.statement step.is_at_position in
           turn_at_statement step.statement
@@ -187,10 +188,10 @@ module _ (program : Program) (small : AreSmall program) where
           (ap (λ n. nat_lt n max_executed) executed_is ∙ lt-ltb s.executed max_executed step.is_within_limit)
           (ap (λ n. slice_get program.statements (n - 1)) position_is ∙ step.is_at_position)
 
-      step_lands : (outcome : StatementOutcome) (more : List ℕ) → Step linear_programming program s outcome → IsDue w outcome more → Lands outcome more (turn program w)
+      step_lands : (outcome : StatementOutcome) (more : List ℕ) → Step linear_programming program s outcome → IsDue w outcome more → Lands outcome more (turn checker_of_128_bits program w)
       step_lands outcome more step due =
           subst (Lands outcome more) (sym (step_turn outcome step))
-          (subst (λ (st : State). Lands outcome more (walk_move w (verb_move step.statement.verb step.statement.card (counted st)))) (sym like.is)
+          (subst (λ (st : State). Lands outcome more (walk_move checker_of_128_bits w (verb_move step.statement.verb step.statement.card (counted st)))) (sym like.is)
           ((verb_matched w s like.opening like.steps like.limits waits is_known.lawful is_known.knows step.statement.verb step.statement.card (small_at step.statement (s.position - 1) step.is_at_position).0 (small_at step.statement (s.position - 1) step.is_at_position).1).by outcome more step.gives due))
 
   ended_after : (w : Walker) (gain : Gain) (ending : Ending) (more : List ℕ) (t : WalkTurn) → Lands (Ends gain ending) more t → StandsAfter t
@@ -202,11 +203,11 @@ module _ (program : Program) (small : AreSmall program) where
       record { state = after; reports = reports; ending = ending; runs = runs; pace = lands; fits = fits; stop_fits = stop_fits }
   gone_after gain after reports ending runs fits stop_fits (Finds found) lands = lands
 
-  turn_stands : (w : Walker) (s : State) (reports : List Report) (ending : Ending) → RunsOn program s reports ending → KeepsPace w s (listing reports ending) → ReportsFit reports → StopFits ending → StandsAfter (turn program w)
+  turn_stands : (w : Walker) (s : State) (reports : List Report) (ending : Ending) → RunsOn program s reports ending → KeepsPace w s (listing reports ending) → ReportsFit reports → StopFits ending → StandsAfter (turn checker_of_128_bits program w)
   turn_stands w _ _ _ (over s ending is_known is) pace fits stop_fits = over_after w s pace.like pace.waits is_known ending is pace.is_rest
   turn_stands w _ _ _ (ends s gain ending is_known step) pace fits stop_fits =
       let both = gain_fits gain [] (subst ReportsFit (sym (append-nil (printed_by gain))) fits) in
-      ended_after w gain ending (ending_text ending) (turn program w) (step_lands w s pace.like pace.waits is_known (Ends gain ending) (ending_text ending) step (record {
+      ended_after w gain ending (ending_text ending) (turn checker_of_128_bits program w) (step_lands w s pace.like pace.waits is_known (Ends gain ending) (ending_text ending) step (record {
         text = pace.is_rest ∙ ap (λ (text : List ℕ). text ++ ending_text ending) (text_of_gain gain);
         plain = ending_plain ending;
         fits = both.0;
@@ -214,7 +215,7 @@ module _ (program : Program) (small : AreSmall program) where
       }))
   turn_stands w _ _ _ (goes s gain after reports ending is_known step rest) pace fits stop_fits =
       let both = gain_fits gain reports fits in
-      gone_after gain after reports ending rest both.1 stop_fits (turn program w) (step_lands w s pace.like pace.waits is_known (Goes gain after) (listing reports ending) step (record {
+      gone_after gain after reports ending rest both.1 stop_fits (turn checker_of_128_bits program w) (step_lands w s pace.like pace.waits is_known (Goes gain after) (listing reports ending) step (record {
         text =
             pace.is_rest ∙ ap (λ (text : List ℕ). text ++ ending_text ending) (flat_map-append report_text (printed_by gain) reports)
             ∙ append_assoc (reports_text (printed_by gain)) (reports_text reports) (ending_text ending) ∙ ap (λ (text : List ℕ). text ++ listing reports ending) (text_of_gain gain);
@@ -223,15 +224,15 @@ module _ (program : Program) (small : AreSmall program) where
         ends = tt;
       }))
 
-  stands_after : (w : Walker) → Stands w → StandsAfter (turn program w)
+  stands_after : (w : Walker) → Stands w → StandsAfter (turn checker_of_128_bits program w)
   stands_after w stands = turn_stands w stands.state stands.reports stands.ending stands.runs stands.pace stands.fits stands.stop_fits
 
   module _ (decks : List (List Card)) (lines : List ℕ) (first : Stands (first_walker decks lines)) where
-    walked_stands : (w : Walker) → Walked program decks lines w → Stands w
+    walked_stands : (w : Walker) → Walked checker_of_128_bits program decks lines w → Stands w
     walked_stands _ not_begun = first
     walked_stands v (walked {w} before is) = subst StandsAfter is (stands_after w (walked_stands w before))
 
-    found_right : (w : Walker) (found : Found) → Walked program decks lines w → turn program w ≡ Finds found → IsNotWrong found
+    found_right : (w : Walker) (found : Found) → Walked checker_of_128_bits program decks lines w → turn checker_of_128_bits program w ≡ Finds found → IsNotWrong found
     found_right w found reaches is = subst StandsAfter is (stands_after w (walked_stands w reaches))
 
 -- ---- jobs
@@ -269,4 +270,4 @@ never_wrong bytes reports cards ending found (run program is_program runs) fits 
       fits = fits;
       stop_fits = stop_fits;
     })
-    w found (subst (λ (p : Program). Walked p (job_decks p bytes) lines w) same reaches) (subst (λ (p : Program). turn p w ≡ Finds found) same finds)
+    w found (subst (λ (p : Program). Walked checker_of_128_bits p (job_decks p bytes) lines w) same reaches) (subst (λ (p : Program). turn checker_of_128_bits p w ≡ Finds found) same finds)

@@ -31,6 +31,7 @@ use Rattle.run_definitions.specs.State.{Present, present_basis, State}
 use Rattle.run_definitions.specs.Moves.{Gain, Nothing, Prints, Punches, printed_by, gain_text, StatementOutcome, Goes, Ends, gain_of, stops, Refusals, InSelection, InAnswer, StatementMove, Does, MayStop, Asks, Gives, or_fault}
 use Rattle.run_definitions.specs.Verbs.{or_deck_fault, or_selection_fault, selects}
 use Rattle.control_definitions.specs.Cells.{steps_allowed}
+use Rattle.walk_definitions.specs.Checkers.{checker_of_128_bits}
 use Rattle.walk_definitions.specs.Words.{left_after, max_count}
 use Rattle.walk_definitions.specs.Forms.{is_open_stop, is_ranges, is_punched}
 use Rattle.walk_definitions.specs.Tables.{begins_table_line}
@@ -206,7 +207,7 @@ gain_alike (Ends gain ending) (Goes own other) alike = absurd alike
 
 module _ (w : Walker) where
   pub record IsMatched (card : ℕ) (walked run : StatementMove) : Type 0 where
-    pub by : (outcome : StatementOutcome) (more : List ℕ) → Gives linear_programming card run outcome → IsDue w outcome more → Lands outcome more (walk_move w walked)
+    pub by : (outcome : StatementOutcome) (more : List ℕ) → Gives linear_programming card run outcome → IsDue w outcome more → Lands outcome more (walk_move checker_of_128_bits w walked)
 
   -- and it looks for stop texts first
   pub record IsFollowed (card : ℕ) (walked run : StatementMove) : Type 0 where
@@ -216,9 +217,9 @@ module _ (w : Walker) where
   stop_first : (o : Option Found) → is_open_stop w.rest ≡ true → option_or (open_stop w) o ≡ Some (Open w.rest)
   stop_first o is = ap (λ b. option_or (open_if b w) o) is
 
-  opened_lands : (outcome : StatementOutcome) (more : List ℕ) (walked : StatementMove) → opened w walked ≡ Some (Open w.rest) → Lands outcome more (walk_move w walked)
+  opened_lands : (outcome : StatementOutcome) (more : List ℕ) (walked : StatementMove) → opened w walked ≡ Some (Open w.rest) → Lands outcome more (walk_move checker_of_128_bits w walked)
   opened_lands outcome more walked is =
-      subst (λ (o : Option Found). Lands outcome more (unless_found o (if refuses_selection walked then Finds (Unchecked w.rest) else due w walked))) (sym is) tt
+      subst (λ (o : Option Found). Lands outcome more (unless_found o (if refuses_selection walked then Finds (Unchecked w.rest) else due checker_of_128_bits w walked))) (sym is) tt
 
   -- ---- an operation may be refused
 
@@ -229,14 +230,14 @@ module _ (w : Walker) where
     refused_too outcome more None true other turn lands = tt
     refused_too outcome more None false other turn lands = lands
 
-    stops_too : (outcome : StatementOutcome) (more : List ℕ) → Lands outcome more (walk_move w walked) → (r : Refusals) → Lands outcome more (walk_move w (MayStop r walked))
-    stops_too outcome more lands (InSelection problem choice) = refused_too outcome more (opened w walked) (not (is_made problem choice)) (refuses_selection walked) (due w walked) lands
+    stops_too : (outcome : StatementOutcome) (more : List ℕ) → Lands outcome more (walk_move checker_of_128_bits w walked) → (r : Refusals) → Lands outcome more (walk_move checker_of_128_bits w (MayStop r walked))
+    stops_too outcome more lands (InSelection problem choice) = refused_too outcome more (opened w walked) (not (is_made problem choice)) (refuses_selection walked) (due checker_of_128_bits w walked) lands
     stops_too outcome more lands (InAnswer question sheet bases) = lands
 
     pub may_stop : IsFollowed card (MayStop refusals walked) (MayStop others run)
     may_stop = record { matched = λ small. record { by = lands small }; looks = followed.looks }
       where
-        lands : card ≤ max_count → (outcome : StatementOutcome) (more : List ℕ) → Gives linear_programming card (MayStop others run) outcome → IsDue w outcome more → Lands outcome more (walk_move w (MayStop refusals walked))
+        lands : card ≤ max_count → (outcome : StatementOutcome) (more : List ℕ) → Gives linear_programming card (MayStop others run) outcome → IsDue w outcome more → Lands outcome more (walk_move checker_of_128_bits w (MayStop refusals walked))
         lands small outcome more (inl gives) given = stops_too outcome more ((followed.matched small).by outcome more gives given) refusals
         lands small outcome more (inr (evidence, place, holds, is)) given =
             let own : Overflow = record { evidence = evidence; place = place; card = card } in
@@ -260,7 +261,7 @@ module _ (w : Walker) where
     pub does : IsMatched card (Does walked) (Does run)
     does = record {
       by = λ outcome more gives given.
-          subst (λ (o : StatementOutcome). Lands o more (walk_move w (Does walked))) (sym gives)
+          subst (λ (o : StatementOutcome). Lands o more (walk_move checker_of_128_bits w (Does walked))) (sym gives)
           (does_by more (subst (λ (o : StatementOutcome). IsDue w o more) gives given) (open_outcome w walked) refl (never_outcome w walked));
     }
 
@@ -318,21 +319,21 @@ module _ (w : Walker) where
 
   module _ (card : ℕ) (question : Question) (sheet : Sheet) (s t : Basis) (go own : AnswerTo question → StatementOutcome) where
     abbrev pub LandsAnswered : AnswerTo question → List ℕ → Type 0
-    LandsAnswered answer more = Lands (own answer) more (answered w question sheet go (judged question sheet w.rest))
+    LandsAnswered answer more = Lands (own answer) more (answered checker_of_128_bits w question sheet go (judged checker_of_128_bits question sheet w.rest))
 
     pub asked_lands : (card ≤ max_count → (answer : AnswerTo question) (more : List ℕ) → IsRight linear_programming question sheet t answer → IsDue w (own answer) more → open_question w question sheet go ≡ None → LandsAnswered answer more) →
         IsFollowed card (Asks question sheet s go) (Asks question sheet t own)
     asked_lands lands = record {
       matched = λ small. record {
         by = λ outcome more (answer, right, is) given.
-            subst (λ (o : StatementOutcome). Lands o more (walk_move w (Asks question sheet s go))) (sym is)
+            subst (λ (o : StatementOutcome). Lands o more (walk_move checker_of_128_bits w (Asks question sheet s go))) (sym is)
             (by small answer more right (subst (λ (o : StatementOutcome). IsDue w o more) is given) (open_question w question sheet go) refl (never_question w question sheet go));
       };
       looks = question_looks question sheet go;
     }
       where
         by : card ≤ max_count → (answer : AnswerTo question) (more : List ℕ) → IsRight linear_programming question sheet t answer → IsDue w (own answer) more → (o : Option Found) → open_question w question sheet go ≡ o → IsNeverWrong o →
-            Lands (own answer) more (unless_found o (answered w question sheet go (judged question sheet w.rest)))
+            Lands (own answer) more (unless_found o (answered checker_of_128_bits w question sheet go (judged checker_of_128_bits question sheet w.rest)))
         by small answer more right given (Some what) is never = never
         by small answer more right given None is never = lands small answer more right given is
 

@@ -29,6 +29,7 @@ use Rattle.soundness_laws.specs.ParametricRuns.{ChangesFreely}
 use Rattle.parametric_laws.specs.Truth.{IsTruePart, IsTrueEnd}
 use Rattle.parametric_laws.proofs.OneObjective.{lawful_objective}
 use Rattle.parametric_laws.proofs.OneRhs.{lawful_rhs}
+use Rattle.walk_definitions.specs.Checkers.{checker_of_128_bits}
 use Rattle.walk_definitions.specs.Tables.{column_of, multipliers}
 use Rattle.walk_definitions.specs.Tests.{asked, making_steps, along_steps, end_test, part_test, interval_test, unbounded_past, infeasible_past, past_test, close_test}
 use Rattle.own_listing_laws.proofs.Columns.{column_is, listed_again, numbers_of_ray}
@@ -65,7 +66,7 @@ module _ (sheet : Sheet) (changing : Changing) (lawful : IsLinearProgram sheet.l
       steps k = sum_steps (value_at value k) (record { left = theta; right = value_at rate k } ∷ [])
 
   module _ (max : ℚ) (part : Part) (truth : IsTruePart (family_of sheet changing) max part) where
-    end_passes : (theta : ℚ) → part.from ≤ℚ theta → theta ≤ℚ part.to → Passes (end_test sheet changing theta part.value part.value_rate part.price part.price_rate)
+    end_passes : (theta : ℚ) → part.from ≤ℚ theta → theta ≤ℚ part.to → Passes (end_test checker_of_128_bits sheet changing theta part.value part.value_rate part.price part.price_rate)
     end_passes theta low high =
         let solved = truth.solved theta low high in
         (pass_then (verdict_of (making_steps sheet changing theta)) _ (passes_steps _ (never_making sheet changing theta))
@@ -117,11 +118,11 @@ module _ (sheet : Sheet) (changing : Changing) (lawful : IsLinearProgram sheet.l
       price_rate_is : column_of 4 lines ≡ part.price_rate
       price_rate_is = column_is (sheet_at sheet changing start) values 4 (variables (family_of sheet changing start).matrix) ∙ again part.price_rate is.prices_counted.rate_counted
 
-      pub part_passes : (is_first : Bool) → (is_first ≡ true) ⊎ (part.from <ℚ part.to) → Passes (interval_test sheet changing is_first max (interval_of (sheet_at sheet changing start) part))
+      pub part_passes : (is_first : Bool) → (is_first ≡ true) ⊎ (part.from <ℚ part.to) → Passes (interval_test checker_of_128_bits sheet changing is_first max (interval_of (sheet_at sheet changing start) part))
       part_passes is_first longer =
-          passes_same (interval_test sheet changing is_first max (interval_of (sheet_at sheet changing start) part))
-          (part_test sheet changing part.from part.to part.value part.value_rate part.price part.price_rate is_first max)
-          (λ i. part_test sheet changing part.from part.to (value_is i) (value_rate_is i) (price_is i) (price_rate_is i) is_first max)
+          passes_same (interval_test checker_of_128_bits sheet changing is_first max (interval_of (sheet_at sheet changing start) part))
+          (part_test checker_of_128_bits sheet changing part.from part.to part.value part.value_rate part.price part.price_rate is_first max)
+          (λ i. part_test checker_of_128_bits sheet changing part.from part.to (value_is i) (value_rate_is i) (price_is i) (price_rate_is i) is_first max)
           (pass_then (asked (lt_ℚ part.from part.to || (is_first && eq_ℚ part.from part.to))) _ (passes_asked _ (forward_holds is_first longer))
           (pass_then (asked (le_ℚ part.to max)) _ (passes_asked _ (test_from_le part.to max truth.within))
           (pass_then _ _ (end_passes part.from (le_refl part.from) truth.forward)
@@ -170,7 +171,7 @@ face_kind sheet (Set name) theta s end face = subst (IsKindOf (Set name)) face.4
 
 pub close_passes : (problem : Problem ℕ) (lp : LinearProgram) (changing : Changing) → IsLinearProgram lp → ChangesFreely (record { problem = problem; lp = lp }) changing → (start max last : ℚ) (v : Vector) →
     IsBest (family_of (record { problem = problem; lp = lp }) changing last) v → (past : PastBreakpoint) → IsKind changing past → IsTrueEnd (family_of (record { problem = problem; lp = lp }) changing) max last past →
-    Passes (close_test (record { problem = problem; lp = lp }) changing max last (end_of (sheet_at (record { problem = problem; lp = lp }) changing start) max past))
+    Passes (close_test checker_of_128_bits (record { problem = problem; lp = lp }) changing max last (end_of (sheet_at (record { problem = problem; lp = lp }) changing start) max past))
 close_passes problem lp (Row name) lawful free start max last v best AtMax kind is =
     (pass_then (asked (eq_ℚ max last)) _ (passes_asked _ (test_from_same max last (sym is))) (pass_then (asked (eq_ℚ max max)) [] (passes_asked _ (test_from_same max max refl)) pass_none)).passes
 close_passes problem lp (Set name) lawful free start max last v best AtMax kind is =
@@ -185,7 +186,7 @@ close_passes problem lp (Row name) lawful free start max last v best (PastUnboun
     sheet = record { problem = problem; lp = lp }
 
     test : List ℚ → List ℚ → Verdict
-    test xs ys = unbounded_past (record { problem = problem; lp = lp }) (Row name) (row_of problem name) past (value_at xs) (value_at ys)
+    test xs ys = unbounded_past checker_of_128_bits (record { problem = problem; lp = lp }) (Row name) (row_of problem name) past (value_at xs) (value_at ys)
 
     z' : List ℚ
     z' = listed lp.matrix (value_at z)
@@ -206,7 +207,7 @@ close_passes problem lp (Set name) lawful free start max last v best (PastInfeas
     (subst (λ (x : ℚ). IsBest (family_of (record { problem = problem; lp = lp }) (Set name) x) v) (sym is.at_last) best).feasible is.proved problem name refl) pass_none))).passes
   where
     test : List ℚ → Verdict
-    test xs = infeasible_past (record { problem = problem; lp = lp }) (Set name) (shifts_of problem name) past (value_at xs)
+    test xs = infeasible_past checker_of_128_bits (record { problem = problem; lp = lp }) (Set name) (shifts_of problem name) past (value_at xs)
 
     ray_is : multipliers (record { problem = problem; lp = lp }) (ray_lines (sheet_at (record { problem = problem; lp = lp }) (Set name) start) w) ≡ listed lp.matrix (value_at w)
     ray_is = numbers_of_ray (record { problem = problem; lp = lp }) w

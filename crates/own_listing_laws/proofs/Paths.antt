@@ -29,8 +29,9 @@ use Rattle.run_definitions.specs.Verbs.{asks, mark_of, demanded, by_verdict, aft
 use Rattle.run_definitions.specs.Run.{counted}
 use Rattle.soundness_laws.proofs.Runs.{knows_linear_programming}
 use Rattle.parametric_laws.proofs.Runs.{last_of-append}
+use Rattle.walk_definitions.specs.Checkers.{checker_of_128_bits}
 use Rattle.walk_definitions.specs.Forms.{is_open_stop}
-use Rattle.walk_definitions.specs.Words.{Parsed, max_count}
+use Rattle.walk_definitions.specs.Words.{Parsed, max_count, fraction_in}
 use Rattle.walk_definitions.specs.Tests.{verdict_test}
 use Rattle.walk_definitions.specs.Reading.{Judged, Right, Refuses, by_verdict as judge, tested, judged_map, judged, Claim, verdict_in}
 use Rattle.walk_definitions.specs.Walker.{Pending, Walker, Unchecked, open_question, passed, pending_after, answered}
@@ -140,12 +141,12 @@ has_ended ByDual path sheet s limit bases verdict check solved = record {
 has_ended ByParaobj path sheet s limit bases verdict check solved = absurd path
 has_ended ByPararhs path sheet s limit bases verdict check solved = absurd path
 
-ended_so_passes : (solver : Solver) (sheet : Sheet) (s : Basis) (bases : List Basis) (verdict : PathVerdict) (check : Check) → HasEnded solver sheet s bases verdict check → Passes (verdict_test sheet verdict check)
+ended_so_passes : (solver : Solver) (sheet : Sheet) (s : Basis) (bases : List Basis) (verdict : PathVerdict) (check : Check) → HasEnded solver sheet s bases verdict check → Passes (verdict_test checker_of_128_bits sheet verdict check)
 ended_so_passes solver sheet s bases verdict check ended = verdict_passes sheet (last_of s bases) ended.tableau (length bases) ended.ending verdict check ended.is_of ended.is_verdict
 
 -- the test of a path's verdict never fails
 pub path_passes : (solver : Solver) (sheet : Sheet) (s : Basis) (limit : Option ℕ) (bases : List Basis) (verdict : PathVerdict) (check : Check) → verdicts.IsSolvedBy solver sheet s limit (Reached bases verdict check) →
-    Passes (verdict_test sheet verdict check)
+    Passes (verdict_test checker_of_128_bits sheet verdict check)
 path_passes ByPrimal sheet s limit bases verdict check solved = ended_so_passes ByPrimal sheet s bases verdict check (has_ended ByPrimal tt sheet s limit bases verdict check solved)
 path_passes ByDual sheet s limit bases verdict check solved = ended_so_passes ByDual sheet s bases verdict check (has_ended ByDual tt sheet s limit bases verdict check solved)
 path_passes ByParaobj sheet s limit bases verdict check solved = absurd solved
@@ -198,7 +199,7 @@ module _ (w : Walker) (s : State) (opening : Basis) (steps : List Basis) (card :
   question = OfPath solver limit
 
   reached_lands : (bases : List Basis) (verdict : PathVerdict) (check : Check) (more : List ℕ) → HasEnded solver sheet (present_basis present) bases verdict check → IsDue w (own (Reached bases verdict check)) more →
-      Lands (own (Reached bases verdict check)) more (answered w question sheet go (judged question sheet w.rest))
+      Lands (own (Reached bases verdict check)) more (answered checker_of_128_bits w question sheet go (judged checker_of_128_bits question sheet w.rest))
   reached_lands bases verdict check more ended given =
       subst (λ (parsed : Parsed Claim). LandsSo (judged_map f (tested test parsed))) (sym read)
       (judged_so (test (verdict, check)) (verdict, check) more (λ j. LandsSo (judged_map f j)) passes (λ checked. right) tt)
@@ -207,7 +208,7 @@ module _ (w : Walker) (s : State) (opening : Basis) (steps : List Basis) (card :
       f claim = Reached [] claim.0 claim.1
 
       test : Claim → Verdict
-      test claim = verdict_test sheet claim.0 claim.1
+      test claim = verdict_test checker_of_128_bits sheet claim.0 claim.1
 
       after : State
       after = record (counted s) { setup = Some (gone_through bases present); mark = Some (mark_of verdict) }
@@ -219,14 +220,14 @@ module _ (w : Walker) (s : State) (opening : Basis) (steps : List Basis) (card :
       fits = subst GainFits gain given.fits
 
       LandsSo : Judged PathEnd → Type 0
-      LandsSo j = Lands (own (Reached bases verdict check)) more (answered w question sheet go j)
+      LandsSo j = Lands (own (Reached bases verdict check)) more (answered checker_of_128_bits w question sheet go j)
 
-      read : verdict_in sheet solver w.rest ≡ Some ((verdict, check), more)
+      read : verdict_in (fraction_in checker_of_128_bits) sheet solver w.rest ≡ Some ((verdict, check), more)
       read =
-          ap (verdict_in sheet solver) (given.text ∙ ap (λ (g : Gain). gain_text g ++ more) gain)
+          ap (verdict_in (fraction_in checker_of_128_bits) sheet solver) (given.text ∙ ap (λ (g : Gain). gain_text g ++ more) gain)
           ∙ verdict_read sheet check fits.1 more solver verdict ended.is_readable (verdict_printed sheet (last_of (present_basis present) bases) ended.tableau (length bases) ended.ending verdict ended.is_of ended.is_verdict.is_verdict) fits.0 given.plain
 
-      passes : Passes (verdict_test sheet verdict check)
+      passes : Passes (verdict_test checker_of_128_bits sheet verdict check)
       passes = verdict_passes sheet (last_of (present_basis present) bases) ended.tableau (length bases) ended.ending verdict check ended.is_of ended.is_verdict
 
       there : present_basis (gone_through bases present) ≡ last_of (present_basis present) bases
@@ -254,7 +255,7 @@ module _ (w : Walker) (s : State) (opening : Basis) (steps : List Basis) (card :
       (asked_lands w card question sheet (present_basis set_up) (present_basis present) go own lands)
     where
       lands : card ≤ max_count → (answer : PathEnd) (more : List ℕ) → IsRight linear_programming question sheet (present_basis present) answer → IsDue w (own answer) more → open_question w question sheet go ≡ None →
-          Lands (own answer) more (answered w question sheet go (judged question sheet w.rest))
+          Lands (own answer) more (answered checker_of_128_bits w question sheet go (judged checker_of_128_bits question sheet w.rest))
       lands small (Reached bases verdict check) more right given none =
           reached_lands bases verdict check more (has_ended solver path sheet (present_basis present) limit bases verdict check (knows_linear_programming.solves solver sheet (present_basis present) limit (Reached bases verdict check) right)) given
       lands small PathLimit more right given none =

@@ -16,6 +16,7 @@ use Rattle.listing_definitions.specs.Report.{Check, Checked, Unchecked}
 use Rattle.listing_definitions.specs.Text.{operation_text, check_text}
 use Rattle.listing_laws.proofs.Cutting.{weaker}
 use Rattle.listing_laws.proofs.Digits.{is_of_number, digits_are, rational_of_number}
+use Rattle.walk_definitions.specs.Checkers.{checker_of_128_bits}
 use Rattle.walk_definitions.specs.Words.{left_after, with_text, ends_word, word_in, with_word, fraction_in, count_in}
 use Rattle.walk_definitions.specs.Forms.{all_operations}
 use Rattle.walk_definitions.specs.Reading.{with_check}
@@ -86,8 +87,8 @@ count_of_text most n small =
 
 module _ {Y : Type 0} where
   pub fraction_first : (x : ℚ) (byte : ℕ) (rest : List ℕ) (reads : ℚ → List ℕ → Option Y) (got : Option Y) → TermsFit x → ends_word byte ≡ true → Gives (reads x) (byte ∷ rest) got →
-      Gives (with_word fraction_in reads) (rational_text x ++ byte ∷ rest) got
-  fraction_first x byte rest reads got fit ends gives = word_first fraction_in (rational_text x) x byte rest reads got (rational_word x) ends (fraction_of_text x fit) gives
+      Gives (with_word (fraction_in checker_of_128_bits) reads) (rational_text x ++ byte ∷ rest) got
+  fraction_first x byte rest reads got fit ends gives = word_first (fraction_in checker_of_128_bits) (rational_text x) x byte rest reads got (rational_word x) ends (fraction_of_text x fit) gives
 
   pub count_first : (most n byte : ℕ) (rest : List ℕ) (reads : ℕ → List ℕ → Option Y) (got : Option Y) → n ≤ most → ends_word byte ≡ true → Gives (reads n) (byte ∷ rest) got →
       Gives (with_word (count_in most) reads) (digits n ++ byte ∷ rest) got
@@ -117,10 +118,10 @@ module _ {X : Type 0} (reads : Check → List ℕ → Option X) where
   after_right op left right = with_text (codes "\n") (reads (Unchecked (record { op = op; left = left; right = right })))
 
   abbrev after_left : Op → ℚ → List ℕ → Option X
-  after_left op left = with_text (codes " ") (with_word fraction_in (after_right op left))
+  after_left op left = with_text (codes " ") (with_word (fraction_in checker_of_128_bits) (after_right op left))
 
   abbrev after_operation : Op → List ℕ → Option X
-  after_operation op = with_text (codes " ") (with_word fraction_in (after_left op))
+  after_operation op = with_text (codes " ") (with_word (fraction_in checker_of_128_bits) (after_left op))
 
   abbrev unchecked_in : List ℕ → Option X
   unchecked_in = with_text (codes "UNCHECKED ") (with_word (named all_operations) after_operation)

@@ -23,7 +23,7 @@ use Rattle.check_definitions.specs.declared.Verdict.TheVariants.{Checked, Failed
 use Rattle.check_definitions.specs.Steps.{Step, operation, comparison, verdict_of, followed_by, in_turn, Product, product_of, sum_steps}
 use Rattle.check_definitions.specs.Checks.{equations, reduced_costs, optimal_check, crossed_check, infeasible_check, unbounded_check}
 use Rattle.check_definitions.proofs.Passing.{verdict-append}
-use Rattle.certificate_check.specs.Parts.{AreReducedCosts}
+use Rattle.certificate_laws.specs.Parts.{AreReducedCosts}
 use Rattle.certificate_check.proofs.True_claims.{NeverFails, never_equations, never_costs, never_optimal}
 use Rattle.simplex_definitions.specs.Path.{PathEnding, EndsOptimal, EndsCrossed, EndsInfeasible, EndsUnbounded, listed}
 use Rattle.simplex_laws.specs.Laws.{IsNonsingularBasis}
@@ -38,7 +38,8 @@ use Rattle.answer_definitions.specs.Verdicts.{check_of, found, IsVerdict}
 use Rattle.answer_definitions.specs.Verdicts as verdicts
 use Rattle.answer_definitions.specs.Sections.{solution_row, solution_lines}
 use Rattle.walk_definitions.specs.Tables.{column_of}
-use Rattle.walk_definitions.specs.Tests.{asked, says_checked, verdict_test, slack_steps, best_test, solution_test}
+use Rattle.walk_definitions.specs.Checkers.{says_checked, checker_of_128_bits}
+use Rattle.walk_definitions.specs.Tests.{asked, verdict_test, slack_steps, best_test, solution_test}
 use Rattle.own_listing_laws.proofs.Columns.{column_is, first_of_pairs, second_of_pairs, multipliers_of_ray, points_of_lines, prices_of_lines}
 use Rattle.own_listing_laws.proofs.Ended.{IsOf}
 
@@ -120,7 +121,7 @@ with_asked (Unchecked refused) true e = refl
 with_asked v false e = absurd (cc e)
 
 module _ (sheet : Sheet) (s : Basis) (t : Tableau) where
-  ended_passes : (steps : ℕ) (ending : PathEnding) (check : Check) → IsOf sheet.lp s t ending → check_of sheet.lp ending ≡ found check → Passes (verdict_test sheet (verdicts.verdict_of sheet steps ending) check)
+  ended_passes : (steps : ℕ) (ending : PathEnding) (check : Check) → IsOf sheet.lp s t ending → check_of sheet.lp ending ≡ found check → Passes (verdict_test checker_of_128_bits sheet (verdicts.verdict_of sheet steps ending) check)
   ended_passes steps (EndsOptimal z y) check is e = passes_checked
   ended_passes steps (EndsCrossed k) check is e = reported (crossed_check sheet.lp k) check e
   ended_passes steps (EndsInfeasible w) check is e = reported _ check (ap (λ (xs : List ℚ). infeasible_check sheet.lp (value_at xs)) (multipliers_of_ray sheet w is) ∙ e)
@@ -129,9 +130,9 @@ module _ (sheet : Sheet) (s : Basis) (t : Tableau) where
       reported _ check (ap₂ (λ (xs ys : List ℚ). in_turn (unbounded_check sheet.lp (value_at xs) (value_at ys) ∷ asked (eq_ℚ (value_at z o) (value_at xs o)) ∷ [])) (first_of_pairs sheet z d is.0) (second_of_pairs sheet z d is.1)
       ∙ with_asked (unbounded_check sheet.lp (value_at z) (value_at d)) (eq_ℚ (value_at z o) (value_at z o)) (test_from_same (value_at z o) (value_at z o) refl) ∙ e)
 
-  pub verdict_passes : (steps : ℕ) (ending : PathEnding) (verdict : PathVerdict) (check : Check) → IsOf sheet.lp s t ending → IsVerdict sheet steps ending verdict check → Passes (verdict_test sheet verdict check)
+  pub verdict_passes : (steps : ℕ) (ending : PathEnding) (verdict : PathVerdict) (check : Check) → IsOf sheet.lp s t ending → IsVerdict sheet steps ending verdict check → Passes (verdict_test checker_of_128_bits sheet verdict check)
   verdict_passes steps ending verdict check is reported_so =
-      subst (λ v. Passes (verdict_test sheet v check)) (sym reported_so.is_verdict) (ended_passes steps ending check is reported_so.is_check)
+      subst (λ v. Passes (verdict_test checker_of_128_bits sheet v check)) (sym reported_so.is_verdict) (ended_passes steps ending check is reported_so.is_check)
 
   -- ---- SOLUTION
 
@@ -151,7 +152,7 @@ module _ (sheet : Sheet) (s : Basis) (t : Tableau) where
   abbrev test_by : Mark → List ℚ → List ℚ → Verdict
   test_by mark xs ys =
       in_turn (verdict_of (equations p 1 (value_at xs)) ∷ verdict_of (reduced_costs p (value_at ys)) ∷
-      verdict_of (flat_map (slack_steps sheet (value_at xs) (value_at (column_of 2 (solution_lines sheet s t).rows))) (row_numbers p)) ∷ best_test sheet mark (value_at xs) (value_at ys) ∷ [])
+      verdict_of (flat_map (slack_steps sheet (value_at xs) (value_at (column_of 2 (solution_lines sheet s t).rows))) (row_numbers p)) ∷ best_test checker_of_128_bits sheet mark (value_at xs) (value_at ys) ∷ [])
 
   module _ (lawful : IsLinearProgram p) (tab : IsTableau p s t) (at : IsNonsingularBasis p s) where
     keeps : KeepsEquations p.matrix reported_point
@@ -180,9 +181,9 @@ module _ (sheet : Sheet) (s : Basis) (t : Tableau) where
     never_slacks = never_each (slack_steps sheet reported_point (value_at (column_of 2 (solution_lines sheet s t).rows))) 1 p.rows (λ i low high.
         never_operation Sub (value_at p.rhs i) (reported_point i) _ (never_comparison 6 i _ (test_from_same _ _ (slack_is i low high))))
 
-    pub reported_passes : (mark : Mark) → Passes (best_test sheet mark reported_point reported_prices) → Passes (solution_test sheet mark (solution_lines sheet s t))
+    pub reported_passes : (mark : Mark) → Passes (best_test checker_of_128_bits sheet mark reported_point reported_prices) → Passes (solution_test checker_of_128_bits sheet mark (solution_lines sheet s t))
     reported_passes mark best =
-        passes_same (solution_test sheet mark (solution_lines sheet s t)) (test_by mark (listed p.matrix t.point) (listed p.matrix prices)) (ap₂ (test_by mark) (points_of_lines sheet s t) (prices_of_lines sheet s t))
+        passes_same (solution_test checker_of_128_bits sheet mark (solution_lines sheet s t)) (test_by mark (listed p.matrix t.point) (listed p.matrix prices)) (ap₂ (test_by mark) (points_of_lines sheet s t) (prices_of_lines sheet s t))
         (pass_then (verdict_of (equations p 1 reported_point)) _ (passes_steps _ (never_equations p 1 reported_point keeps))
         (pass_then (verdict_of (reduced_costs p reported_prices)) _ (passes_steps _ (never_costs p lawful.is_matrix reported_prices reduced))
         (pass_then _ _ (passes_steps _ never_slacks) (pass_then _ [] best pass_none)))).passes

@@ -33,9 +33,10 @@ use Rattle.run_definitions.specs.Run.{counted}
 use Rattle.soundness_laws.proofs.Runs.{knows_linear_programming}
 use Rattle.soundness_laws.proofs.Ends.{IsProvedBest}
 use Rattle.control_definitions.specs.Cells.{steps_allowed}
-use Rattle.walk_definitions.specs.Words.{Parsed, max_count}
+use Rattle.walk_definitions.specs.Words.{Parsed, max_count, fraction_in}
 use Rattle.walk_definitions.specs.Tables.{column_of}
-use Rattle.walk_definitions.specs.Tests.{says_checked, point_of, prices_of, slacks_of, slack_steps, solution_test}
+use Rattle.walk_definitions.specs.Checkers.{says_checked, checker_of_128_bits}
+use Rattle.walk_definitions.specs.Tests.{point_of, prices_of, slacks_of, slack_steps, solution_test}
 use Rattle.walk_definitions.specs.Reading.{Judged, Right, tested, judged, solution_in}
 use Rattle.walk_definitions.specs.Walker.{Pending, Walker, WalkTurn, Finds, Wrong, open_question, follows, passed, noted, settles, settled, settling, answered}
 use Rattle.own_listing_laws.proofs.Columns.{listed_same, points_of_lines, prices_of_lines}
@@ -88,7 +89,7 @@ last_checked a b c d e =
     (both_checked d Checked after_c).0
 
 module _ (sheet : Sheet) (lawful : IsLinearProgram sheet.lp) (s : Basis) (at : IsNonsingularBasis sheet.lp s) (t : Tableau) (tab : IsTableau sheet.lp s t) where
-  settles_true : (pending : Pending) → WaitsHere pending sheet.lp s → solution_test sheet Optimal (solution_lines sheet s t) ≡ Checked → settles pending (point_of sheet (solution_lines sheet s t) sheet.lp.objective) ≡ true
+  settles_true : (pending : Pending) → WaitsHere pending sheet.lp s → solution_test checker_of_128_bits sheet Optimal (solution_lines sheet s t) ≡ Checked → settles checker_of_128_bits pending (point_of sheet (solution_lines sheet s t) sheet.lp.objective) ≡ true
   settles_true pending h checked =
       ap (λ b. if b then says_checked pending.check else false) (test_from_same pending.objective (point_of sheet (solution_lines sheet s t) sheet.lp.objective)
       (h.is_objective ∙ ap (λ (xs : List ℚ). value_at xs sheet.lp.objective) (sym points))) ∙ checked_so pending.check (sym h.is_check ∙ sym same_check ∙ own)
@@ -110,7 +111,7 @@ module _ (sheet : Sheet) (lawful : IsLinearProgram sheet.lp) (s : Basis) (at : I
 
 -- the test of SOLUTION never fails
 pub solution_passes : (sheet : Sheet) (s : Basis) (t : Tableau) (mark : Mark) → IsLinearProgram sheet.lp → IsTableau sheet.lp s t → IsNonsingularBasis sheet.lp s → (mark ≡ Optimal → IsProvedBest sheet.lp s t) →
-    Passes (solution_test sheet mark (solution_lines sheet s t))
+    Passes (solution_test checker_of_128_bits sheet mark (solution_lines sheet s t))
 solution_passes sheet s t Optimal lawful tab at best = let proved = best refl in reported_passes sheet s t lawful tab at Optimal (best_passes sheet s t lawful tab at proved.best proved.certificate)
 solution_passes sheet s t Infeasible lawful tab at best = reported_passes sheet s t lawful tab at Infeasible passes_checked
 solution_passes sheet s t Unbounded lawful tab at best = reported_passes sheet s t lawful tab at Unbounded passes_checked
@@ -135,42 +136,42 @@ module _ (w : Walker) (s : State) (opening : Basis) (steps : List Basis) (card :
   abbrev own : SolutionLines → StatementOutcome
   own lines = next (Prints (Solution mark lines)) (counted s)
 
-  test_passes : (t : Tableau) → IsTableau lp (present_basis present) t → Passes (solution_test sheet mark (solution_lines sheet (present_basis present) t))
+  test_passes : (t : Tableau) → IsTableau lp (present_basis present) t → Passes (solution_test checker_of_128_bits sheet mark (solution_lines sheet (present_basis present) t))
   test_passes t tab = solution_passes sheet (present_basis present) t mark lawful tab at (λ optimal. best optimal t tab)
 
   reported_lands : (t : Tableau) → IsTableau lp (present_basis present) t → (more : List ℕ) → IsDue w (own (solution_lines sheet (present_basis present) t)) more →
-      Lands (own (solution_lines sheet (present_basis present) t)) more (answered w (OfSolution mark) sheet go (judged (OfSolution mark) sheet w.rest))
+      Lands (own (solution_lines sheet (present_basis present) t)) more (answered checker_of_128_bits w (OfSolution mark) sheet go (judged checker_of_128_bits (OfSolution mark) sheet w.rest))
   reported_lands t tab more given =
-      subst (λ (parsed : Parsed SolutionLines). LandsSo (tested (solution_test sheet mark) parsed)) (sym read)
-      (judged_so (solution_test sheet mark lines) lines more LandsSo (test_passes t tab) (λ checked. right mark refl checked) tt)
+      subst (λ (parsed : Parsed SolutionLines). LandsSo (tested (solution_test checker_of_128_bits sheet mark) parsed)) (sym read)
+      (judged_so (solution_test checker_of_128_bits sheet mark lines) lines more LandsSo (test_passes t tab) (λ checked. right mark refl checked) tt)
     where
       lines : SolutionLines
       lines = solution_lines sheet (present_basis present) t
 
       LandsSo : Judged SolutionLines → Type 0
-      LandsSo j = Lands (own lines) more (answered w (OfSolution mark) sheet go j)
+      LandsSo j = Lands (own lines) more (answered checker_of_128_bits w (OfSolution mark) sheet go j)
 
-      read : solution_in sheet mark w.rest ≡ Some (lines, more)
-      read = ap (solution_in sheet mark) given.text ∙ reported_read sheet (present_basis present) t mark more given.fits.0 given.fits.1
+      read : solution_in (fraction_in checker_of_128_bits) sheet mark w.rest ≡ Some (lines, more)
+      read = ap (solution_in (fraction_in checker_of_128_bits) sheet mark) given.text ∙ reported_read sheet (present_basis present) t mark more given.fits.0 given.fits.1
 
       -- the run goes on, and this is pending
       goes_on : (pending : Option Pending) → WaitsAt pending s → Lands (own lines) more (follows (record (passed more 1 w) { pending = pending }) (go lines))
       goes_on pending still = record { like = record { opening = opening; steps = steps; is = refl; limits = limits }; is_rest = refl; waits = still }
 
-      settled_lands : (pending : Option Pending) → WaitsAt pending s → solution_test sheet Optimal lines ≡ Checked → (turn : WalkTurn) → Lands (own lines) more turn → Lands (own lines) more (settled w pending (point_of sheet lines lp.objective) turn)
+      settled_lands : (pending : Option Pending) → WaitsAt pending s → solution_test checker_of_128_bits sheet Optimal lines ≡ Checked → (turn : WalkTurn) → Lands (own lines) more turn → Lands (own lines) more (settled checker_of_128_bits w pending (point_of sheet lines lp.objective) turn)
       settled_lands None still checked turn lands = lands
       settled_lands (Some pending) still checked turn lands =
           subst (λ b. Lands (own lines) more (if b then turn else Finds (Wrong pending.rest)))
           (sym (settles_true sheet lawful (present_basis present) at t tab pending (waits_here pending s.setup s.cells.xobj s.cells.xrhs present lp still set is) checked)) lands
 
-      right : (m : Mark) → mark ≡ m → solution_test sheet mark lines ≡ Checked → LandsSo (Right lines more)
+      right : (m : Mark) → mark ≡ m → solution_test checker_of_128_bits sheet mark lines ≡ Checked → LandsSo (Right lines more)
       right m same checked = by m same
         where
           whole : Mark → Type 0
-          whole m = Lands (own lines) more (settling w (OfSolution m) sheet lines (follows (record (passed more 1 w) { pending = noted w (OfSolution m) sheet lines }) (go lines)))
+          whole m = Lands (own lines) more (settling checker_of_128_bits w (OfSolution m) sheet lines (follows (record (passed more 1 w) { pending = noted w (OfSolution m) sheet lines }) (go lines)))
 
           of_mark : (m : Mark) → mark ≡ m → whole m
-          of_mark Optimal same = settled_lands w.pending waits (subst (λ (n : Mark). solution_test sheet n lines ≡ Checked) same checked) _ (goes_on None tt)
+          of_mark Optimal same = settled_lands w.pending waits (subst (λ (n : Mark). solution_test checker_of_128_bits sheet n lines ≡ Checked) same checked) _ (goes_on None tt)
           of_mark Infeasible same = goes_on w.pending waits
           of_mark Unbounded same = goes_on w.pending waits
 
@@ -183,8 +184,8 @@ module _ (w : Walker) (s : State) (opening : Basis) (steps : List Basis) (card :
       (asked_lands w card (OfSolution mark) sheet (present_basis set_up) (present_basis present) go own lands)
     where
       lands : card ≤ max_count → (answer : SolutionLines) (more : List ℕ) → IsRight linear_programming (OfSolution mark) sheet (present_basis present) answer → IsDue w (own answer) more → open_question w (OfSolution mark) sheet go ≡ None →
-          Lands (own answer) more (answered w (OfSolution mark) sheet go (judged (OfSolution mark) sheet w.rest))
+          Lands (own answer) more (answered checker_of_128_bits w (OfSolution mark) sheet go (judged checker_of_128_bits (OfSolution mark) sheet w.rest))
       lands small answer more right given none =
           let viewed : IsSolutionOf sheet (present_basis present) answer = knows_linear_programming.shows mark sheet (present_basis present) answer right in
-          subst (λ (lines : SolutionLines). IsDue w (own lines) more → Lands (own lines) more (answered w (OfSolution mark) sheet go (judged (OfSolution mark) sheet w.rest))) (sym viewed.are_lines)
+          subst (λ (lines : SolutionLines). IsDue w (own lines) more → Lands (own lines) more (answered checker_of_128_bits w (OfSolution mark) sheet go (judged checker_of_128_bits (OfSolution mark) sheet w.rest))) (sym viewed.are_lines)
           (λ given. reported_lands viewed.tableau viewed.is_tableau more given) given

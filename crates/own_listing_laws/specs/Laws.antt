@@ -26,6 +26,8 @@ use Rattle.answer_definitions.specs.ParametricRuns.{interval_of, IsChained}
 use Rattle.soundness_laws.specs.ParametricRuns.{ChangesFreely}
 use Rattle.answer_definitions.specs.Real.{linear_programming}
 use Rattle.run_definitions.specs.Answer.{IsJobRun}
+use Rattle.walk_definitions.specs.Checkers.{checker_of_128_bits}
+use Rattle.walk_definitions.specs.Words.{fraction_in}
 use Rattle.walk_definitions.specs.Tests.{verdict_test, solution_test}
 use Rattle.walk_definitions.specs.Tables.{begins_table_line}
 use Rattle.walk_definitions.specs.Reading.{Judged, Fails, verdict_in, solution_in, interval_in, close_in, judged}
@@ -57,29 +59,29 @@ IsNotWrong found = Unit {0}
 -- lines of a ray are read as far as table lines go, so none may follow.
 pub record ReadsBack : Type 0 where
   pub verdict : (sheet : Sheet) (solver : Solver) (verdict : PathVerdict) (check : Check) (after : List ℕ) → IsReadable solver verdict → IsPrinted sheet verdict →
-      VerdictFits verdict → CheckFits check → begins_table_line after ≡ false → verdict_in sheet solver (verdict_text solver verdict check ++ after) ≡ Some ((verdict, check), after)
+      VerdictFits verdict → CheckFits check → begins_table_line after ≡ false → verdict_in (fraction_in checker_of_128_bits) sheet solver (verdict_text solver verdict check ++ after) ≡ Some ((verdict, check), after)
   pub solution : (sheet : Sheet) (s : Basis) (t : Tableau) (mark : Mark) (after : List ℕ) → LinesFit (solution_lines sheet s t).rows → LinesFit (solution_lines sheet s t).columns →
-      solution_in sheet mark (solution_text mark (solution_lines sheet s t) ++ after) ≡ Some (solution_lines sheet s t, after)
+      solution_in (fraction_in checker_of_128_bits) sheet mark (solution_text mark (solution_lines sheet s t) ++ after) ≡ Some (solution_lines sheet s t, after)
   pub interval : (sheet : Sheet) (number : ℕ) (part : Part) (after : List ℕ) → TermsFit part.to → LinesFit (interval_of sheet part).lines →
-      interval_in sheet number part.from (interval_text (number, interval_of sheet part) ++ after) ≡ Some (interval_of sheet part, after)
+      interval_in (fraction_in checker_of_128_bits) sheet number part.from (interval_text (number, interval_of sheet part) ++ after) ≡ Some (interval_of sheet part, after)
   pub close : (sheet : Sheet) (solver : Solver) (end : ChainEnd) (after : List ℕ) → IsEndOf sheet solver end → EndFits end → begins_table_line after ≡ false →
-      close_in sheet solver (chain_end_text solver end ++ after) ≡ Some (end, after)
+      close_in (fraction_in checker_of_128_bits) sheet solver (chain_end_text solver end ++ after) ≡ Some (end, after)
 
 -- A test of what a run prints never fails; an operation of it may be refused.
 pub record TestsPass : Type 0 where
   -- the verdict of a path
   pub verdict : (solver : Solver) (sheet : Sheet) (s : Basis) (limit : Option ℕ) (bases : List Basis) (verdict : PathVerdict) (check : Check) → IsSolvedBy solver sheet s limit (Reached bases verdict check) →
-      IsNotFailed (verdict_test sheet verdict check)
+      IsNotFailed (verdict_test checker_of_128_bits sheet verdict check)
   -- SOLUTION, where the mark is OPTIMAL only if the path has ended optimal at the basis
   pub solution : (mark : Mark) (sheet : Sheet) (s : Basis) (lines : SolutionLines) → IsLinearProgram sheet.lp → IsNonsingularBasis sheet.lp s → (mark ≡ Optimal → EndsBest sheet.lp s) → IsSolutionOf sheet s lines →
-      IsNotFailed (solution_test sheet mark lines)
+      IsNotFailed (solution_test checker_of_128_bits sheet mark lines)
   -- a parametric run, whose intervals and close are tested as they are read of its text
   pub run : (sheet : Sheet) (s : Basis) (parametric_run : ParametricRun) (bases : List Basis) (intervals : List ParametricInterval) (end : ChainEnd) (after : List ℕ) → IsLinearProgram sheet.lp → ChangesFreely sheet parametric_run.changing →
       IsNonsingularBasis sheet.lp s → IsChained sheet s parametric_run bases intervals end → IntervalsFit intervals → EndFits end → begins_table_line after ≡ false →
-      IsNoFailure (judged (OfParametricRun parametric_run) sheet (chain_text (parametric_solver parametric_run.changing) (chain_of parametric_run intervals end) ++ after))
+      IsNoFailure (judged checker_of_128_bits (OfParametricRun parametric_run) sheet (chain_text (parametric_solver parametric_run.changing) (chain_of parametric_run intervals end) ++ after))
 
 -- The listing of a job's run is never found wrong by the walk, where its fractions have 128 bits and the counts of an overflow's evidence
 -- have 32: it is attested, or a line of it can't be attested, or an operation of a test is refused.
 abbrev pub NeverWrong : Type 0
 NeverWrong = (bytes : List ℕ) (reports : List Report) (cards : List (List ℕ)) (ending : Ending) (found : Found) → IsJobRun linear_programming bytes reports cards ending → ReportsFit reports → StopFits ending →
-    Comes bytes (listing reports ending) found → IsNotWrong found
+    Comes checker_of_128_bits bytes (listing reports ending) found → IsNotWrong found

@@ -9,9 +9,10 @@ use Rattle.std.proofs.lemmas.Slice.Eq.{bytes_eq-Decides}
 use Rattle.card_definitions.specs.Words.{named}
 use Rattle.card_definitions.specs.Numbers.{digits_value}
 use Rattle.listing_definitions.specs.Numbers.{digits, rational_text}
+use Rattle.walk_definitions.specs.Checkers.{Checker}
 use Rattle.walk_definitions.specs.Words.{Parsed, left_after, with_text, word_in, with_word, fraction_in, count_in}
 use Rattle.walk_definitions.proofs.Texts.{is_text}
-use Rattle.walk_definitions.proofs.Numbers.{text_of_fraction}
+use Rattle.walk_definitions.proofs.Numbers.{text_of_read}
 
 pub record Tells {X : Type 0} (before : List ℕ) (reads : List ℕ → Parsed X) (text : X → List ℕ) : Type 0 where
   pub of : (rest : List ℕ) (got : X × List ℕ) → reads rest ≡ Some got → before ++ rest ≡ text got.0 ++ got.1
@@ -126,8 +127,8 @@ meaning {X} {Y} of text f whole spells is = record { by = λ word y e. by word y
     by word y None means e = absurd (cc e)
     by word y (Some x) means e = let y_is : f x ≡ y = cc e in spells.by word x means ∙ is x ∙ ap whole y_is
 
-pub fraction_spells : Spells fraction_in rational_text
-fraction_spells = record { by = λ word x e. (text_of_fraction word x e).0 }
+pub fraction_spells : (C : Checker) → Spells (fraction_in C) rational_text
+fraction_spells C = record { by = λ word x e. (text_of_read C word x e).0 }
 
 pub count_spells : (most : ℕ) → Spells (count_in most) digits
 unfolding count_in

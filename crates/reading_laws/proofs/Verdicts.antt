@@ -1,5 +1,5 @@
 -- Checks and verdicts tell their text.
-use Rattle.std.proofs.Common.{◌≡◌, ℕ, List, [], ◌∷◌, ◌++◌, codes, sym, append_assoc, append-nil}
+use Rattle.std.proofs.Common.{Option, ◌≡◌, ℕ, List, [], ◌∷◌, ◌++◌, codes, sym, append_assoc, append-nil}
 use Rattle.std.specs.Prelude.{nat_eq}
 use Rattle.frac128.specs.declared.Op.TheVariants.{Add, Sub, Mul, Div}
 use Rattle.lp_definitions.specs.LinearProgram.{variables, size}
@@ -10,6 +10,8 @@ use Rattle.listing_definitions.specs.Numbers.{digits, rational_text}
 use Rattle.listing_definitions.specs.Report.{OptimalAt, CrossedAt, InfeasibleBy, UnboundedBy, Check, Checked, Unchecked}
 use Rattle.listing_definitions.specs.Text.{operation_text, check_text, table_text, solver_text, verdict_head, verdict_lines, verdict_text}
 use Rattle.question_definitions.specs.Answers.{Sheet}
+use Rattle.exact_values.specs.Rational.{ℚ}
+use Rattle.walk_definitions.specs.Checkers.{checker_of_128_bits}
 use Rattle.walk_definitions.specs.Words.{Parsed, fraction_in, count_in, max_count}
 use Rattle.walk_definitions.specs.Forms.{all_operations}
 use Rattle.walk_definitions.specs.Tables.{pair_slots, table_in, ray_in}
@@ -29,8 +31,8 @@ pub after_check : {X : Type 0} (before : List ℕ) (reads : Check → List ℕ �
 after_check before reads whole tells =
     either before _ _ whole (after_text before (codes "CHECKED\n") (reads Checked) whole (tells Checked))
     (after_text before (codes "UNCHECKED ") _ whole (after_word _ (named all_operations) operation_text _ whole operation_spells (λ op.
-    after_text _ (codes " ") _ whole (after_word _ fraction_in rational_text _ whole fraction_spells (λ left.
-    after_text _ (codes " ") _ whole (after_word _ fraction_in rational_text _ whole fraction_spells (λ right.
+    after_text _ (codes " ") _ whole (after_word _ (fraction_in checker_of_128_bits) rational_text _ whole (fraction_spells checker_of_128_bits) (λ left.
+    after_text _ (codes " ") _ whole (after_word _ (fraction_in checker_of_128_bits) rational_text _ whole (fraction_spells checker_of_128_bits) (λ right.
     after_text _ (codes "\n") _ whole (same_before _ _ _ whole (sym (as_check before (operation_text op) (rational_text left) (rational_text right)))
     (tells (Unchecked (record { op = op; left = left; right = right })))))))))))
 
@@ -56,11 +58,11 @@ as_unbounded first steps then objective blank check end lines = simp (append_ass
 as_verdict : (solver head check lines : List ℕ) → (solver ++ codes " ") ++ (head ++ (codes " " ++ (check ++ (codes "\n" ++ lines)))) ≡ solver ++ (codes " " ++ (head ++ (codes " " ++ (check ++ (codes "\n" ++ (lines ++ []))))))
 as_verdict solver head check lines = simp (append_assoc, append-nil)
 
-module _ (sheet : Sheet) where
-  optimal_tells : Tells [] (optimal_in sheet) claim_text
+module _ (of : List ℕ → Option ℚ) (spells : Spells of rational_text) (sheet : Sheet) where
+  optimal_tells : Tells [] (optimal_in of sheet) claim_text
   optimal_tells =
       after_text [] (codes "OPTIMAL STEPS ") _ claim_text (after_word _ (count_in max_count) digits _ claim_text (count_spells max_count) (λ steps.
-      after_text _ (codes " OBJECTIVE ") _ claim_text (after_word _ fraction_in rational_text _ claim_text fraction_spells (λ objective.
+      after_text _ (codes " OBJECTIVE ") _ claim_text (after_word _ of rational_text _ claim_text spells (λ objective.
       after_text _ (codes " ") _ claim_text (after_check _ _ claim_text (λ check.
       done _ (OptimalAt steps objective, check) claim_text (as_optimal (digits steps) (rational_text objective) (check_text check))))))))
 
@@ -70,29 +72,29 @@ module _ (sheet : Sheet) where
       after_text _ (codes " ") _ claim_text (after_check _ _ claim_text (λ check.
       unless (λ rest. nat_eq k 0) _ _ claim_text (done _ (CrossedAt k, check) claim_text (as_crossed (digits k) (check_text check)))))))
 
-  infeasible_tells : Tells [] (infeasible_in sheet) claim_text
+  infeasible_tells : Tells [] (infeasible_in of sheet) claim_text
   infeasible_tells =
       after_text [] (codes "INFEASIBLE STEPS ") _ claim_text (after_word _ (count_in max_count) digits _ claim_text (count_spells max_count) (λ steps.
       after_text _ (codes " RAY ") _ claim_text (after_check _ _ claim_text (λ check.
-      made _ (ray_in sheet (variables sheet.lp.matrix)) table_text (λ lines. (InfeasibleBy steps lines, check)) claim_text (ray_tells sheet (variables sheet.lp.matrix))
+      made _ (ray_in of sheet (variables sheet.lp.matrix)) table_text (λ lines. (InfeasibleBy steps lines, check)) claim_text (ray_tells of spells sheet (variables sheet.lp.matrix))
       (λ lines. as_infeasible (codes "INFEASIBLE STEPS ") (digits steps) (codes " RAY") (codes " ") (check_text check) (codes "\n") (table_text lines))))))
 
-  unbounded_tells : Tells [] (unbounded_in sheet) claim_text
+  unbounded_tells : Tells [] (unbounded_in of sheet) claim_text
   unbounded_tells =
       after_text [] (codes "UNBOUNDED STEPS ") _ claim_text (after_word _ (count_in max_count) digits _ claim_text (count_spells max_count) (λ steps.
-      after_text _ (codes " OBJECTIVE ") _ claim_text (after_word _ fraction_in rational_text _ claim_text fraction_spells (λ objective.
+      after_text _ (codes " OBJECTIVE ") _ claim_text (after_word _ of rational_text _ claim_text spells (λ objective.
       after_text _ (codes " ") _ claim_text (after_check _ _ claim_text (λ check.
-      made _ (table_in sheet pair_slots (variables sheet.lp.matrix)) table_text (λ lines. (UnboundedBy steps objective lines, check)) claim_text (table_tells sheet pair_slots (variables sheet.lp.matrix))
+      made _ (table_in of sheet pair_slots (variables sheet.lp.matrix)) table_text (λ lines. (UnboundedBy steps objective lines, check)) claim_text (table_tells of spells sheet pair_slots (variables sheet.lp.matrix))
       (λ lines. as_unbounded (codes "UNBOUNDED STEPS ") (digits steps) (codes " OBJECTIVE ") (rational_text objective) (codes " ") (check_text check) (codes "\n") (table_text lines))))))))
 
-  claim_tells : (solver : Solver) → Tells [] (claim_in sheet solver) claim_text
-  claim_tells Primal = either [] (optimal_in sheet) _ claim_text optimal_tells (either [] (crossed_in sheet) _ claim_text crossed_tells (either [] (infeasible_in sheet) (unbounded_in sheet) claim_text infeasible_tells unbounded_tells))
-  claim_tells Dual = either [] (optimal_in sheet) _ claim_text optimal_tells (either [] (crossed_in sheet) (infeasible_in sheet) claim_text crossed_tells infeasible_tells)
-  claim_tells Paraobj = either [] (crossed_in sheet) _ claim_text crossed_tells (either [] (infeasible_in sheet) (unbounded_in sheet) claim_text infeasible_tells unbounded_tells)
-  claim_tells Pararhs = either [] (crossed_in sheet) _ claim_text crossed_tells (either [] (infeasible_in sheet) (unbounded_in sheet) claim_text infeasible_tells unbounded_tells)
+  claim_tells : (solver : Solver) → Tells [] (claim_in of sheet solver) claim_text
+  claim_tells Primal = either [] (optimal_in of sheet) _ claim_text optimal_tells (either [] (crossed_in sheet) _ claim_text crossed_tells (either [] (infeasible_in of sheet) (unbounded_in of sheet) claim_text infeasible_tells unbounded_tells))
+  claim_tells Dual = either [] (optimal_in of sheet) _ claim_text optimal_tells (either [] (crossed_in sheet) (infeasible_in of sheet) claim_text crossed_tells infeasible_tells)
+  claim_tells Paraobj = either [] (crossed_in sheet) _ claim_text crossed_tells (either [] (infeasible_in of sheet) (unbounded_in of sheet) claim_text infeasible_tells unbounded_tells)
+  claim_tells Pararhs = either [] (crossed_in sheet) _ claim_text crossed_tells (either [] (infeasible_in of sheet) (unbounded_in of sheet) claim_text infeasible_tells unbounded_tells)
 
-  pub verdict_tells : (solver : Solver) → Tells [] (verdict_in sheet solver) (λ claim. verdict_text solver claim.0 claim.1)
+  pub verdict_tells : (solver : Solver) → Tells [] (verdict_in of sheet solver) (λ claim. verdict_text solver claim.0 claim.1)
   verdict_tells solver =
-      after_text [] (solver_text solver ++ codes " ") (claim_in sheet solver) _
-      (same_text _ (claim_in sheet solver) _ _ (behind (solver_text solver ++ codes " ") (claim_in sheet solver) claim_text (claim_tells solver))
+      after_text [] (solver_text solver ++ codes " ") (claim_in of sheet solver) _
+      (same_text _ (claim_in of sheet solver) _ _ (behind (solver_text solver ++ codes " ") (claim_in of sheet solver) claim_text (claim_tells solver))
       (λ claim. as_verdict (solver_text solver) (verdict_head claim.0) (check_text claim.1) (table_text (verdict_lines claim.0))))

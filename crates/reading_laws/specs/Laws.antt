@@ -5,6 +5,7 @@ use Rattle.std.specs.Prelude.{◌≡◌, ℕ, List, [], ◌∷◌, ◌++◌}
 use Rattle.listing_definitions.specs.Report.{Report, Solved, Solution, Ranges, Parametric}
 use Rattle.listing_definitions.specs.Listing.{reports_text}
 use Rattle.question_definitions.specs.Answers.{Sheet, changing_name, parametric_solver, Question, OfPath, OfSolution, OfRanges, OfParametricRun, OfPunch, OfInstall, AnswerTo, Reached, Opening, Chained}
+use Rattle.walk_definitions.specs.Checkers.{Checker}
 use Rattle.walk_definitions.specs.Reading.{Right, judged}
 
 abbrev pub reported : (question : Question) → AnswerTo question → List Report
@@ -19,6 +20,6 @@ reported (OfParametricRun parametric_run) _ = []
 reported OfPunch cards = []
 reported (OfInstall basis) end = []
 
-abbrev pub ReadingLaw : Type 0
-ReadingLaw = (question : Question) (sheet : Sheet) (rest after : List ℕ) (answer : AnswerTo question) → judged question sheet rest ≡ Right answer after →
+abbrev pub ReadingLaw : Checker → Type 0
+ReadingLaw C = (question : Question) (sheet : Sheet) (rest after : List ℕ) (answer : AnswerTo question) → judged C question sheet rest ≡ Right answer after →
     rest ≡ reports_text (reported question answer) ++ after

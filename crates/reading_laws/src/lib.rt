@@ -2,9 +2,10 @@
 //! that the check proves it.
 #![tactic(auto)]
 
+ghost use Rattle.walk_definitions.specs.Checkers.{Checker};
 ghost use Rattle.reading_laws.specs.Laws.{ReadingLaw};
 
 /// An answer that is judged right was read of the text of its report, and what is left is what follows that text.
 pub fn reading_law()
-    ensures { ReadingLaw }
+    ensures { (C : Checker) → ReadingLaw C }
 {}

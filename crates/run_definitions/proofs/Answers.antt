@@ -90,4 +90,4 @@ title_end_cut = print_fails tt refl (in_end (Ended 0) (codes "EN") (by_itself ti
 
 -- memory runs out before there is a report
 title_memory : IsAnswer silent (Read title_bytes) none_fails (record { status = 28; printed = codes "STOP 28 MEMORY\n"; punched = [] })
-title_memory = whole Memory memory_at_start refl refl ([], refl)
+title_memory = whole Memory memory_at_start refl refl (record { part = []; is_prefix = ([], refl); is_gained = refl })

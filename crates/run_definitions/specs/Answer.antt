@@ -1,5 +1,7 @@
 -- What a job may be answered: the promise that the whole program keeps.
 --     Job                          words that are refused, or the bytes of a job
+--     IsPunchedTo cards deck ..    all cards of the reports before are punched, and then a prefix of the deck in hand
+--     Gains ending cards deck ..   what the punch has gained by an end
 --     IsJobRun bytes ..            what a job reports and punches and how it ends, where nothing fails
 --     IsSoFar bytes ..             how far a job has come
 --     MayEnd job ..                how a job may end, where devices and memory may fail
@@ -46,11 +48,19 @@ pub record Failures : Type 1 where
   pub punch : Type 0
   pub memory : Type 0
 
--- what the punch has gained by an end: all of a text, or a prefix of it where its deck may be broken off
-abbrev pub Gains : Ending → List ℕ → List ℕ → Type 0
-Gains PunchFault gained text = IsPrefix gained text
-Gains Memory gained text = IsPrefix gained text
-Gains _ gained text = gained ≡ text
+-- The punch has gained the whole text of the cards of the reports before, and then a prefix of the text of the deck in hand, and no
+-- more. Where no deck is in hand the deck is empty, and the text of the cards is all.
+pub record IsPunchedTo (cards deck : List (List ℕ)) (gained : List ℕ) : Type 0 where
+  pub part : List ℕ
+  pub is_prefix : IsPrefix part (card_text deck)
+  pub is_gained : gained ≡ card_text cards ++ part
+
+-- What the punch has gained by an end: where a write to the punch fails, or memory runs out, all cards of the reports before and a
+-- prefix of the deck in hand; else all cards, with no deck in hand.
+abbrev pub Gains : Ending → List (List ℕ) → List (List ℕ) → List ℕ → Type 0
+Gains PunchFault cards deck gained = IsPunchedTo cards deck gained
+Gains Memory cards deck gained = IsPunchedTo cards deck gained
+Gains _ cards deck gained = gained ≡ card_text cards
 
 -- the decks of a job are those of the cards after its program
 abbrev pub job_decks : Program → List ℕ → List (List Card)
@@ -80,38 +90,39 @@ module _ (S : Solving) where
     pub after : State
     pub step : Step S program state (Goes (Punches report deck) after)
 
-  -- How a job may end: as it does by itself; or since the words are refused, a read of the job or a write to the punch has failed, or
-  -- memory runs out, and then the reports are those so far. The cards are all that is punched by then, with the deck of the statement
-  -- in hand.
-  pub data MayEnd (job : Job) (failures : Failures) : List Report → List (List ℕ) → Ending → Type 0 where
-    words_refused : job ≡ WithoutBytes → MayEnd job failures [] [] WordsRefused
-    read_fails : (bytes : List ℕ) → job ≡ Read bytes → failures.read → MayEnd job failures [] [] ReadFault
+  -- How a job may end, with the reports so far, the cards of those reports, and the deck in hand: as it does by itself; or since the
+  -- words are refused, a read of the job or a write to the punch has failed, or memory runs out. A deck is in hand only where a write to
+  -- the punch fails, or memory runs out, at a statement that punches it and has not reported it yet; else it is empty.
+  pub data MayEnd (job : Job) (failures : Failures) : List Report → List (List ℕ) → List (List ℕ) → Ending → Type 0 where
+    words_refused : job ≡ WithoutBytes → MayEnd job failures [] [] [] WordsRefused
+    read_fails : (bytes : List ℕ) → job ≡ Read bytes → failures.read → MayEnd job failures [] [] [] ReadFault
     by_itself : (bytes : List ℕ) {reports : List Report} {cards : List (List ℕ)} {ending : Ending} →
-        bytes_of job ≡ Some bytes → IsJobRun bytes reports cards ending → MayEnd job failures reports cards ending
-    memory_at_start : MayEnd job failures [] [] Memory
+        bytes_of job ≡ Some bytes → IsJobRun bytes reports cards ending → MayEnd job failures reports cards [] ending
+    memory_at_start : MayEnd job failures [] [] [] Memory
     memory_in_run : (bytes : List ℕ) (program : Program) (state : State) {reports : List Report} {cards : List (List ℕ)} →
-        bytes_of job ≡ Some bytes → IsSoFar bytes reports cards program state → MayEnd job failures reports cards Memory
+        bytes_of job ≡ Some bytes → IsSoFar bytes reports cards program state → MayEnd job failures reports cards [] Memory
     memory_at_punch : (bytes : List ℕ) (program : Program) (state : State) {reports : List Report} {cards : List (List ℕ)} (deck : List (List ℕ)) →
-        bytes_of job ≡ Some bytes → IsSoFar bytes reports cards program state → IsPunching program state deck → MayEnd job failures reports (cards ++ deck) Memory
+        bytes_of job ≡ Some bytes → IsSoFar bytes reports cards program state → IsPunching program state deck → MayEnd job failures reports cards deck Memory
     punch_fails : (bytes : List ℕ) (program : Program) (state : State) {reports : List Report} {cards : List (List ℕ)} (deck : List (List ℕ)) →
-        failures.punch → bytes_of job ≡ Some bytes → IsSoFar bytes reports cards program state → IsPunching program state deck → MayEnd job failures reports (cards ++ deck) PunchFault
+        failures.punch → bytes_of job ≡ Some bytes → IsSoFar bytes reports cards program state → IsPunching program state deck → MayEnd job failures reports cards deck PunchFault
 
   -- The print has stopped in a report, or in the lines of an end. The reports before stand whole, and of the text in which it stopped a
   -- prefix stands. Where that is the report of a statement to which the run has come, the cards of the reports before and those of this
-  -- statement are punched; where it is the end, what is punched by this end, or a prefix of that where the deck in hand isn't whole.
+  -- statement are punched; where it is the end, what the punch has gained by this end.
   pub data IsCutShort (job : Job) (failures : Failures) (answer : Answer) : Type 0 where
     in_report : (bytes : List ℕ) (program : Program) (state : State) {reports : List Report} {cards : List (List ℕ)} (outcome : StatementOutcome) (part : List ℕ) →
         bytes_of job ≡ Some bytes → IsSoFar bytes reports cards program state → Step S program state outcome →
         IsPrefix part (reports_text (printed_by (gain_of outcome))) → answer.printed ≡ reports_text reports ++ part →
         answer.punched ≡ card_text (cards ++ punched_by (gain_of outcome)) → IsCutShort job failures answer
-    in_end : {reports : List Report} {cards : List (List ℕ)} (ending : Ending) (part : List ℕ) → MayEnd job failures reports cards ending →
-        IsPrefix part (ending_text ending) → answer.printed ≡ reports_text reports ++ part → Gains ending answer.punched (card_text cards) → IsCutShort job failures answer
+    in_end : {reports : List Report} {cards deck : List (List ℕ)} (ending : Ending) (part : List ℕ) → MayEnd job failures reports cards deck ending →
+        IsPrefix part (ending_text ending) → answer.printed ≡ reports_text reports ++ part → Gains ending cards deck answer.punched → IsCutShort job failures answer
 
-  -- What a job may be answered: the status of an end, with the whole listing, and with all that is punched by then, or a prefix of it
-  -- where the deck in hand isn't whole; or the print has failed, or run out of memory itself, and all is cut short.
+  -- What a job may be answered: the status of an end, with the whole listing, and with what the punch has gained by this end: all cards
+  -- of the reports that stand, and a prefix of the deck in hand where that may be broken off. Or the print has failed, or run out of
+  -- memory itself, and all is cut short.
   pub data IsAnswer (job : Job) (failures : Failures) (answer : Answer) : Type 0 where
-    whole : {reports : List Report} {cards : List (List ℕ)} (ending : Ending) → MayEnd job failures reports cards ending →
-        answer.status ≡ status_of ending → answer.printed ≡ listing reports ending → Gains ending answer.punched (card_text cards) → IsAnswer job failures answer
+    whole : {reports : List Report} {cards deck : List (List ℕ)} (ending : Ending) → MayEnd job failures reports cards deck ending →
+        answer.status ≡ status_of ending → answer.printed ≡ listing reports ending → Gains ending cards deck answer.punched → IsAnswer job failures answer
     print_fails : failures.print → answer.status ≡ status_of PrintFault → IsCutShort job failures answer → IsAnswer job failures answer
     print_wants_memory : failures.memory → answer.status ≡ status_of Memory → IsCutShort job failures answer → IsAnswer job failures answer
 

@@ -1,6 +1,6 @@
 -- Each report of the run of a job holds of the state in which it was made.
 use Rattle.std.proofs.Common.{ℕ, List, []}
-use Rattle.std.specs.Prelude.{All, Option}
+use Rattle.std.specs.Prelude.{All}
 use Rattle.std.proofs.lemmas.List.Elements.{All-nil, All-cons}
 use Rattle.control_definitions.specs.Program.{Program}
 use Rattle.listing_definitions.specs.declared.Mark.TheVariants.{Optimal, Infeasible, Unbounded}
@@ -106,23 +106,23 @@ module _ (S : Solving) (solving : KnowsSolving S) where
   job_holds bytes _ _ _ (control_fault fault is compiled) = tt
   job_holds bytes reports cards ending (run program is runs) = run_holds bytes program is reports cards ending runs
 
-  end_holds : {job : Job} {failures : Failures} (reports : List Report) (cards : List (List ℕ)) (ending : Ending) (may_end : MayEnd S job failures reports cards ending) → HoldInEnd S may_end
-  end_holds _ _ _ (words_refused is) = tt
-  end_holds _ _ _ (read_fails bytes is failed) = tt
-  end_holds reports cards ending (by_itself bytes is runs) = job_holds bytes reports cards ending runs
-  end_holds _ _ _ memory_at_start = tt
-  end_holds _ _ _ (memory_in_run bytes program state is so_far) = so_far_holds bytes program so_far.is_program _ _ state so_far.reaches
-  end_holds _ _ _ (memory_at_punch bytes program state deck is so_far punching) = so_far_holds bytes program so_far.is_program _ _ state so_far.reaches
-  end_holds _ _ _ (punch_fails bytes program state deck failed is so_far punching) = so_far_holds bytes program so_far.is_program _ _ state so_far.reaches
+  end_holds : {job : Job} {failures : Failures} (reports : List Report) (cards deck : List (List ℕ)) (ending : Ending) (may_end : MayEnd S job failures reports cards deck ending) → HoldInEnd S may_end
+  end_holds _ _ _ _ (words_refused is) = tt
+  end_holds _ _ _ _ (read_fails bytes is failed) = tt
+  end_holds reports cards _ ending (by_itself bytes is runs) = job_holds bytes reports cards ending runs
+  end_holds _ _ _ _ memory_at_start = tt
+  end_holds _ _ _ _ (memory_in_run bytes program state is so_far) = so_far_holds bytes program so_far.is_program _ _ state so_far.reaches
+  end_holds _ _ _ _ (memory_at_punch bytes program state deck is so_far punching) = so_far_holds bytes program so_far.is_program _ _ state so_far.reaches
+  end_holds _ _ _ _ (punch_fails bytes program state deck failed is so_far punching) = so_far_holds bytes program so_far.is_program _ _ state so_far.reaches
 
   cut_holds : {job : Job} {failures : Failures} {answer : Answer} (cut : IsCutShort S job failures answer) → HoldInCut S cut
   cut_holds (in_report bytes program state outcome part is so_far step prefix printed punched) =
       (so_far_holds bytes program so_far.is_program _ _ state so_far.reaches, step_holds bytes program so_far.is_program _ _ state outcome so_far.reaches step)
-  cut_holds (in_end ending part may_end prefix printed punched) = end_holds _ _ ending may_end
+  cut_holds (in_end ending part may_end prefix printed punched) = end_holds _ _ _ ending may_end
 
   -- each report of an answer to a job holds of the state in which it was made
   pub answer_holds : {job : Job} {failures : Failures} {answer : Answer} (is : IsAnswer S job failures answer) → HoldInAnswer S is
-  answer_holds (whole {reports} {cards} ending may_end status printed punched) = end_holds reports cards ending may_end
+  answer_holds (whole {reports} {cards} {deck} ending may_end status printed punched) = end_holds reports cards deck ending may_end
   answer_holds (print_fails failed status cut) = cut_holds cut
   answer_holds (print_wants_memory wanted status cut) = cut_holds cut
 

@@ -43,8 +43,8 @@ module _ (S : Solving) (Says : State → Report → Type 0) where
 module _ (S : Solving) where
   -- of a job however it ends: where memory runs out or the punch fails, the reports are those of the run
   -- so far
-  abbrev pub HoldInEnd : {job : Job} {failures : Failures} {reports : List Report} {cards : List (List ℕ)}
-      {ending : Ending} → MayEnd S job failures reports cards ending → Type 0
+  abbrev pub HoldInEnd : {job : Job} {failures : Failures} {reports : List Report} {cards deck : List (List ℕ)}
+      {ending : Ending} → MayEnd S job failures reports cards deck ending → Type 0
   HoldInEnd (by_itself bytes is runs) = HoldInJob S Holds HoldsAtEnd runs
   HoldInEnd (memory_in_run bytes program state is so_far) = HoldSoFar S Holds program _ so_far.reaches
   HoldInEnd (memory_at_punch bytes program state deck is so_far punching) = HoldSoFar S Holds program _ so_far.reaches

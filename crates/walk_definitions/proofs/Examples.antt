@@ -1,57 +1,91 @@
 -- Worked words and lines, computed.
-use Rattle.std.specs.Prelude.{◌≡◌, refl, true, false, [], codes, Some, None, is_some, is_none}
+use Rattle.std.specs.Prelude.{◌≡◌, refl, pos, true, false, [], codes, Some, None, is_some, is_none}
 use Rattle.divisors.specs.Gcd.{gcd}
 use Rattle.exact_values.specs.Rational.{fraction, whole, neg_ℚ}
 use Rattle.listing_definitions.specs.Numbers.{digits}
-use Rattle.walk_definitions.specs.Words.{fraction_in, count_in, max_count}
+use Rattle.walk_definitions.specs.Checkers.{Checker, checker_of_128_bits, checker_of_any_length}
+use Rattle.walk_definitions.specs.Words.{fraction_in, form_in, count_in, max_count}
 use Rattle.walk_definitions.specs.Forms.{is_open_stop, is_ranges, is_punched, is_inserted}
 use Rattle.walk_definitions.specs.Tables.{begins_table_line}
 
 -- ---- numbers: each is written in one way alone
 
-half : is_some (fraction_in (codes "5/2")) ≡ true
+half : is_some (fraction_in checker_of_128_bits (codes "5/2")) ≡ true
 unfolding fraction_in fraction gcd digits whole
 half = refl
 
-negative : is_some (fraction_in (codes "-17")) ≡ true
+negative : is_some (fraction_in checker_of_128_bits (codes "-17")) ≡ true
 unfolding fraction_in fraction gcd digits whole neg_ℚ
 negative = refl
 
-zero_alone : is_some (fraction_in (codes "0")) ≡ true
+zero_alone : is_some (fraction_in checker_of_128_bits (codes "0")) ≡ true
 unfolding fraction_in fraction gcd digits whole
 zero_alone = refl
 
-not_lowest : is_none (fraction_in (codes "10/4")) ≡ true
+not_lowest : is_none (fraction_in checker_of_128_bits (codes "10/4")) ≡ true
 unfolding fraction_in fraction gcd digits whole
 not_lowest = refl
 
-minus_zero : is_none (fraction_in (codes "-0")) ≡ true
+minus_zero : is_none (fraction_in checker_of_128_bits (codes "-0")) ≡ true
 unfolding fraction_in fraction gcd digits whole neg_ℚ
 minus_zero = refl
 
-with_plus : is_none (fraction_in (codes "+1")) ≡ true
+with_plus : is_none (fraction_in checker_of_128_bits (codes "+1")) ≡ true
 unfolding fraction_in fraction gcd digits whole
 with_plus = refl
 
-over_one : is_none (fraction_in (codes "3/1")) ≡ true
+over_one : is_none (fraction_in checker_of_128_bits (codes "3/1")) ≡ true
 unfolding fraction_in fraction gcd digits whole
 over_one = refl
 
-over_zero : is_none (fraction_in (codes "3/0")) ≡ true
+over_zero : is_none (fraction_in checker_of_128_bits (codes "3/0")) ≡ true
 unfolding fraction_in fraction gcd digits whole
 over_zero = refl
 
-two_slashes : is_none (fraction_in (codes "1/2/3")) ≡ true
+two_slashes : is_none (fraction_in checker_of_128_bits (codes "1/2/3")) ≡ true
 unfolding fraction_in fraction gcd digits whole
 two_slashes = refl
 
-letters : is_none (fraction_in (codes "1x2")) ≡ true
+letters : is_none (fraction_in checker_of_128_bits (codes "1x2")) ≡ true
 unfolding fraction_in fraction gcd digits whole
 letters = refl
 
-nothing : is_none (fraction_in []) ≡ true
+nothing : is_none (fraction_in checker_of_128_bits []) ≡ true
 unfolding fraction_in fraction gcd digits whole
 nothing = refl
+
+-- 2 ^ 127, and of any length
+too_long : is_none (fraction_in checker_of_128_bits (codes "170141183460469231731687303715884105728")) ≡ true
+unfolding fraction_in fraction gcd digits whole
+too_long = refl
+
+of_any_length : is_some (fraction_in checker_of_any_length (codes "170141183460469231731687303715884105728")) ≡ true
+unfolding fraction_in fraction gcd digits whole
+of_any_length = refl
+
+-- where a number may have five digits above and below the line, one with six stands for a number of that form
+short : Checker
+short = record checker_of_any_length { most_digits = Some 5 }
+
+five_digits : fraction_in short (codes "77777") ≡ fraction_in checker_of_any_length (codes "77777")
+unfolding short fraction_in
+five_digits = refl
+
+six_digits : (fraction_in short (codes "-777777") ≡ None) × (form_in short (codes "-777777") ≡ Some (whole (pos 1)))
+unfolding short fraction_in whole
+six_digits = (refl, refl)
+
+below_the_line : form_in short (codes "2/777777") ≡ Some (whole (pos 1))
+unfolding short whole
+below_the_line = refl
+
+no_form : (form_in short (codes "0777777") ≡ None) × (form_in short (codes "2/2/777777") ≡ None)
+unfolding short fraction_in fraction gcd digits whole
+no_form = (refl, refl)
+
+not_lowest_either : is_none (fraction_in checker_of_any_length (codes "10/4")) ≡ true
+unfolding fraction_in fraction gcd digits whole
+not_lowest_either = refl
 
 greatest : count_in max_count (codes "4294967295") ≡ Some 4294967295
 unfolding count_in digits

@@ -2,6 +2,7 @@
 use Rattle.std.specs.Prelude.{◌≡◌, refl, ℕ, ◌++◌, pos, List, [], ◌∷◌, codes, Some, None}
 use Rattle.divisors.specs.Gcd.{gcd}
 use Rattle.exact_values.specs.Rational.{whole, fraction, neg_ℚ, ◌+ℚ◌, ◌*ℚ◌, compare_ℚ}
+use Rattle.frac128.specs.declared.Op.TheVariants.{Mul}
 use Rattle.frac128.specs.Operations.{refuses, shared_factor, raised_numerator, raised_sum, sum_denominator}
 use Rattle.lp_definitions.specs.declared.Sense.TheVariants.{Min}
 use Rattle.lp_definitions.specs.declared.Status.TheVariants.{Bs, Ll}
@@ -12,9 +13,10 @@ use Rattle.selection_definitions.specs.Choice.{selection_fault}
 use Rattle.selection_definitions.specs.Selection.{selected}
 use Rattle.listing_definitions.specs.Numbers.{digits}
 use Rattle.listing_definitions.specs.declared.Mark.TheVariants.{Optimal}
-use Rattle.listing_definitions.specs.Report.{Checked}
+use Rattle.listing_definitions.specs.Report.{Checked, Unchecked}
 use Rattle.run_definitions.specs.State.{State, start}
 use Rattle.run_definitions.specs.Verbs.{verb_move}
+use Rattle.walk_definitions.specs.Checkers.{checker_of_128_bits, checker_of_any_length}
 use Rattle.walk_definitions.specs.Words.{fraction_in, count_in}
 use Rattle.walk_definitions.specs.Forms.{is_open_stop}
 use Rattle.walk_definitions.specs.Walker.{Walker, Walks, Finds, Attested, Wrong, Open, turn}
@@ -37,19 +39,19 @@ after_title = record {
   reports = 1;
 }
 
-first : turn program (first_walker [] listing) ≡ Walks after_title
+first : turn checker_of_128_bits program (first_walker [] listing) ≡ Walks after_title
 unfolding turn program listing after_title verb_move is_open_stop
 first = refl
 
-second : turn program after_title ≡ Finds (Attested 1)
+second : turn checker_of_128_bits program after_title ≡ Finds (Attested 1)
 unfolding turn program after_title is_open_stop digits
 second = refl
 
-other_title : turn program (first_walker [] (codes "TITLE A C\nEND 0\n")) ≡ Finds (Wrong (codes "TITLE A C\nEND 0\n"))
+other_title : turn checker_of_128_bits program (first_walker [] (codes "TITLE A C\nEND 0\n")) ≡ Finds (Wrong (codes "TITLE A C\nEND 0\n"))
 unfolding turn program verb_move is_open_stop
 other_title = refl
 
-stopped : turn program (first_walker [] (codes "STOP 28 MEMORY\n")) ≡ Finds (Open (codes "STOP 28 MEMORY\n"))
+stopped : turn checker_of_128_bits program (first_walker [] (codes "STOP 28 MEMORY\n")) ≡ Finds (Open (codes "STOP 28 MEMORY\n"))
 unfolding turn program verb_move is_open_stop
 stopped = refl
 
@@ -104,19 +106,33 @@ proved = record {
   reports = 2;
 }
 
-solves : turn solving (record { state = ready; pending = None; rest = verdict ++ (viewed ++ codes "END 0\n"); reports = 0 }) ≡ Walks solved
+solves : turn checker_of_128_bits solving (record { state = ready; pending = None; rest = verdict ++ (viewed ++ codes "END 0\n"); reports = 0 }) ≡ Walks solved
 unfolding turn solving ready problem verdict viewed solved verb_move is_open_stop selected selection_fault is_made fraction_in count_in digits fraction gcd whole
 solves = refl
 
-shows : turn solving solved ≡ Walks proved
+shows : turn checker_of_128_bits solving solved ≡ Walks proved
 unfolding turn solving ready problem verdict viewed solved proved verb_move is_open_stop selected selection_fault is_made fraction_in count_in digits fraction gcd whole refuses shared_factor raised_numerator raised_sum sum_denominator ◌+ℚ◌ ◌*ℚ◌ neg_ℚ compare_ℚ
 shows = refl
 
-ends : turn solving proved ≡ Finds (Attested 2)
+ends : turn checker_of_128_bits solving proved ≡ Finds (Attested 2)
 unfolding turn solving proved ready is_open_stop digits
 ends = refl
 
+-- where the verdict is printed with an operation that was too much for the run, the checker of any length goes on past SOLUTION
+doubted : Walker
+doubted = record solved {
+  pending = Some (record { rest = verdict; objective = fraction (pos 0) 1; check = Unchecked (record { op = Mul; left = whole (pos 2); right = whole (pos 3) }) });
+}
+
+either_word : turn checker_of_any_length solving doubted ≡ Walks proved
+unfolding turn solving ready problem verdict viewed doubted solved proved verb_move is_open_stop selected selection_fault is_made fraction_in count_in digits fraction gcd whole refuses shared_factor raised_numerator raised_sum sum_denominator ◌+ℚ◌ ◌*ℚ◌ neg_ℚ compare_ℚ
+either_word = refl
+
+one_word : turn checker_of_128_bits solving doubted ≡ Finds (Wrong verdict)
+unfolding turn solving ready problem verdict viewed doubted solved proved verb_move is_open_stop selected selection_fault is_made fraction_in count_in digits fraction gcd whole refuses shared_factor raised_numerator raised_sum sum_denominator ◌+ℚ◌ ◌*ℚ◌ neg_ℚ compare_ℚ
+one_word = refl
+
 -- the end before SOLUTION leaves the verdict pending
-unshown : turn (record solving { statements = [] }) solved ≡ Finds (Open (verdict ++ (viewed ++ codes "END 0\n")))
+unshown : turn checker_of_128_bits (record solving { statements = [] }) solved ≡ Finds (Open (verdict ++ (viewed ++ codes "END 0\n")))
 unfolding turn solving solved ready is_open_stop viewed verdict
 unshown = refl

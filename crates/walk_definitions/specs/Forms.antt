@@ -13,12 +13,14 @@ use Rattle.frac128.specs.declared.Op.TheVariants.{Add, Sub, Mul, Div}
 use Rattle.card_definitions.specs.Words.{named}
 use Rattle.problem_definitions.specs.Names.{Name}
 use Rattle.listing_definitions.specs.Text.{operation_text, name8}
+use Rattle.walk_definitions.specs.Checkers.{checker_of_128_bits}
 use Rattle.walk_definitions.specs.Words.{left_after, word_in, fraction_in, count_in, max_count}
 
 -- the words of the four operations
 abbrev pub all_operations : List (List ℕ × Op)
 all_operations = map (λ op. (operation_text op, op)) (Add ∷ Sub ∷ Mul ∷ Div ∷ [])
 
+-- the numbers are those of a run, whatever the checker
 pub data Piece : Type 0 where
   Text : List ℕ → Piece
   Count Fraction Operation : Piece
@@ -27,7 +29,7 @@ pub data Piece : Type 0 where
 abbrev pub is_of : Piece → List ℕ → Bool
 is_of (Text text) word = false
 is_of Count word = is_some (count_in max_count word)
-is_of Fraction word = is_some (fraction_in word)
+is_of Fraction word = is_some (fraction_in checker_of_128_bits word)
 is_of Operation word = is_some (named all_operations word)
 
 abbrev pub left_by_piece : Piece → List ℕ → Option (List ℕ)

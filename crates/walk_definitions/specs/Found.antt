@@ -1,7 +1,7 @@
 -- What a listing of a job is found to be.
---     Reaches program decks listing w      the walk comes so far
---     Comes bytes listing found            a listing of a job is found so
---     Answers bytes listing answer         it is too long, or what it is found to be
+--     Reaches C program decks listing w    the walk of a checker comes so far
+--     Comes C bytes listing found          a listing of a job is found so
+--     Answers C bytes listing answer       it is too long, or what it is found to be
 --     line_of listing rest                 the line that begins where so much is left
 --     answer_text listing answer           what is printed of it
 use Rattle.std.specs.Prelude.{◌≡◌, ℕ, ◌+◌, ◌-◌, ◌≤◌, ◌<◌, ◌==◌, List, [], ◌∷◌, Option, Some, None, Err, length, filter, codes}
@@ -15,30 +15,31 @@ use Rattle.listing_definitions.specs.Numbers.{digits}
 use Rattle.listing_definitions.specs.Ending.{ControlStop, CardStop}
 use Rattle.run_definitions.specs.State.{start}
 use Rattle.run_definitions.specs.Answer.{job_decks, IsProgramOf}
+use Rattle.walk_definitions.specs.Checkers.{Checker}
 use Rattle.walk_definitions.specs.Walker.{Walker, Found, Attested, Wrong, Open, Unchecked, Walks, Finds, closes, turn}
 
 -- before the first statement
 abbrev pub first_walker : List (List Card) → List ℕ → Walker
 first_walker decks listing = record { state = start decks; pending = None; rest = listing; reports = 0 }
 
-pub data Reaches (program : Program) (decks : List (List Card)) (listing : List ℕ) : Walker → Type 0 where
-  begun : Reaches program decks listing (first_walker decks listing)
-  walked : {w v : Walker} → Reaches program decks listing w → turn program w ≡ Walks v → Reaches program decks listing v
+pub data Reaches (C : Checker) (program : Program) (decks : List (List Card)) (listing : List ℕ) : Walker → Type 0 where
+  begun : Reaches C program decks listing (first_walker decks listing)
+  walked : {w v : Walker} → Reaches C program decks listing w → turn C program w ≡ Walks v → Reaches C program decks listing v
 
 -- a job whose cards or control program are refused has this one end
-pub data Comes (bytes listing : List ℕ) (found : Found) : Type 0 where
-  of_cards : (fault : CardFault) → job_fault bytes ≡ Some fault → closes (first_walker [] listing) (CardStop fault) ≡ Finds found → Comes bytes listing found
+pub data Comes (C : Checker) (bytes listing : List ℕ) (found : Found) : Type 0 where
+  of_cards : (fault : CardFault) → job_fault bytes ≡ Some fault → closes (first_walker [] listing) (CardStop fault) ≡ Finds found → Comes C bytes listing found
   of_control : (fault : ControlFault) → job_fault bytes ≡ None → compiled (cards_of bytes) ≡ Err fault →
-      closes (first_walker [] listing) (ControlStop fault) ≡ Finds found → Comes bytes listing found
-  of_walk : (program : Program) (w : Walker) → IsProgramOf bytes program → Reaches program (job_decks program bytes) listing w →
-      turn program w ≡ Finds found → Comes bytes listing found
+      closes (first_walker [] listing) (ControlStop fault) ≡ Finds found → Comes C bytes listing found
+  of_walk : (program : Program) (w : Walker) → IsProgramOf bytes program → Reaches C program (job_decks program bytes) listing w →
+      turn C program w ≡ Finds found → Comes C bytes listing found
 
 abbrev pub max_listing : ℕ
 max_listing = 64000000
 
-pub data Answers (bytes listing : List ℕ) : Option Found → Type 0 where
-  too_long : max_listing < length listing → Answers bytes listing None
-  is_found : {found : Found} → length listing ≤ max_listing → Comes bytes listing found → Answers bytes listing (Some found)
+pub data Answers (C : Checker) (bytes listing : List ℕ) : Option Found → Type 0 where
+  too_long : max_listing < length listing → Answers C bytes listing None
+  is_found : {found : Found} → length listing ≤ max_listing → Comes C bytes listing found → Answers C bytes listing (Some found)
 
 -- ---- what is printed
 

@@ -1,8 +1,8 @@
--- Table lines, as they are read.
+-- Table lines, as they are read, by how the word of a number is.
 --     Slot                         what may stand at a place of a line
---     line_in sheet slots k        the line of variable k
---     table_in sheet slots ks      the lines of these variables, one after another
---     ray_in sheet ks              a line for each variable that has one, in this order, with a number other than 0
+--     line_in of sheet slots k     the line of variable k
+--     table_in of sheet slots ks   the lines of these variables, one after another
+--     ray_in of sheet ks           a line for each variable that has one, in this order, with a number other than 0
 --     column_of place lines        the numbers at a place of the lines, from 0
 --     multipliers sheet lines      a number for each variable, and 0 where it has no line
 use Rattle.std.specs.Prelude.{ℕ, Bool, false, ◌&&◌, List, [], ◌∷◌, ◌++◌, Option, Some, None, map, find, option_map, option_and_then, slice_get, codes, bytes_eq, nat_eq, if◌then◌else◌}
@@ -18,7 +18,7 @@ use Rattle.listing_definitions.specs.Report.{Value, Code, Number, Line}
 use Rattle.listing_definitions.specs.Text.{at_text, value_text, number5, name8}
 use Rattle.question_definitions.specs.Answers.{Sheet}
 use Rattle.answer_definitions.specs.Lines.{name_of}
-use Rattle.walk_definitions.specs.Words.{Parsed, left_after, with_text, with_word, fraction_in}
+use Rattle.walk_definitions.specs.Words.{Parsed, left_after, with_text, with_word}
 
 -- any of the six codes, any number, or this value alone
 pub data Slot : Type 0 where
@@ -28,23 +28,23 @@ pub data Slot : Type 0 where
 abbrev pub all_codes : List (List ℕ × At)
 all_codes = map (λ at. (at_text at, at)) (Basic ∷ Outside ∷ Equal ∷ Lower ∷ Upper ∷ Free ∷ [])
 
-abbrev pub value_in : Slot → List ℕ → Option Value
-value_in AnyCode word = option_map Code (named all_codes word)
-value_in AnyNumber word = option_map Number (fraction_in word)
-value_in (Known value) word = if bytes_eq (value_text value) word then Some value else None
+abbrev pub value_in : (List ℕ → Option ℚ) → Slot → List ℕ → Option Value
+value_in of AnyCode word = option_map Code (named all_codes word)
+value_in of AnyNumber word = option_map Number (of word)
+value_in of (Known value) word = if bytes_eq (value_text value) word then Some value else None
 
 -- a blank stands before each value
-abbrev pub slot_in : Slot → List ℕ → Parsed Value
-slot_in slot rest = with_text (codes " ") (with_word (value_in slot) (λ value left. Some (value, left))) rest
+abbrev pub slot_in : (List ℕ → Option ℚ) → Slot → List ℕ → Parsed Value
+slot_in of slot rest = with_text (codes " ") (with_word (value_in of slot) (λ value left. Some (value, left))) rest
 
 -- one thing is read, and then a list of more
 abbrev pub then_more : {X : Type 0} → Parsed X → (List ℕ → Parsed (List X)) → Parsed (List X)
 then_more None reads = None
 then_more (Some got) reads = option_map (λ more. (got.0 ∷ more.0, more.1)) (reads got.1)
 
-abbrev pub values_in : List Slot → List ℕ → Parsed (List Value)
-values_in [] rest = Some ([], rest)
-values_in (slot ∷ slots) rest = then_more (slot_in slot rest) (values_in slots)
+abbrev pub values_in : (List ℕ → Option ℚ) → List Slot → List ℕ → Parsed (List Value)
+values_in of [] rest = Some ([], rest)
+values_in of (slot ∷ slots) rest = then_more (slot_in of slot rest) (values_in of slots)
 
 abbrev pub number_of : Option Value → ℚ
 number_of (Some (Number x)) = x
@@ -85,10 +85,11 @@ module _ (sheet : Sheet) where
   abbrev pub line_of : ℕ → List Value → Line
   line_of k values = record { number = k; name = name_of sheet k; values = values }
 
+module _ (of : List ℕ → Option ℚ) (sheet : Sheet) where
   abbrev pub line_in : List Slot → ℕ → List ℕ → Parsed Line
   line_in slots k rest =
-      option_and_then (λ got. option_map (λ left. (line_of k got.0, left)) (left_after (codes "\n") got.1))
-      (with_text (line_head k) (values_in slots) rest)
+      option_and_then (λ got. option_map (λ left. (line_of sheet k got.0, left)) (left_after (codes "\n") got.1))
+      (with_text (line_head sheet k) (values_in of slots) rest)
 
   abbrev pub table_in : (ℕ → List Slot) → List ℕ → List ℕ → Parsed (List Line)
   table_in slots [] rest = Some ([], rest)
@@ -101,14 +102,14 @@ module _ (sheet : Sheet) where
   -- such a line for each variable that has one here, in this order; after them no table line may follow
   abbrev pub ray_in : List ℕ → List ℕ → Parsed (List Line)
   ray_in [] rest = if begins_table_line rest then None else Some ([], rest)
-  ray_in (k ∷ ks) rest = elim (left_after (line_head k) rest) [
+  ray_in (k ∷ ks) rest = elim (left_after (line_head sheet k) rest) [
     | None ↦ ray_in ks rest
     | Some values ↦ then_more (multiplier_in k rest) (ray_in ks)
   ]
 
-  -- a number for each variable, and 0 where it has no line
-  abbrev pub multipliers : List Line → List ℚ
-  multipliers lines = map (λ k. numbered k lines) (variables sheet.lp.matrix)
+-- a number for each variable, and 0 where it has no line
+abbrev pub multipliers : Sheet → List Line → List ℚ
+multipliers sheet lines = map (λ k. numbered k lines) (variables sheet.lp.matrix)
 
 abbrev pub column_of : ℕ → List Line → List ℚ
 column_of place lines = map (number_at place) lines

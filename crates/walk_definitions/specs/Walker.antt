@@ -3,7 +3,7 @@
 --     Found                        how the walk ends
 --     opened w move                what can't be attested, where a statement is executed
 --     refuses_selection move       an operation of a selection is refused
---     turn program w               what the walk comes to in one statement
+--     turn C program w             what the walk of a checker comes to in one statement
 use Rattle.std.specs.Prelude.{ℕ, ◌+◌, ◌-◌, Bool, false, not, ◌||◌, List, [], ◌∷◌, Option, Some, None, is_none, length, slice_get, nat_lt, if◌then◌else◌}
 use Rattle.std.specs.Option.{option_or}
 use Rattle.exact_values.specs.Rational.{ℚ}
@@ -18,9 +18,10 @@ use Rattle.run_definitions.specs.State.{State}
 use Rattle.run_definitions.specs.Moves.{Nothing, Prints, printed_by, gain_text, gain_of, StatementOutcome, Goes, Ends, InSelection, InAnswer, StatementMove, Does, MayStop, Asks}
 use Rattle.run_definitions.specs.Verbs.{verb_move}
 use Rattle.run_definitions.specs.Run.{max_executed, counted}
+use Rattle.walk_definitions.specs.Checkers.{Checker}
 use Rattle.walk_definitions.specs.Words.{left_after}
 use Rattle.walk_definitions.specs.Forms.{is_open_stop, is_ranges, is_punched, is_inserted}
-use Rattle.walk_definitions.specs.Tests.{says_checked, point_of}
+use Rattle.walk_definitions.specs.Tests.{point_of}
 use Rattle.walk_definitions.specs.Reading.{Judged, Right, Fails, Refuses, judged}
 use Rattle.selection_definitions.specs.Making.{is_made}
 
@@ -132,13 +133,13 @@ abbrev pub pending_after : List ℕ → PathVerdict → Check → Option Pending
 pending_after rest (OptimalAt steps objective) check = Some (record { rest = rest; objective = objective; check = check })
 pending_after rest verdict check = None
 
--- SOLUTION shows the objective of what is pending, and the check of that verdict was made
-abbrev pub settles : Pending → ℚ → Bool
-settles pending objective = if eq_ℚ pending.objective objective then says_checked pending.check else false
+-- SOLUTION shows the objective of what is pending, and the checker takes the word of that verdict's check
+abbrev pub settles : Checker → Pending → ℚ → Bool
+settles C pending objective = if eq_ℚ pending.objective objective then C.takes pending.check else false
 
-abbrev pub settled : Walker → Option Pending → ℚ → WalkTurn → WalkTurn
-settled w None objective turn = turn
-settled w (Some pending) objective turn = if settles pending objective then turn else Finds (Wrong pending.rest)
+abbrev pub settled : Checker → Walker → Option Pending → ℚ → WalkTurn → WalkTurn
+settled C w None objective turn = turn
+settled C w (Some pending) objective turn = if settles C pending objective then turn else Finds (Wrong pending.rest)
 
 -- what an answer leaves pending, and what it settles
 abbrev pub noted : Walker → (question : Question) → Sheet → AnswerTo question → Option Pending
@@ -152,34 +153,34 @@ noted w OfPunch sheet cards = w.pending
 noted w (OfInstall basis) sheet end = None
 noted w (OfParametricRun parametric_run) sheet end = None
 
-abbrev pub settling : Walker → (question : Question) → Sheet → AnswerTo question → WalkTurn → WalkTurn
-settling w (OfSolution Optimal) sheet lines turn = settled w w.pending (point_of sheet lines sheet.lp.objective) turn
-settling w question sheet answer turn = turn
+abbrev pub settling : Checker → Walker → (question : Question) → Sheet → AnswerTo question → WalkTurn → WalkTurn
+settling C w (OfSolution Optimal) sheet lines turn = settled C w w.pending (point_of sheet lines sheet.lp.objective) turn
+settling C w question sheet answer turn = turn
 
-abbrev pub answered : Walker → (question : Question) → Sheet → (AnswerTo question → StatementOutcome) → Judged (AnswerTo question) → WalkTurn
-answered w question sheet go Fails = Finds (Wrong w.rest)
-answered w question sheet go Refuses = Finds (Unchecked w.rest)
-answered w question sheet go (Right answer rest) =
-    settling w question sheet answer (follows (record (passed rest 1 w) { pending = noted w question sheet answer }) (go answer))
+abbrev pub answered : Checker → Walker → (question : Question) → Sheet → (AnswerTo question → StatementOutcome) → Judged (AnswerTo question) → WalkTurn
+answered C w question sheet go Fails = Finds (Wrong w.rest)
+answered C w question sheet go Refuses = Finds (Unchecked w.rest)
+answered C w question sheet go (Right answer rest) =
+    settling C w question sheet answer (follows (record (passed rest 1 w) { pending = noted w question sheet answer }) (go answer))
 
 -- the report or the end that is due
-abbrev pub due : Walker → StatementMove → WalkTurn
-due w (Does outcome) = taken w outcome (left_after (gain_text (gain_of outcome)) w.rest)
-due w (MayStop refusals move) = due w move
-due w (Asks question sheet s go) = answered w question sheet go (judged question sheet w.rest)
+abbrev pub due : Checker → Walker → StatementMove → WalkTurn
+due C w (Does outcome) = taken w outcome (left_after (gain_text (gain_of outcome)) w.rest)
+due C w (MayStop refusals move) = due C w move
+due C w (Asks question sheet s go) = answered C w question sheet go (judged C question sheet w.rest)
 
 -- ---- the walk
 
 -- what can't be attested comes first, then a selection that is refused, then what is due
-abbrev pub walk_move : Walker → StatementMove → WalkTurn
-walk_move w move = unless_found (opened w move) (if refuses_selection move then Finds (Unchecked w.rest) else due w move)
+abbrev pub walk_move : Checker → Walker → StatementMove → WalkTurn
+walk_move C w move = unless_found (opened w move) (if refuses_selection move then Finds (Unchecked w.rest) else due C w move)
 
-abbrev pub walk_statement : Walker → Option (Statement ℕ) → WalkTurn
-walk_statement w None = closes w (Ended 0)
-walk_statement w (Some statement) = walk_move w (verb_move statement.verb statement.card (counted w.state))
+abbrev pub walk_statement : Checker → Walker → Option (Statement ℕ) → WalkTurn
+walk_statement C w None = closes w (Ended 0)
+walk_statement C w (Some statement) = walk_move C w (verb_move statement.verb statement.card (counted w.state))
 
 -- the end, after the last statement, or the limit of statements, or the statement at the position
-unfoldable pub turn : Program → Walker → WalkTurn
-turn program w =
+unfoldable pub turn : Checker → Program → Walker → WalkTurn
+turn C program w =
     if nat_lt (length program.statements) w.state.position then closes w (Ended 0)
-    else if nat_lt w.state.executed max_executed then walk_statement w (slice_get program.statements (w.state.position - 1)) else closes w StatementLimit
+    else if nat_lt w.state.executed max_executed then walk_statement C w (slice_get program.statements (w.state.position - 1)) else closes w StatementLimit

@@ -4,13 +4,14 @@
 --     with_text text reads         a text stands there, and this is read after it
 --     word_in rest                 the bytes up to the first blank or line feed
 --     with_word of reads           a word that means something, and this is read after it
---     fraction_in, count_in        a number, as the listing writes it
-use Rattle.std.specs.Prelude.{ℕ, [], ◌∷◌, Bool, ◌||◌, ◌&&◌, ◌==◌, pos, List, Option, Some, None, take, drop, length, bytes_eq, nat_le, if◌then◌else◌, option_and_then}
-use Rattle.std.specs.List.{before_first, after_first, list_any}
-use Rattle.exact_values.specs.Rational.{ℚ, fraction, neg_ℚ}
-use Rattle.frac128.specs.Operations.{terms_fit}
-use Rattle.card_definitions.specs.Numbers.{digits_value}
+--     fraction_in C, count_in      a number, as the listing writes it, which the checker reads
+--     form_in C                    the same, but for a number that is too long to be read for its value
+use Rattle.std.specs.Prelude.{ℕ, [], ◌∷◌, Bool, false, not, ◌||◌, ◌&&◌, ◌==◌, pos, List, Option, Some, None, take, drop, length, bytes_eq, nat_le, nat_lt, if◌then◌else◌, unwrap_or, option_and_then}
+use Rattle.std.specs.List.{before_first, after_first, list_all, list_any}
+use Rattle.exact_values.specs.Rational.{ℚ, whole, fraction, neg_ℚ}
+use Rattle.card_definitions.specs.Numbers.{is_digit, digits_value}
 use Rattle.listing_definitions.specs.Numbers.{digits, rational_text}
+use Rattle.walk_definitions.specs.Checkers.{Checker}
 
 abbrev pub Parsed : Type 0 → Type 0
 Parsed X = Option (X × List ℕ)
@@ -53,9 +54,36 @@ spelled word = elim (left_after (45 ∷ []) word) [
   | Some size ↦ neg_ℚ (spelled_size size)
 ]
 
--- a fraction of 128 bits
-unfoldable pub fraction_in : List ℕ → Option ℚ
-fraction_in word = if terms_fit (spelled word) && bytes_eq (rational_text (spelled word)) word then Some (spelled word) else None
+-- what stands after a minus, if one stands first
+abbrev pub unsigned : List ℕ → List ℕ
+unsigned word = unwrap_or (left_after (45 ∷ []) word) word
+
+-- at least one digit, and the first isn't 0
+abbrev pub are_digits : List ℕ → Bool
+are_digits [] = false
+are_digits (byte ∷ bytes) = is_digit byte && (not (byte == 48) && list_all is_digit bytes)
+
+-- digits, or digits over digits; whether they are in lowest terms isn't looked at
+abbrev pub has_number_form : List ℕ → Bool
+has_number_form size = if list_any is_slash size then are_digits (before_first is_slash size) && are_digits (after_first is_slash size) else are_digits size
+
+-- it has the form of a number, with more digits than so many above or below the line
+abbrev pub is_longer : ℕ → List ℕ → Bool
+is_longer most size = has_number_form size && (nat_lt most (length (before_first is_slash size)) || nat_lt most (length (after_first is_slash size)))
+
+abbrev pub is_long : Checker → List ℕ → Bool
+is_long C word = elim C.most_digits [
+  | None ↦ false
+  | Some most ↦ is_longer most (unsigned word)
+]
+
+-- a fraction that the arithmetic reads, and that isn't too long
+unfoldable pub fraction_in : Checker → List ℕ → Option ℚ
+fraction_in C word = if is_long C word then None else if C.arithmetic.reads (spelled word) && bytes_eq (rational_text (spelled word)) word then Some (spelled word) else None
+
+-- A number that is too long may stand wherever a number may. It is taken for 1, since a multiplier isn't 0.
+abbrev pub form_in : Checker → List ℕ → Option ℚ
+form_in C word = if is_long C word then Some (whole (pos 1)) else fraction_in C word
 
 -- a count up to a greatest one
 unfoldable pub count_in : ℕ → List ℕ → Option ℕ

@@ -17,6 +17,7 @@ use Rattle.run_definitions.specs.Run.{counted}
 use Rattle.soundness_laws.specs.Truth.{PresentProgram, sheet_of, IsTrueOf, IsNotUnbounded}
 use Rattle.soundness_laws.proofs.Moves.{HasProblem}
 use Rattle.selection_laws.proofs.Selected.{selected_is_lawful, selected_without_change}
+use Rattle.walk_definitions.specs.Checkers.{Checker}
 use Rattle.walk_definitions.specs.Reading.{Judged, Right, Fails, Refuses, judged, judged_map}
 use Rattle.walk_definitions.specs.Reading as readings
 use Rattle.walk_definitions.specs.Walker.{Pending, Walker, open_stop, open_pending, open_question, follows, passed, pending_after, noted, answered}
@@ -40,12 +41,12 @@ printed_verdict Infeasible report state = printed_demanded state.cells.xdonfs 1 
 printed_verdict Unbounded report state = printed_demanded state.cells.xdounb 2 report state
 
 -- what it owes, it owes where the run goes on, and where it ends
-module _ (Holds : Type 0) (w : Walker) (pending : Option Pending) (report : Report) (state : State) (owes : Owes (Holds × All (Says w.state) (report ∷ [])) pending state.setup state.cells) where
-  pays_demanded : (position : Option ℕ) (code : ℕ) → Pays Holds w pending (demanded position code report state)
+module _ (C : Checker) (Holds : Type 0) (w : Walker) (pending : Option Pending) (report : Report) (state : State) (owes : Owes (Holds × All (Says w.state) (report ∷ [])) pending state.setup state.cells) where
+  pays_demanded : (position : Option ℕ) (code : ℕ) → Pays C Holds w pending (demanded position code report state)
   pays_demanded (Some position) code = owes
   pays_demanded None code = λ settled. holds_settled (Holds × All (Says w.state) (report ∷ [])) pending state.setup state.cells owes settled
 
-  pub pays_verdict : (mark : Mark) → Pays Holds w pending (by_verdict mark report state)
+  pub pays_verdict : (mark : Mark) → Pays C Holds w pending (by_verdict mark report state)
   pays_verdict Optimal = owes
   pays_verdict Infeasible = pays_demanded state.cells.xdonfs 1
   pays_verdict Unbounded = pays_demanded state.cells.xdounb 2
@@ -86,14 +87,14 @@ says_verdict state ByDual verdict check is program holds bounded = (program, hol
 says_verdict state ByParaobj verdict check is program holds bounded = absurd is
 says_verdict state ByPararhs verdict check is program holds bounded = absurd is
 
-bounded_verdict : JudgedLaws → (solver : Solver) (limit : Option ℕ) (sheet : Sheet) (rest after : List ℕ) (bases : List Basis) (verdict : PathVerdict) (check : Check) →
-    judged (OfPath solver limit) sheet rest ≡ Right (Reached bases verdict check) after → IsBounded solver verdict
-bounded_verdict truth ByPrimal limit sheet rest after bases verdict check e = tt
-bounded_verdict truth ByDual limit sheet rest after bases verdict check e = truth.dual limit sheet rest after bases verdict check e
-bounded_verdict truth ByParaobj limit sheet rest after bases verdict check e = tt
-bounded_verdict truth ByPararhs limit sheet rest after bases verdict check e = tt
+bounded_verdict : (C : Checker) → JudgedLaws C → (solver : Solver) (limit : Option ℕ) (sheet : Sheet) (rest after : List ℕ) (bases : List Basis) (verdict : PathVerdict) (check : Check) →
+    judged C (OfPath solver limit) sheet rest ≡ Right (Reached bases verdict check) after → IsBounded solver verdict
+bounded_verdict C truth ByPrimal limit sheet rest after bases verdict check e = tt
+bounded_verdict C truth ByDual limit sheet rest after bases verdict check e = truth.dual limit sheet rest after bases verdict check e
+bounded_verdict C truth ByParaobj limit sheet rest after bases verdict check e = tt
+bounded_verdict C truth ByPararhs limit sheet rest after bases verdict check e = tt
 
-module _ (reading : ReadingLaw) (truth : JudgedLaws) (Holds : Type 0) (w : Walker) (owed : Owes Holds w.pending w.state.setup w.state.cells) (lawful : HasProblem w.state.setup) where
+module _ (C : Checker) (reading : ReadingLaw C) (truth : JudgedLaws C) (Holds : Type 0) (w : Walker) (owed : Owes Holds w.pending w.state.setup w.state.cells) (lawful : HasProblem w.state.setup) where
   module _ (solver : Solver) (is_path : IsPathSolver solver) (limit : Option ℕ) (card : ℕ) (present : Present) (lp : LinearProgram) (set : w.state.setup ≡ Some present)
       (is : selected present.problem (choice_of w.state.cells present.options) ≡ Ok lp) where
     abbrev sheet : Sheet
@@ -112,39 +113,39 @@ module _ (reading : ReadingLaw) (truth : JudgedLaws) (Holds : Type 0) (w : Walke
         Owes (Holds × All (Says w.state) (Solved solver verdict check ∷ [])) (pending_after rest verdict check) (Some (gone_through bases present)) w.state.cells
     owes_verdict rest bases (OptimalAt steps objective) check holds proved bounded = λ proves. (
       holds,
-      one_says Holds w (Solved solver (OptimalAt steps objective) check) (says_verdict w.state solver (OptimalAt steps objective) check is_path
+      one_says C Holds w (Solved solver (OptimalAt steps objective) check) (says_verdict w.state solver (OptimalAt steps objective) check is_path
           (program_before_path w.state.setup w.state.cells present bases set proves.program) proves.best bounded),
     )
     owes_verdict rest bases (CrossedAt k) check holds proved bounded =
-        (holds, one_says Holds w (Solved solver (CrossedAt k) check) (says_verdict w.state solver (CrossedAt k) check is_path program proved bounded))
+        (holds, one_says C Holds w (Solved solver (CrossedAt k) check) (says_verdict w.state solver (CrossedAt k) check is_path program proved bounded))
     owes_verdict rest bases (InfeasibleBy steps lines) check holds proved bounded =
-        (holds, one_says Holds w (Solved solver (InfeasibleBy steps lines) check) (says_verdict w.state solver (InfeasibleBy steps lines) check is_path program proved bounded))
+        (holds, one_says C Holds w (Solved solver (InfeasibleBy steps lines) check) (says_verdict w.state solver (InfeasibleBy steps lines) check is_path program proved bounded))
     owes_verdict rest bases (UnboundedBy steps objective lines) check holds proved bounded =
-        (holds, one_says Holds w (Solved solver (UnboundedBy steps objective lines) check) (says_verdict w.state solver (UnboundedBy steps objective lines) check is_path program proved bounded))
+        (holds, one_says C Holds w (Solved solver (UnboundedBy steps objective lines) check) (says_verdict w.state solver (UnboundedBy steps objective lines) check is_path program proved bounded))
 
-    path_comes : (answer : PathEnd) (rest : List ℕ) → judged (OfPath solver limit) sheet w.rest ≡ Right answer rest → Holds →
-        ComesTo Holds w card move (follows (record (passed rest 1 w) { pending = noted w (OfPath solver limit) sheet answer }) (go answer))
+    path_comes : (answer : PathEnd) (rest : List ℕ) → judged C (OfPath solver limit) sheet w.rest ≡ Right answer rest → Holds →
+        ComesTo C Holds w card move (follows (record (passed rest 1 w) { pending = noted w (OfPath solver limit) sheet answer }) (go answer))
     path_comes (Reached bases verdict check) rest e holds =
         let after : State = record (counted w.state) { setup = Some (gone_through bases present); mark = Some (mark_of verdict) } in
-        follows_on Holds w card move (record (passed rest 1 w) { pending = pending_after w.rest verdict check }) (go (Reached bases verdict check))
-        (reads Holds w reading card (OfPath solver limit) sheet (present_basis present) go (Reached bases verdict check) rest (w.rest, rest, e) e
+        follows_on C Holds w card move (record (passed rest 1 w) { pending = pending_after w.rest verdict check }) (go (Reached bases verdict check))
+        (reads C Holds w reading card (OfPath solver limit) sheet (present_basis present) go (Reached bases verdict check) rest (w.rest, rest, e) e
         (printed_verdict (mark_of verdict) (Solved solver verdict check) after) refl
-        (pays_verdict Holds w (pending_after w.rest verdict check) (Solved solver verdict check) after
+        (pays_verdict C Holds w (pending_after w.rest verdict check) (Solved solver verdict check) after
         (owes_verdict w.rest bases verdict check holds (truth.verdict solver limit sheet w.rest rest bases verdict check program.is_linear_program (selected_without_change present.problem (choice_of w.state.cells present.options) lp is) e)
-        (bounded_verdict truth solver limit sheet w.rest rest bases verdict check e)) (mark_of verdict)))
+        (bounded_verdict C truth solver limit sheet w.rest rest bases verdict check e)) (mark_of verdict)))
     path_comes PathLimit rest e holds = absurd (never_made (λ (claim : readings.Claim). Reached [] claim.0 claim.1) PathLimit (λ claim same. cc same) _ rest e)
     path_comes (PricesWrong j) rest e holds = absurd (never_made (λ (claim : readings.Claim). Reached [] claim.0 claim.1) (PricesWrong j) (λ claim same. cc same) _ rest e)
 
-    pub path_followed : IsFollowed Holds w card (asks (OfPath solver limit) sheet present go)
-    path_followed = may_stop Holds w card (InAnswer (OfPath solver limit) sheet (path_of present)) move (record {
-      comes = on_unless (GoesOn Holds w card move) (EndsSo Holds w card move) (open_question w (OfPath solver limit) sheet go)
-          (answered w (OfPath solver limit) sheet go (judged (OfPath solver limit) sheet w.rest))
+    pub path_followed : IsFollowed C Holds w card (asks (OfPath solver limit) sheet present go)
+    path_followed = may_stop C Holds w card (InAnswer (OfPath solver limit) sheet (path_of present)) move (record {
+      comes = on_unless (GoesOn C Holds w card move) (EndsSo C Holds w card move) (open_question w (OfPath solver limit) sheet go)
+          (answered C w (OfPath solver limit) sheet go (judged C (OfPath solver limit) sheet w.rest))
           (never_either (open_stop w) (open_pending w) (never_stop w) (never_pending w.pending))
-          (λ none. by (judged (OfPath solver limit) sheet w.rest) refl
+          (λ none. by (judged C (OfPath solver limit) sheet w.rest) refl
           (holds_settled Holds w.pending w.state.setup w.state.cells owed (nothing_pending w.pending (none_either (open_stop w) (open_pending w) none).1)));
     })
       where
-        by : (j : Judged PathEnd) → judged (OfPath solver limit) sheet w.rest ≡ j → Holds → ComesTo Holds w card move (answered w (OfPath solver limit) sheet go j)
+        by : (j : Judged PathEnd) → judged C (OfPath solver limit) sheet w.rest ≡ j → Holds → ComesTo C Holds w card move (answered C w (OfPath solver limit) sheet go j)
         by (Right answer rest) e holds = path_comes answer rest e holds
         by Fails e holds = tt
         by Refuses e holds = tt

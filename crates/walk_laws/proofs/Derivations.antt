@@ -36,6 +36,7 @@ use Rattle.run_definitions.specs.State.{Present, gone_through, State, problem_of
 use Rattle.run_definitions.specs.Moves.{printed_by, gain_text, gain_of, StatementOutcome, Goes, Ends, InSelection, StatementMove, Does, MayStop, Asks, or_fault}
 use Rattle.run_definitions.specs.Verbs.{or_deck_fault, or_selection_fault, selects, mark_of, demanded, by_verdict, change_row, change_set, not_less, after_path, solves, shows_present, if_optimal, after_parametric_run, parametric_runs, after_install, verb_move}
 use Rattle.run_definitions.specs.Run.{max_executed, counted}
+use Rattle.walk_definitions.specs.Checkers.{Checker}
 use Rattle.walk_definitions.specs.Words.{left_after}
 use Rattle.walk_definitions.specs.Tests.{point_of}
 use Rattle.walk_definitions.specs.Reading.{Judged, Right, Fails, Refuses, judged}
@@ -174,54 +175,54 @@ taken_counts : (n : ℕ) (w : Walker) (outcome : StatementOutcome) (o : Option (
 taken_counts n w outcome None counts = tt
 taken_counts n w outcome (Some rest) counts = follows_counts n (passed rest (length (printed_by (gain_of outcome))) w) outcome counts
 
-settled_counts : (n : ℕ) (w : Walker) (o : Option Pending) (objective : ℚ) (turn : WalkTurn) → CountsTurn n turn → CountsTurn n (settled w o objective turn)
-settled_counts n w None objective turn counts = counts
-settled_counts n w (Some pending) objective turn counts = by (settles pending objective)
+settled_counts : (C : Checker) (n : ℕ) (w : Walker) (o : Option Pending) (objective : ℚ) (turn : WalkTurn) → CountsTurn n turn → CountsTurn n (settled C w o objective turn)
+settled_counts C n w None objective turn counts = counts
+settled_counts C n w (Some pending) objective turn counts = by (settles C pending objective)
   where
     by : (b : Bool) → CountsTurn n (if b then turn else Finds (Wrong pending.rest))
     by true = counts
     by false = tt
 
-settling_counts : (n : ℕ) (w : Walker) (question : Question) (sheet : Sheet) (answer : AnswerTo question) (turn : WalkTurn) → CountsTurn n turn → CountsTurn n (settling w question sheet answer turn)
-settling_counts n w (OfSolution Optimal) sheet lines turn counts = settled_counts n w w.pending (point_of sheet lines sheet.lp.objective) turn counts
-settling_counts n w (OfSolution Infeasible) sheet lines turn counts = counts
-settling_counts n w (OfSolution Unbounded) sheet lines turn counts = counts
-settling_counts n w (OfPath solver limit) sheet answer turn counts = counts
-settling_counts n w OfRanges sheet answer turn counts = counts
-settling_counts n w (OfParametricRun parametric_run) sheet answer turn counts = counts
-settling_counts n w OfPunch sheet answer turn counts = counts
-settling_counts n w (OfInstall basis) sheet answer turn counts = counts
+settling_counts : (C : Checker) (n : ℕ) (w : Walker) (question : Question) (sheet : Sheet) (answer : AnswerTo question) (turn : WalkTurn) → CountsTurn n turn → CountsTurn n (settling C w question sheet answer turn)
+settling_counts C n w (OfSolution Optimal) sheet lines turn counts = settled_counts C n w w.pending (point_of sheet lines sheet.lp.objective) turn counts
+settling_counts C n w (OfSolution Infeasible) sheet lines turn counts = counts
+settling_counts C n w (OfSolution Unbounded) sheet lines turn counts = counts
+settling_counts C n w (OfPath solver limit) sheet answer turn counts = counts
+settling_counts C n w OfRanges sheet answer turn counts = counts
+settling_counts C n w (OfParametricRun parametric_run) sheet answer turn counts = counts
+settling_counts C n w OfPunch sheet answer turn counts = counts
+settling_counts C n w (OfInstall basis) sheet answer turn counts = counts
 
-answered_counts : (n : ℕ) (w : Walker) (question : Question) (sheet : Sheet) (go : AnswerTo question → StatementOutcome) (j : Judged (AnswerTo question)) → ((answer : AnswerTo question) → Counts n (go answer)) → CountsTurn n (answered w question sheet go j)
-answered_counts n w question sheet go Fails counts = tt
-answered_counts n w question sheet go Refuses counts = tt
-answered_counts n w question sheet go (Right answer rest) counts =
-    settling_counts n w question sheet answer _ (follows_counts n (record (passed rest 1 w) { pending = noted w question sheet answer }) (go answer) (counts answer))
+answered_counts : (C : Checker) (n : ℕ) (w : Walker) (question : Question) (sheet : Sheet) (go : AnswerTo question → StatementOutcome) (j : Judged (AnswerTo question)) → ((answer : AnswerTo question) → Counts n (go answer)) → CountsTurn n (answered C w question sheet go j)
+answered_counts C n w question sheet go Fails counts = tt
+answered_counts C n w question sheet go Refuses counts = tt
+answered_counts C n w question sheet go (Right answer rest) counts =
+    settling_counts C n w question sheet answer _ (follows_counts n (record (passed rest 1 w) { pending = noted w question sheet answer }) (go answer) (counts answer))
 
-due_counts : (n : ℕ) (w : Walker) (move : StatementMove) → KeepsCount n move → CountsTurn n (due w move)
-due_counts n w (Does outcome) counts = taken_counts n w outcome (left_after (gain_text (gain_of outcome)) w.rest) counts
-due_counts n w (MayStop refusals move) counts = due_counts n w move counts
-due_counts n w (Asks question sheet s go) counts = answered_counts n w question sheet go (judged question sheet w.rest) counts
+due_counts : (C : Checker) (n : ℕ) (w : Walker) (move : StatementMove) → KeepsCount n move → CountsTurn n (due C w move)
+due_counts C n w (Does outcome) counts = taken_counts n w outcome (left_after (gain_text (gain_of outcome)) w.rest) counts
+due_counts C n w (MayStop refusals move) counts = due_counts C n w move counts
+due_counts C n w (Asks question sheet s go) counts = answered_counts C n w question sheet go (judged C question sheet w.rest) counts
 
-move_counts : (n : ℕ) (w : Walker) (move : StatementMove) → KeepsCount n move → CountsTurn n (walk_move w move)
-move_counts n w move counts = unless_counts n (opened w move) _ (by (refuses_selection move))
+move_counts : (C : Checker) (n : ℕ) (w : Walker) (move : StatementMove) → KeepsCount n move → CountsTurn n (walk_move C w move)
+move_counts C n w move counts = unless_counts n (opened w move) _ (by (refuses_selection move))
   where
-    by : (b : Bool) → CountsTurn n (if b then Finds (Unchecked w.rest) else due w move)
+    by : (b : Bool) → CountsTurn n (if b then Finds (Unchecked w.rest) else due C w move)
     by true = tt
-    by false = due_counts n w move counts
+    by false = due_counts C n w move counts
 
-statement_counts : (w : Walker) (o : Option (Statement ℕ)) → CountsTurn (w.state.executed + 1) (walk_statement w o)
-statement_counts w None = closes_counts (w.state.executed + 1) w (Ended 0)
-statement_counts w (Some statement) = move_counts (w.state.executed + 1) w (verb_move statement.verb statement.card (counted w.state)) (verb_counts statement.verb statement.card (counted w.state))
+statement_counts : (C : Checker) (w : Walker) (o : Option (Statement ℕ)) → CountsTurn (w.state.executed + 1) (walk_statement C w o)
+statement_counts C w None = closes_counts (w.state.executed + 1) w (Ended 0)
+statement_counts C w (Some statement) = move_counts C (w.state.executed + 1) w (verb_move statement.verb statement.card (counted w.state)) (verb_counts statement.verb statement.card (counted w.state))
 
 -- one more is counted
-pub turn_counts : (program : Program) (w : Walker) → CountsTurn (w.state.executed + 1) (turn program w)
+pub turn_counts : (C : Checker) (program : Program) (w : Walker) → CountsTurn (w.state.executed + 1) (turn C program w)
 unfolding turn
-turn_counts program w = by (nat_lt (length program.statements) w.state.position) (nat_lt w.state.executed max_executed)
+turn_counts C program w = by (nat_lt (length program.statements) w.state.position) (nat_lt w.state.executed max_executed)
   where
-    by : (a b : Bool) → CountsTurn (w.state.executed + 1) (if a then closes w (Ended 0) else if b then walk_statement w (slice_get program.statements (w.state.position - 1)) else closes w StatementLimit)
+    by : (a b : Bool) → CountsTurn (w.state.executed + 1) (if a then closes w (Ended 0) else if b then walk_statement C w (slice_get program.statements (w.state.position - 1)) else closes w StatementLimit)
     by true b = closes_counts (w.state.executed + 1) w (Ended 0)
-    by false true = statement_counts w (slice_get program.statements (w.state.position - 1))
+    by false true = statement_counts C w (slice_get program.statements (w.state.position - 1))
     by false false = closes_counts (w.state.executed + 1) w StatementLimit
 
 -- ---- what closes
@@ -240,11 +241,11 @@ pub closes_finds : (w : Walker) (ending : Ending) → HasFound (closes w ending)
 closes_finds w ending = unless_finds (option_or (open_stop w) (open_pending w)) (ended w (left_after (ending_text ending) w.rest))
 
 -- so does each turn at the limit of statements
-pub limit_finds : (program : Program) (w : Walker) → max_executed ≤ w.state.executed → HasFound (turn program w)
+pub limit_finds : (C : Checker) (program : Program) (w : Walker) → max_executed ≤ w.state.executed → HasFound (turn C program w)
 unfolding turn
-limit_finds program w at_limit = by (nat_lt (length program.statements) w.state.position) (nat_lt w.state.executed max_executed) (le-ltb w.state.executed max_executed at_limit)
+limit_finds C program w at_limit = by (nat_lt (length program.statements) w.state.position) (nat_lt w.state.executed max_executed) (le-ltb w.state.executed max_executed at_limit)
   where
-    by : (a b : Bool) → b ≡ false → HasFound (if a then closes w (Ended 0) else if b then walk_statement w (slice_get program.statements (w.state.position - 1)) else closes w StatementLimit)
+    by : (a b : Bool) → b ≡ false → HasFound (if a then closes w (Ended 0) else if b then walk_statement C w (slice_get program.statements (w.state.position - 1)) else closes w StatementLimit)
     by true b is = closes_finds w (Ended 0)
     by false true is = absurd (cc is)
     by false false is = closes_finds w StatementLimit

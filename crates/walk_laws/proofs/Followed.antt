@@ -21,6 +21,7 @@ use Rattle.question_definitions.specs.Answers.{Basis, Sheet, Question, AnswerTo}
 use Rattle.question_definitions.specs.Solving.{IsRight}
 use Rattle.run_definitions.specs.Moves.{Gain, Nothing, Prints, Punches, printed_by, gain_text, StatementOutcome, Goes, Ends, gain_of, stops, Refusals, InSelection, InAnswer, StatementMove, Does, MayStop, Asks, Gives, or_fault}
 use Rattle.run_definitions.specs.Verbs.{or_deck_fault, or_selection_fault, selects}
+use Rattle.walk_definitions.specs.Checkers.{Checker}
 use Rattle.walk_definitions.specs.Words.{left_after}
 use Rattle.walk_definitions.specs.Reading.{Right, judged}
 use Rattle.walk_definitions.specs.Walker.{Pending, Walker, Found, WalkTurn, Finds, Unchecked, open_outcome, opened, refuses_selection, unless_found, follows, passed, taken, noted, due, walk_move}
@@ -37,10 +38,10 @@ text_of_gain (Prints report) = sym (append-nil _)
 text_of_gain (Punches report cards) = sym (append-nil _)
 
 -- What holds of the reports so far, and the walker before the move.
-module _ (Holds : Type 0) (w : Walker) where
+module _ (C : Checker) (Holds : Type 0) (w : Walker) where
   pub record GoesOn (card : ℕ) (move : StatementMove) (v : Walker) : Type 0 where
     pub gain : Gain
-    pub gives : Gives attested card move (Goes gain v.state)
+    pub gives : Gives (attested C) card move (Goes gain v.state)
     pub text : w.rest ≡ reports_text (printed_by gain) ++ v.rest
     pub counted : v.reports ≡ w.reports + length (printed_by gain)
     pub owes : Owes (Holds × All (Says w.state) (printed_by gain)) v.pending v.state.setup v.state.cells
@@ -48,7 +49,7 @@ module _ (Holds : Type 0) (w : Walker) where
   pub record EndsSo (card : ℕ) (move : StatementMove) (count : ℕ) : Type 0 where
     pub gain : Gain
     pub ending : Ending
-    pub gives : Gives attested card move (Ends gain ending)
+    pub gives : Gives (attested C) card move (Ends gain ending)
     pub text : w.rest ≡ reports_text (printed_by gain) ++ ending_text ending
     pub counted : count ≡ w.reports + length (printed_by gain)
     pub holds : Holds × All (Says w.state) (printed_by gain)
@@ -57,7 +58,7 @@ module _ (Holds : Type 0) (w : Walker) where
   ComesTo card move turn = On (GoesOn card move) (EndsSo card move) turn
 
   pub record IsFollowed (card : ℕ) (move : StatementMove) : Type 0 where
-    pub comes : ComesTo card move (walk_move w move)
+    pub comes : ComesTo card move (walk_move C w move)
 
   -- what the report of an outcome says is true, or is owed
   abbrev pub Pays : Option Pending → StatementOutcome → Type 0
@@ -65,7 +66,7 @@ module _ (Holds : Type 0) (w : Walker) where
   Pays pending (Ends gain ending) = pending ≡ None → Holds × All (Says w.state) (printed_by gain)
 
   pub record Leads (card : ℕ) (move : StatementMove) (u : Walker) (outcome : StatementOutcome) : Type 0 where
-    pub gives : Gives attested card move outcome
+    pub gives : Gives (attested C) card move outcome
     pub text : w.rest ≡ reports_text (printed_by (gain_of outcome)) ++ u.rest
     pub counted : u.reports ≡ w.reports + length (printed_by (gain_of outcome))
     pub pays : Pays u.pending outcome
@@ -98,11 +99,11 @@ module _ (Holds : Type 0) (w : Walker) where
 
   pub may_stop : (card : ℕ) (refusals : Refusals) (move : StatementMove) → IsFollowed card move → IsFollowed card (MayStop refusals move)
   may_stop card (InSelection problem choice) move followed = record {
-    comes = refused_too card (MayStop (InSelection problem choice) move) (opened w move) (not (is_made problem choice)) (refuses_selection move) (due w move)
-        (move_stops card (InSelection problem choice) move (walk_move w move) followed.comes);
+    comes = refused_too card (MayStop (InSelection problem choice) move) (opened w move) (not (is_made problem choice)) (refuses_selection move) (due C w move)
+        (move_stops card (InSelection problem choice) move (walk_move C w move) followed.comes);
   }
   may_stop card (InAnswer question sheet bases) move followed =
-      record { comes = move_stops card (InAnswer question sheet bases) move (walk_move w move) followed.comes }
+      record { comes = move_stops card (InAnswer question sheet bases) move (walk_move C w move) followed.comes }
 
   -- ---- nothing is asked
 
@@ -159,8 +160,8 @@ module _ (Holds : Type 0) (w : Walker) where
   one_says report says = All-cons (Says w.state) report [] says (All-nil (Says w.state))
 
   -- the listing has the answer's report
-  pub reads : ReadingLaw → (card : ℕ) (question : Question) (sheet : Sheet) (s : Basis) (go : AnswerTo question → StatementOutcome) (answer : AnswerTo question) (rest : List ℕ) →
-      IsRight attested question sheet s answer → judged question sheet w.rest ≡ Right answer rest → printed_by (gain_of (go answer)) ≡ reported question answer → length (reported question answer) ≡ 1 →
+  pub reads : ReadingLaw C → (card : ℕ) (question : Question) (sheet : Sheet) (s : Basis) (go : AnswerTo question → StatementOutcome) (answer : AnswerTo question) (rest : List ℕ) →
+      IsRight (attested C) question sheet s answer → judged C question sheet w.rest ≡ Right answer rest → printed_by (gain_of (go answer)) ≡ reported question answer → length (reported question answer) ≡ 1 →
       Pays (noted w question sheet answer) (go answer) → Leads card (Asks question sheet s go) (record (passed rest 1 w) { pending = noted w question sheet answer }) (go answer)
   reads reading card question sheet s go answer rest right is prints one pays = record {
     gives = (answer, right, refl);

@@ -34,6 +34,7 @@ use Rattle.run_definitions.specs.Run.{counted}
 use Rattle.soundness_laws.specs.Truth.{IsOfProblem, named_by}
 use Rattle.soundness_laws.proofs.ChangeRow.{row_named, set_named, last_is}
 use Rattle.soundness_laws.proofs.Moves.{HasProblem}
+use Rattle.walk_definitions.specs.Checkers.{Checker}
 use Rattle.walk_definitions.specs.Forms.{is_ranges, is_punched}
 use Rattle.walk_definitions.specs.Walker.{Walker, Finds, Wrong, open_if, open_stop, open_pending, is_inserted_by, open_question}
 use Rattle.reading_laws.specs.Laws.{ReadingLaw}
@@ -65,71 +66,71 @@ demanding : (demand : Demand) (position : ℕ) (cells : Cells) (setup : Option P
 demanding Xdonfs position cells setup = record { setups = refl; objectives = refl; rhs = refl }
 demanding Xdounb position cells setup = record { setups = refl; objectives = refl; rhs = refl }
 
-module _ (reading : ReadingLaw) (truth : JudgedLaws) (Holds : Type 0) (w : Walker) (owed : Owes Holds w.pending w.state.setup w.state.cells) (lawful : HasProblem w.state.setup) where
+module _ (C : Checker) (reading : ReadingLaw C) (truth : JudgedLaws C) (Holds : Type 0) (w : Walker) (owed : Owes Holds w.pending w.state.setup w.state.cells) (lawful : HasProblem w.state.setup) where
   abbrev SelectsAfter : State → Type 0
   SelectsAfter after = is_none after.mark ≡ false → SelectsSame w.state.setup w.state.cells after.setup after.cells
 
-  quiet : (card : ℕ) (after : State) → SelectsAfter after → IsFollowed Holds w card (Does (Goes Nothing after))
-  quiet card after same = does Holds w owed card (Goes Nothing after) (All-nil (Says w.state), same)
+  quiet : (card : ℕ) (after : State) → SelectsAfter after → IsFollowed C Holds w card (Does (Goes Nothing after))
+  quiet card after same = does C Holds w owed card (Goes Nothing after) (All-nil (Says w.state), same)
 
-  prints : (card : ℕ) (report : Report) (after : State) → Says w.state report → SelectsAfter after → IsFollowed Holds w card (Does (Goes (Prints report) after))
-  prints card report after says same = does Holds w owed card (Goes (Prints report) after) (one_says Holds w report says, same)
+  prints : (card : ℕ) (report : Report) (after : State) → Says w.state report → SelectsAfter after → IsFollowed C Holds w card (Does (Goes (Prints report) after))
+  prints card report after says same = does C Holds w owed card (Goes (Prints report) after) (one_says C Holds w report says, same)
 
   -- ---- problems
 
   files_followed : (card : ℕ) (report : Filed → Report) (decks : List (List Card)) → ((filed : Filed) → Says w.state (report filed)) → (problem : Problem ℕ) →
-      IsFollowed Holds w card (files report decks (counted w.state) problem)
+      IsFollowed C Holds w card (files report decks (counted w.state) problem)
   files_followed card report decks says problem = prints card (report (size_of problem)) _ (says (size_of problem)) (λ stands. absurd (cc stands))
 
-  converts_followed : (card : ℕ) → IsFollowed Holds w card (converts card (counted w.state))
+  converts_followed : (card : ℕ) → IsFollowed C Holds w card (converts card (counted w.state))
   converts_followed card =
-      unless_fault Holds w owed {X = List Card × List (List Card)} card VerbFault.DeckNotFound (deck_taken w.state.cells.xdata w.state.decks) _ (λ taken e.
-      unless_deck_fault Holds w owed card (conversion taken.0 w.state.cells.xpbname) (files Converted taken.1 (counted w.state)) (λ problem is.
+      unless_fault C Holds w owed {X = List Card × List (List Card)} card VerbFault.DeckNotFound (deck_taken w.state.cells.xdata w.state.decks) _ (λ taken e.
+      unless_deck_fault C Holds w owed card (conversion taken.0 w.state.cells.xpbname) (files Converted taken.1 (counted w.state)) (λ problem is.
       files_followed card Converted taken.1 (λ filed. tt) problem))
 
-  revises_followed : (card : ℕ) → IsFollowed Holds w card (revises card (counted w.state))
+  revises_followed : (card : ℕ) → IsFollowed C Holds w card (revises card (counted w.state))
   revises_followed card =
-      unless_fault Holds w owed card VerbFault.NoProblem (problem_of w.state.cells.xoldname w.state.file) _ (λ old o.
-      unless_fault Holds w owed {X = List Card × List (List Card)} card VerbFault.DeckNotFound (deck_taken w.state.cells.xdata w.state.decks) _ (λ taken e.
-      unless_deck_fault Holds w owed card (revision old taken.0 w.state.cells.xpbname) (files Revised taken.1 (counted w.state)) (λ problem is.
+      unless_fault C Holds w owed card VerbFault.NoProblem (problem_of w.state.cells.xoldname w.state.file) _ (λ old o.
+      unless_fault C Holds w owed {X = List Card × List (List Card)} card VerbFault.DeckNotFound (deck_taken w.state.cells.xdata w.state.decks) _ (λ taken e.
+      unless_deck_fault C Holds w owed card (revision old taken.0 w.state.cells.xpbname) (files Revised taken.1 (counted w.state)) (λ problem is.
       files_followed card Revised taken.1 (λ filed. tt) problem)))
 
-  sets_up_followed : (card : ℕ) (options : SetupOptions) → IsFollowed Holds w card (sets_up card options (counted w.state))
+  sets_up_followed : (card : ℕ) (options : SetupOptions) → IsFollowed C Holds w card (sets_up card options (counted w.state))
   sets_up_followed card options =
-      unless_fault Holds w owed card VerbFault.NoProblem (problem_of w.state.cells.xpbname w.state.file) _ (λ problem e.
-      selecting Holds w owed card problem (choice_of w.state.cells options) _ (λ lp is.
+      unless_fault C Holds w owed card VerbFault.NoProblem (problem_of w.state.cells.xpbname w.state.file) _ (λ problem e.
+      selecting C Holds w owed card problem (choice_of w.state.cells options) _ (λ lp is.
       prints card (SetUp problem.name options.sense) _ tt (λ stands. absurd (cc stands))))
 
-  punches_followed : (card : ℕ) → IsFollowed Holds w card (punches card (counted w.state))
+  punches_followed : (card : ℕ) → IsFollowed C Holds w card (punches card (counted w.state))
   punches_followed card =
-      unless_fault Holds w owed card VerbFault.NoProblem (problem_of w.state.cells.xpbname w.state.file) _ (λ problem e.
-      does Holds w owed card _ (one_says Holds w _ tt, λ stands. record { setups = refl; objectives = refl; rhs = refl }))
+      unless_fault C Holds w owed card VerbFault.NoProblem (problem_of w.state.cells.xpbname w.state.file) _ (λ problem e.
+      does C Holds w owed card _ (one_says C Holds w _ tt, λ stands. record { setups = refl; objectives = refl; rhs = refl }))
 
   -- ---- what is asked
 
-  solves_followed : (solver : Solver) → IsPathSolver solver → (limit : Option ℕ) (card : ℕ) → IsFollowed Holds w card (solves solver limit card (counted w.state))
+  solves_followed : (solver : Solver) → IsPathSolver solver → (limit : Option ℕ) (card : ℕ) → IsFollowed C Holds w card (solves solver limit card (counted w.state))
   solves_followed solver is_path limit card =
-      unless_fault Holds w owed card VerbFault.NoSetup w.state.setup _ (λ present e.
-      selecting Holds w owed card present.problem (choice_of w.state.cells present.options) _ (λ lp is.
-      path_followed reading truth Holds w owed lawful solver is_path limit card present lp e is))
+      unless_fault C Holds w owed card VerbFault.NoSetup w.state.setup _ (λ present e.
+      selecting C Holds w owed card present.problem (choice_of w.state.cells present.options) _ (λ lp is.
+      path_followed C reading truth Holds w owed lawful solver is_path limit card present lp e is))
 
-  shows_followed : (card : ℕ) → IsFollowed Holds w card (shows card (counted w.state))
+  shows_followed : (card : ℕ) → IsFollowed C Holds w card (shows card (counted w.state))
   shows_followed card =
-      unless_fault Holds w owed card VerbFault.NoSetup w.state.setup _ (λ present e.
-      unless_fault Holds w owed card VerbFault.NotSolved w.state.mark _ (λ mark m.
-      unless_selection_fault Holds w owed card (selected present.problem (choice_of w.state.cells present.options)) _ (λ lp is.
-      solution_followed reading truth Holds w owed lawful card present lp e is mark)))
+      unless_fault C Holds w owed card VerbFault.NoSetup w.state.setup _ (λ present e.
+      unless_fault C Holds w owed card VerbFault.NotSolved w.state.mark _ (λ mark m.
+      unless_selection_fault C Holds w owed card (selected present.problem (choice_of w.state.cells present.options)) _ (λ lp is.
+      solution_followed C reading truth Holds w owed lawful card present lp e is mark)))
 
   parametric_runs_followed : (card : ℕ) (fault : VerbFault) (change : Problem ℕ → Name → Option Changing) (moved : Option Name) →
       ((problem : Problem ℕ) (changing : Changing) → option_and_then (change problem) moved ≡ Some changing → IsOfProblem changing problem × (named_by w.state.cells changing ≡ Some (changing_name changing))) →
-      IsFollowed Holds w card (parametric_runs card fault change moved (counted w.state))
+      IsFollowed C Holds w card (parametric_runs card fault change moved (counted w.state))
   parametric_runs_followed card fault change moved of_problem =
-      unless_fault Holds w owed card VerbFault.NoSetup w.state.setup _ (λ present e.
-      selecting Holds w owed card present.problem (choice_of w.state.cells present.options) _ (λ lp is.
-      unless_fault Holds w owed {X = Changing} card fault (option_and_then (change present.problem) moved) _ (λ changing c.
-      unless_fault Holds w owed {X = ℚ} card VerbFault.NoParmax w.state.cells.xparmax _ (λ last l.
-      unless_fault Holds w owed {X = ℚ} card VerbFault.ParmaxBelow (not_less w.state.cells.xparam last) _ (λ to t.
-      parametric_run_followed reading truth Holds w owed lawful card present lp (record { changing = changing; from = w.state.cells.xparam; to = to; limit = steps_allowed w.state.cells }) e is (record {
+      unless_fault C Holds w owed card VerbFault.NoSetup w.state.setup _ (λ present e.
+      selecting C Holds w owed card present.problem (choice_of w.state.cells present.options) _ (λ lp is.
+      unless_fault C Holds w owed {X = Changing} card fault (option_and_then (change present.problem) moved) _ (λ changing c.
+      unless_fault C Holds w owed {X = ℚ} card VerbFault.NoParmax w.state.cells.xparmax _ (λ last l.
+      unless_fault C Holds w owed {X = ℚ} card VerbFault.ParmaxBelow (not_less w.state.cells.xparam last) _ (λ to t.
+      parametric_run_followed C reading truth Holds w owed lawful card present lp (record { changing = changing; from = w.state.cells.xparam; to = to; limit = steps_allowed w.state.cells }) e is (record {
         is_part = (of_problem present.problem changing c).0;
         is_named = (of_problem present.problem changing c).1;
         from_first = refl;
@@ -138,48 +139,48 @@ module _ (reading : ReadingLaw) (truth : JudgedLaws) (Holds : Type 0) (w : Walke
 
   -- ---- what can't be read
 
-  ranges_asked : (card : ℕ) (sheet : Sheet) (s : Basis) (go : AnswerTo OfRanges → StatementOutcome) → IsFollowed Holds w card (Asks OfRanges sheet s go)
+  ranges_asked : (card : ℕ) (sheet : Sheet) (s : Basis) (go : AnswerTo OfRanges → StatementOutcome) → IsFollowed C Holds w card (Asks OfRanges sheet s go)
   ranges_asked card sheet s go = record {
-    comes = on_unless (GoesOn Holds w card (Asks OfRanges sheet s go)) (EndsSo Holds w card (Asks OfRanges sheet s go)) (open_question w OfRanges sheet go) (Finds (Wrong w.rest))
+    comes = on_unless (GoesOn C Holds w card (Asks OfRanges sheet s go)) (EndsSo C Holds w card (Asks OfRanges sheet s go)) (open_question w OfRanges sheet go) (Finds (Wrong w.rest))
         (never_either (open_stop w) (open_if (is_ranges w.rest) w) (never_stop w) (never_if (is_ranges w.rest) w)) (λ none. tt);
   }
 
-  punch_asked : (card : ℕ) (sheet : Sheet) (s : Basis) (go : AnswerTo OfPunch → StatementOutcome) → IsFollowed Holds w card (Asks OfPunch sheet s go)
+  punch_asked : (card : ℕ) (sheet : Sheet) (s : Basis) (go : AnswerTo OfPunch → StatementOutcome) → IsFollowed C Holds w card (Asks OfPunch sheet s go)
   punch_asked card sheet s go = record {
-    comes = on_unless (GoesOn Holds w card (Asks OfPunch sheet s go)) (EndsSo Holds w card (Asks OfPunch sheet s go)) (open_question w OfPunch sheet go) (Finds (Wrong w.rest))
+    comes = on_unless (GoesOn C Holds w card (Asks OfPunch sheet s go)) (EndsSo C Holds w card (Asks OfPunch sheet s go)) (open_question w OfPunch sheet go) (Finds (Wrong w.rest))
         (never_either (open_stop w) (open_if (is_punched sheet.problem.name w.rest) w) (never_stop w) (never_if (is_punched sheet.problem.name w.rest) w)) (λ none. tt);
   }
 
-  install_asked : (card : ℕ) (t : Basis) (sheet : Sheet) (s : Basis) (go : AnswerTo (OfInstall t) → StatementOutcome) → IsFollowed Holds w card (Asks (OfInstall t) sheet s go)
+  install_asked : (card : ℕ) (t : Basis) (sheet : Sheet) (s : Basis) (go : AnswerTo (OfInstall t) → StatementOutcome) → IsFollowed C Holds w card (Asks (OfInstall t) sheet s go)
   install_asked card t sheet s go = record {
-    comes = on_unless (GoesOn Holds w card (Asks (OfInstall t) sheet s go)) (EndsSo Holds w card (Asks (OfInstall t) sheet s go)) (open_question w (OfInstall t) sheet go) (Finds (Wrong w.rest))
+    comes = on_unless (GoesOn C Holds w card (Asks (OfInstall t) sheet s go)) (EndsSo C Holds w card (Asks (OfInstall t) sheet s go)) (open_question w (OfInstall t) sheet go) (Finds (Wrong w.rest))
         (never_either (open_stop w) (option_or (open_if (is_inserted_by (go Installed) w.rest) w) (open_pending w)) (never_stop w)
         (never_either (open_if (is_inserted_by (go Installed) w.rest) w) (open_pending w) (never_if (is_inserted_by (go Installed) w.rest) w) (never_pending w.pending))) (λ none. tt);
   }
 
-  ranges_followed : (card : ℕ) → IsFollowed Holds w card (ranges card (counted w.state))
+  ranges_followed : (card : ℕ) → IsFollowed C Holds w card (ranges card (counted w.state))
   ranges_followed card =
-      unless_fault Holds w owed card VerbFault.NoSetup w.state.setup _ (λ present e.
-      unless_fault Holds w owed card VerbFault.NotSolved w.state.mark _ (λ mark m.
-      unless_fault Holds w owed {X = Mark} card VerbFault.NotOptimal (if_optimal mark) _ (λ optimal o.
-      unless_selection_fault Holds w owed card (selected present.problem (choice_of w.state.cells present.options)) _ (λ lp is.
-      may_stop Holds w card _ _ (ranges_asked card _ _ _)))))
+      unless_fault C Holds w owed card VerbFault.NoSetup w.state.setup _ (λ present e.
+      unless_fault C Holds w owed card VerbFault.NotSolved w.state.mark _ (λ mark m.
+      unless_fault C Holds w owed {X = Mark} card VerbFault.NotOptimal (if_optimal mark) _ (λ optimal o.
+      unless_selection_fault C Holds w owed card (selected present.problem (choice_of w.state.cells present.options)) _ (λ lp is.
+      may_stop C Holds w card _ _ (ranges_asked card _ _ _)))))
 
-  punches_basis_followed : (card : ℕ) → IsFollowed Holds w card (punches_basis card (counted w.state))
+  punches_basis_followed : (card : ℕ) → IsFollowed C Holds w card (punches_basis card (counted w.state))
   punches_basis_followed card =
-      unless_fault Holds w owed card VerbFault.NoSetup w.state.setup _ (λ present e.
-      selecting Holds w owed card present.problem (choice_of w.state.cells present.options) _ (λ lp is.
+      unless_fault C Holds w owed card VerbFault.NoSetup w.state.setup _ (λ present e.
+      selecting C Holds w owed card present.problem (choice_of w.state.cells present.options) _ (λ lp is.
       punch_asked card _ _ _))
 
-  inserts_followed : (card : ℕ) → IsFollowed Holds w card (inserts card (counted w.state))
+  inserts_followed : (card : ℕ) → IsFollowed C Holds w card (inserts card (counted w.state))
   inserts_followed card =
-      unless_fault Holds w owed card VerbFault.NoSetup w.state.setup _ (λ present e.
-      selecting Holds w owed card present.problem (choice_of w.state.cells present.options) _ (λ lp is.
-      unless_fault Holds w owed {X = List Card × List (List Card)} card VerbFault.DeckNotFound (deck_taken w.state.cells.xdata w.state.decks) _ (λ taken t.
-      unless_deck_fault Holds w owed card (basis_reading present.problem lp taken.0) _ (λ s read.
-      may_stop Holds w card _ _ (install_asked card s _ _ _)))))
+      unless_fault C Holds w owed card VerbFault.NoSetup w.state.setup _ (λ present e.
+      selecting C Holds w owed card present.problem (choice_of w.state.cells present.options) _ (λ lp is.
+      unless_fault C Holds w owed {X = List Card × List (List Card)} card VerbFault.DeckNotFound (deck_taken w.state.cells.xdata w.state.decks) _ (λ taken t.
+      unless_deck_fault C Holds w owed card (basis_reading present.problem lp taken.0) _ (λ s read.
+      may_stop C Holds w card _ _ (install_asked card s _ _ _)))))
 
-  pub verb_followed : (verb : Verb ℕ) (card : ℕ) → IsFollowed Holds w card (verb_move verb card (counted w.state))
+  pub verb_followed : (verb : Verb ℕ) (card : ℕ) → IsFollowed C Holds w card (verb_move verb card (counted w.state))
   unfolding verb_move
   verb_followed Initialz card = quiet card _ (λ stands. absurd (cc stands))
   verb_followed (Title text) card = prints card (Titled text) _ tt (λ stands. record { setups = refl; objectives = refl; rhs = refl })
@@ -200,4 +201,4 @@ module _ (reading : ReadingLaw) (truth : JudgedLaws) (Holds : Type 0) (w : Walke
   verb_followed Bcdout card = punches_followed card
   verb_followed Punch card = punches_basis_followed card
   verb_followed Insert card = inserts_followed card
-  verb_followed Exit card = does Holds w owed card (stops (Ended 0)) (All-nil (Says w.state))
+  verb_followed Exit card = does C Holds w owed card (stops (Ended 0)) (All-nil (Says w.state))

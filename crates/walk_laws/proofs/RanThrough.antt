@@ -15,6 +15,7 @@ use Rattle.soundness_laws.specs.Truth.{PresentProgram, ReportsOfRun}
 use Rattle.soundness_laws.proofs.ChangeRow.{changes_freely}
 use Rattle.soundness_laws.proofs.Moves.{HasProblem}
 use Rattle.soundness_laws.proofs.Verbs.{IsAskedFor}
+use Rattle.walk_definitions.specs.Checkers.{Checker}
 use Rattle.walk_definitions.specs.Reading.{Judged, Right, Fails, Refuses, judged, parametric_run_head, parametric_run_in}
 use Rattle.walk_definitions.specs.Reading as readings
 use Rattle.walk_definitions.specs.Words.{left_after}
@@ -39,11 +40,11 @@ opening_says state (Row name) verdict check reported = reported
 opening_says state (Set name) verdict check reported = reported
 
 -- no listing shows that a run was stopped at its limit
-never_limited : (sheet : Sheet) (parametric_run : ParametricRun) (rest after : List ℕ) (left : Option (List ℕ)) → parametric_run_in sheet parametric_run rest left ≡ Right ParametricRunLimit after → ⊥
-never_limited sheet parametric_run rest after None e = never_made (λ (claim : readings.Claim). Opening [] claim.0 claim.1) ParametricRunLimit (λ claim same. cc same) _ after e
-never_limited sheet parametric_run rest after (Some left) e = never_made (λ (run : readings.Run). Chained [] run.0 run.1) ParametricRunLimit (λ run same. cc same) _ after e
+never_limited : (C : Checker) (sheet : Sheet) (parametric_run : ParametricRun) (rest after : List ℕ) (left : Option (List ℕ)) → parametric_run_in C sheet parametric_run rest left ≡ Right ParametricRunLimit after → ⊥
+never_limited C sheet parametric_run rest after None e = never_made (λ (claim : readings.Claim). Opening [] claim.0 claim.1) ParametricRunLimit (λ claim same. cc same) _ after e
+never_limited C sheet parametric_run rest after (Some left) e = never_made (λ (run : readings.Run). Chained [] run.0 run.1) ParametricRunLimit (λ run same. cc same) _ after e
 
-module _ (reading : ReadingLaw) (truth : JudgedLaws) (Holds : Type 0) (w : Walker) (owed : Owes Holds w.pending w.state.setup w.state.cells) (lawful : HasProblem w.state.setup) where
+module _ (C : Checker) (reading : ReadingLaw C) (truth : JudgedLaws C) (Holds : Type 0) (w : Walker) (owed : Owes Holds w.pending w.state.setup w.state.cells) (lawful : HasProblem w.state.setup) where
   module _ (card : ℕ) (present : Present) (lp : LinearProgram) (parametric_run : ParametricRun) (set : w.state.setup ≡ Some present)
       (is : selected present.problem (choice_of w.state.cells present.options) ≡ Ok lp) (asked : IsAskedFor w.state present parametric_run) where
     abbrev sheet : Sheet
@@ -73,37 +74,37 @@ module _ (reading : ReadingLaw) (truth : JudgedLaws) (Holds : Type 0) (w : Walke
       tells = tells;
     }
 
-    parametric_run_comes : (answer : ParametricRunEnd) (rest : List ℕ) → judged (OfParametricRun parametric_run) sheet w.rest ≡ Right answer rest → Holds →
-        ComesTo Holds w card move (follows (record (passed rest 1 w) { pending = None }) (go answer))
+    parametric_run_comes : (answer : ParametricRunEnd) (rest : List ℕ) → judged C (OfParametricRun parametric_run) sheet w.rest ≡ Right answer rest → Holds →
+        ComesTo C Holds w card move (follows (record (passed rest 1 w) { pending = None }) (go answer))
     parametric_run_comes (Opening bases verdict check) rest e holds =
         let after : State = record (counted w.state) { setup = Some (gone_through bases present); mark = None } in
         let says : Says w.state (Solved (parametric_solver parametric_run.changing) verdict check) =
         opening_says w.state parametric_run.changing verdict check (reported (λ sheet parametric_run. IsTrueAtFirst (sheet_at sheet parametric_run.changing parametric_run.from) verdict)
         (truth.opening parametric_run sheet w.rest rest bases verdict check program.is_linear_program free e)) in
-        follows_on Holds w card move (record (passed rest 1 w) { pending = None }) (go (Opening bases verdict check))
-        (reads Holds w reading card (OfParametricRun parametric_run) sheet (present_basis present) go (Opening bases verdict check) rest (w.rest, rest, e) e
+        follows_on C Holds w card move (record (passed rest 1 w) { pending = None }) (go (Opening bases verdict check))
+        (reads C Holds w reading card (OfParametricRun parametric_run) sheet (present_basis present) go (Opening bases verdict check) rest (w.rest, rest, e) e
         (printed_verdict (mark_of verdict) (Solved (parametric_solver parametric_run.changing) verdict check) after) refl
-        (pays_verdict Holds w None (Solved (parametric_solver parametric_run.changing) verdict check) after (holds, one_says Holds w (Solved (parametric_solver parametric_run.changing) verdict check) says) (mark_of verdict)))
+        (pays_verdict C Holds w None (Solved (parametric_solver parametric_run.changing) verdict check) after (holds, one_says C Holds w (Solved (parametric_solver parametric_run.changing) verdict check) says) (mark_of verdict)))
     parametric_run_comes (Chained bases intervals end) rest e holds =
-        follows_on Holds w card move (record (passed rest 1 w) { pending = None }) (go (Chained bases intervals end))
-        (reads Holds w reading card (OfParametricRun parametric_run) sheet (present_basis present) go (Chained bases intervals end) rest (w.rest, rest, e) e refl refl (
+        follows_on C Holds w card move (record (passed rest 1 w) { pending = None }) (go (Chained bases intervals end))
+        (reads C Holds w reading card (OfParametricRun parametric_run) sheet (present_basis present) go (Chained bases intervals end) rest (w.rest, rest, e) e refl refl (
           holds,
-          one_says Holds w (Parametric (parametric_solver parametric_run.changing) (record { from = parametric_run.from; change = changing_name parametric_run.changing; intervals = intervals; end = end }))
+          one_says C Holds w (Parametric (parametric_solver parametric_run.changing) (record { from = parametric_run.from; change = changing_name parametric_run.changing; intervals = intervals; end = end }))
               (reported (ShowsProvedChain (record { from = parametric_run.from; change = changing_name parametric_run.changing; intervals = intervals; end = end }))
               (record { is_from = refl; is_change = refl; is_true = truth.chain parametric_run sheet w.rest rest bases intervals end program.is_linear_program free e })),
         ))
-    parametric_run_comes ParametricRunLimit rest e holds = absurd (never_limited sheet parametric_run w.rest rest (left_after (parametric_run_head parametric_run) w.rest) e)
+    parametric_run_comes ParametricRunLimit rest e holds = absurd (never_limited C sheet parametric_run w.rest rest (left_after (parametric_run_head parametric_run) w.rest) e)
 
-    pub parametric_run_followed : IsFollowed Holds w card (asks (OfParametricRun parametric_run) sheet present go)
-    parametric_run_followed = may_stop Holds w card (InAnswer (OfParametricRun parametric_run) sheet (path_of present)) move (record {
-      comes = on_unless (GoesOn Holds w card move) (EndsSo Holds w card move) (open_question w (OfParametricRun parametric_run) sheet go)
-          (answered w (OfParametricRun parametric_run) sheet go (judged (OfParametricRun parametric_run) sheet w.rest))
+    pub parametric_run_followed : IsFollowed C Holds w card (asks (OfParametricRun parametric_run) sheet present go)
+    parametric_run_followed = may_stop C Holds w card (InAnswer (OfParametricRun parametric_run) sheet (path_of present)) move (record {
+      comes = on_unless (GoesOn C Holds w card move) (EndsSo C Holds w card move) (open_question w (OfParametricRun parametric_run) sheet go)
+          (answered C w (OfParametricRun parametric_run) sheet go (judged C (OfParametricRun parametric_run) sheet w.rest))
           (never_either (open_stop w) (open_pending w) (never_stop w) (never_pending w.pending))
-          (λ none. by (judged (OfParametricRun parametric_run) sheet w.rest) refl
+          (λ none. by (judged C (OfParametricRun parametric_run) sheet w.rest) refl
           (holds_settled Holds w.pending w.state.setup w.state.cells owed (nothing_pending w.pending (none_either (open_stop w) (open_pending w) none).1)));
     })
       where
-        by : (j : Judged ParametricRunEnd) → judged (OfParametricRun parametric_run) sheet w.rest ≡ j → Holds → ComesTo Holds w card move (answered w (OfParametricRun parametric_run) sheet go j)
+        by : (j : Judged ParametricRunEnd) → judged C (OfParametricRun parametric_run) sheet w.rest ≡ j → Holds → ComesTo C Holds w card move (answered C w (OfParametricRun parametric_run) sheet go j)
         by (Right answer rest) e holds = parametric_run_comes answer rest e holds
         by Fails e holds = tt
         by Refuses e holds = tt

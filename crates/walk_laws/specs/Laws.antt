@@ -2,12 +2,13 @@
 --     AttestedLaw                  an attested listing is true, and has so many reports
 --     OneComesLaw                  of each job and each listing one thing comes
 use Rattle.std.specs.Prelude.{◌≡◌, ℕ, List, length}
+use Rattle.walk_definitions.specs.Checkers.{Checker}
 use Rattle.walk_definitions.specs.Walker.{Found, Attested}
 use Rattle.walk_definitions.specs.Found.{Comes}
 use Rattle.walk_laws.specs.Proved.{IsTrueListing}
 
-abbrev pub AttestedLaw : Type 0
-AttestedLaw = (bytes lines : List ℕ) (count : ℕ) → Comes bytes lines (Attested count) → (proved : IsTrueListing bytes lines) × (length proved.reports ≡ count)
+abbrev pub AttestedLaw : Checker → Type 0
+AttestedLaw C = (bytes lines : List ℕ) (count : ℕ) → Comes C bytes lines (Attested count) → (proved : IsTrueListing C bytes lines) × (length proved.reports ≡ count)
 
-abbrev pub OneComesLaw : Type 0
-OneComesLaw = (bytes lines : List ℕ) → (found : Found) × Comes bytes lines found × ((other : Found) → Comes bytes lines other → other ≡ found)
+abbrev pub OneComesLaw : Checker → Type 0
+OneComesLaw C = (bytes lines : List ℕ) → (found : Found) × Comes C bytes lines found × ((other : Found) → Comes C bytes lines other → other ≡ found)

@@ -1,8 +1,8 @@
 -- What an attested listing proves.
---     IsTaken question sheet answer    an answer was read of some text and judged right there
---     attested                     what is right by the tests
+--     IsTaken C question sheet answer  an answer was read of some text and judged right there
+--     attested C                   what is right by the tests of a checker
 --     Says state report            what an attested report says of the state in which it is made
---     IsTrueListing bytes lines    THE THEOREM
+--     IsTrueListing C bytes lines  THE THEOREM
 use Rattle.std.specs.Prelude.{◌≡◌, ℕ, List, map, Option}
 use Rattle.lp_definitions.specs.Solutions.{IsBest, IsDualCertificate}
 use Rattle.control_definitions.specs.Cells.{Cells}
@@ -19,19 +19,20 @@ use Rattle.run_definitions.specs.Answer.{IsJobRun}
 use Rattle.parametric_laws.specs.Truth.{IsTrueRun}
 use Rattle.soundness_laws.specs.Truth.{PresentProgram, sheet_of, IsTrueOf, IsNotUnbounded, ReportsOfRun}
 use Rattle.soundness_laws.specs.Headline.{HoldInJob}
+use Rattle.walk_definitions.specs.Checkers.{Checker}
 use Rattle.walk_definitions.specs.Tests.{point_of, prices_of}
 use Rattle.walk_definitions.specs.Reading.{Right, judged}
 use Rattle.judged_laws.specs.Views.{part_of, past_of, IsTrueAtFirst}
 
-abbrev pub IsTaken : (question : Question) → Sheet → AnswerTo question → Type 0
-IsTaken question sheet answer = (rest : List ℕ) × (after : List ℕ) × (judged question sheet rest ≡ Right answer after)
+abbrev pub IsTaken : Checker → (question : Question) → Sheet → AnswerTo question → Type 0
+IsTaken C question sheet answer = (rest : List ℕ) × (after : List ℕ) × (judged C question sheet rest ≡ Right answer after)
 
--- no basis is looked at, and no operation is refused
-abbrev pub attested : Solving
-attested = record {
-  Solves = λ solver sheet s limit end. IsTaken (OfPath solver limit) sheet end;
-  ParametricRuns = λ sheet s parametric_run end. IsTaken (OfParametricRun parametric_run) sheet end;
-  Shows = λ mark sheet s lines. IsTaken (OfSolution mark) sheet lines;
+-- no basis is looked at, and no stop at an operation that is refused is one of the answers
+abbrev pub attested : Checker → Solving
+attested C = record {
+  Solves = λ solver sheet s limit end. IsTaken C (OfPath solver limit) sheet end;
+  ParametricRuns = λ sheet s parametric_run end. IsTaken C (OfParametricRun parametric_run) sheet end;
+  Shows = λ mark sheet s lines. IsTaken C (OfSolution mark) sheet lines;
   Ranges = λ sheet s lines. ⊥;
   Punches = λ sheet s cards. ⊥;
   Installs = λ sheet s end. ⊥;
@@ -66,10 +67,10 @@ SaysAtEnd state ending = Unit {0}
 
 -- THE THEOREM. The listing is that of a run of the job's program in which the answers are those that passed; and each report says the
 -- truth of the state in which it was made.
-pub record IsTrueListing (bytes lines : List ℕ) : Type 0 where
+pub record IsTrueListing (C : Checker) (bytes lines : List ℕ) : Type 0 where
   pub reports : List Report
   pub cards : List (List ℕ)
   pub ending : Ending
-  pub runs : IsJobRun attested bytes reports cards ending
+  pub runs : IsJobRun (attested C) bytes reports cards ending
   pub is_listing : lines ≡ listing reports ending
-  pub each : HoldInJob attested Says SaysAtEnd runs
+  pub each : HoldInJob (attested C) Says SaysAtEnd runs

@@ -2,6 +2,7 @@
 //! check proves it.
 #![tactic(auto)]
 
+ghost use Rattle.walk_definitions.specs.Checkers.{Checker};
 ghost use Rattle.walk_laws.specs.Laws.{AttestedLaw, OneComesLaw};
 
 use judged_laws::judged_laws;
@@ -9,7 +10,7 @@ use reading_laws::reading_law;
 
 /// An attested listing is that of a run of the job, and what it says of linear programs is true.
 pub fn attested_law()
-    ensures { AttestedLaw }
+    ensures { (C : Checker) → AttestedLaw C }
 {
     reading_law();
     judged_laws();
@@ -17,5 +18,5 @@ pub fn attested_law()
 
 /// Of each job and each listing one thing comes.
 pub fn one_comes_law()
-    ensures { OneComesLaw }
+    ensures { (C : Checker) → OneComesLaw C }
 {}

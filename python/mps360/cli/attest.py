@@ -17,31 +17,23 @@ import json, os, pathlib, re, subprocess, sys, tempfile
 from fractions import Fraction
 from mps360.cli import mps2job
 from mps360.cli import solution2listing
-from mps360 import programs
+from mps360.cli.words import taken
+from mps360 import notes, programs, solution_checks
+from mps360.commands import here
 from mps360.output import command, make_folder, write_file
 from mps360.cli.solution2listing import Ended
-from mps360.text import as_text
+from mps360.text import as_lines, as_text
 
 NAME = "attest"
 ANSWER = re.compile(r"(?:ATTESTED \d+ REPORTS|(?:WRONG|OPEN|UNCHECKED) LINE (\d+)|LONG LISTING|STOP .*)\n")
 REFUSED = {40: "its numbers don't prove it", 41: "it can't be attested", 42: "an operation of its test doesn't fit 127 bits", 43: "its listing has more than 64,000,000 bytes"}
 BEFORE = {"proved": "attested: ", "unproved": "not proved, since the checker ran unproved; it attests: ", "other": "not proved, since another program ran; it attests: "}
 VERDICT = re.compile(r"^PRIMAL (OPTIMAL|INFEASIBLE|UNBOUNDED) STEPS \d+ (?:OBJECTIVE (\S+))?", re.M)
-MEANS = {"INFEASIBLE": "INFEASIBLE, no plan keeps all limits", "UNBOUNDED": "UNBOUNDED, the objective has no bound"}
+MEANS = {"INFEASIBLE": ", no plan keeps all limits", "UNBOUNDED": ", the objective has no bound"}
 
 
 def told(message):
-    mps2job.say(f"{NAME}: {as_text(str(message))}")
-
-
-def taken(words, name):
-    "the words without an option, and its value"
-    if name not in words:
-        return words, None
-    at = words.index(name)
-    if at + 1 == len(words):
-        raise Ended(64, f"{name} wants a value")
-    return words[:at] + words[at + 2:], words[at + 1]
+    mps2job.say(f"{NAME}: {as_lines(str(message))}")
 
 
 def checker_of(file):
@@ -72,16 +64,18 @@ def answer_of(command, job, listing):
     return ended.returncode, int(answer[1]) if answer and answer[1] else None
 
 
-def outcome(status, number, listing, constant):
+def outcome(status, number, listing, model, answer):
     "what the answer is, or why it isn't attested"
     if status:
         lines = listing.split("\n")
         place = f": line {number} of the listing, {lines[number - 1][:60]}" if number and number <= len(lines) else ""
-        return "not attested: " + REFUSED.get(status, f"the checker ended with {status}") + place
+        fault = solution_checks.first_fault(model, answer) if status == 40 else None
+        return "not attested: " + REFUSED.get(status, f"the checker ended with {status}") + (f": {fault} ({place[2:]})" if fault else place)
     verdict, objective = VERDICT.search(listing).groups()
+    changed = notes.after_verdict(model)
     if verdict != "OPTIMAL":
-        return MEANS[verdict]
-    return f"OPTIMAL, objective {objective}" + (f", {Fraction(objective) + constant} with the file's constant" if constant else "")
+        return verdict + changed + MEANS[verdict]
+    return f"OPTIMAL{changed}, objective {objective}" + (f", {Fraction(objective) + model.constant} with the file's constant" if model.constant else "")
 
 
 def kept(folder, job, listing, others):
@@ -94,28 +88,31 @@ def kept(folder, job, listing, others):
 
 
 def run(words):
-    words, keep = taken(words, "--keep")
-    words, program = taken(words, "--program")
+    try:
+        words, keep = taken(words, "--keep")
+        words, program = taken(words, "--program")
+    except ValueError as cause:
+        raise Ended(64, str(cause)) from None
     if len(words) < 2 or words[-1].startswith("-"):
         raise Ended(64, "MODEL.mps and SOLUTION are two files; --help says what there is")
     options = mps2job.parsed_options(words[:-1], solution2listing.wrong_use)
     if options.job or options.names:
         raise Ended(64, "--keep FOLDER keeps the job and the table of names")
     command, which = checker_of(program)
-    job, listing = solution2listing.made(options, words[-1])
-    for sentence in job.said:
+    job, answer, listing = solution2listing.answered(options, words[-1])
+    for sentence in job.said if keep else job.said_without(job.of_table, job.of_listing):
         told(sentence)
     if keep:
         kept(keep, job, listing, (options.file, words[-1]))
     status, number = answer_of(command, job.text.encode(), listing.encode())
-    print(("" if status else BEFORE[which]) + as_text(outcome(status, number, listing, job.model.constant)))
+    print(("" if status else BEFORE[which]) + as_text(outcome(status, number, listing, job.file, answer)))
     return status
 
 
 @command(NAME)
 def main(words):
     if any(word in ("-h", "--help") for word in words):
-        print(__doc__)
+        print(here(__doc__))
         return 0
     try:
         return run(words)

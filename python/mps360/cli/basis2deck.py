@@ -9,8 +9,7 @@ usage: basis2deck.py [OPTIONS] [-o DECK] [--names MAP] [--from WRITER] MODEL.mps
   --from WRITER    clp, esolver, lp_solve or glpsol, or activity: another program, which calls a row's limit upper where the row's activity
                    is at its upper limit. Needed where the file doesn't tell, and has a row of two limits
 
-Each other option is one of mps2job.py, and says how MODEL.mps is read, its value behind a = (--negative-up=free): say here what was said
-there. The deck goes behind the data deck of the job, and INSERT between SETUP and PRIMAL (scripts/prove does all of it).
+Each other option is one of mps2job.py, and says how MODEL.mps is read: say here what was said there. The deck goes behind the data deck of the job, and INSERT between SETUP and PRIMAL (scripts/prove does all of it).
 
 A column that no line names stands where SETUP puts it: at its lower limit, or else at its upper one, or else it is free. Names that were
 shortened for the job are shortened here. What is placed otherwise than the file says, since a limit isn't there, is said on standard error:
@@ -19,11 +18,13 @@ can't be read, 73 where DECK can't be written."""
 import argparse, os, sys
 from mps360 import bases as basis_file
 from mps360.cli import mps2job
+from mps360.cli.words import joined
 from mps360.listings import read as listing2json
 from mps360 import errors
 from mps360 import mps
+from mps360.commands import here
 from mps360.output import command, write_file
-from mps360.jobs.write import job_of
+from mps360.long_numbers import exact_job
 
 
 NAME = "basis2deck.py"
@@ -42,7 +43,7 @@ def read_job(path, words):
     try:
         options = mps2job.parsed_options([*words, "--", path])
         model = mps.read_file(path, mps2job.reading_of(options))
-        return job_of(model, options.ranging, model.name or path)
+        return exact_job(model, options.ranging, model.name or path)
     except OSError as cause:
         raise Ended(66, f"can't read {path}: {cause.strerror}")
     except errors.Refused as cause:
@@ -79,7 +80,7 @@ def same_file(path, other):
 @command(NAME)
 def main(words):
     if any(word in ("-h", "--help") for word in words):
-        print(__doc__)
+        print(here(__doc__))
         return 0
     parser = argparse.ArgumentParser(add_help=False, allow_abbrev=False)
     parser.error = lambda message: (say(message), sys.exit(64))
@@ -88,7 +89,7 @@ def main(words):
     parser.add_argument("--from", dest="writer", choices=basis_file.WRITERS)
     parser.add_argument("model")
     parser.add_argument("basis")
-    options, passed = parser.parse_known_args(words)
+    options, passed = parser.parse_known_args(joined(words))
     if unknown := [word for word in passed if not word.startswith("--")]:
         parser.error(f"one model and one basis; what is {unknown[0]}?")
     if options.deck and any(same_file(options.deck, path) for path in (options.model, options.basis, options.names)):
@@ -97,7 +98,7 @@ def main(words):
         job = read_job(options.model, passed)
         if options.names:
             check_names(options.names, job)
-        basis = read_basis(options.basis, job.model, options.writer)
+        basis = read_basis(options.basis, job.file, options.writer)
         for sentence in basis.said:
             say(sentence)
         deck = basis_file.deck_of(basis, job)

@@ -4,35 +4,53 @@ usage: mps360-batch [options] FOLDER [OUT]        the jobs (*.job) and MPS files
        mps360-batch [options] --out OUT FILE..    these files
 
   -j N               N at once; without it one after the other
-  --time-limit S     stops a job after S seconds; without it a job runs until it ends
-  --resume           passes over each file that OUT/summary.csv has an answer to, unless the file, or the words of --mps2job, are others
-                     now; what has no answer (stopped by the time limit, killed) is run again, as is what ran unproved once the proved
-                     program is built
+  --time-limit S, --seconds S   stops a file after S seconds; without it each runs until it ends
+  --with SOLVER,..   who may be asked for a basis where PRIMAL alone comes to nothing, as solve --help says; none for nobody. Without it
+                     those that are installed
+  --resume           passes over each file that OUT/summary.csv has an answer to, unless the file, or the words of --mps2job and --with, are
+                     others now; what has no answer (stopped by the time limit, killed) is run again, as is what ran unproved once the
+                     proved program is built
   --mps2job WORDS    words for mps2job.py, in one: --mps2job='--negative-up free'
+  --old-codes        ends with 1 in place of 3 where a file came to no answer, as it did before
 
-In OUT there come NAME.listing, NAME.punch where a deck is punched, of an MPS file NAME.job and NAME.names as well, as mps2job.py makes
-them, and what it changes is said on standard error; and summary.csv, which has a line for each file as soon as it is done, and in the end summary.json: name, file, state, status,
-objective (of an MPS file with its constant), seconds, proved, how it ended. The state is ended (END 0, 1, 2), stopped (a STOP line),
-refused (mps2job.py can't keep the file), time limit or no answer (what was printed until then stands in NAME.listing.part).
+An MPS file is solved as solve does it, by its routes; a job has its own statements. In OUT there come NAME.listing, NAME.punch where a deck
+is punched, of an MPS file NAME.job and NAME.names as well, and what was changed is said on standard error; and summary.csv, which has a line
+for each file as soon as it is done, and in the end summary.json: name, file, state, status, objective (of an MPS file with its constant),
+seconds, proved, how it ended, a checksum, and of an MPS file the route, who proved it (program, checker or none) and the notes. The state is
+ended (END 0, 1, 2), stopped (a STOP line), refused (the file can't be kept), time limit or no answer (what was printed until then stands in
+NAME.listing.part).
+
+A disk that is full, and a device that gives no more, end the batch: what met it has no answer and no line, and --resume runs it. Without
+--resume an earlier summary of OUT is kept, as summary-1.csv and so on.
 
 The proved program is used where it is built; else all run UNPROVED, compiled once, in a minute or two (MPS360_PROVED=1 refuses that).
 
-Ends with 0 where each ended with an END line; 1 where one didn't; 64 for wrong use; 66 where there is no such folder or file, or
-nothing to run in it; 70 where no program can be had; 73 where OUT can't be written; 130 and 143 where it was interrupted."""
-import argparse, collections, csv, hashlib, json, os, pathlib, re, shlex, shutil, signal, subprocess, sys, tempfile, threading, time
+Ends with 0 where each ended with an END line; 3 where one didn't; 64 for wrong use; 66 where there is no such folder or file, or
+nothing to run in it; 70 where no program or no solver can be had; 73 where OUT or standard output can't be written; 130 where it was interrupted."""
+import argparse, collections, csv, hashlib, itertools, json, os, pathlib, re, shlex, shutil, signal, subprocess, sys, tempfile, threading, time
 from concurrent.futures import FIRST_COMPLETED, ThreadPoolExecutor, wait
-from fractions import Fraction
 from mps360.listings import read as listing2json
-from mps360 import programs
+from mps360 import programs, solvers
+from mps360.cli import mps2job
+from mps360.cli.options import solvers_of
 from mps360 import text as strangers_text
+from mps360.commands import here
 from mps360.output import CantWrite, command
 from mps360 import unproved
 
 ENDINGS = (".job", ".mps", ".mps.gz")
-COLUMNS = ("name", "file", "state", "status", "objective", "seconds", "proved", "end", "sum")
+OLD_COLUMNS = ("name", "file", "state", "status", "objective", "seconds", "proved", "end", "sum")
+COLUMNS = (*OLD_COLUMNS, "route", "proved_by", "notes")
+TEXT_COLUMNS = ("name", "file", "end", "route", "notes")
+NO_ROUTE = {"route": "", "proved_by": "", "notes": ""}
+# seconds that a child has to end by itself: after its own limit, and after a signal
+LATE, GRACE = 10.0, 5.0
+NO_END, REFUSED, CANT_READ, CANT_WRITE, INTERRUPTED, OPEN, OLD_OPEN = 124, 65, 66, 73, 130, 3, 1
 LINE_EACH, PATIENCE, MOST_SAID = 10, 0.2, 5
 DONE = ("ended", "stopped", "refused")
-USAGE = "usage: mps360-batch [-j N] [--time-limit S] [--resume] [--mps2job WORDS] FOLDER [OUT] | --out OUT FILE.."
+# statuses of a run whose job couldn't be read, or whose listing or punched deck couldn't be written: no answer, but the want of a device
+DEVICE_FAULTS = {24: "the job couldn't be read", 25: "the listing couldn't be written", 26: "the deck couldn't be punched"}
+USAGE = "usage: mps360-batch [-j N] [--seconds S] [--with SOLVERS] [--resume] [--mps2job WORDS] FOLDER [OUT] | --out OUT FILE.."
 
 
 class Wrong(Exception):
@@ -59,12 +77,18 @@ class Signals:
             raise Interrupted(number)
 
 
+class DeviceFault(Exception):
+    "a run met a device that takes or gives no more, so that it has no answer, and others wouldn't have one either"
+
+
 class TimeOver(Exception):
     "a job has met the time limit"
 
 
 def say(text):
-    print(f"mps360-batch: {text}", file=sys.stderr, flush=True)
+    # (in one piece, for several files may speak at once)
+    sys.stderr.write(f"mps360-batch: {text}\n")
+    sys.stderr.flush()
 
 
 # ---- what is to be run
@@ -122,12 +146,26 @@ class Summary:
         "the records of an earlier batch; a line that isn't whole counts for nothing"
         try:
             with open(self.path, encoding="utf-8", newline="") as file:
-                return {line["name"]: line for line in csv.DictReader(file) if all(line.get(key) is not None for key in COLUMNS)}
+                return {line["name"]: NO_ROUTE | line for line in csv.DictReader(file) if all(line.get(key) is not None for key in OLD_COLUMNS)}
         except FileNotFoundError:
             return {}
 
     def line(self, record):
-        return {key: for_a_sheet(record[key]) if key in ("name", "file", "end") else record[key] for key in COLUMNS}
+        return {key: for_a_sheet(record[key]) if key in TEXT_COLUMNS else record[key] for key in COLUMNS}
+
+    def keep_earlier(self):
+        "the summary of an earlier batch gets the next free number; the place where it is, None where there is none"
+        if not self.before():
+            return None
+        number = next(number for number in itertools.count(1) if not any(self.numbered(path, number).exists() for path in (self.path, self.json)))
+        for path in (self.path, self.json):
+            if path.exists():
+                os.replace(path, self.numbered(path, number))
+        return self.numbered(self.path, number)
+
+    @staticmethod
+    def numbered(path, number):
+        return path.with_name(f"{path.stem}-{number}{path.suffix}")
 
     def begin(self, kept):
         self.records = dict(kept)
@@ -166,8 +204,8 @@ class Summary:
 
 def as_record(line, name, path):
     "a record again of a line of summary.csv, for the file that it is of"
-    end = line["end"][1:] if line["end"][:1] == "'" else line["end"]
-    return {**line, "name": name, "file": str(path), "end": end, "status": int(line["status"]) if line["status"] else None, "seconds": float(line["seconds"])}
+    texts = {key: line[key][1:] if line[key][:1] == "'" else line[key] for key in ("end", "route", "notes")}
+    return {**line, "name": name, "file": str(path), **texts, "status": int(line["status"]) if line["status"] else None, "seconds": float(line["seconds"])}
 
 
 # ---- a run
@@ -175,13 +213,16 @@ def as_record(line, name, path):
 class Runs:
     "runs a file, and ends what is running where all is to end"
     def __init__(self, program, is_proved, out, options):
-        self.program, self.proved, self.out, self.limit = program, "yes" if is_proved else "no", out, options.time_limit
-        self.words = shlex.split(options.mps2job)
+        self.program, self.proved, self.out = program, "yes" if is_proved else "no", out
+        self.limit = min((limit for limit in (options.time_limit, options.seconds) if limit), default=None)
+        self.words, self.solvers = shlex.split(options.mps2job), options.solvers
+        self.processors = max(1, (os.cpu_count() or 1) // options.at_once)
         self.lock, self.processes, self.running, self.is_over = threading.Lock(), {}, {}, False
 
     def sum_of(self, path):
-        words = "" if path.name.lower().endswith(".job") else "\0".join(self.words)
-        return hashlib.sha256(path.read_bytes() + b"\0" + words.encode()).hexdigest()[:16]
+        "a checksum of a file, and of the words for MPS files where it is one"
+        words = [] if path.name.lower().endswith(".job") else [*self.words, *([] if self.solvers is None else ["--with", *self.solvers])]
+        return hashlib.sha256(path.read_bytes() + b"\0" + "\0".join(words).encode()).hexdigest()[:16]
 
     def call(self, words, until, **more):
         "the status of a command, which is ended at the time limit"
@@ -195,72 +236,54 @@ class Runs:
         except subprocess.TimeoutExpired:
             raise TimeOver from None
         finally:
+            self.kill(process)
             with self.lock:
                 del self.processes[process.pid]
-            if process.poll() is None:
-                self.kill(process)
 
     @staticmethod
-    def kill(process):
+    def ask_to_end(process):
+        "a child that solves ends what it has begun, and then itself"
         try:
-            os.killpg(process.pid, signal.SIGKILL)
+            os.killpg(process.pid, signal.SIGTERM)
         except ProcessLookupError:
             pass
-        process.wait()
+
+    def kill(self, process):
+        if process.poll() is not None:
+            return
+        self.ask_to_end(process)
+        try:
+            process.wait(GRACE)
+        except subprocess.TimeoutExpired:
+            try:
+                os.killpg(process.pid, signal.SIGKILL)
+            except ProcessLookupError:
+                pass
+            process.wait()
 
     def end(self):
         with self.lock:
             self.is_over = True
             for process in self.processes.values():
-                try:
-                    os.killpg(process.pid, signal.SIGKILL)
-                except ProcessLookupError:
-                    pass
-
-    def job_of(self, name, path, until):
-        "the job of a file, and why there is none"
-        if path.name.lower().endswith(".job"):
-            return path, ""
-        job, names = self.out / f"{name}.job", self.out / f"{name}.names"
-        with tempfile.TemporaryFile() as said:
-            words = [sys.executable, str(programs.COMMANDS / "mps2job.py"), *self.words, str(path.resolve()), "-o", str(job), "--names", str(names)]
-            status = self.call(words, until, stdin=subprocess.DEVNULL, stdout=subprocess.DEVNULL, stderr=said)
-            said.seek(0)
-            told = said.read().decode(errors="replace").strip()
-        if status:
-            job.unlink(missing_ok=True)
-            lines = told.split("\n")
-            return None, next((line for line in lines if line.startswith("mps2job")), lines[-1]) or f"mps2job.py ended with {status}"
-        # (what was changed, as a rounded number, is said here too; NAME.names keeps it)
-        lines = told.split("\n") if told else []
-        for line in lines[:MOST_SAID]:
-            say(f"{name}: {line}")
-        if len(lines) > MOST_SAID:
-            say(f"{name}: {len(lines) - MOST_SAID} lines more, which {name}.names has")
-        return job, ""
+                self.ask_to_end(process)
 
     def run(self, name, path):
         "the record of a file's run; what it leaves stands in OUT before"
         begun = time.monotonic()
         until = None if self.limit is None else begun + self.limit
         self.running[name] = begun
-        record = {"name": name, "file": str(path), "state": "no answer", "status": None, "objective": "", "proved": self.proved}
-        listing, part = self.out / f"{name}.listing", self.out / f"{name}.listing.part"
-        for old in (listing, part, self.out / f"{name}.punch", self.out / f"{name}.names"):
-            old.unlink(missing_ok=True)
+        record = {"name": name, "file": str(path), "state": "no answer", "status": None, "objective": "", "proved": self.proved, **NO_ROUTE}
+        part = self.out / f"{name}.listing.part"
+        for ending in ("listing", "listing.part", "punch", "names"):
+            (self.out / f"{name}.{ending}").unlink(missing_ok=True)
         try:
             try:
                 record["sum"] = self.sum_of(path)
             except OSError as cause:
                 return {**record, "sum": "", "state": "refused", "end": f"can't be read: {cause.strerror}", "proved": "", "seconds": 0.0}
-            job, cause = self.job_of(name, path, until)
-            if job is None:
-                record |= {"state": "refused", "end": cause, "proved": ""}
-            else:
-                with tempfile.TemporaryDirectory(prefix="mps360-") as folder:
-                    with open(job, "rb") as given, open(part, "wb") as printed:
-                        status = self.call([self.program], until, stdin=given, stdout=printed, stderr=subprocess.DEVNULL, cwd=folder)
-                    self.keep(name, folder, record, status)
+            with tempfile.TemporaryDirectory(prefix="mps360-") as folder:
+                run = self.run_job if path.name.lower().endswith(".job") else self.solve_file
+                run(name, path, record, pathlib.Path(folder), until)
         except TimeOver:
             record |= {"state": "time limit", "end": f"stopped after {self.limit:g} s" if self.limit else "interrupted"}
         finally:
@@ -269,24 +292,76 @@ class Runs:
             part.unlink()
         return {**record, "seconds": round(time.monotonic() - begun, 3)}
 
-    def keep(self, name, folder, record, status):
-        listing, part, punch = self.out / f"{name}.listing", self.out / f"{name}.listing.part", pathlib.Path(folder, "PUNCH")
+    # ---- a job
+
+    def run_job(self, name, path, record, folder, until):
+        part, punch = self.out / f"{name}.listing.part", folder / "PUNCH"
+        with open(path, "rb") as given, open(part, "wb") as printed:
+            status = self.call([self.program], until, stdin=given, stdout=printed, stderr=subprocess.DEVNULL, cwd=folder)
         if punch.is_file():
             shutil.copyfile(punch, self.out / f"{name}.punch")
         if status < 0:
             record["end"] = f"ended by signal {-status}"
             return
-        os.replace(part, listing)
-        text = listing.read_text(encoding="latin-1")
+        if status in DEVICE_FAULTS:
+            raise DeviceFault(f"{name}: {DEVICE_FAULTS[status]} (status {status})")
+        os.replace(part, self.out / f"{name}.listing")
+        text = (self.out / f"{name}.listing").read_text(encoding="latin-1")
         record |= {"state": "ended" if status in (0, 1, 2) else "stopped", "status": status, "end": how_it_ended(text)}
         found = re.findall(rf"^(?:PRIMAL|DUAL) OPTIMAL STEPS \d+ OBJECTIVE ({listing2json.NUMBER}) ", text, re.M)
         if found:
-            record["objective"] = self.with_constant(name, found[-1])
+            record["objective"] = found[-1]
 
-    def with_constant(self, name, objective):
-        names = self.out / f"{name}.names"
-        constant = listing2json.read_names(names)[1] if names.exists() else None
-        return objective if constant is None else str(Fraction(objective) + constant)
+    # ---- an MPS file
+
+    def solve_file(self, name, path, record, folder, until):
+        "by a child of its own, so that several read and write at once"
+        words = [sys.executable, str(programs.COMMANDS / "solve"), "--json", "--life", "0", "--keep", str(folder / "kept"), "--processors", str(self.processors), *self.words]
+        if self.solvers is not None:
+            words += ["--with", ",".join(self.solvers) or "none"]
+        if until is not None:
+            words += ["--seconds", f"{max(0.001, until - time.monotonic()):.3f}"]
+        with open(folder / "answer", "wb") as answer, open(folder / "said", "wb") as said:
+            status = self.call([*words, str(path.resolve())], None if until is None else until + LATE, stdin=subprocess.DEVNULL, stdout=answer, stderr=said)
+        told = (folder / "said").read_text(encoding="utf-8", errors="replace").strip()
+        self.keep(name, folder / "kept", status)
+        if status in (REFUSED, CANT_READ):
+            cause = next((line for line in told.split("\n") if line.startswith("solve: ")), told or f"solve ended with {status}")
+            record |= {"state": "refused", "end": cause.removeprefix("solve: "), "proved": ""}
+        elif status == CANT_WRITE or status in DEVICE_FAULTS:
+            raise DeviceFault(f"{name}: {DEVICE_FAULTS.get(status) or told.split(chr(10))[-1].removeprefix('solve: ')} (status {status})")
+        else:
+            self.take(name, record, status, (folder / "answer").read_bytes(), told)
+
+    def keep(self, name, kept, status):
+        "what the child kept goes to OUT"
+        for path in kept.iterdir() if kept.is_dir() else ():
+            is_cut = path.suffix == ".listing" and status in (NO_END, INTERRUPTED)
+            if path.suffix in (".job", ".names", ".listing"):
+                shutil.copyfile(path, self.out / f"{name}{path.suffix}{'.part' if is_cut else ''}")
+
+    def take(self, name, record, status, answer, told):
+        "the record of a child's JSON"
+        try:
+            whole = json.loads(answer)
+            run, result = whole["run"], whole["result"]
+        except (ValueError, KeyError, TypeError):
+            record["end"] = told.split("\n")[-1].removeprefix("solve: ") or (f"ended by signal {-status}" if status < 0 else f"ended with {status}")
+            return
+        solver = run["solver"] and f" ({run['solver']['name']} {run['solver']['version']})"
+        record |= {"proved": "yes" if run["program"] == "proved" else "no", "route": run["route"] + (solver or ""), "proved_by": run["proved_by"],
+                   "notes": "; ".join(run["notes"])}
+        if result["verdict"] == "optimal":
+            record["objective"] = result.get("objective_with_constant", result["objective"])
+        if status in (NO_END, INTERRUPTED):
+            record |= {"state": "time limit", "end": f"stopped after {self.limit:g} s" if self.limit else "interrupted"}
+        else:
+            end = whole["end"] or {"text": "the listing was cut off"}
+            record |= {"state": "ended" if status in (0, 1, 2) else "stopped", "status": status, "end": end["text"].split("\n")[0]}
+        for note in run["notes"][:MOST_SAID]:
+            say(f"{name}: {note}")
+        if len(run["notes"]) > MOST_SAID:
+            say(f"{name}: {len(run['notes']) - MOST_SAID} notes more, which {name}.names has")
 
 
 def how_it_ended(listing):
@@ -303,7 +378,7 @@ def a_program():
         raise Wrong(70, "no proved program is there; scripts/build.sh proves and builds it, in some 25 minutes")
     say("running UNPROVED; scripts/build.sh proves and builds the program, in some 25 minutes")
     try:
-        return unproved.make(optimised=True), False
+        return unproved.kept("mps360") or unproved.make(optimised=True), False
     except unproved.Answered:
         raise Wrong(70, "no unproved program can be had of rt, so only scripts/mps360 runs jobs, one by one") from None
     except unproved.NoAnswer as cause:
@@ -315,7 +390,7 @@ def done_before(summary, runs, files):
     kept, before = {}, summary.before()
     for name, path in files.items():
         line = before.get(for_a_sheet(name))
-        if line is None or line["state"] not in DONE or line["proved"] == "no" and runs.proved == "yes":
+        if line is None or line["state"] not in DONE or line["status"] in map(str, DEVICE_FAULTS) or line["proved"] == "no" and runs.proved == "yes":
             continue
         has_all = line["state"] == "refused" or (summary.path.parent / f"{name}.listing").exists()
         try:
@@ -336,7 +411,8 @@ class Lines:
         status = "none" if record["status"] is None else record["status"]
         try:
             if self.fault is None:
-                print(f"{status:>4}  {record['name']:<24} {record['end']}", flush=True)
+                objective = f"  objective {record['objective']}" if record["objective"] else ""
+                print(f"{status:>4}  {record['name']:<24} {record['end']}{objective}", flush=True)
         except CantWrite as cause:
             self.fault = cause
 
@@ -367,8 +443,22 @@ def work_off(files, runs, summary, at_once, signals, lines):
                 runs.end()
 
 
+def check_words(options):
+    "words that would be wrong for each file are wrong at once"
+    def refuse(message):
+        raise Wrong(64, f"--mps2job: {message}")
+    try:
+        mps2job.reading_of(mps2job.parsed_options([*shlex.split(options.mps2job), "--", "MODEL.mps"], refuse), refuse)
+    except ValueError as cause:
+        refuse(cause)
+    missing = next((name for name in options.solvers or () if not solvers.find(name)), None)
+    if missing:
+        raise Wrong(70, f"{solvers.TITLES.get(missing, missing)} isn't installed (apt-get install {solvers.PACKAGES[missing]})")
+
+
 def batch(options, signals):
     files, out = files_of(options)
+    check_words(options)
     try:
         out.mkdir(parents=True, exist_ok=True)
         if not os.access(out, os.W_OK):
@@ -376,6 +466,8 @@ def batch(options, signals):
         program, is_proved = a_program()
         runs, summary = Runs(program, is_proved, out.resolve(), options), Summary(out)
         kept = done_before(summary, runs, files) if options.resume else {}
+        if not options.resume and (earlier := summary.keep_earlier()):
+            say(f"the summary of an earlier batch is {earlier} now; --resume goes on with that batch")
         summary.begin(kept)
         if options.resume:
             say(f"{len(kept)} of {len(files)} are done already")
@@ -383,13 +475,15 @@ def batch(options, signals):
         work_off({name: path for name, path in files.items() if name not in kept}, runs, summary, options.at_once, signals, lines)
         summary.end(files)
     except OSError as cause:
-        raise Wrong(73, f"can't write {cause.filename or out}: {cause.strerror}") from None
+        raise Wrong(CANT_WRITE, f"can't write {cause.filename or out}: {cause.strerror}") from None
+    except DeviceFault as cause:
+        raise Wrong(CANT_WRITE, f"{cause}: the batch ends here, with {len(summary.records)} of {len(files)} done; --resume goes on with the others") from None
     if len(summary.records) < len(files):
         say(f"interrupted: {len(summary.records)} of {len(files)} are done and stand in {out}; the others are not, and --resume goes on with them")
-        return 128 + signals.number
+        return INTERRUPTED
     if lines.fault:
         raise lines.fault
-    return 0 if all(record["state"] == "ended" for record in summary.records.values()) else 1
+    return 0 if all(record["state"] == "ended" for record in summary.records.values()) else OLD_OPEN if options.old_codes else OPEN
 
 
 def positive(kind):
@@ -404,12 +498,15 @@ def positive(kind):
 def main(words):
     strangers_text.guard()
     if any(word in ("-h", "--help") for word in words):
-        print(__doc__)
+        print(here(__doc__))
         return 0
     parser = argparse.ArgumentParser(add_help=False, allow_abbrev=False)
     parser.error = lambda message: (print(f"{USAGE}: {message}", file=sys.stderr), sys.exit(64))
     parser.add_argument("-j", dest="at_once", type=positive(int), default=1)
     parser.add_argument("--time-limit", type=positive(float))
+    parser.add_argument("--seconds", type=positive(float))
+    parser.add_argument("--with", dest="solvers", type=solvers_of)
+    parser.add_argument("--old-codes", action="store_true")
     parser.add_argument("--resume", action="store_true")
     parser.add_argument("--mps2job", default="")
     parser.add_argument("--out")
@@ -419,6 +516,6 @@ def main(words):
     except Wrong as cause:
         say(cause)
         return cause.status
-    except Interrupted as cause:
+    except Interrupted:
         say("interrupted before any job was run")
-        return 128 + cause.args[0]
+        return INTERRUPTED

@@ -3,26 +3,31 @@ name those that are known there; for a ray the rows that conflict, as a sum; for
 what changes from interval to interval, how the objective moves with theta, and what the run's end means. Of each SETUP it says what was
 taken (the sense, the objective, the sets), and what was perhaps forgotten.
 
-usage: explain JOB [LISTING]      without LISTING the job is run first (mps360); one of them may be -, which is standard input
+usage: explain JOB [LISTING]           without LISTING the job is run first (mps360); one of them may be -, which is standard input
+       explain [..] MODEL [LISTING]    the same of the job of an MPS file, which mps2job.py makes; other words are for it
+       explain LISTING                 of a listing alone, without the cards of its job
 
 Nothing is solved here: verdicts, rays and directions are the listing's, and are compared with the job.
 
 It ends with 0, with 64 for wrong use, 66 where a file can't be read, 65 where the listing isn't one, 70 where the job can't be run."""
 import difflib, pathlib, re, subprocess, sys, tempfile
 from fractions import Fraction
+from mps360.commands import DOCUMENTS, called, here
 from mps360.jobs import decks as job_decks
 from mps360.jobs import selection as job_following
 from mps360.listings import follow as follow_listing
 from mps360.listings import read as listing2json
 from mps360.numbers import nearest, text_of
 from mps360.pages import parametric as plot_parametric
+from mps360 import mps
 from mps360 import programs
+from mps360.cli import mps2job
+from mps360.cli.words import joined
+from mps360.errors import Refused
+from mps360.long_numbers import exact_job
 from mps360 import text as strangers_text
 from mps360.output import command
 
-IS_INSTALLED = (programs.COMMANDS / "program").exists()
-DOCUMENTS = programs.TOP.parents[1] / "share/doc/mps360" if IS_INSTALLED else "docs"
-MPS2JOB = "mps2job" if IS_INSTALLED else "scripts/mps2job.py"
 # the fields of a data card, by their columns on it
 FIELDS = ((2, 3), (5, 12), (15, 22), (25, 36), (40, 47), (50, 61))
 # the fields that a section uses; the first and the last section alone may leave the others out
@@ -187,8 +192,7 @@ def more_than(shown):
 
 def wordings(text):
     "a text of the index of faults, with the names that commands and documents have here"
-    text = re.sub(r"\b([A-Z_]{4,}\.md)", lambda found: f"{DOCUMENTS}/{found[1]}", text)
-    return re.sub(r"scripts/(\w+)(?:\.py)?\b", r"\1", text) if IS_INSTALLED else text
+    return here(re.sub(r"(?<!docs/)\b([A-Z_]{4,}\.md)", r"docs/\1", text))
 
 
 def section_at(cards, place):
@@ -295,7 +299,7 @@ def misplaced(card, section):
                 return f"the number {found[0]} has {len(found[0])} characters, and field {number} has {end - start + 1} columns: shorten it"
             return f"move the number {found[0]}, which stands in columns {first} to {last}, into field {number}, columns {start} to {end}"
         if len(found[0]) > 8 and not job_decks.NUMBER.match(found[0]):
-            return f"{found[0]} runs over its field, and a name has 8 characters at most; {MPS2JOB} shortens longer ones"
+            return f"{found[0]} runs over its field, and a name has 8 characters at most; {called('mps2job.py')} shortens longer ones"
     return None
 
 
@@ -367,7 +371,7 @@ def mistaken(stop, text, cards, place):
         name = "UTF-8" if text.startswith("\xef") else "UTF-16"
         return [f"The file begins with a byte order mark (BOM) of {name}: save it as plain ASCII, without BOM."]
     if "CONTROL FAULT 1 " in stop and re.match(r"NAME|ROWS|OBJSENSE|OBJNAME", card) and "PROGRAM" not in card:
-        return [f"The file begins as an MPS file does: {MPS2JOB} makes a job of it."]
+        return [f"The file begins as an MPS file does: {called('mps2job.py')} makes a job of it."]
     if re.search(r" DECK FAULT (?:3|20|21|30) ", stop + " "):
         return where_free(cards, place)
     if re.search(r"CONTROL FAULT (3|4|7) ", stop) and re.match(r"NAME\b", card):
@@ -433,7 +437,7 @@ def explain_stop(end, text, cards, run):
         print(f"What to do: {cure_of(stop, entry, cards, place)}.")
     explain_end(end, run)
     explain_combination(stop, run)
-    known = known_names(stop, cards, place, run)
+    known = known_names(stop, cards, place, run) if cards else None
     if known:
         what, names, wrong = known
         shown = [f"'{name}'" for name in names[:MOST_SHOWN]]
@@ -735,18 +739,52 @@ def run_job(text):
 
 
 def read(word):
-    data = sys.stdin.buffer.read() if word == "-" else pathlib.Path(word).read_bytes()
-    return data.decode("latin-1")
+    return sys.stdin.buffer.read() if word == "-" else pathlib.Path(word).read_bytes()
+
+
+def has(text, *parts):
+    "whether a text is a listing that has one of these parts, of reports and end"
+    try:
+        parsed = listing2json.parse(text)
+    except listing2json.NoListing:
+        return False
+    return any(parsed[part] for part in parts)
+
+
+def is_model(data, name):
+    "whether a file begins as an MPS file or a CPLEX LP file does, or is compressed as one may be"
+    text = data[:100_000].decode("latin-1")
+    first = next((line.split() for line in re.split(r"\r\n|\n|\r", text) if line.strip() and not line.startswith("*")), [])
+    is_mps = first[:1] and first[0].upper() in ("NAME", "ROWS", "OBJSENSE", "OBJNAME") and first[1:2] != ["PROGRAM"]
+    return is_mps or data[:2] == b"\x1f\x8b" or mps.is_lp(text, name)
+
+
+def job_text(data, words, name):
+    "the job of a model's file, and the names that it has otherwise than the file"
+    options = mps2job.parsed_options([*words, "--", name], mps2job.wrong_use)
+    model = mps.read_bytes(data, mps2job.reading_of(options), name)
+    job = exact_job(model, options.ranging, model.name or pathlib.Path(name).name)
+    table = job.name_map()
+    return job.text, {**table["rows"], **table["columns"], **table["sets"]}
+
+
+def show_names(names):
+    "what the names of the job stand for"
+    if names:
+        shown = [f"{short} is {name}" for short, name in list(names.items())[:MOST_SHOWN]]
+        print(f"\nIn the job {', '.join(shown)}{more_than(list(names))}.")
 
 
 def explain(text, parsed):
+    "the end of a listing, its setups and its reports; text is the job, None where there is none"
     end = parsed["end"]
-    run, why = replay(text, parsed)
+    run, why = replay(text, parsed) if text is not None else (None, None)
+    text = text or ""
     if end is None:
         print("The listing has no end: it was cut off (status 25), or isn't whole.")
         return
     if end["text"].startswith("STOP"):
-        explain_stop(end, text, [line.rstrip(" \r") for line in text.split("\n")], run)
+        explain_stop(end, text, [line.rstrip(" \r") for line in text.split("\n")] if text else [], run)
     else:
         print(end["text"])
     if why:
@@ -757,20 +795,43 @@ def explain(text, parsed):
         explain_reports(parsed["reports"], run)
 
 
+class WrongUse(Exception):
+    "words that don't go together"
+
+
+def texts_of(given, files, passed):
+    "the text of the job, None where there is none, that of the listing, None where it can't be had, and the names of the job that aren't the file's"
+    text, listing, names = given[0].decode("latin-1"), given[1].decode("latin-1") if len(given) > 1 else None, {}
+    if len(given) == 1 and not passed and has(text, "reports", "end"):
+        return None, text, names
+    if is_model(given[0], files[0]) and (listing is None or has(listing, "reports")):
+        text, names = job_text(given[0], passed, files[0])
+    elif passed:
+        raise WrongUse(f"{passed[0]} is a word for an MPS file, and {files[0]} is none")
+    return text, run_job(text) if listing is None else listing, names
+
+
 def answered(words):
     strangers_text.guard()
     if words and words[0] in ("-h", "--help"):
-        print(__doc__)
+        print(here(__doc__))
         return 0
-    if not 1 <= len(words) <= 2 or words == ["-", "-"] or any(re.match("-.", word) for word in words):
+    passed, files = [word for word in joined(words) if re.match("-.", word)], [word for word in joined(words) if not re.match("-.", word)]
+    if not 1 <= len(files) <= 2 or files == ["-", "-"]:
         print("usage: explain JOB [LISTING]; one of them may be -, which is standard input", file=sys.stderr)
         return 64
     try:
-        text = read(words[0])
-        listing = read(words[1]) if len(words) == 2 else run_job(text)
+        given = [read(word) for word in files]
+        text, listing, names = texts_of(given, files, passed)
     except OSError as cause:
         print(f"explain: can't read {cause.filename}: {cause.strerror}", file=sys.stderr)
         return 66
+    except Refused as cause:
+        print(f"explain: {files[0]}: {cause}", file=sys.stderr)
+        return 65
+    except WrongUse as cause:
+        print(f"explain: {cause}", file=sys.stderr)
+        return 64
     if listing is None:
         return 70
     try:
@@ -778,6 +839,7 @@ def answered(words):
         if not parsed["reports"] and not parsed["end"] and listing.strip():
             raise listing2json.NoListing("it has no report")
         explain(text, parsed)
+        show_names(names)
     except listing2json.NoListing as cause:
         print(f"explain: not a listing: {cause}", file=sys.stderr)
         return 65

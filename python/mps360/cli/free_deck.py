@@ -11,6 +11,7 @@ read."""
 import pathlib, re, sys
 from mps360.jobs import decks as job_decks
 from mps360 import text as strangers_text
+from mps360.commands import here
 from mps360.output import command
 from mps360.jobs.decks import ACTIONS, BOUNDS, FIELDS, NAMES, VALUED, DeckFault, is_skipped
 
@@ -184,7 +185,7 @@ def turned(data, is_free, say):
 def main(words):
     strangers_text.guard()
     if words and words[0] in ("-h", "--help"):
-        print(__doc__)
+        print(here(__doc__))
         return 0
     is_free = words[:1] != ["--fixed"]
     words = words if is_free else words[1:]

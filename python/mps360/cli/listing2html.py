@@ -12,6 +12,7 @@ where the page can't be written."""
 import argparse, sys
 from mps360.listings.made import OtherJob
 from mps360.listings.read import NO_NAMES, NoListing, NoNames, read_names
+from mps360.commands import here
 from mps360.output import command, write_file
 from mps360.pages.html import page
 
@@ -19,7 +20,7 @@ from mps360.pages.html import page
 @command("listing2html.py")
 def main(words):
     if any(word in ("-h", "--help") for word in words):
-        print(__doc__)
+        print(here(__doc__))
         return 0
     parser = argparse.ArgumentParser(add_help=False)
     parser.error = lambda message: (print(f"listing2html.py: {message}", file=sys.stderr), sys.exit(64))

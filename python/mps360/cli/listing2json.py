@@ -8,20 +8,23 @@ usage: listing2json.py [--csv | --table NAME] [--decimal] [--names MAP] [FILE]  
   --decimal     beside each fraction its value as a decimal number, which is rounded
   --names MAP   the table of names that mps2job.py wrote: names come as they were, and a constant of the objective is added to the objective
                 of each verdict, under objective_with_constant; it isn't, and a line on standard error says so, where the SOLUTION below
-                the verdict has another objective or right-hand side
+                the verdict has another objective or right-hand side. What mps2job.py changed, left out or chosen stands under notes, in CSV
+                on each line
 
 In CSV a name that a spreadsheet could take for a formula (it begins with = + - @ or an apostrophe) has an apostrophe before it, and a control
 character stands as an escape; in JSON names are exact. It ends with 0, with 64 for wrong use, 65 where the text isn't a listing, 66 where it
 can't be read."""
 import argparse, sys
 from mps360.listings.read import NoListing, NoNames, TABLES, add_decimals, document, json_text, name_back, parse, read_names, write_solution, write_table
+from mps360 import notes
+from mps360.commands import here
 from mps360.output import command
 
 
 @command("listing2json.py")
 def main(words):
     if any(word in ("-h", "--help") for word in words):
-        print(__doc__)
+        print(here(__doc__))
         return 0
     parser = argparse.ArgumentParser(add_help=False)
     parser.error = lambda message: (print(f"listing2json.py: {message}", file=sys.stderr), sys.exit(64))
@@ -48,12 +51,13 @@ def main(words):
             raise NoListing("it is empty")
         if names:
             name_back(listing, names)
+        more = None if names is None else {notes.COLUMN: notes.as_cell(notes.of_table(names[0]))}
         if options.csv:
-            write_solution(listing, options.decimal, sys.stdout)
+            write_solution(listing, options.decimal, sys.stdout, more)
         elif options.table:
-            write_table(listing, options.table, options.decimal, sys.stdout)
+            write_table(listing, options.table, options.decimal, sys.stdout, more)
         else:
-            whole = document(listing)
+            whole = document(listing, notes=None if names is None else notes.of_table(names[0]))
             if options.decimal:
                 add_decimals(whole)
             sys.stdout.write(json_text(whole))

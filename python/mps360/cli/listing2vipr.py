@@ -13,6 +13,7 @@ where a file can't be read, 73 where one can't be written."""
 import argparse, json, pathlib, re, sys
 from fractions import Fraction
 
+from mps360.commands import here
 from mps360.output import command, write_file
 from oracle.attesting import UNCHECKED, WRONG, Found, Walk, cost, for_min
 
@@ -159,7 +160,7 @@ def say(message):
 @command(NAME)
 def main(words):
     if any(word in ("-h", "--help") for word in words):
-        print(__doc__)
+        print(here(__doc__))
         return 0
     options = parsed_options(words)
     try:

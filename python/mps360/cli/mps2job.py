@@ -1,15 +1,17 @@
-"""Makes a job of an MPS file, or says on which line it can't be kept exactly. All that is changed, left out or chosen is said on
+"""Makes a job of an MPS file or a CPLEX LP file, or says on which line it can't be kept exactly. All that is changed, left out or chosen is said on
 standard error, in the table of names, and in the job itself on cards that mean nothing to it.
 
-usage: mps2job.py [OPTIONS] [-o JOB] [--names MAP] FILE.mps      FILE.mps may be gzipped; - is standard input
+usage: mps2job.py [OPTIONS] [-o JOB] [--names MAP] FILE      FILE is an MPS or an LP file, as it begins; it may be gzipped; - is standard input
 
   -o JOB           where the job goes; without it to standard output
   --names MAP      where the table of names goes, as JSON for listing2json.py; needed where names were shortened
   --max, --min     the sense; without it the file's OBJSENSE, and MIN where it has none
   --objective ROW  the objective; without it the file's OBJNAME, and the first N row where it has none
   --rhs SET, --ranges SET, --bounds SET      the set that counts; without it the first of the file
-  --round          rounds a number that 12 columns don't hold to the nearest that they do; without it such a file is refused
-  --relax          takes columns of whole numbers (MARKER, BV, LI, UI) as columns of any numbers; without it such a file is refused
+  --round          rounds a number that 12 columns don't hold to the nearest that they do; without it such a number is kept exactly, its digits
+                   dealt out over rows that the job has more, and over a column that is fixed at 1
+  --doubles        takes a number of 16 or 17 digits as the shortest decimal that is the same double, as .1 for .10000000000000001
+  --relax          takes columns of whole numbers (MARKER, BV, LI, UI; General, Binary) as columns of any numbers; without it such a file is refused
   --ranging        RANGE after SOLUTION
   --free, --fixed  fields are words, or stand at their columns, as in old files whose names have blanks; without it fields are words,
                    and a line that says another thing by its columns is refused. The deck of the job is fixed in any case
@@ -22,14 +24,15 @@ Two have a usual meaning, and other options for other programs:
   --constant minus|plus        the objective's constant is the negative of its number in RHS (minus, the usual), or that number
   --infinity NUMBER            a bound or range of this size and more is none; without it 1e20
 
-Rows of type DN, DL, DG and DE, which are sums of multiples of rows before them, are taken with their parts. Numbers without an exact form of
-12 columns, sections that jobs don't know and problems past the limits are refused. It ends with 0, with 64 for wrong use, 65 where the file
+Rows of type DN, DL, DG and DE, which are sums of multiples of rows before them, are taken with their parts. Numbers of more than 38
+digits, sections that jobs don't know and problems past the limits are refused. It ends with 0, with 64 for wrong use, 65 where the file
 is refused, 66 where it can't be read, 73 where JOB or MAP can't be written."""
 import argparse, json, os, sys
 from mps360 import errors
 from mps360 import mps
-from mps360.jobs.write import job_of
+from mps360.long_numbers import exact_job
 from mps360.numbers import number
+from mps360.commands import here
 from mps360.output import command, write_file
 
 
@@ -53,7 +56,7 @@ def parsed_options(words, refuse=wrong_use):
     sense.add_argument("--min", dest="sense", action="store_const", const="MIN")
     form.add_argument("--free", dest="form", action="store_const", const="free")
     form.add_argument("--fixed", dest="form", action="store_const", const="fixed")
-    for word in ("--round", "--relax", "--ranging"):
+    for word in ("--round", "--doubles", "--relax", "--ranging"):
         parser.add_argument(word, action="store_true")
     for word, choices in (("--negative-up", ("keep", "free")), ("--marker-upper", ("1", "none")), ("--blank-set", ("same", "own")),
                           ("--constant", ("minus", "plus"))):
@@ -74,7 +77,7 @@ def reading_of(options, refuse=wrong_use):
             refuse(f"--infinity: {cause}")
         if infinity <= 0:
             refuse("--infinity is more than 0")
-    return mps.Reading(form=options.form or "either", numbers="round" if options.round else "job", relax=options.relax,
+    return mps.Reading(form=options.form or "either", numbers="round" if options.round else "exact", doubles=options.doubles, relax=options.relax,
                             marker_upper=options.marker_upper, negative_up=options.negative_up, blank_set=options.blank_set,
                             constant=options.constant or "minus", infinity=infinity, sense=options.sense, objective=options.objective,
                             rhs_set=options.rhs, range_set=options.ranges, bound_set=options.bounds)
@@ -91,13 +94,13 @@ def check_places(options):
 @command("mps2job.py")
 def main(words):
     if any(word in ("-h", "--help") for word in words):
-        print(__doc__)
+        print(here(__doc__))
         return 0
     options = parsed_options(words)
     check_places(options)
     try:
         model = mps.read_file(options.file, reading_of(options))
-        job = job_of(model, options.ranging, model.name or os.path.basename(options.file))
+        job = exact_job(model, options.ranging, model.name or os.path.basename(options.file))
     except OSError as cause:
         say(f"mps2job.py: can't read {options.file}: {cause.strerror}")
         return 66

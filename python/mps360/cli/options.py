@@ -2,6 +2,7 @@
 from __future__ import annotations
 
 import argparse
+import time
 
 from mps360 import routes, solvers
 
@@ -16,6 +17,14 @@ def positive(word: str) -> float:
     "a number of seconds above 0"
     number = float(word)
     if not 0 < number < 1e9:
+        raise ValueError(word)
+    return number
+
+
+def counted(word: str) -> int:
+    "a count from 1 on"
+    number = int(word)
+    if number < 1:
         raise ValueError(word)
     return number
 
@@ -36,11 +45,14 @@ def add_routes(parser: argparse.ArgumentParser) -> None:
     parser.add_argument("--with", dest="solvers", type=solvers_of)
     parser.add_argument("--only", choices=routes.ROUTES)
     parser.add_argument("--seconds", type=positive)
+    parser.add_argument("--processors", type=counted)
+    parser.set_defaults(begun=time.monotonic())
 
 
 def plan_of(options: argparse.Namespace) -> routes.Plan:
     "the routes that these options leave"
-    return routes.Plan(solvers=options.solvers, only=options.only, seconds=options.seconds)
+    return routes.Plan(solvers=options.solvers, only=options.only, seconds=options.seconds, begun=options.begun,
+                       processors=options.processors or routes.processors_here())
 
 
 def check_routes(options: argparse.Namespace) -> str | None:

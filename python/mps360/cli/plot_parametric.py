@@ -11,6 +11,7 @@ parameter's share of the change row, in a run of PARAOBJ). It ends with 0, with 
 no such run, 66 where a file can't be read, 73 where one can't be written."""
 import argparse, sys
 from mps360 import text as strangers_text
+from mps360.commands import here
 from mps360.output import command, write_file
 from mps360.listings import read as listing2json
 from mps360.pages.parametric import NoRun, in_letters, in_svg, points_of
@@ -19,7 +20,7 @@ from mps360.pages.parametric import NoRun, in_letters, in_svg, points_of
 @command("plot_parametric.py")
 def main(words):
     if any(word in ("-h", "--help") for word in words):
-        print(__doc__)
+        print(here(__doc__))
         return 0
     strangers_text.guard()
     parser = argparse.ArgumentParser(add_help=False)

@@ -13,7 +13,7 @@ usage: prove [--basis FILE [--from WRITER] | --with SOLVER[,SOLVER..]] [--keep F
   --life S        the first line of life on standard error after S seconds (5), the next after twice as long each time; 0 for none
   --program FILE  another program than scripts/mps360: it gets the job on standard input. What it prints is called unproved
 
-Each other word that begins with -- is handed to mps2job.py, its value behind a =, as --negative-up=free. The basis is taken in by INSERT, and
+Each other word that begins with -- is handed to mps2job.py. The basis is taken in by INSERT, and
 PRIMAL goes on from it: in no step, where the solver's basis is optimal in exact fractions too. Where it is singular, or a number doesn't fit,
 PRIMAL begins at the opening basis instead, in the end; without a basis it always does.
 
@@ -22,11 +22,13 @@ It ends with the status of the run whose listing is printed: 0, 1 no plan, 2 no 
 written, 124 where a run was ended after S seconds, 130 after Ctrl-C or a TERM signal."""
 import argparse, json, os, pathlib, signal, sys
 from fractions import Fraction
-from mps360 import at_hand, routes, runs, solvers
+from mps360 import notes, routes, runs, solvers
 from mps360.bases import WRITERS
 from mps360.cli import basis2deck, solve
 from mps360.cli.options import positive, solvers_of
+from mps360.cli.words import joined
 from mps360.life import FIRST, Life
+from mps360.commands import here
 from mps360.output import command
 
 NAME = "prove"
@@ -43,6 +45,7 @@ def plan_of(options):
 def told(attempt, model, words):
     "what the verdict of a run says"
     verdict, steps, objective = attempt.verdict.groups()
+    verdict += notes.after_verdict(model)
     if objective:
         verdict += f", objective {objective}"
         if model.constant:
@@ -80,7 +83,7 @@ def outcome_of(options, job, program, life):
     "what the routes came to"
     way = routes.Routes(job, program, plan_of(options), None, runs.Observer(say=life.say, heard=life.heard, tick=life.tick))
     if options.basis:
-        way.begin_at(basis2deck.read_basis(options.basis, job.model, options.writer), os.path.basename(options.basis))
+        way.begin_at(basis2deck.read_basis(options.basis, job.file, options.writer), os.path.basename(options.basis))
     try:
         return way.run()
     except OSError as cause:
@@ -97,13 +100,13 @@ def prove(options, passed):
     life = Life(NAME, options.life)
     job = basis2deck.read_job(options.model, passed)
     program = solve.program_of(options)
-    for sentence in job.said:
+    for sentence in job.said if options.keep else job.said_without(job.of_table):
         life.say(sentence)
     outcome = outcome_of(options, job, program, life)
     keep(options, outcome.attempt, job)
     sys.stdout.write(outcome.attempt.listing.decode("latin-1"))
     sys.stdout.flush()
-    life.say(last_line(outcome, job.model, program.kind))
+    life.say(last_line(outcome, job.file, program.kind))
     return outcome.status
 
 
@@ -119,7 +122,7 @@ def options_of(words, life):
     parser.add_argument("--seconds", type=positive)
     parser.add_argument("--life", type=float, default=FIRST)
     parser.add_argument("model")
-    options, passed = parser.parse_known_args(words)
+    options, passed = parser.parse_known_args(joined(words))
     if unknown := [word for word in passed if not word.startswith("--")]:
         parser.error(f"one model at a time; what is {unknown[0]}?")
     if options.writer and not options.basis:
@@ -130,7 +133,7 @@ def options_of(words, life):
 @command(NAME)
 def main(words):
     if any(word in ("-h", "--help") for word in words):
-        print(__doc__)
+        print(here(__doc__))
         return 0
     life = Life(NAME)
     options, passed = options_of(words, life)

@@ -15,14 +15,17 @@ Each other option is one of mps2job.py, which reads the file: what it changes, l
 
 Prices that aren't there, a name that the model hasn't, a decimal number, a number past 128 bits are refused, with the place. It ends with 0,
 with 64 for wrong use, 65 where a file is refused, 66 where it can't be read, 73 where one can't be written."""
-import dataclasses, json, os, sys
+import json, os, sys
 from mps360.cli import mps2job
 from mps360.listings import write as answer_listing
 from mps360 import errors
 from mps360 import mps
-from mps360.jobs.write import job_of
+from mps360.long_answers import listing_of
+from mps360.long_numbers import exact_job
 from mps360 import solutions as solution_file
 from mps360.cli.mps2job import say
+from mps360.cli.words import taken
+from mps360.commands import here
 from mps360.output import command, write_file
 
 NAME = "solution2listing.py"
@@ -45,39 +48,33 @@ class Ended(Exception):
 
 def own_words(words):
     "the words without --listing LISTING and the last one, and these two"
-    words, listing = list(words), None
-    if "--listing" in words:
-        at = words.index("--listing")
-        if at + 1 == len(words):
-            raise Ended(64, "--listing names a file")
-        listing = words[at + 1]
-        del words[at:at + 2]
+    try:
+        words, listing = taken(words, "--listing")
+    except ValueError as cause:
+        raise Ended(64, str(cause)) from None
     if len(words) < 2 or words[-1].startswith("-"):
         raise Ended(64, "MODEL.mps and SOLUTION are two files; --help says what there is")
     return words[:-1], listing, words[-1]
 
 
-def in_job_names(answer, job):
-    "the answer by the names of the job"
-    def named(table, names):
-        return None if table is None else {names[name]: value for name, value in table.items()}
-    crossed = answer.crossed and (answer.crossed[0], (job.rows if answer.crossed[0] == "row" else job.columns)[answer.crossed[1]])
-    tables = {key: named(getattr(answer, key), getattr(job, kind)) for key, kind in solution_file.TABLES.items()}
-    return dataclasses.replace(answer, crossed=crossed, **tables)
-
-
 def made(options, solution):
     "the job, and the listing of the solution"
+    job, _, listing = answered(options, solution)
+    return job, listing
+
+
+def answered(options, solution):
+    "the job, the answer of the solution by the file's names, and its listing"
     try:
         model = mps.read_file(options.file, mps2job.reading_of(options))
-        job = job_of(model, False, model.name or os.path.basename(options.file))
+        job = exact_job(model, False, model.name or os.path.basename(options.file))
     except OSError as cause:
         raise Ended(66, f"can't read {options.file}: {cause.strerror}") from None
     except errors.Refused as cause:
         raise Ended(65, f"{options.file}: {cause}") from None
     try:
         answer = solution_file.read_file(solution, model)
-        return job, answer_listing.listing_of(job, in_job_names(answer, job))
+        return job, answer, listing_of(job, answer)
     except OSError as cause:
         raise Ended(66, f"can't read {solution}: {cause.strerror}") from None
     except (solution_file.NoSolution, answer_listing.Refused) as cause:
@@ -120,7 +117,7 @@ def run(words):
 @command(NAME)
 def main(words):
     if any(word in ("-h", "--help") for word in words):
-        print(__doc__)
+        print(here(__doc__))
         return 0
     try:
         return run(words)

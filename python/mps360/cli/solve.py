@@ -13,6 +13,7 @@ usage: solve [--json | --csv | --html FILE] [--basis FILE [--from WRITER]] [--wi
                  lp_solve, in this order; none for nobody. Without it those that are installed
   --only ROUTE   primal (from the opening basis), basis (of a solver), or exact (esolver's exact answer, attested by the checker), alone
   --seconds S    bounds all of it; without it PRIMAL goes on until it ends
+  --processors N how many may be used; from 2 on PRIMAL goes on while a solver is asked. Without it those that are there
   --write-basis FILE  the basis of the answer goes to FILE, as an MPS basis file, which clp, esolver and others begin at
   --solution FILE     the solution goes to FILE as glpsol -w writes one, or by --solution-form highs as HiGHS does
   --names MAP    where MODEL is a job: the table of names that mps2job.py wrote for it
@@ -21,27 +22,30 @@ usage: solve [--json | --csv | --html FILE] [--basis FILE [--from WRITER]] [--wi
   --checker FILE another checker than scripts/mps360check
 
 No solver is believed: what each gives is where PRIMAL begins, or goes to the checker, and the answer says by which route it came. MODEL is an MPS file or a job (it begins with PROGRAM), or - for standard input. --max and --min go before what the file says, --ranging asks how
-far each number may move; every other word that begins with - is handed to mps2job.py as it stands, its value after a =, as
---negative-up=free (mps2job.py --help has them).
+far each number may move; every other word that begins with - is handed to mps2job.py as it stands (mps2job.py --help has them).
 
 It ends with the status of the run: 0, 1 no plan, 2 no bound, more in docs/FAULTS.md; or with 64 for wrong use, 65 where MODEL is refused, 66
 where it can't be read, 70 where there is no program or no solver, 73 where a file can't be written, 124 where there is no end in S seconds, 130
 after Ctrl-C or a TERM signal: then what stands is said. A deck that is punched goes to the file PUNCH of this folder."""
-import argparse, hashlib, io, json, os, pathlib, re, signal, sys
+import argparse, hashlib, io, json, os, pathlib, re, shlex, signal, sys
 from mps360.cli import mps2job
 from fractions import Fraction
 from mps360.listings import read as listing2json
-from mps360 import at_hand, errors, life, mps, routes, runs, solvers
+from mps360 import at_hand, errors, life, mps, notes, routes, runs, solvers
 from mps360.cli.options import add_routes, check_routes, plan_of
+from mps360.cli.words import joined
 from mps360.provenance import Provenance
-from mps360.jobs.write import job_of
+from mps360.commands import called, here
+from mps360.long_numbers import exact_job
 from mps360.listings import made as made_listing
 from mps360.output import command, make_folder, write_file
 from mps360.text import marked_decimal
-from mps360.text import as_text
+from mps360.text import as_lines, as_text
 
 NAME = "solve"
 MOST_LINES = 40
+# the status of a run that met a number which doesn't fit, and what is said then of a file with long numbers
+OVERFLOW, SHORTER = 20, "the file's numbers of more than 12 columns are kept exactly: --round, or --doubles, may come further"
 WRITERS = ("clp", "esolver", "lp_solve", "glpsol", "activity")
 FORMS = ("glpsol", "highs")
 # the words that a job doesn't go with, and the options that they are
@@ -53,7 +57,7 @@ class Ended(Exception):
 
 
 def say(words):
-    print(f"{NAME}: {as_text(str(words))}", file=sys.stderr, flush=True)
+    print(f"{NAME}: {as_lines(str(words))}", file=sys.stderr, flush=True)
 
 
 def wrong_use(message):
@@ -68,11 +72,20 @@ def is_job(content):
 
 # ---- the job
 
+def explaining(options, passed):
+    "the words of the command that explains the listing"
+    if options.keep or options.model == "-":
+        folder = options.keep or "FOLDER"
+        files = [os.path.join(folder, f"{stem_of(options)}.{ending}") for ending in ("job", "listing")]
+        return ("" if options.keep else "--keep FOLDER keeps the job and the listing, and ") + shlex.join([called("explain"), *files])
+    return shlex.join([called("explain"), *(word for word in passed if word != "--ranging"), options.model])
+
+
 class Model:
     "a model, as the job that is run and the table of its names"
     def __init__(self, options, passed):
         self.path, self.notes, self.names, self.table, self.converted = options.model, [], listing2json.NO_NAMES, b"", None
-        self.basis, self.has_basis = None, False
+        self.basis, self.has_basis, self.explained = None, False, explaining(options, passed)
         try:
             content = sys.stdin.buffer.read() if options.model == "-" else pathlib.Path(options.model).read_bytes()
             if options.names:
@@ -100,12 +113,14 @@ class Model:
     def convert(self, content, options, passed):
         words = mps2job.parsed_options([*passed, "--", self.path], wrong_use)
         try:
-            model = mps.read_bytes(content, mps2job.reading_of(words, wrong_use))
+            model = mps.read_bytes(content, mps2job.reading_of(words, wrong_use), "" if self.path == "-" else self.path)
             file = ("model.mps.gz" if content.startswith(b"\x1f\x8b") else "model.mps") if self.path == "-" else os.path.basename(self.path)
-            job = self.converted = job_of(model, words.ranging, model.name or file)
+            job = self.converted = exact_job(model, words.ranging, model.name or file)
         except errors.Refused as cause:
             raise Ended(65, *f"{self.path}: {cause}".split("\n"))
-        self.notes, self.job, self.ranging = list(job.said), job.text.encode("ascii"), words.ranging
+        for sentence in model.warned:
+            say(sentence)
+        self.notes, self.job, self.ranging = list(job.said) if options.keep else job.said_without(job.of_table, job.of_listing), job.text.encode("ascii"), words.ranging
         if options.basis:
             self.take_basis(options, job)
         table = job.name_map()
@@ -114,7 +129,7 @@ class Model:
     def take_basis(self, options, job):
         from mps360.cli import basis2deck
         try:
-            self.basis = basis2deck.read_basis(options.basis, job.model, options.writer)
+            self.basis = basis2deck.read_basis(options.basis, job.file, options.writer)
         except basis2deck.Ended as ended:
             status, words = ended.args
             raise Ended(status, *words.split("\n"))
@@ -141,17 +156,23 @@ class Answer:
             raise Ended(70, f"what the program printed isn't the listing of this job: {cause}")
         listing2json.name_back(self.listing, model.names)
         self.result = listing2json.result_of(self.listing)
+        if self.result["status"] == OVERFLOW and model.converted and model.converted.split:
+            model.notes.append(SHORTER)
 
     def objective_of(self, reports):
         "the name of the objective; the reports are compared with the job"
         job = self.model.converted
+        self.variable = None
         if job:
             made_listing.check_made(job, reports, self.model.has_basis, self.model.ranging)
+            self.variable = variables_of(job.file)
             return job.model.objective
         from mps360.listings import follow as follow_listing
         about, _ = follow_listing.follow(self.model.job.decode("latin-1"), reports)
         programs = [program for program, report in zip(about, reports) if program and report["report"] == "verdict"]
         name = programs[-1].names[programs[-1].objective] if programs else "the objective"
+        if programs:
+            self.variable = variables_of_job(programs[-1], self.model.names[0])
         return self.model.names[0].get("rows", {}).get(name, name) if programs else name
 
     def last(self, kind):
@@ -159,7 +180,7 @@ class Answer:
 
     def point(self):
         "the best plan for other solvers, None where there is none or its tables aren't whole"
-        solution, model = self.last("solution"), self.model.converted.model
+        solution, model = self.last("solution"), self.model.converted.file
         if self.result["verdict"] != "optimal" or not solution:
             return None
         from mps360 import solution_out
@@ -189,7 +210,10 @@ class Answer:
             listing2json.write_table(self.listing, "intervals", True, out)
         else:
             listing2json.write_table(self.listing, "rays" if self.result["verdict"] else "verdicts", True, out)
-        return with_cells(out.getvalue(), self.provenance.cells())
+        if out.getvalue().count("\n") < 2:
+            for note in self.model.notes:
+                say(note)
+        return with_cells(out.getvalue(), {**self.provenance.cells(), notes.COLUMN: notes.as_cell(self.model.notes)})
 
     # ---- as a text
 
@@ -199,10 +223,10 @@ class Answer:
             yield self.sentence(verdict)
         yield from self.table_of(verdict)
         if any(report["report"] == "parametric" for report in self.listing["reports"]):
-            yield "The job has parametric runs: scripts/plot_parametric.py draws them, --html shows them, --json and --csv have their numbers."
+            yield f"The job has parametric runs: {called('plot_parametric.py')} draws them, --html shows them, --json and --csv have their numbers."
         end = self.listing["end"]
         if end and end["text"].startswith("STOP"):
-            yield f"The run stopped: {as_text(end['text'].splitlines()[0])}. scripts/explain says what that means."
+            yield f"The run stopped: {as_text(end['text'].splitlines()[0])}. {as_text(self.model.explained)} says what that means."
         elif not verdict:
             yield f"The run ended with status {end['status']}, and has no verdict." if end else "The listing was cut off before a verdict."
         yield ""
@@ -214,15 +238,23 @@ class Answer:
     def sentence(self, verdict):
         sense = self.result["sense"]
         most, more = ("greatest", "more") if sense == "MAX" else ("least", "less")
+        changed = notes.after_verdict(self.model.converted.file) if self.model.converted else ""
         if verdict["verdict"] == "optimal":
             total = verdict.get("objective_with_constant", verdict["objective"])
             constant = f" ({verdict['objective']} and the constant {verdict['objective_constant']})" if total != verdict["objective"] else ""
-            return f"OPTIMAL: the {most} {self.objective} is {both(total)}{constant}; no plan that keeps all limits has {more}."
+            return f"OPTIMAL{changed}: the {most} {self.objective} is {both(total)}{constant}; no plan that keeps all limits has {more}."
         if verdict["verdict"] == "unbounded":
-            return f"UNBOUNDED: {self.objective} {'grows' if sense == 'MAX' else 'falls'} without end along this direction, from the activities beside it."
+            return f"UNBOUNDED{changed}: {self.objective} {'grows' if sense == 'MAX' else 'falls'} without end along this direction, from the activities beside it."
         if "crossed" in verdict:
-            return f"INFEASIBLE: variable {verdict['crossed']} has a lower limit above its upper one."
-        return "INFEASIBLE: no plan keeps all limits; those of these rows and columns conflict, with these factors."
+            return f"INFEASIBLE{changed}: {self.crossed(verdict['crossed'])}."
+        return f"INFEASIBLE{changed}: no plan keeps all limits; those of these rows and columns conflict, with these factors."
+
+    def crossed(self, number):
+        "the variable whose lower limit is above its upper one, with its limits"
+        if not self.variable:
+            return f"variable {number} has a lower limit above its upper one"
+        kind, name, lower, upper = self.variable(number)
+        return f"the lower limit of the {kind} {as_text(name)}, {both(str(lower))}, is above its upper one, {both(str(upper))}"
 
     def table_of(self, verdict):
         "the plan with its rows, or the ray or the direction"
@@ -239,7 +271,7 @@ class Answer:
             if count > 1:
                 yield f"\nThe job has {count} solutions, and this is the last one; --html, and --table of listing2json.py, have all."
         elif "ray" in verdict:
-            yield from table("Row or column", ("factor",), [(line["name"], both(line["multiplier"])) for line in verdict["ray"]])
+            yield from conflict(verdict["ray"], self.variable)
         elif "direction" in verdict:
             moving = [line for line in verdict["direction"] if line["direction"] != "0"]
             lines = [(line["name"], both(line["activity"]), both(line["direction"])) for line in moving]
@@ -253,6 +285,40 @@ class Answer:
         yield from table(head, names, [(line["name"], both(line["activity"]), both(line[price]), *end) for line, end in zip(shown, ends)])
         if len(shown) < len(lines):
             yield f"({len(lines) - len(shown)} more have {'the activity' if which == 'activity' else 'the price'} 0)"
+
+
+def variables_of(model):
+    "from the number of a variable of a model, rows first, to its kind, its name and its limits"
+    rows, columns = list(model.rows), list(model.columns)
+    def variable(number):
+        if number <= len(rows):
+            return "row", rows[number - 1], *model.row_limits(rows[number - 1])
+        return "column", columns[number - len(rows) - 1], *model.column_limits(columns[number - len(rows) - 1])
+    return variable
+
+
+def variables_of_job(program, names):
+    "the same of a linear program that a job selects, by the names of the table"
+    def variable(number):
+        kind, name = "row" if number <= program.m else "column", program.names[number - 1]
+        return kind, names.get(kind + "s", {}).get(name, name), program.lower[number - 1], program.upper[number - 1]
+    return variable
+
+
+def conflict(ray, variable):
+    "the limits that conflict, each with its factor, and their sum where the limits are known"
+    if not variable:
+        yield from table("Row or column", ("factor",), [(line["name"], both(line["multiplier"])) for line in ray])
+        return
+    taken = [(line, factor := Fraction(line["multiplier"]), variable(line["number"])[3 if factor > 0 else 2]) for line in ray]
+    if any(limit is None for _, _, limit in taken):
+        raise made_listing.OtherJob("the ray names a limit that the job hasn't")
+    lines = [(line["name"], both(line["multiplier"]), f"at {'most' if factor > 0 else 'least'} {both(str(limit))}", both(str(factor * limit)))
+             for line, factor, limit in taken]
+    yield from table("Row or column", ("factor", "its limit", "factor times activity is at most"), lines)
+    total = sum(factor * limit for _, factor, limit in taken)
+    yield (f"Together the activities, each times its factor, are 0, whatever the plan; by these limits they are at most {both(str(total))}. "
+           f"If one limit alone is to give way, then by at least {both(str(-total))} divided by its factor, taken without its sign.")
 
 
 def with_cells(text, cells):
@@ -326,7 +392,7 @@ def write_outputs(options, model, answer):
         kept(pathlib.Path(options.keep), f"{stem_of(options)}.listing", answer.text.encode("latin-1"))
     if options.html:
         from mps360.pages import html as listing2html
-        page = listing2html.page(model.job.decode("latin-1"), answer.text, model.names, answer.printed_by())
+        page = listing2html.page(model.job.decode("latin-1"), answer.text, model.names, answer.printed_by(), model.notes)
         path = pathlib.Path(options.html)
         kept(path.parent, path.name, page.encode("utf-8"))
     if options.json:
@@ -361,7 +427,7 @@ def outcome_of(options, model, program, checker, life):
     observer = runs.Observer(say=life.say, going=life.say, heard=life.heard, tick=life.tick)
     try:
         if not model.converted:
-            return routes.Outcome(runs.run_alone(model.job, program, seconds=options.seconds, observer=observer), [])
+            return routes.Outcome(runs.run_alone(model.job, program, seconds=options.seconds, begun=options.begun, observer=observer), [])
         way = routes.Routes(model.converted, program, plan_of(options), checker, observer)
         if model.basis:
             way.begin_at(model.basis, os.path.basename(options.basis))
@@ -402,11 +468,12 @@ def solve(options, passed):
     if attempt.solver and attempt.written:
         keep(options, f"{stem}.{attempt.solver.name}", attempt.written.encode("latin-1"))
     provenance = Provenance.of(outcome, program, checker, model.checksum)
+    answer = Answer(model, attempt, provenance)
     if attempt.interrupted:
         say_interrupted(attempt)
-    elif model.converted:
-        say(provenance.line())
-    write_outputs(options, model, Answer(model, attempt, provenance))
+    elif model.converted or attempt.why:
+        say(provenance.line() if model.converted else attempt.why)
+    write_outputs(options, model, answer)
     return outcome.status
 
 
@@ -417,7 +484,7 @@ def interrupt(*_):
 @command(NAME)
 def main(words):
     if any(word in ("-h", "--help") for word in words):
-        print(__doc__)
+        print(here(__doc__))
         return 0
     parser = argparse.ArgumentParser(add_help=False, allow_abbrev=False)
     parser.error = lambda message: (say(message), sys.exit(64))
@@ -431,11 +498,13 @@ def main(words):
     parser.add_argument("--from", dest="writer", choices=WRITERS)
     parser.add_argument("--life", type=float, default=life.FIRST)
     parser.add_argument("model")
-    options, passed = parser.parse_known_args(words)
+    options, passed = parser.parse_known_args(joined(words))
     if unknown := [word for word in passed if not word.startswith("--")]:
         parser.error(f"one model at a time; what is {unknown[0]}?")
     if options.writer and not options.basis:
         parser.error("--from goes with --basis")
+    if options.solution_form and not options.solution:
+        parser.error("--solution-form goes with --solution")
     if fault := check_routes(options):
         parser.error(fault)
     sys.stdout.reconfigure(encoding="utf-8")

@@ -18,8 +18,10 @@ from mps360.cli import solution2listing
 from mps360.listings import write as answer_listing
 from mps360 import errors
 from mps360.jobs.write import job_of
+from mps360.long_answers import listing_of
 from mps360.model import Limits, Model
 from mps360.numbers import text_of
+from mps360.commands import here
 from mps360.output import command
 from mps360.text import counted
 from oracle import vipr as check_vipr
@@ -151,7 +153,7 @@ def made(path):
     try:
         program = Program(found)
         job = job_of(program.model, False, os.path.basename(path))
-        return job, answer_listing.listing_of(job, solution2listing.in_job_names(answer_of(found, program), job))
+        return job, listing_of(job, answer_of(found, program))
     except (errors.Refused, answer_listing.Refused, Ended) as cause:
         raise Ended(65, f"{path}: {cause}") from None
 
@@ -173,7 +175,7 @@ def run(words):
 @command(NAME)
 def main(words):
     if any(word in ("-h", "--help") for word in words):
-        print(__doc__)
+        print(here(__doc__))
         return 0
     try:
         return run(words)

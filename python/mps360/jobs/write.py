@@ -53,12 +53,19 @@ class Job:
     sets: dict = field(default_factory=dict)
     rhs_on_objective: str | None = None  # the number of the objective in RHS, where the deck has it
     said: list = field(default_factory=list)
+    # those of said which are for a reader of the table of names, or of the listing, alone
+    of_table: list = field(default_factory=list)
+    of_listing: list = field(default_factory=list)
     split: Split | None = None  # where the model is one of short numbers, made of the file's
 
     @property
     def file(self):
         "the model as the file has it, with its long numbers"
         return self.split.file if self.split else self.model
+
+    def said_without(self, *unread):
+        "what was said, without these, as no such reader is there"
+        return [sentence for sentence in self.said if not any(sentence in sentences for sentences in unread)]
 
     @property
     def renamed(self):
@@ -118,9 +125,10 @@ def name_all(job):
     job.said = list(model.said)
     if shown := [counted(count, what) for count, what in renamed if count]:
         verb = "has another name" if sum(count for count, _ in renamed) == 1 else "have other names"
-        job.said.append(f"{', '.join(shown)} {verb} in the job; the table of names has them")
+        job.of_table.append(f"{', '.join(shown)} {verb} in the job; the table of names has them")
     if not lawful:
-        job.said.append(f"the problem's name is {job.problem} in the job")
+        job.of_table.append(f"the problem's name is {job.problem} in the job")
+    job.said += job.of_table
 
 
 def rhs_cards(job, item):
@@ -137,8 +145,8 @@ def rhs_cards(job, item):
             cards.append(item(job.sets[name], job.rows[row], text))
     if model.constant:
         sign = "" if model.constant_sign > 0 else "the negative of "
-        job.said.append(f"the objective's constant is {model.constant}, {sign}its number in RHS: it isn't in OBJECTIVE and ACTIVITY of "
-                        "the listing, add it there (listing2json.py --names does)")
+        job.of_listing.append("the objective's constant isn't in OBJECTIVE and ACTIVITY of the listing: add it there (listing2json.py --names does)")
+        job.said += [f"the objective's constant is {model.constant}, {sign}its number in RHS", *job.of_listing]
     return cards
 
 

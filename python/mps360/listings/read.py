@@ -1,6 +1,7 @@
 "Reads listings: their reports as dictionaries, and these as JSON or CSV. docs/listing.schema.json has each field with its meaning."
 import json, re, sys
 from fractions import Fraction
+from mps360.listings.restore import BadTable, Table, recount, restore
 from mps360.text import cell
 
 FORMAT, VERSION = "mps360 listing", 1
@@ -182,7 +183,11 @@ def names_of(names):
     if names.get("constants") and "constant" not in names:
         raise NoNames("an older mps2job.py wrote it; make it anew")
     try:
+        if "long" in names:
+            Table(names["long"])
         return names, *(None if constant.get(key) is None else Fraction(constant[key]) for key in ("value", "rhs"))
+    except BadTable as cause:
+        raise NoNames(str(cause))
     except (AttributeError, TypeError, ValueError, ZeroDivisionError):
         raise NoNames("its constant isn't a number")
 
@@ -209,8 +214,11 @@ def add_constant(reports, names, constant, rhs):
 
 
 def name_back(listing, names):
-    "the names of the file, and the constant of its objective"
+    "the names of the file, and the constant of its objective; what was added to the job for long numbers is left out"
     names, constant, rhs = names
+    long = Table(names["long"]) if "long" in names else None
+    if long:
+        restore(listing["reports"], long)
     if constant is not None:
         add_constant(listing["reports"], names, constant, rhs)
     rows = None
@@ -225,6 +233,8 @@ def name_back(listing, names):
         if "change" in report:
             table = names.get("rows" if report["by"] == "paraobj" else "sets", {})
             report["change"] = table.get(report["change"], report["change"])
+    if long:
+        recount(listing["reports"], long)
 
 
 def add_decimals(listing):
@@ -249,9 +259,9 @@ def result_of(listing):
     return result
 
 
-def document(listing, run=None):
+def document(listing, run=None, notes=None):
     "the whole of what is printed as JSON"
-    return {"format": FORMAT, "version": VERSION, **({"run": run} if run else {}), "result": result_of(listing), **listing}
+    return {"format": FORMAT, "version": VERSION, **({"run": run} if run else {}), **({} if notes is None else {"notes": notes}), "result": result_of(listing), **listing}
 
 
 def json_text(document):
@@ -314,24 +324,25 @@ def table_of(listing, table):
     return found
 
 
-def write_csv(lines, heads, decimal, out):
+def write_csv(lines, heads, decimal, out, more=None):
+    "lines under these heads; more is of cells that come behind each"
     numbers = [key for key in heads if decimal and any(is_number(line, key) for line in lines)]
     import csv
-    writer = csv.DictWriter(out, [*heads, *(key + "_decimal" for key in numbers)], restval="", lineterminator="\n", extrasaction="ignore")
+    writer = csv.DictWriter(out, [*heads, *(key + "_decimal" for key in numbers), *(more or ())], restval="", lineterminator="\n", extrasaction="ignore")
     writer.writeheader()
     for line in lines:
         decimals = {key + "_decimal": rounded(line[key]) for key in numbers if is_number(line, key)}
-        writer.writerow({key: cell_of(key, value) for key, value in (line | decimals).items()})
+        writer.writerow({key: cell_of(key, value) for key, value in (line | decimals).items()} | (more or {}))
 
 
-def write_table(listing, table, decimal, out):
+def write_table(listing, table, decimal, out, more=None):
     "all reports of a kind"
-    write_csv(table_of(listing, table), ["report", *TABLES[table]], decimal, out)
+    write_csv(table_of(listing, table), ["report", *TABLES[table]], decimal, out, more)
 
 
-def write_solution(listing, decimal, out):
+def write_solution(listing, decimal, out, more=None):
     "the last SOLUTION"
     lines = table_of(listing, "solutions")
     if not lines:
         raise NoListing("the listing has no SOLUTION")
-    write_csv([line for line in lines if line["report"] == lines[-1]["report"]], TABLES["solutions"], decimal, out)
+    write_csv([line for line in lines if line["report"] == lines[-1]["report"]], TABLES["solutions"], decimal, out, more)

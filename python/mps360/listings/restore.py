@@ -3,10 +3,12 @@ file's rows and columns alone.
 
     table = Table(ENTRY)           of the entry "long" of a table of names, which long_numbers.Split.table has made; BadTable where it isn't one
     restore(reports, table)        changes the reports (of listings.read.parse, in the names of the job) in place
+    recount(reports, table)        gives CONVERT the counts of the file
 
 The entry is JSON: "rows" and "columns" are the added names; "places" has for each row or column of the file that was changed its number in the
 listing, its limits, what its activity lacks in the job (its shift) and, of a row, its right-hand side; "moved" has for each added row that is a limit of
-such a row or column which one it is, at which end, and what its activity lacks. All numbers are texts of exact fractions."""
+such a row or column which one it is, at which end, and what its activity lacks; "counts" are those of the file. All other numbers are texts of exact
+fractions."""
 from __future__ import annotations
 
 from fractions import Fraction
@@ -71,8 +73,10 @@ class Table:
             places = [Place(place) for place in said["places"]]
             self.places = {(place.of, place.name): place for place in places}
             self.moved = {str(row): Moved(moved, self.places) for row, moved in said["moved"].items()}
+            counts = {key: int(said["counts"][key]) for key in ("rows", "columns", "entries")}
         except (TypeError, KeyError, ValueError, AttributeError, ZeroDivisionError):
             raise BadTable("its entry for long numbers isn't one that mps2job.py wrote") from None
+        self.counts = counts
         self.by_number = {place.number: place for place in places}
 
     def limits(self, number: int) -> Limits | None:
@@ -94,6 +98,13 @@ def restore(reports: list[Report], table: Table) -> None:
             restore_ray(report, table)
         elif "direction" in report:
             report["direction"] = [shifted(line, table) for line in left(report["direction"], table)]
+
+
+def recount(reports: list[Report], table: Table) -> None:
+    "CONVERT counts the rows, columns and entries of the file; the numbers of rows and columns stay those of the listing"
+    for report in reports:
+        if report["report"] == "convert":
+            report.update(table.counts)
 
 
 def raised(number: str | None, shift: Fraction) -> str | None:

@@ -3,6 +3,9 @@ import hashlib, html
 from fractions import Fraction
 from mps360.listings import follow as follow_listing
 from mps360.listings import read as listing2json
+from mps360.listings import restore
+from mps360.commands import called
+from mps360.notes import of_table
 from mps360.pages import plots as parametric_svg
 from mps360.text import as_text, marked_decimal
 
@@ -31,6 +34,7 @@ label{margin-right:1.2rem;cursor:pointer}input{width:1.05rem;height:1.05rem;vert
 .skip{position:absolute;left:-99rem}.skip:focus{position:static}
 .verdict{border:1px solid var(--line);border-left:.5rem solid var(--soft);background:var(--band);padding:.6rem 1rem;margin:.6rem 0;font-size:1.1rem}
 .optimal{border-left-color:var(--good)}.infeasible{border-left-color:var(--bad)}.unbounded,.stop{border-left-color:var(--warn)}
+.notes{border:1px solid var(--line);border-left:.5rem solid var(--warn);padding:.4rem 1rem;margin:.6rem 0}.notes ul{margin:.2rem 0;padding-left:1.2rem}
 .wide{overflow-x:auto;margin:.4rem 0}
 table{border-collapse:collapse;font-size:.92rem;font-variant-numeric:tabular-nums}
 caption{text-align:left;color:var(--soft);padding:.2rem 0}
@@ -49,7 +53,7 @@ svg{max-width:100%;height:auto;display:block}svg text{fill:var(--ink);font:11px 
 @media print{:root{color-scheme:light;--ink:#000;--paper:#fff;--soft:#333;--line:#999;--band:#fff;--blue:#000;--good:#000;--bad:#000;--warn:#000}
 @page{margin:12mm}
 body{max-width:none;padding:0;font-size:10pt}table{font-size:8pt}td{white-space:normal}th,td{padding:.15rem .35rem}
-.tools,.skip{display:none}.wide{overflow:visible}tr,figure,.verdict{break-inside:avoid}thead{display:table-header-group}
+.tools,.skip{display:none}.wide{overflow:visible}tr,figure,.verdict,.notes{break-inside:avoid}thead{display:table-header-group}
 h2,h3{break-after:avoid}.e,.d,#exact:checked~main .d{display:inline}.e::before{content:" ("}.e::after{content:")"}pre{white-space:pre-wrap}}
 """
 
@@ -145,14 +149,16 @@ def row_heads(solution, near):
 
 
 class Page:
-    def __init__(self, job, listing, names, printed_by):
+    def __init__(self, job, listing, names, printed_by, notes):
         self.job, self.listing, self.printed_by = job, listing, printed_by
         self.parsed = listing2json.parse(listing)
         self.reports = self.parsed["reports"]
         self.about, self.shifts = follow_listing.follow(job, self.reports)
         self.long = names[0].get("rows", {}), names[0].get("columns", {})
         listing2json.name_back(self.parsed, names)
-        self.sense, self.parts = "MIN", []
+        # (of a job whose long numbers were dealt out: the limits of the file)
+        self.moved = restore.Table(names[0]["long"]) if "long" in names[0] else None
+        self.sense, self.parts, self.notes = "MIN", [], notes
 
     # ---- what is known of the linear program
 
@@ -160,6 +166,11 @@ class Page:
         "the modeller's name of a variable, numbered from 0"
         name = program.names[place]
         return self.long[0 if place < program.m else 1].get(name, name)
+
+    def limits_of(self, program, place):
+        "the lower and the upper limit of a variable, numbered from 0, as the file has them"
+        moved = self.moved.limits(place + 1) if self.moved else None
+        return moved or (program.lower[place], program.upper[place])
 
     def objective(self, k):
         return as_text(self.name_of(self.about[k], self.about[k].objective)) if self.about[k] else "the objective"
@@ -186,11 +197,19 @@ class Page:
             words = f"No plan keeps all limits: {conflict_of(report['ray'])} conflict."
         check = "" if report["checked"] else " The second check met a number too large to be kept, and stopped; it found nothing wrong."
         self.parts.append(tag("div", tag("strong", kind.capitalize() + ". "), words + check, class_=f"verdict {kind}", role="status"))
+        self.show_notes()
         self.say(f"After {report['steps']} steps of the simplex path{', and checked again' if report['checked'] else ''}. {self.printed_by}", "soft")
         if "ray" in report:
             self.ray(report["ray"], self.about[k], {})
         elif "direction" in report:
             self.direction(report["direction"], self.about[k])
+
+    def show_notes(self):
+        "what was changed, left out or chosen of the file, once: under the first verdict, or at the end where there is none"
+        if self.notes:
+            lines = tag("ul", *(tag("li", note) for note in self.notes))
+            self.parts.append(tag("div", tag("strong", "What was changed, left out or chosen in reading the file:"), lines, class_="notes", role="note"))
+            self.notes = []
 
     def say(self, words, kind=None):
         self.parts.append(tag("p", words, class_=kind))
@@ -203,7 +222,7 @@ class Page:
             def limit(line):
                 factor, at = Fraction(line["multiplier"]), line["number"] - 1
                 moves = shift.get(program.names[at], Fraction(0)) if at < program.m else Fraction(0)
-                return factor, (program.upper if factor > 0 else program.lower)[at], moves
+                return factor, self.limits_of(program, at)[1 if factor > 0 else 0], moves
             if any(limit(line)[1] is None for line in ray):
                 raise follow_listing.OtherJob("the ray names a limit that the job hasn't")
             total = tuple(sum(limit(line)[0] * limit(line)[part] for line in ray) for part in (1, 2))
@@ -225,7 +244,8 @@ class Page:
             ("Changes by", lambda line: number(line["direction"]))], moving))
         if not program:
             return
-        step, name = Fraction(lines[program.objective]["direction"]), as_text(self.name_of(program, program.objective))
+        step = next(Fraction(line["direction"]) for line in lines if line["number"] == program.objective + 1)
+        name = as_text(self.name_of(program, program.objective))
         missing = f"A row or a bound that should stop this is missing{', or MIN stands for MAX' if past is None else ''}."
         if change is None:
             self.say(f"Each unit changes {name} by {said(str(step))}. {missing}")
@@ -351,12 +371,13 @@ class Page:
         elif end["text"].startswith("STOP"):
             why = STOPS.get(str(end["status"]), "see the line")
             self.parts.append(tag("div", tag("strong", f"Stopped with status {end['status']}: "), f"{why}. ", tag("code", end["text"].split("\n")[0]),
-                                  " The reports above stand. scripts/explain JOB LISTING says what to do.", class_="verdict stop", role="status"))
+                                  f" The reports above stand. {called('explain')} JOB LISTING says what to do.", class_="verdict stop", role="status"))
 
     def whole(self):
         for k, report in enumerate(self.reports):
             self.report(k, report)
         self.end()
+        self.show_notes()
         first = self.reports[0] if self.reports else {}
         title = (first.get("text") or first.get("name") or "").strip() or "A listing of mps360"
         policy = "default-src 'none'; style-src 'unsafe-inline'; base-uri 'none'; form-action 'none'"
@@ -404,6 +425,6 @@ def affine(constant, rate):
     return joined([number(str(constant)), " − " if rate < 0 else " + ", factor, "θ"])
 
 
-def page(job, listing, names=listing2json.NO_NAMES, printed_by="This page can't see which program printed the listing."):
-    "the page of a job and its listing, as text"
-    return Page(job, listing, names, printed_by).whole()
+def page(job, listing, names=listing2json.NO_NAMES, printed_by="This page can't see which program printed the listing.", notes=None):
+    "the page of a job and its listing, as text; the notes are those of the table of names where none are given"
+    return Page(job, listing, names, printed_by, of_table(names[0]) if notes is None else notes).whole()

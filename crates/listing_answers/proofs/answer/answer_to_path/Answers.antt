@@ -1,5 +1,7 @@
 use Rattle.std.proofs.Common.{[], refl, ◌∙◌}
 use Rattle.question_definitions.specs.Answers.{Reached}
+use Rattle.walk_definitions.specs.Checkers.{checker_of_128_bits}
+use Rattle.walk_definitions.specs.Words.{fraction_in}
 use Rattle.walk_definitions.specs.Tests.{verdict_test}
 use Rattle.walk_definitions.specs.Reading.{verdict_in}
 use Rattle.listing_readers.specs.Read.{sheet_view}
@@ -18,7 +20,7 @@ returns c limit =
     record {
       answer = Reached [] verdict check;
       is_right =
-          judged_right (λ claim. Reached [] claim.0 claim.1) (λ claim. verdict_test sheet claim.0 claim.1) (verdict_in sheet c.args.solver c.args.cursor.now) found.answer c.read_verdict.new.cursor found.is_found
-          (passes c.test.result (verdict_test sheet verdict check) is c.in_ok-judge.ensures);
+          judged_right (λ claim. Reached [] claim.0 claim.1) (λ claim. verdict_test checker_of_128_bits sheet claim.0 claim.1) (verdict_in (fraction_in checker_of_128_bits) sheet c.args.solver c.args.cursor.now) found.answer c.read_verdict.new.cursor found.is_found
+          (passes c.test.result (verdict_test checker_of_128_bits sheet verdict check) is c.in_ok-judge.ensures);
       shows = c.comes_to.ensures ∙ concluded sheet stated.claim stated.is_checked verdict check found.shows.says found.shows.says_check;
     }

@@ -4,6 +4,8 @@ use Rattle.check_definitions.specs.declared.Verdict.{Verdict}
 use Rattle.question_definitions.specs.Answers.{parametric_solver}
 use Rattle.parametric_request.specs.Asking.{changing_of}
 use Rattle.run_definitions.specs.Verbs.{last_value}
+use Rattle.walk_definitions.specs.Checkers.{checker_of_128_bits}
+use Rattle.walk_definitions.specs.Words.{fraction_in}
 use Rattle.walk_definitions.specs.Tests.{close_test}
 use Rattle.walk_definitions.specs.Reading.{close_in}
 use Rattle.listing_readers.specs.Read.{sheet_view}
@@ -24,7 +26,7 @@ returns-in_err-check_closing c =
     let found = rw c.in-Some.is at c.in_ok-closing.ensures in
     let max = c.args.request.now.to in
     let stop = c.in_err-check_closing.field-0.0 in
-    tested_stops (λ (end : ℚ) close. end ≡ last_value close) (close_test sheet changing max c.args.last) (close_in sheet (parametric_solver changing) c.args.cursor.now) found.answer c.read_closing.new.cursor c.read_closing.new.cursor
+    tested_stops (λ (end : ℚ) close. end ≡ last_value close) (close_test checker_of_128_bits sheet changing max c.args.last) (close_in (fraction_in checker_of_128_bits) sheet (parametric_solver changing) c.args.cursor.now) found.answer c.read_closing.new.cursor c.read_closing.new.cursor
     c.from_residual-in_err-check_closing.result stop found.is_found
     (subst (λ (v : Verdict). Stops stop v) (closing_tested sheet changing max c.args.last c.in-Some.closing found.answer found.shows) c.in_err-check_closing.ensures) c.from_residual-in_err-check_closing.ensures.1
 
@@ -37,7 +39,7 @@ returns c =
     record {
       answer = found.answer;
       is_right =
-          tested_right (λ (end : ℚ) close. end ≡ last_value close) (close_test sheet changing max c.args.last) (close_in sheet (parametric_solver changing) c.args.cursor.now) found.answer c.read_closing.new.cursor found.is_found
+          tested_right (λ (end : ℚ) close. end ≡ last_value close) (close_test checker_of_128_bits sheet changing max c.args.last) (close_in (fraction_in checker_of_128_bits) sheet (parametric_solver changing) c.args.cursor.now) found.answer c.read_closing.new.cursor found.is_found
           (sym (closing_tested sheet changing max c.args.last c.in-Some.closing found.answer found.shows) ∙ c.in_ok-check_closing.ensures);
       shows = c.value_of.ensures ∙ closing_value sheet c.in-Some.closing found.answer found.shows;
     }

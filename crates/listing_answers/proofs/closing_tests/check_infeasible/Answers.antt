@@ -4,6 +4,7 @@ use Rattle.lp_definitions.specs.LinearProgram.{value_at}
 use Rattle.question_definitions.specs.Answers.{Set}
 use Rattle.parametric_request.specs.declared.request.Change.{Change}
 use Rattle.parametric_request.specs.Asking.{changing_of}
+use Rattle.walk_definitions.specs.Checkers.{checker_of_128_bits}
 use Rattle.walk_definitions.specs.Tests.{past_test, infeasible_past}
 use Rattle.listing_readers.specs.Read.{sheet_view}
 use Rattle.listing_answers.specs.Passing.{Judges}
@@ -18,5 +19,5 @@ returns-in-Set c =
     let result = c.check_past_infeasible.result in
     let serves = rw c.in-Set.is at c.requires.asked.serves in
     subst (λ (change : Change). Judges (infeasible_test sheet (changing_of request.name change) request.to c.args.last c.args.value c.args.ray.now) result) (sym c.in-Set.is)
-    (subst (λ (shift : List ℚ). Judges (past_test request.to c.args.last c.args.value (infeasible_past sheet (Set request.name) shift c.args.value w)) result) (c.deref.ensures.value ∙ sym serves.0.0)
-    (subst (λ (change : Change). Judges (past_test request.to c.args.last c.args.value (infeasible_past sheet (changing_of request.name change) c.deref.result.now c.args.value w)) result) c.in-Set.is c.check_past_infeasible.ensures))
+    (subst (λ (shift : List ℚ). Judges (past_test request.to c.args.last c.args.value (infeasible_past checker_of_128_bits sheet (Set request.name) shift c.args.value w)) result) (c.deref.ensures.value ∙ sym serves.0.0)
+    (subst (λ (change : Change). Judges (past_test request.to c.args.last c.args.value (infeasible_past checker_of_128_bits sheet (changing_of request.name change) c.deref.result.now c.args.value w)) result) c.in-Set.is c.check_past_infeasible.ensures))

@@ -5,6 +5,8 @@ use Rattle.check_definitions.specs.Steps.{verdict_of, in_turn}
 use Rattle.question_definitions.specs.Answers.{parametric_solver, Opening}
 use Rattle.answer_definitions.specs.ParametricRuns.{sheet_at, family_of}
 use Rattle.parametric_request.specs.Asking.{changing_of}
+use Rattle.walk_definitions.specs.Checkers.{checker_of_128_bits}
+use Rattle.walk_definitions.specs.Words.{fraction_in}
 use Rattle.walk_definitions.specs.Tests.{making_steps, verdict_test}
 use Rattle.walk_definitions.specs.Reading.{Claim, verdict_in}
 use Rattle.listing_readers.specs.Read.{sheet_view}
@@ -34,10 +36,10 @@ returns-in_err-judge c limit =
     let is =
     stated_given sheet (sheet_at sheet changing from) (family_matrix sheet changing from) stated.claim stated.is_checked found.answer.0 found.answer.1 found.shows.says found.shows.says_check
     c.in_ok-program.program c.in_ok-program.ensures.1 c.test.result c.test.ensures in
-    judged_handed (λ claim. Opening [] claim.0 claim.1) IsOpened (λ (claim : Claim). in_turn (making ∷ verdict_test (sheet_at sheet changing from) claim.0 claim.1 ∷ [])) (verdict_in sheet (parametric_solver changing) c.args.cursor.now) found.answer c.read_verdict.new.cursor c.read_verdict.new.cursor
-    c.from_residual-in_err-judge.result stop (ap (λ solver. verdict_in sheet solver c.args.cursor.now) (sym c.solver_of.ensures) ∙ found.is_found)
-    (stops_next stop making (in_turn (verdict_test (sheet_at sheet changing from) found.answer.0 found.answer.1 ∷ [])) c.in_ok-program.ensures.0
-    (stops_first stop (verdict_test (sheet_at sheet changing from) found.answer.0 found.answer.1) Checked (stops_given stop c.test.result (verdict_test (sheet_at sheet changing from) found.answer.0 found.answer.1) is c.in_err-judge.ensures)))
+    judged_handed (λ claim. Opening [] claim.0 claim.1) IsOpened (λ (claim : Claim). in_turn (making ∷ verdict_test checker_of_128_bits (sheet_at sheet changing from) claim.0 claim.1 ∷ [])) (verdict_in (fraction_in checker_of_128_bits) sheet (parametric_solver changing) c.args.cursor.now) found.answer c.read_verdict.new.cursor c.read_verdict.new.cursor
+    c.from_residual-in_err-judge.result stop (ap (λ solver. verdict_in (fraction_in checker_of_128_bits) sheet solver c.args.cursor.now) (sym c.solver_of.ensures) ∙ found.is_found)
+    (stops_next stop making (in_turn (verdict_test checker_of_128_bits (sheet_at sheet changing from) found.answer.0 found.answer.1 ∷ [])) c.in_ok-program.ensures.0
+    (stops_first stop (verdict_test checker_of_128_bits (sheet_at sheet changing from) found.answer.0 found.answer.1) Checked (stops_given stop c.test.result (verdict_test checker_of_128_bits (sheet_at sheet changing from) found.answer.0 found.answer.1) is c.in_err-judge.ensures)))
     c.from_residual-in_err-judge.ensures.1
 
 pub returns : goal.returns
@@ -54,9 +56,9 @@ returns c limit =
     record {
       answer = Opening [] found.answer.0 found.answer.1;
       is_right =
-          judged_right (λ claim. Opening [] claim.0 claim.1) (λ (claim : Claim). in_turn (making ∷ verdict_test (sheet_at sheet changing from) claim.0 claim.1 ∷ [])) (verdict_in sheet (parametric_solver changing) c.args.cursor.now) found.answer c.read_verdict.new.cursor
-          (ap (λ solver. verdict_in sheet solver c.args.cursor.now) (sym c.solver_of.ensures) ∙ found.is_found)
-          (both_pass making (in_turn (verdict_test (sheet_at sheet changing from) found.answer.0 found.answer.1 ∷ [])) c.in_ok-program.ensures.0
-          (both_pass (verdict_test (sheet_at sheet changing from) found.answer.0 found.answer.1) Checked (passes c.test.result (verdict_test (sheet_at sheet changing from) found.answer.0 found.answer.1) is c.in_ok-judge.ensures) refl));
+          judged_right (λ claim. Opening [] claim.0 claim.1) (λ (claim : Claim). in_turn (making ∷ verdict_test checker_of_128_bits (sheet_at sheet changing from) claim.0 claim.1 ∷ [])) (verdict_in (fraction_in checker_of_128_bits) sheet (parametric_solver changing) c.args.cursor.now) found.answer c.read_verdict.new.cursor
+          (ap (λ solver. verdict_in (fraction_in checker_of_128_bits) sheet solver c.args.cursor.now) (sym c.solver_of.ensures) ∙ found.is_found)
+          (both_pass making (in_turn (verdict_test checker_of_128_bits (sheet_at sheet changing from) found.answer.0 found.answer.1 ∷ [])) c.in_ok-program.ensures.0
+          (both_pass (verdict_test checker_of_128_bits (sheet_at sheet changing from) found.answer.0 found.answer.1) Checked (passes c.test.result (verdict_test checker_of_128_bits (sheet_at sheet changing from) found.answer.0 found.answer.1) is c.in_ok-judge.ensures) refl));
       shows = c.mark_left.ensures ∙ marked sheet stated.claim found.answer.0 found.shows.says;
     }

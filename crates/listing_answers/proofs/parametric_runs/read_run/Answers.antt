@@ -1,5 +1,6 @@
 use Rattle.std.proofs.Common.{◌≡◌, ◌<◌, ◌+◌, ◌∷◌, codes, Some, None, length, get_or, drop, ap, ◌∙◌, arith}
 use Rattle.parametric_request.specs.Asking.{parametric_run_of}
+use Rattle.walk_definitions.specs.Checkers.{checker_of_128_bits}
 use Rattle.walk_definitions.specs.Words.{left_after}
 use Rattle.walk_definitions.specs.Reading.{run_in}
 use Rattle.listing_readers.specs.Read.{taken, sheet_view}
@@ -11,7 +12,7 @@ returns-then-index-eq0 c limit =
     let sheet = sheet_view c.args.sheet in
     let parametric_run = parametric_run_of limit c.args.request.now in
     let bytes = c.args.cursor.now in
-    let whole = run_in sheet parametric_run bytes 1 parametric_run.from bytes in
+    let whole = run_in checker_of_128_bits sheet parametric_run bytes 1 parametric_run.from bytes in
     let i = c.loop-index.index in
     let last = c.loop-index.last in
     let rest = c.loop-index.cursor in
@@ -26,7 +27,7 @@ returns-then-not-begins_interval c limit =
     let sheet = sheet_view c.args.sheet in
     let parametric_run = parametric_run_of limit c.args.request.now in
     let bytes = c.args.cursor.now in
-    let whole = run_in sheet parametric_run bytes 1 parametric_run.from bytes in
+    let whole = run_in checker_of_128_bits sheet parametric_run bytes 1 parametric_run.from bytes in
     let i = c.loop-index.index in
     let last = c.loop-index.last in
     let rest = c.loop-index.cursor in
@@ -41,7 +42,7 @@ returns-in_err-last c limit =
     let sheet = sheet_view c.args.sheet in
     let parametric_run = parametric_run_of limit c.args.request.now in
     let bytes = c.args.cursor.now in
-    let whole = run_in sheet parametric_run bytes 1 parametric_run.from bytes in
+    let whole = run_in checker_of_128_bits sheet parametric_run bytes 1 parametric_run.from bytes in
     let i = c.loop-index.index in
     let last = c.loop-index.last in
     let rest = c.loop-index.cursor in
@@ -56,7 +57,7 @@ loop-index-preserved c limit =
     let sheet = sheet_view c.args.sheet in
     let parametric_run = parametric_run_of limit c.args.request.now in
     let bytes = c.args.cursor.now in
-    let whole = run_in sheet parametric_run bytes 1 parametric_run.from bytes in
+    let whole = run_in checker_of_128_bits sheet parametric_run bytes 1 parametric_run.from bytes in
     let i = c.loop-index.index in
     let last = c.loop-index.last in
     let rest = c.loop-index.cursor in

@@ -1,4 +1,5 @@
 use Rattle.std.proofs.Common.{ap, length}
+use Rattle.walk_definitions.specs.Checkers.{checker_of_128_bits}
 use Rattle.listing_check.specs.declared.status.CheckStatus.TheVariants.{Words}
 use Rattle.listing_check.specs.Statuses.{code_of}
 use Rattle.listing_check.specs.Answer.{words_text}
@@ -13,7 +14,7 @@ returns-then-is_empty-clause-answer g c bytes lines none job listing =
 
 pub returns-then-is_empty-clause-truth : goal.returns-then-is_empty-clause-truth
 returns-then-is_empty-clause-truth g c is bytes lines job listing =
-    true_listing c.attested_law.ensures bytes lines _ (code_of c.check_job.result) _ (returns-then-is_empty-clause-answer g c bytes lines (without (length c.args.words.now) c.if-is_empty.ensures) job listing) (ap code_of is)
+    true_listing (c.attested_law.ensures checker_of_128_bits) bytes lines _ (code_of c.check_job.result) _ (returns-then-is_empty-clause-answer g c bytes lines (without (length c.args.words.now) c.if-is_empty.ensures) job listing) (ap code_of is)
 
 pub returns-then-is_empty-clause-cause : goal.returns-then-is_empty-clause-cause
 returns-then-is_empty-clause-cause g c =

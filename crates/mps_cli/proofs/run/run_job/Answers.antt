@@ -8,7 +8,7 @@ use Rattle.answer_definitions.specs.Real.{linear_programming}
 use Rattle.mps_cli.specs.Causes.{nothing}
 use Rattle.mps_cli.proofs.Why.{why_words, ending_cause, same_cause, same_punch}
 use Rattle.mps_cli.proofs.Reported.{reported_stop, still_stop}
-use Rattle.mps_cli.proofs.Truth.{complete_answer, decided_answer, stopped_headline, same_headline}
+use Rattle.mps_cli.proofs.Truth.{once_answer, stopped_headline, same_headline}
 use Rattle.mps_cli.proofs.run.run_job.Goals as goal
 
 -- ---- a job is asked for
@@ -17,11 +17,8 @@ pub returns-in-Ok-clause-headline : goal.returns-in-Ok-clause-headline
 returns-in-Ok-clause-headline g c =
     same_headline (asked (map string_bytes c.args.words.now)) (g.S.Source.given c.args.job.now).left c.run_request.result _ _ _ c.in-Ok.request c.in-Ok.ensures.accepted c.run_request.ensures.headline
 
-pub returns-in-Ok-clause-complete : goal.returns-in-Ok-clause-complete
-returns-in-Ok-clause-complete g c job is = complete_answer (returns-in-Ok-clause-headline g c job is)
-
-pub returns-in-Ok-clause-decided : goal.returns-in-Ok-clause-decided
-returns-in-Ok-clause-decided g c job is = decided_answer (returns-in-Ok-clause-headline g c job is)
+pub returns-in-Ok-clause-one_run : goal.returns-in-Ok-clause-one_run
+returns-in-Ok-clause-one_run g c job is = once_answer (returns-in-Ok-clause-headline g c job is)
 
 pub returns-in-Ok-clause-stands : goal.returns-in-Ok-clause-stands
 returns-in-Ok-clause-stands g c job is = stands_after linear_programming (returns-in-Ok-clause-headline g c job is)
@@ -43,11 +40,8 @@ returns-in-Err-clause-headline g c =
     c.in-Err.stop (λ e. c.in-Err.ensures.refused (ap (λ s. Err s) e))
     (subst (λ (stop : EarlyStop). EndsWith (g.P.Sink.taken c.args.print.now) (g.P.Sink.taken c.end_job.new.print) stop c.end_job.result) c.from.ensures c.end_job.ensures)
 
-pub returns-in-Err-clause-complete : goal.returns-in-Err-clause-complete
-returns-in-Err-clause-complete g c job is = complete_answer (returns-in-Err-clause-headline g c job is)
-
-pub returns-in-Err-clause-decided : goal.returns-in-Err-clause-decided
-returns-in-Err-clause-decided g c job is = decided_answer (returns-in-Err-clause-headline g c job is)
+pub returns-in-Err-clause-one_run : goal.returns-in-Err-clause-one_run
+returns-in-Err-clause-one_run g c job is = once_answer (returns-in-Err-clause-headline g c job is)
 
 pub returns-in-Err-clause-stands : goal.returns-in-Err-clause-stands
 returns-in-Err-clause-stands g c job is = stands_after linear_programming (returns-in-Err-clause-headline g c job is)

@@ -1,24 +1,17 @@
-#!/usr/bin/env python3
-"""Tries the reading of decks (oracle/decks.py) on free decks and free revisions whose answers were worked out by hand, and free_deck.py: each
-job of examples/ has the same listing and punched deck with its decks made free, and free and fixed again; what the other form can't say is
-refused with its card. Where the proved program is fresh, it is tried on the same. dev/check.sh runs it.
+"""The reading of decks (oracle/decks.py) on free decks and free revisions whose answers were worked out by hand, and free_deck.py: each job of
+examples/ has the same listing and punched deck with its decks made free, and free and fixed again; what the other form can't say is refused
+with its card. Where the proved program is fresh, it is tried on the same."""
+import functools
+import subprocess
+import sys
 
-usage: check_decks.py      ends with 1 where a result is another"""
-import subprocess, sys
 import places
+import pytest
 from mps360 import programs
 from mps360.cli import free_deck
 from oracle import listing as expected_listing
 
-SCRIPT = programs.TOP / "scripts/free_deck.py"
-wrong = 0
-
-
-def check(what, holds):
-    global wrong
-    if not holds:
-        wrong += 1
-        print(f"check_decks: {what}", file=sys.stderr)
+SCRIPT = places.SCRIPTS / "free_deck.py"
 
 
 def program_of(*verbs):
@@ -173,15 +166,25 @@ def listing_of(text):
     return ("\n".join(run.lines) + "\n").encode(), "".join(card + "\n" for card in run.punched).encode() or None
 
 
-def try_cases(program):
-    for cases in (entry_cases, row_cases, combination_cases, set_cases, name_cases, revision_cases):
-        for cards, told in cases():
-            text = "\n".join(cards) + "\n"
-            lines = listing_of(text)[0].decode().splitlines()
-            check(f"oracle/decks.py: {told} isn't in {lines} of\n{text}", told in lines and (lines[-1] == told or not told.startswith("STOP")))
-            if program:
-                lines = programs.run_proved(program, text.encode())[1].decode().splitlines()
-                check(f"the program: {told} isn't in {lines} of\n{text}", told in lines and (lines[-1] == told or not told.startswith("STOP")))
+@functools.cache
+def proved_program():
+    return programs.proved_program()
+
+
+@pytest.mark.parametrize("cases", (entry_cases, row_cases, combination_cases, set_cases, name_cases, revision_cases))
+def test_decks_by_hand(cases):
+    "each deck has the answer that was worked out, by the reading apart and, where it is there, by the proved program"
+    count = 0
+    for cards, told in cases():
+        text = "\n".join(cards) + "\n"
+        listings = {"oracle/decks.py": listing_of(text)[0]}
+        if proved_program():
+            listings["the program"] = programs.run_proved(proved_program(), text.encode())[1]
+        for who, listing in listings.items():
+            lines = listing.decode().splitlines()
+            assert told in lines and (lines[-1] == told or not told.startswith("STOP")), f"{who}: {told} isn't in {lines} of\n{text}"
+        count += 1
+    assert count > 10
 
 
 def turned(text, is_free, said):
@@ -192,22 +195,23 @@ def turned(text, is_free, said):
         return 65, "", [str(cause)]
 
 
-def try_examples(program):
-    for path in sorted((programs.TOP / "examples").glob("*.job")):
-        punch = path.with_suffix(".punch")
-        wanted = path.with_suffix(".listing").read_bytes(), punch.read_bytes() if punch.exists() else None
-        said = []
-        free = turned(path.read_text(), True, said)[1]
-        fixed = turned(free, False, said)[1]
-        check(f"free_deck.py: {path.name}: {said}", "  FREE\n" in free and "  FREE\n" not in fixed and not said)
-        check(f"free_deck.py: {path.name}, twice", turned(free, True, said)[1] == free and turned(turned(fixed, True, said)[1], False, said)[1] == fixed)
-        for form, text in (("free", free), ("fixed again", fixed)):
-            check(f"{path.name}, {form}: its listing or punched deck is another", listing_of(text) == wanted)
-            if program:
-                check(f"{path.name}, {form}: the program answers otherwise", programs.run_proved(program, text.encode())[1:] == wanted)
-        if punch.exists():
-            alone = turned(punch.read_text(), True, said)[1]
-            check(f"free_deck.py: a deck alone, {punch.name}: {said}", not said and turned(alone, False, said)[1] == punch.read_text())
+@pytest.mark.parametrize("name", sorted(path.name for path in places.EXAMPLES.glob("*.job")))
+def test_an_example_in_the_other_form(name):
+    path = places.EXAMPLES / name
+    punch = path.with_suffix(".punch")
+    wanted = path.with_suffix(".listing").read_bytes(), punch.read_bytes() if punch.exists() else None
+    said = []
+    free = turned(path.read_text(), True, said)[1]
+    fixed = turned(free, False, said)[1]
+    assert "  FREE\n" in free and "  FREE\n" not in fixed and not said, said
+    assert turned(free, True, said)[1] == free and turned(turned(fixed, True, said)[1], False, said)[1] == fixed, "turned twice"
+    for form, text in (("free", free), ("fixed again", fixed)):
+        assert listing_of(text) == wanted, f"{form}: its listing or punched deck is another"
+        if proved_program():
+            assert programs.run_proved(proved_program(), text.encode())[1:] == wanted, f"{form}: the program answers otherwise"
+    if punch.exists():
+        alone = turned(punch.read_text(), True, said)[1]
+        assert not said and turned(alone, False, said)[1] == punch.read_text(), f"a deck alone: {said}"
 
 
 HEAD = "NAME          T\nROWS\n N  COST\n L  A B\n L  LOW\nCOLUMNS\n    X         COST      1\n"
@@ -239,27 +243,17 @@ TURNED = (
 )
 
 
-def try_turning():
-    for deck, words, status, said in TURNED:
-        told = turned(deck, not words, [])
-        check(f"free_deck.py: {told} of\n{deck}", told[0] == status and said in "\n".join(told[2]) and bool(told[1]) == (status == 0))
+@pytest.mark.parametrize("deck, words, status, said", TURNED)
+def test_what_is_turned_and_what_is_refused(deck, words, status, said):
+    told = turned(deck, not words, [])
+    assert told[0] == status and said in "\n".join(told[2]) and bool(told[1]) == (status == 0), told
+
+
+@pytest.mark.parametrize("words, status, end", (
+    ((), 0, b"\r\n X COST 1\r\nENDATA  \r\n"), (("--fixed",), 0, b"1\r\nENDATA  \r\n"), (("--free",), 64, b""), (("a", "b"), 64, b""),
+    (("/",), 66, b""), (("/none",), 66, b""), (("/dev/null",), 65, b"")))
+def test_the_command(words, status, end):
+    "line ends stay as they were; wrong use and what can't be read have their statuses"
     carried = (HEAD.replace("A B", "AB").replace("\n", "\r\n") + "ENDATA  \r\n").encode()
-    for words, status, end in (((), 0, b"\r\n X COST 1\r\nENDATA  \r\n"), (("--fixed",), 0, b"1\r\nENDATA  \r\n"), (("--free",), 64, b""), (("a", "b"), 64, b""),
-                               (("/",), 66, b""), (("/none",), 66, b""), (("/dev/null",), 65, b"")):
-        told = subprocess.run([sys.executable, SCRIPT, *words], input=carried, capture_output=True, timeout=60)
-        check(f"free_deck.py {words}: {told}", told.returncode == status and told.stdout.endswith(end) and bool(told.stdout) == bool(end))
-
-
-def main():
-    if len(sys.argv) > 1:
-        print(__doc__)
-        return 0 if sys.argv[1] in ("-h", "--help") else 64
-    program = programs.proved_program()
-    try_cases(program)
-    try_examples(program)
-    try_turning()
-    return 1 if wrong else 0
-
-
-if __name__ == "__main__":
-    sys.exit(main())
+    told = subprocess.run([sys.executable, SCRIPT, *words], input=carried, capture_output=True, timeout=60, check=False)
+    assert told.returncode == status and told.stdout.endswith(end) and bool(told.stdout) == bool(end), told

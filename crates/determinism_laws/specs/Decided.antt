@@ -1,8 +1,5 @@
--- Completeness: a job is answered as its run, where this meets no evidence of an overflow; unless a
--- device fails or memory runs out. A program that gives up doesn't keep this promise.
---     IsAnswerOfRun bytes status ..   the status, and what print and punch gain, are those of the run
+-- What an answer to a job says of the job's runs.
 --     IsCutOff failures status        a device has failed or memory has run out, and the status says so
---     IsComplete job ..               the promise
 --     IsBrokenOff bytes status ..     the status is 20, and a run that stops with an overflow is the
 --                                     beginning of another one
 --     IsDecided job ..                each run that doesn't stop with an overflow decides the answer
@@ -13,7 +10,7 @@ use Rattle.listing_definitions.specs.Ending.{Overflow, Ending, OverflowStop, Rea
 use Rattle.listing_definitions.specs.Listing.{listing}
 use Rattle.question_definitions.specs.Solving.{Solving}
 use Rattle.run_definitions.specs.Answer.{Job, bytes_of, Failures, IsJobRun}
-use Rattle.determinism_laws.specs.Laws.{IsOverflow, AreSame, Continues, MeetsNoEvidence}
+use Rattle.determinism_laws.specs.Laws.{IsOverflow, Continues}
 
 -- A read of the job has failed, and the status is 24; or a write to the print, and it is 25; or a
 -- write to the punch, and it is 26; or it is 28: memory runs out.
@@ -24,29 +21,6 @@ pub data IsCutOff (failures : Failures) (status : ℕ) : Type 0 where
   memory_wanted : status ≡ status_of Memory → IsCutOff failures status
 
 module _ (S : Solving) where
-  -- The job has one run, and this doesn't stop with an overflow. The status is that of its end, the
-  -- print gains its whole listing, and the punch all its cards.
-  pub record IsAnswerOfRun (bytes : List ℕ) (status : ℕ) (PrintGains PunchGains : List ℕ → Type 0) :
-      Type 0 where
-    pub reports : List Report
-    pub cards : List (List ℕ)
-    pub ending : Ending
-    pub runs : IsJobRun S bytes reports cards ending
-    pub is_only : (others : List Report) (other_cards : List (List ℕ)) (other : Ending) →
-        IsJobRun S bytes others other_cards other →
-        AreSame reports others cards other_cards ending other
-    pub no_overflow : IsOverflow ending → ⊥
-    pub is_status : status ≡ status_of ending
-    pub print_gains : PrintGains (listing reports ending)
-    pub punch_gains : PunchGains (card_text cards)
-
-  -- COMPLETENESS. Where no evidence of an overflow holds at any moment of the run of a job's bytes,
-  -- the job is answered as this run; or it is cut off, since a device fails or memory runs out.
-  abbrev pub IsComplete : Job → Failures → ℕ → (List ℕ → Type 0) → (List ℕ → Type 0) → Type 0
-  IsComplete job failures status PrintGains PunchGains = (bytes : List ℕ) →
-      bytes_of job ≡ Some bytes → MeetsNoEvidence S bytes →
-      IsAnswerOfRun bytes status PrintGains PunchGains ⊎ IsCutOff failures status
-
   -- The status is 20. The print gains the whole listing of a run that stops with an overflow, and the
   -- punch all its cards; and the run with these reports and these cards goes on where it stops.
   pub record IsBrokenOff (bytes : List ℕ) (reports : List Report) (cards : List (List ℕ)) (status : ℕ)
