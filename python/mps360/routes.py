@@ -57,7 +57,13 @@ class Plan:
     processors: int = field(default_factory=processors_here)   # from two on PRIMAL goes on beside the others
 
     def takes(self, route: str) -> bool:
+        "whether a route is tried"
         return self.only in (None, route)
+
+    @property
+    def is_one_solver(self) -> bool:
+        "whether one solver alone is asked, and has all of the time"
+        return self.only == "exact" or self.only == "basis" and self.solvers is not None and len(self.solvers) == 1
 
 
 @dataclass(frozen=True)
@@ -274,7 +280,7 @@ class Routes:
             self.fails(attempt, f"no basis of {solver.title}: {str(cause).splitlines()[0]}")
             return
         self.first_basis = self.first_basis or self.plain_form().deck(attempt.basis)
-        self.try_basis(attempt, self.plan.run_seconds)
+        self.try_basis(attempt, None if self.plan.is_one_solver else self.plan.run_seconds)
 
     def fails(self, attempt: Attempt, cause: str) -> None:
         self.observer.say(cause)
@@ -286,7 +292,8 @@ class Routes:
 
     def asked(self, ask: Callable[[], Request], solver: Solver) -> Request:
         "a solver's request once the solver has ended; NoBasis where it doesn't"
-        seconds, limit = self.seconds_for(self.plan.solver_seconds), self.limit_of(self.plan.solver_seconds)
+        wanted = None if self.plan.is_one_solver else self.plan.solver_seconds
+        seconds, limit = self.seconds_for(wanted), self.limit_of(wanted)
         request = ask()
         ended = self.wait(request.process, seconds, lambda: f"waits for a basis of {solver.title}")
         request.process.end()
