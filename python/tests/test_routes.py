@@ -156,7 +156,8 @@ def test_primal_goes_on_beside(tmp_path):
     with fakes.only_path(tmp_path) as pids:
         fakes.program(tmp_path, "clp", fakes.HANGS)
         outcome = run(tmp_path, plan(solvers=("clp",), opening_seconds=0.2), opening="late")
-        assert (outcome.status, outcome.attempt.words, outcome.routes[-1].why) == (0, routes.OPENING, None)
+        assert (outcome.status, outcome.attempt.words) == (0, routes.OPENING)
+        assert words_of(outcome) == ([routes.OPENING, "INSERT of clp's basis and PRIMAL"], [None, "another route came to a verdict first"])
         assert fakes.left_over(pids) == []
 
 
@@ -213,6 +214,14 @@ def test_a_program_that_gives_no_answer(tmp_path):
         with pytest.raises(runs.NoAnswer) as none:
             run(tmp_path, plan(solvers=()), opening="fails")
     assert none.value.status == 70
+
+
+def test_a_run_from_a_basis_that_gives_no_answer(tmp_path):
+    "it ends its route alone"
+    with fakes.only_path(tmp_path):
+        fakes.program(tmp_path, "clp", fakes.WRITES, content=GOOD_DECK)
+        outcome = run(tmp_path, plan(solvers=("clp",)), inserted="fails")
+    assert outcome.status == 20 and outcome.routes[1].why == "INSERT of clp's basis and PRIMAL: the program gave no answer (it ended with 70)"
 
 
 def test_a_program_that_cant_be_run(tmp_path):
