@@ -33,18 +33,9 @@ def moved_limits(split: Split) -> dict[tuple[str, str], dict[str, str]]:
     return found
 
 
-def left_over(split: Split, column: str, wanted: Fraction, prices: Entries) -> Fraction:
-    "what is left of a number of a column of the file once its entries, each times the row's price, are taken away"
-    numbers = Sums(split.file).of(column)
-    return wanted - sum((numbers[row] * prices.get(row, ZERO) for row in numbers), ZERO)
-
-
-def of_one(split: Split, prices: Entries) -> Entries:
-    "what is left over on the column that is fixed at 1"
-    if split.one is None:
-        return {}
-    numbers = Sums(split.model).of(split.one)
-    return {split.one: -sum((value * prices.get(row, ZERO) for row, value in numbers.items()), ZERO)}
+def left_over(sums: Sums, column: str, wanted: Fraction, prices: Entries) -> Fraction:
+    "what is left of a number of a column once its entries, each times the row's price, are taken away"
+    return wanted - sum((value * prices.get(row, ZERO) for row, value in sums.of(column).items()), ZERO)
 
 
 def in_short(answer: Answer, split: Split) -> Answer:
@@ -58,7 +49,8 @@ def in_short(answer: Answer, split: Split) -> Answer:
     def end_of(price: Fraction) -> str:
         return "lower" if sign * price > 0 else "upper"
 
-    costs = {name: split.file.columns[name].get(split.file.objective, ZERO) for of, name in moved_limits(split) if of == "column"}
+    sums = Sums(split.file)
+    costs = {name: sums.of(name).get(split.file.objective, ZERO) for of, name in moved_limits(split) if of == "column"}
     prices, reduced = dealt_out(split, answer.prices, answer.reduced, costs, end_of)
     return replace(answer, columns=columns, prices=prices, reduced=reduced)
 
@@ -72,12 +64,12 @@ def dealt_out(split: Split, of_rows: Entries, of_columns: Entries | None, wanted
               end_of: Callable[[Fraction], str]) -> tuple[Entries, Entries | None]:
     """the prices (or multipliers) of rows and of columns, where those that belong to limits which are rows go to these; the end is the one on
     which a price of this sign bears. Those of columns may be None: not known, as with what is worked out of the rows'"""
-    rows, columns = dict(of_rows), None if of_columns is None else dict(of_columns)
+    rows, columns, sums = dict(of_rows), None if of_columns is None else dict(of_columns), Sums(split.file)
     for (of, name), ends in moved_limits(split).items():
         if of == "row":
             price = of_rows.get(name, ZERO)
         else:
-            price = left_over(split, name, wanted.get(name, ZERO), of_rows) if of_columns is None else of_columns.get(name, ZERO)
+            price = left_over(sums, name, wanted.get(name, ZERO), of_rows) if of_columns is None else of_columns.get(name, ZERO)
         end = "both" if "both" in ends else end_of(price)
         if not price or end not in ends:
             continue
@@ -86,7 +78,9 @@ def dealt_out(split: Split, of_rows: Entries, of_columns: Entries | None, wanted
             del rows[name]
         elif columns is not None:
             columns[name] = ZERO
-    return rows, None if columns is None else columns | of_one(split, rows)
+    if columns is not None and split.one:
+        columns[split.one] = left_over(Sums(split.model), split.one, ZERO, rows)
+    return rows, columns
 
 
 def crossed_in_short(answer: Answer, split: Split) -> Answer:

@@ -190,14 +190,25 @@ class Splitter:
         return self.split
 
     def rows_to_cut(self) -> dict[str, Entries]:
-        "the entries of the rows that have a long one; all others go to the new columns as they are"
+        "the entries of the rows that have a long one, or are to have one; all others go to the new columns as they are"
         cut: dict[str, Entries] = {row: {} for entries in self.file.columns.values() for row, value in entries.items() if is_long(value)}
+        for row, right in self.file.rhs.get(self.file.rhs_set, {}).items():
+            if self.is_shifted(row) and row not in self.file.parts and is_long(halves(right, self.file)[1]):
+                cut[row] = {}
         for column, entries in self.file.columns.items():
             self.new.columns[column] = {row: value for row, value in entries.items() if row not in cut}
             for row, value in entries.items():
                 if row in cut:
                     cut[row][column] = value
         return cut
+
+    def has_long_range(self, row: str) -> bool:
+        return is_long(self.file.ranges.get(self.file.range_set, {}).get(row))
+
+    def is_shifted(self, row: str) -> bool:
+        "whether the row keeps the leading digits of its right-hand side alone"
+        right = self.file.rhs.get(self.file.rhs_set, {}).get(row)
+        return self.file.rows[row] != "N" and is_long(right) and not self.has_long_range(row)
 
     # ---- names
 
@@ -226,11 +237,10 @@ class Splitter:
     # ---- rows
 
     def take_row(self, row: str, kind: str) -> None:
-        right = self.file.rhs.get(self.file.rhs_set, {}).get(row)
-        if kind != "N" and is_long(self.file.ranges.get(self.file.range_set, {}).get(row)):
+        if kind != "N" and self.has_long_range(row):
             self.take_range(row)
-        elif kind != "N" and right is not None and is_long(right):
-            self.rhs[row], self.split.shifts[row] = halves(right, self.file)
+        elif self.is_shifted(row):
+            self.rhs[row], self.split.shifts[row] = halves(self.rhs[row], self.file)
             self.put(row, kind, {self.one(): -self.split.shifts[row]})
         else:
             self.put(row, kind, {})
@@ -242,14 +252,15 @@ class Splitter:
         elif row in self.entries:
             self.put_digits(row, kind, self.entries[row] | more)
         else:
-            self.put_entries(row, kind, more)
+            self.put_short(row, kind, more)
 
-    def put_entries(self, row: str, kind: str, entries: Entries) -> None:
-        "entries of a row, which is plain where they are all short"
-        if any(is_long(value) for value in entries.values()):
-            already = {column: value for column, numbers in self.new.columns.items() if (value := numbers.pop(row, None)) is not None}
-            self.put_digits(row, kind, already | entries)
-            return
+    def put_new(self, row: str, kind: str, entries: Entries) -> None:
+        "a row that the file hasn't"
+        put = self.put_digits if any(is_long(value) for value in entries.values()) else self.put_short
+        put(row, kind, entries)
+
+    def put_short(self, row: str, kind: str, entries: Entries) -> None:
+        "a plain row, with these entries beside those that it has"
         self.new.rows[row] = kind
         for column, value in entries.items():
             self.new.columns[column][row] = value
@@ -274,7 +285,7 @@ class Splitter:
             self.long_multipliers.append(row)
         if more:
             name = self.add_row("P")
-            self.put_entries(name, "N", more)
+            self.put_new(name, "N", more)
             parts[name] = UNIT
         self.new.rows[row], self.new.parts[row] = kind, parts
 
@@ -303,7 +314,7 @@ class Splitter:
             if is_long(limit):
                 limit, shift = halves(limit, self.file)
                 part = self.add_row("P")
-                self.put_entries(part, "N", {self.one(): -shift})
+                self.put_new(part, "N", {self.one(): -shift})
                 self.new.parts[name][part] = UNIT
             self.new.rows[name] = kind
             self.set_right(name, limit)
@@ -326,7 +337,7 @@ class Splitter:
             if limit is not None and is_long(limit):
                 head, shift = halves(limit, self.file)
                 name = self.add_row("B")
-                self.put_entries(name, kind, {column: UNIT, self.one(): -shift})
+                self.put_new(name, kind, {column: UNIT, self.one(): -shift})
                 self.set_right(name, head)
                 self.split.moved[name] = Moved("column", column, end, shift)
         self.new.bounds[self.file.bound_set][column] = replace(limits, lower=None if is_long(lower) else lower, upper=None if is_long(upper) else upper)

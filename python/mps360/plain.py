@@ -13,7 +13,7 @@ from mps360 import numbers
 from mps360.bases import BASIC, UPPER, Basis
 from mps360.listings.write import Answer
 from mps360.errors import Refused
-from mps360.model import Limits, Model
+from mps360.model import Limits, Model, Sums
 
 ZERO = Fraction(0)
 Table = Mapping[str, Fraction]
@@ -64,11 +64,11 @@ class Plain:
 
     def made(self) -> Model:
         "the plain model"
-        source, short = self.source, {row: f"R{k}" for k, row in enumerate(self.rows, 1)}
+        source, sums, short = self.source, Sums(self.source), {row: f"R{k}" for k, row in enumerate(self.rows, 1)}
         model = Model("PLAIN", "MIN", "COST", rhs_set="RHS", range_set="RNG", bound_set="BND")
         model.rows = {"COST": "N", **{name: source.rows[row] for row, name in short.items()}}
         for k, column in enumerate(self.columns, 1):
-            entries = source.numbers_of(column)
+            entries = sums.of(column)
             model.columns[f"C{k}"] = {"COST": self.sign * entries.get(source.objective, ZERO), **{short[row]: value for row, value in entries.items() if row in short}}
         for name, ours, theirs in (("RHS", model.rhs, source.rhs.get(source.rhs_set)), ("RNG", model.ranges, source.ranges.get(source.range_set))):
             ours[name] = {short[row]: value for row, value in (theirs or {}).items() if row in short}

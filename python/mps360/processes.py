@@ -51,7 +51,17 @@ class Process:
     @property
     def status(self) -> int | None:
         "the exit status, below 0 for a signal; None while it runs"
-        return self.child.poll()
+        if self.has_ended():
+            self.close()
+        return self.child.returncode
+
+    def has_ended(self) -> bool:
+        "whether the program has ended; its number stays its own until close, so that no signal meets another program of this number"
+        if self.child.returncode is not None:
+            return True
+        if not hasattr(os, "waitid"):
+            return self.child.poll() is not None
+        return os.waitid(os.P_PID, self.child.pid, os.WEXITED | os.WNOHANG | os.WNOWAIT) is not None
 
     @property
     def seconds(self) -> float:
@@ -60,13 +70,13 @@ class Process:
 
     def is_over(self) -> bool:
         "whether it has ended; on the way its new lines on standard error are told, and a file that grows without end ends it"
-        over = self.child.poll() is not None
-        self.relay()
-        if not over and not self.place and any(size_of(path) > MOST_FILE for path in self.files()):
+        over = self.has_ended()
+        if over:
+            self.close()
+        elif not self.place and any(size_of(path) > MOST_FILE for path in self.files()):
             self.end()
-            return True
-        if over and self.ended_at is None:
-            self.ended_at = time.monotonic()
+            over = True
+        self.relay()
         return over
 
     def files(self) -> list[pathlib.Path]:
@@ -89,19 +99,34 @@ class Process:
             for line in lines.split(b"\n"):
                 self.tell(line.decode("utf-8", "replace"))
 
-    def end(self) -> None:
-        "ends the program and all of its process group; does nothing where it has ended by itself"
-        if self.child.poll() is None:
+    def ask_to_end(self) -> None:
+        "asks the program and all of its process group to end, where it runs"
+        if not self.has_ended():
             self.was_ended = True
-            for word in (signal.SIGTERM, signal.SIGKILL):
-                with contextlib.suppress(ProcessLookupError, subprocess.TimeoutExpired):
-                    os.killpg(self.child.pid, word)
-                    self.child.wait(GRACE)
+            self.tell_group(signal.SIGTERM)
+
+    def tell_group(self, number: signal.Signals) -> None:
+        "sends a signal to the process group, where one is left"
         with contextlib.suppress(ProcessLookupError):
-            # (what it has started and left behind)
-            os.killpg(self.child.pid, signal.SIGKILL)
-        self.child.wait()
+            os.killpg(self.child.pid, number)
+
+    def close(self) -> None:
+        "ends at once what is left of the process group: the program, where it runs, and what it has started and left behind"
+        if self.child.returncode is None:
+            self.was_ended = self.was_ended or not self.has_ended()
+            self.tell_group(signal.SIGKILL)
+            self.child.wait()
         self.ended_at = self.ended_at or time.monotonic()
+
+    def end(self, grace: float = GRACE) -> None:
+        "ends the program and all that it has started, after so many seconds at once"
+        self.ask_to_end()
+        until = time.monotonic() + grace
+        try:
+            while not self.has_ended() and time.monotonic() < until:
+                time.sleep(SHORTEST)
+        finally:
+            self.close()
 
 
 class Processes:
@@ -117,8 +142,14 @@ class Processes:
     def __exit__(self, *_: object) -> None:
         try:
             for process in self.all:
-                process.end()
+                process.ask_to_end()
+            until = time.monotonic() + GRACE
+            for process in self.all:
+                process.end(max(0.0, until - time.monotonic()))
         finally:
+            # (also where the wait for them was interrupted)
+            for process in self.all:
+                process.close()
             self.folder.cleanup()
 
     def start(self, command: Sequence[str], given: bytes = b"", *, files: Mapping[str, bytes] | None = None, keeps: bool = True,

@@ -57,7 +57,13 @@ class Plan:
     processors: int = field(default_factory=processors_here)   # from two on PRIMAL goes on beside the others
 
     def takes(self, route: str) -> bool:
+        "whether a route is tried"
         return self.only in (None, route)
+
+    @property
+    def is_one_solver(self) -> bool:
+        "whether one solver alone is asked, and has all of the time"
+        return self.only == "exact" or self.only == "basis" and self.solvers is not None and len(self.solvers) == 1
 
 
 @dataclass(frozen=True)
@@ -117,8 +123,9 @@ class Routes:
                 self.prepare()
                 return self.outcome(self.last_of_all())
             except Decided as decided:
-                if self.opening:
-                    self.note(self.opening, "another route came to a verdict first")
+                for other in (self.opening, self.running):
+                    if other:
+                        self.note(other, "another route came to a verdict first")
                 self.note(decided.attempt, None)
                 return self.outcome(decided.attempt)
             except KeyboardInterrupt:
@@ -152,6 +159,7 @@ class Routes:
         return None if self.plan.seconds is None else max(0.0, self.plan.seconds - (time.monotonic() - self.begun))
 
     def seconds_for(self, wanted: float | None) -> float | None:
+        "the seconds that something is to have, no more than are left of all"
         left = self.left()
         return left if wanted is None else wanted if left is None else min(wanted, left)
 
@@ -161,6 +169,7 @@ class Routes:
         return wanted if left is None or wanted is not None and wanted <= left else self.plan.seconds
 
     def is_late(self) -> bool:
+        "whether no time is left"
         return self.left() == 0
 
     def wait(self, process: Process, seconds: float | None, waits: Callable[[], str]) -> bool:
@@ -190,6 +199,7 @@ class Routes:
         self.kept.append(attempt)
 
     def note(self, attempt: Attempt, why: str | None) -> None:
+        "the attempt was tried, and came to nothing for this reason, or to the verdict"
         self.tried.append((attempt.begun, Tried(attempt.words, round(time.monotonic() - attempt.begun, 3), why)))
 
     # ---- the routes
@@ -223,6 +233,7 @@ class Routes:
             raise NoBasis(f"none of {', '.join(solvers.NAMES)} is installed")
 
     def may_ask(self) -> bool:
+        "whether any solver may be asked"
         return self.plan.only != "primal" and self.plan.solvers != ()
 
     @functools.cached_property
@@ -232,6 +243,7 @@ class Routes:
         return solvers.installed(names) if self.may_ask() else []
 
     def start(self, attempt: Attempt) -> Attempt:
+        "begins to run the attempt's job"
         attempt.process = self.processes.start(self.program.command, attempt.job.encode("latin-1"), tell=self.observer.heard)
         return attempt
 
@@ -266,27 +278,31 @@ class Routes:
 
     def try_solver(self, solver: Solver) -> None:
         "asks a solver for a basis, and begins there"
-        attempt = Attempt(f"INSERT of {solver.title}'s basis and PRIMAL", "", solver=solver)
+        attempt = self.running = Attempt(f"INSERT of {solver.title}'s basis and PRIMAL", "", solver=solver)
         self.observer.going(f"asking {solver.title} for a basis")
         try:
             attempt.basis, attempt.written = self.asked(lambda: solver.ask(self.plain_form(), self.processes), solver).basis()
         except (NoBasis, Refused, OSError) as cause:
-            self.fails(attempt, f"no basis of {solver.title}: {str(cause).splitlines()[0]}")
+            self.fails(attempt, f"no basis of {solver.title}: {first_line(cause)}")
             return
         self.first_basis = self.first_basis or self.plain_form().deck(attempt.basis)
-        self.try_basis(attempt, self.plan.run_seconds)
+        self.try_basis(attempt, None if self.plan.is_one_solver else self.plan.run_seconds)
 
     def fails(self, attempt: Attempt, cause: str) -> None:
+        "the attempt comes to nothing, without a run that stands"
+        self.running = None
         self.observer.say(cause)
         self.note(attempt, cause)
 
     def plain_form(self) -> Plain:
+        "the plain form of the file's model, made once"
         self.plain = self.plain or Plain(self.job.file)
         return self.plain
 
     def asked(self, ask: Callable[[], Request], solver: Solver) -> Request:
         "a solver's request once the solver has ended; NoBasis where it doesn't"
-        seconds, limit = self.seconds_for(self.plan.solver_seconds), self.limit_of(self.plan.solver_seconds)
+        wanted = None if self.plan.is_one_solver else self.plan.solver_seconds
+        seconds, limit = self.seconds_for(wanted), self.limit_of(wanted)
         request = ask()
         ended = self.wait(request.process, seconds, lambda: f"waits for a basis of {solver.title}")
         request.process.end()
@@ -301,23 +317,25 @@ class Routes:
             self.observer.say(sentence)
         attempt.job = bases.with_insert(self.job, attempt.basis)
         self.running = self.start(attempt)
-        limit = self.limit_of(seconds)
-        self.wait(self.running_process(), self.seconds_for(seconds), lambda: waits_for(attempt))
-        self.running_process().end()
+        process, limit = attempt.process, self.limit_of(seconds)
+        assert process is not None
+        self.wait(process, self.seconds_for(seconds), lambda: waits_for(attempt))
+        process.end()
         self.running = None
-        attempt.read(limit)
+        try:
+            attempt.read(limit)
+        except NoAnswer as cause:
+            self.fails(attempt, f"{attempt.words}: {cause}")
+            return
         self.judge(attempt)
-
-    def running_process(self) -> Process:
-        assert self.running is not None and self.running.process is not None
-        return self.running.process
 
     def try_exact(self) -> None:
         "esolver's exact answer, attested by the checker"
         solver = next((one for one in self.those_asked if one.name == EXACT_SOLVER), None)
         if solver is None:
             return
-        attempt = Attempt(f"{solver.title}'s exact answer, attested by the checker", self.job.text, solver=solver, by_checker=True, status=0)
+        words = f"{solver.title}'s exact answer, attested by the checker"
+        attempt = self.running = Attempt(words, self.job.text, solver=solver, by_checker=True, status=0)
         try:
             if self.checker is None:
                 raise NoBasis("no checker of listings is at hand (scripts/build.sh builds it)")
@@ -329,8 +347,9 @@ class Routes:
             self.attest(attempt)
             attempt.seconds = time.monotonic() - attempt.begun
         except (NoBasis, Refused, OSError, solutions.NoSolution, write.Refused) as cause:
-            self.fails(attempt, f"no exact answer of {solver.title}: {str(cause).splitlines()[0]}")
+            self.fails(attempt, f"no exact answer of {solver.title}: {first_line(cause)}")
             return
+        self.running = None
         raise Decided(attempt)
 
     def listing_of(self, text: str) -> str:
@@ -357,3 +376,8 @@ class Routes:
         if self.tried and not self.is_late():
             raise NoBasis("; ".join(tried.why for _, tried in self.tried if tried.why))
         return Attempt(OPENING, self.job.text, why=f"no end in {shown(self.plan.seconds)} seconds")
+
+
+def first_line(cause: Exception) -> str:
+    "the first line of what an exception says"
+    return str(cause).partition("\n")[0]

@@ -70,6 +70,7 @@ class Attempt:
 
     @property
     def verdict(self) -> re.Match[str] | None:
+        "the first verdict of PRIMAL in its listing: the word, the steps and the objective"
         return next((found for line in self.lines() if (found := VERDICT.match(line))), None)
 
     def lines(self) -> list[str]:

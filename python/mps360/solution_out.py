@@ -12,7 +12,7 @@ from fractions import Fraction
 
 from mps360.bases import BASIC, FREE, LOWER, UPPER, Basis
 from mps360.errors import Refused
-from mps360.model import Model
+from mps360.model import Model, Sums
 from mps360.plain import basis_cards, has_two
 
 AT = {"BS": BASIC, "LL": LOWER, "UL": UPPER, "EQ": LOWER, "FR": FREE, "**": BASIC}
@@ -128,7 +128,8 @@ def point_of(model: Model, rows: Sequence[Cell], columns: Sequence[Cell], *, bas
         return Line(name, stands[name] if basis else AT[at], activity, price, limits)
 
     listed = dict(zip(model.rows, rows, strict=True))
-    entries = sum(model.rows.get(row, "N") != "N" for column in model.columns for row in model.numbers_of(column))
+    sums = Sums(model)
+    entries = sum(model.rows.get(row, "N") != "N" for column in model.columns for row in sums.of(column))
     return Point(model.name, model.objective or "", model.sense or "MIN", listed[model.objective][1] + model.constant, entries,
                  tuple(line(row, cell, row_at, model.row_limits(row)) for row, cell in listed.items() if model.rows[row] != "N"),
                  tuple(line(name, cell, column_at, model.column_limits(name)) for name, cell in zip(model.columns, columns, strict=True)), has_basis)

@@ -56,6 +56,7 @@ class Solver:
 
     @property
     def title(self) -> str:
+        "its name as people write it"
         return TITLES.get(self.name, self.name)
 
     def ask(self, plain: Plain, processes: Processes) -> Request:

@@ -11,7 +11,7 @@ from collections.abc import Mapping
 from fractions import Fraction
 
 from mps360.bases import BASIC, FREE, LOWER, UPPER, Basis, opening
-from mps360.model import Model
+from mps360.model import Model, Sums
 
 PRIME = (1 << 61) - 1   # entries are reduced modulo this one: a sum that is 0 there is taken for one that is 0
 NEAR = 1e-7             # closer to a limit, relative to its size, a value stands at it; a smaller marginal is 0
@@ -73,9 +73,9 @@ def modular(value: Fraction) -> int:
     return value.numerator % PRIME * pow(value.denominator, -1, PRIME) % PRIME if value.denominator > 1 else value.numerator % PRIME
 
 
-def entries_of(model: Model, column: str, place: Mapping[str, int]) -> dict[int, int]:
-    "the entries of a column on the rows that have a place, modulo PRIME"
-    found = {place[row]: modular(value) for row, value in model.numbers_of(column).items() if row in place}
+def entries_of(numbers: Mapping[str, Fraction], place: Mapping[str, int]) -> dict[int, int]:
+    "the numbers of a column on the rows that have a place, modulo PRIME"
+    found = {place[row]: modular(value) for row, value in numbers.items() if row in place}
     return {row: value for row, value in found.items() if value}
 
 
@@ -84,7 +84,8 @@ def of_values(model: Model, rows: Mapping[str, Pair], columns: Mapping[str, Pair
     then by the others, rows before columns. Each is taken where its column isn't a sum of multiples of those before it, so that the basis is
     nonsingular whatever the values are (but for a chance of some 1 to 2^61). KeyError where a row or a column has no pair."""
     place = {row: k for k, row in enumerate(row for row, kind in model.rows.items() if kind != "N")}
-    matrix = {column: entries_of(model, column, place) for column in model.columns}
+    sums = Sums(model)
+    matrix = {column: entries_of(sums.of(column), place) for column in model.columns}
     order = []
     for is_column, names, pairs, limits_of in ((0, place, rows, model.row_limits), (1, matrix, columns, model.column_limits)):
         for k, name in enumerate(names):

@@ -360,6 +360,17 @@ def test_prices_of_limits_that_are_rows():
     assert attesting.attest(job.text.encode(), listing.encode())[1].startswith("WRONG")
 
 
+def test_costs_that_are_sums():
+    "the objective is a combination, 2 P, so X of at most 2.00000000000000001 costs 2: its reduced cost is worked out from that"
+    model = model_of(["N P", "DN COST P 2", "G NEED"], ["X P 1", "X NEED 1", "Y P 1.5", "Y NEED 1"], ["B NEED 3"], (), ["UP BND X 2.00000000000000001"],
+                     objective="COST")
+    job, x = long_numbers.exact_job(model), Fraction("2.00000000000000001")
+    answer = Answer("optimal", columns={"X": x, "Y": 3 - x}, prices={"NEED": Fraction(3)})
+    listing = long_answers.listing_of(job, answer)
+    assert attesting.attest(job.text.encode(), listing.encode())[1].startswith("ATTESTED"), listing
+    exact_answers.check_solution(model, report_of(restored(job, listing), "solution"), 2 * x + 3 * (3 - x))
+
+
 def test_ray_of_limits_that_are_rows():
     model = model_of(["N COST", "G NEED"], ["X COST 1", "X NEED 1"], ["B NEED 3.00000000000000001"], (), ["UP BND X 3"])
     job = long_numbers.exact_job(model)

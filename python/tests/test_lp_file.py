@@ -97,6 +97,26 @@ def test_names_of_rows_without_names():
     assert list(read("min\nx\nst\n c2: x >= 1\n x >= 2\nend\n").rows) == ["obj", "c2", "c3"]
 
 
+# as these programs write a model: least 2 x + 3 y - 1, x + y at least 4, x - y from -2 to 5 or equal to 1, x at most 3
+WRITTEN = {
+    "PuLP": "\\* Plan *\\\nMinimize\nOBJ: 2 x + 3 y - 1\nSubject To\nneed: x + y >= 4\nmix: x - y = 1\nBounds\nx <= 3\nEnd\n",
+    "Pyomo": "\\* Source Pyomo model name=unknown *\\\n\nmin \nOBJ:\n-1 ONE\n+2 x\n+3 y\n\ns.t.\n\nneed:\n+1 x\n+1 y\n>= 4\n\n"
+             "mix:\n+1 x\n-1 y\n= 1\n\nc_e_ONE: \nONE = 1.0\n\nbounds\n   0 <= x <= 3\n   0 <= y <= +inf\nend\n",
+    "Gurobi": "\\ Model plan\n\\ LP format - for model browsing. Use MPS format to capture full model detail.\nMinimize\n  OBJ: 2 x + 3 y - 1 Constant\n"
+              "Subject To\n need: x + y >= 4\n mix: x - y = 1\nBounds\n x <= 3\n Constant = 1\nEnd\n",
+    "HiGHS": "\\ File written by HiGHS .lp file handler\nmin\n OBJ: +2 x +3 y  -1\nst\n need: +1 x +1 y >= +4\n mix: +1 x -1 y = +1\nbounds\n x <= 3\n"
+             " -inf <= y <= +inf\n y >= -inf\nend\n"}
+
+
+@pytest.mark.parametrize("program", WRITTEN)
+def test_what_modelling_tools_write(program):
+    model = read(WRITTEN[program])
+    assert model.columns["x"] == {"OBJ": 2, "need": 1, "mix": 1} and model.columns["y"] == {"OBJ": 3, "need": 1, "mix": -1}
+    assert model.row_limits("need") == (4, None) and model.row_limits("mix") == (1, 1) and limits_of(model)["x"] == (0, 3)
+    ones = [column for column in model.columns if column not in "xy"]
+    assert model.constant + sum(model.columns[column]["OBJ"] for column in ones) == -1 and (model.sense, model.warned) == ("MIN", [])
+
+
 def test_names_of_all_letters():
     model = read("min\nobj: !\"#$%&(),.;?@_`'{}|~ + é_ü + a/b.c[1]\nst\nc: é_ü >= 1\nend\n".replace("[1]", ""))
     assert list(model.columns) == ["!\"#$%&(),.;?@_`'{}|~", "é_ü", "a/b.c"]

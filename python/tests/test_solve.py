@@ -113,17 +113,17 @@ def test_no_plan(tmp_path):
 def test_no_end_within_the_seconds(tmp_path):
     program = fakes.program(tmp_path, "program", fakes.PROGRAM, opening="hangs", inserted="answers")
     begun = time.monotonic()
-    status, text, said = solve(tmp_path, "--seconds", "1", "--with", "none", path=tmp_path, program=program)
-    assert status == 124 and time.monotonic() - begun < 20 and "cut off before a verdict" in text
-    assert said.endswith("solve: no verdict: PRIMAL from the opening basis: no end in 1 seconds\n")
+    status, text, said = solve(tmp_path, "--seconds", "4", "--with", "none", path=tmp_path, program=program)
+    assert status == 124 and time.monotonic() - begun < 60 and "cut off before a verdict" in text
+    assert said.endswith("solve: no verdict: PRIMAL from the opening basis: no end in 4 seconds\n")
     assert fakes.left_over(tmp_path / "pids") == []
 
 
 def test_no_end_of_a_job_within_the_seconds(tmp_path):
     program = fakes.program(tmp_path, "program", fakes.HANGS)
-    ended = subprocess.run([sys.executable, places.SCRIPTS / "solve", "--program", program, "--seconds", "1", places.EXAMPLES / "first.job"], capture_output=True, timeout=60,
+    ended = subprocess.run([sys.executable, places.SCRIPTS / "solve", "--program", program, "--seconds", "4", places.EXAMPLES / "first.job"], capture_output=True, timeout=60,
                            check=False, env={**os.environ, "FAKE_PIDS": str(tmp_path / "pids")})
-    assert ended.returncode == 124 and b"no end in 1 seconds" in ended.stderr
+    assert ended.returncode == 124 and b"no end in 4 seconds" in ended.stderr
     assert fakes.left_over(tmp_path / "pids") == []
 
 

@@ -1,10 +1,13 @@
 """Solvers that are asked for a basis: those that are installed, recorded files of others, and stand-ins that crash, hang, or write nonsense or a basis of
 other names. The real ones are compared with each other's objective, which each basis gives by an elimination apart (test_value_bases.rank has one)."""
 import json
+import subprocess
+import sys
 import time
 from fractions import Fraction
 
 import fakes
+import places
 import pytest
 from mps360 import highs_files, solvers
 from mps360.bases import BASIC, UPPER
@@ -74,7 +77,7 @@ def model():
     return read_text(GLASS, Reading())
 
 
-def asked(name, seconds=30):
+def asked(name, seconds=120):
     "the basis of a solver, by the names of the model"
     with Processes() as processes:
         request = solvers.find(name).ask(Plain(model()), processes)
@@ -106,12 +109,31 @@ def test_an_exact_answer():
     plain = Plain(model())
     with Processes() as processes:
         request = solver.ask_exactly(plain, processes)
-        assert processes.wait([request.process], time.monotonic() + 30)
+        assert processes.wait([request.process], time.monotonic() + 120)
         answer = plain.answer_back(solutions.read_bytes(request.written().encode(), plain.model))
         basis = request.exact_basis()
     assert answer.columns == {"doors": Fraction(2), "windows": Fraction(6)}
     assert {row: price for row, price in answer.prices.items() if price} == {"P2": Fraction(3, 2), "P3": Fraction(1)}
     assert basis is not None and {row: at for row, at in basis.rows.items() if row != "PROFIT"} == BEST
+
+
+def test_the_child_of_highs():
+    "python3 -m mps360.solvers highs, by a Python that has scipy: the values and the prices of the glass products"
+    solver = solvers.scipy_highs()
+    if solver is None:
+        pytest.skip("scipy isn't installed")
+    ended = subprocess.run([solver.command[0], "-m", "mps360.solvers", "highs"], input=Plain(model()).as_json(seconds=30), capture_output=True, timeout=120, check=False,
+                           cwd=places.PYTHON)
+    assert ended.returncode == 0, ended.stderr
+    answer = json.loads(ended.stdout)
+    assert (answer["rows"][0], answer["columns"][0]) == ([2, 12, 18], [2, 6])
+    assert [round(price, 9) for price in answer["rows"][1]] == [0, -1.5, -1]
+
+
+@pytest.mark.parametrize("words, given, status", [(["highs"], b"nonsense", 1), (["highs"], b"{}", 1), ([], b"", 64), (["clp"], b"", 64)])
+def test_the_child_of_highs_refuses(words, given, status):
+    ended = subprocess.run([sys.executable, "-m", "mps360.solvers", *words], input=given, capture_output=True, timeout=120, check=False, cwd=places.PYTHON)
+    assert ended.returncode == status and not ended.stdout and b"Traceback" not in ended.stderr
 
 
 # ---- recorded files
@@ -140,7 +162,7 @@ def test_a_recorded_answer_of_scipy(tmp_path):
     says = fakes.program(tmp_path, "says", "print({answer!r})", answer=json.dumps(RECORDED_BY_SCIPY))
     with Processes() as processes:
         request = solvers.Solver("highs", (says,), by_scipy=True).ask(Plain(model()), processes)
-        assert processes.wait([request.process], time.monotonic() + 30)
+        assert processes.wait([request.process], time.monotonic() + 120)
         basis, text = request.basis()
     assert {row: at for row, at in basis.rows.items() if row != "PROFIT"} == BEST and text == ""
 
@@ -178,7 +200,7 @@ def test_what_scipy_may_say(tmp_path, answer, words):
     says = fakes.program(tmp_path, "says", "print({answer!r})", answer=json.dumps(answer))
     with Processes() as processes:
         request = solvers.Solver("highs", (says,), by_scipy=True).ask(Plain(model()), processes)
-        assert processes.wait([request.process], time.monotonic() + 30)
+        assert processes.wait([request.process], time.monotonic() + 120)
         with pytest.raises(solvers.NoBasis, match=words):
             request.basis()
 
@@ -205,9 +227,15 @@ def test_a_fault_comes_to_no_basis(tmp_path, name, fault):
 def test_a_solver_that_hangs(tmp_path):
     with fakes.only_path(tmp_path) as pids:
         fakes.program(tmp_path, "clp", fakes.HANGS)
-        with pytest.raises(solvers.NoBasis, match="no end"):
-            asked("clp", 1.0)
-        assert pids.exists() and fakes.left_over(pids) == []
+        with Processes() as processes:
+            request = solvers.find("clp").ask(Plain(model()), processes)
+            while not pids.exists() or not pids.read_text().endswith("\n"):
+                time.sleep(0.01)
+            assert processes.wait([request.process], time.monotonic() + 0.2) is None
+            request.process.end()
+            with pytest.raises(solvers.NoBasis, match="it wrote no basis; signal 15 ended it"):
+                request.basis()
+        assert fakes.left_over(pids) == []
 
 
 def test_none_is_installed(tmp_path):

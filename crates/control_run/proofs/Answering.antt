@@ -123,14 +123,14 @@ module _ (S : Solving) (program : Program) (cards : List (List ℕ)) where
   noted_by_end {old = old} {later = later} {punch_old = punch_old} {punch_now = punch_now} result {ending = ending} {status = status} ends r (printed e w) =
       let l = left (writes_then r.prints w) in
       record {
-        reported = reported_punch (counted old punch_old) (counted later punch_now) result (code_of status) (code_at result ending status ends e) l.cause r.leaves.cause (λ more. none_more 0 0 refl more);
+        reported = reported_punch 0 0 old later punch_old punch_now result (code_of status) (code_at result ending status ends e) l.cause r.leaves.cause (λ more. none_more 0 0 refl more);
         print_still = stands_still (Ok tt) l;
         punch_still = stands_still result r.leaves;
       }
   noted_by_end {old = old} {later = later} {punch_old = punch_old} {punch_now = punch_now} result {status = status} ends r (cut_off stop e w) =
       let l = left (writes_then r.prints w) in
       record {
-        reported = reported_print (counted old punch_old) (counted later punch_now) stop (code_of status) (ap code_of e) l.cause;
+        reported = reported_print 0 0 old later punch_old punch_now stop (code_of status) (ap code_of e) l.cause;
         print_still = stands_still (Err stop) l;
         punch_still = stands_still result r.leaves;
       }
@@ -140,7 +140,7 @@ module _ (S : Solving) (program : Program) (cards : List (List ℕ)) where
   noted_by_cut {old = old} {now = now} later {punch_old = punch_old} {punch_now = punch_now} stop {status = status} r e same =
       subst (λ (p : SinkState). IsNoted old p punch_old punch_now status) (sym same)
       (record {
-        reported = reported_print (counted old punch_old) (counted now punch_now) stop (code_of status) (ap code_of e) r.leaves.cause;
+        reported = reported_print 0 0 old now punch_old punch_now stop (code_of status) (ap code_of e) r.leaves.cause;
         print_still = stands_still (Err stop) r.leaves;
         punch_still = stands_still (Ok tt) (left r.punches);
       })

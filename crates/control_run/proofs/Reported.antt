@@ -8,7 +8,7 @@ use Rattle.job_devices.specs.Causes.{HasWriteCause}
 use Rattle.job_devices.specs.Text.{Writes}
 use Rattle.listing_definitions.specs.Ending.{status_of}
 use Rattle.control_run.specs.Statuses.{code_of}
-use Rattle.control_run.specs.Devices.{Counts, StopsAtPrint, print_failed, print_wants_memory, IsReported, IsStill, Leaves}
+use Rattle.control_run.specs.Devices.{Counts, counts, StopsAtPrint, print_failed, print_wants_memory, IsReported, IsStill, Leaves}
 use Rattle.control_run.specs.Finishing.{cut_status}
 use Rattle.control_run.specs.Running.{punch_end}
 
@@ -40,21 +40,28 @@ still_as_before device = record {
 
 -- ---- by what stopped the job
 
-module _ (before now : Counts) where
+module _ (read_before read_now : ℕ) (print_old print_new punch_old punch_new : SinkState) where
+  -- the counts of reads, print and punch, before and now
+  abbrev before : Counts
+  before = counts read_before print_old punch_old
+
+  abbrev now : Counts
+  now = counts read_now print_new punch_new
+
   -- the print has stopped
-  stops_at_print : (stop : WriteStop) (code : ℕ) → code ≡ code_of (cut_status stop) → HasWriteCause {T = Unit {0}} before.print now.print before.print_memory now.print_memory (Err stop) → StopsAtPrint before now code
+  stops_at_print : (stop : WriteStop) (code : ℕ) → code ≡ code_of (cut_status stop) → HasWriteCause {T = Unit {0}} print_old print_new (Err stop) → StopsAtPrint before now code
   stops_at_print Failed code is cause = print_failed is (cause.failed refl)
   stops_at_print NoMemory code is cause = print_wants_memory is (cause.no_memory refl)
 
-  fault_only : (stop : WriteStop) (code : ℕ) → code ≡ code_of (cut_status stop) → HasWriteCause {T = Unit {0}} before.print now.print before.print_memory now.print_memory (Err stop) → before.print < now.print → code ≡ 25
+  fault_only : (stop : WriteStop) (code : ℕ) → code ≡ code_of (cut_status stop) → HasWriteCause {T = Unit {0}} print_old print_new (Err stop) → print_old.faults < print_new.faults → code ≡ 25
   fault_only Failed code is cause more = is
-  fault_only NoMemory code is cause more = none_more before.print now.print (cause.wanted_alone refl) more
+  fault_only NoMemory code is cause more = none_more print_old.faults print_new.faults (cause.wanted_alone refl) more
 
-  memory_only : (stop : WriteStop) (code : ℕ) → code ≡ code_of (cut_status stop) → HasWriteCause {T = Unit {0}} before.print now.print before.print_memory now.print_memory (Err stop) → before.print_memory < now.print_memory → code ≡ 28
-  memory_only Failed code is cause more = none_more before.print_memory now.print_memory (cause.failed_alone refl) more
+  memory_only : (stop : WriteStop) (code : ℕ) → code ≡ code_of (cut_status stop) → HasWriteCause {T = Unit {0}} print_old print_new (Err stop) → print_old.refusals < print_new.refusals → code ≡ 28
+  memory_only Failed code is cause more = none_more print_old.refusals print_new.refusals (cause.failed_alone refl) more
   memory_only NoMemory code is cause more = is
 
-  pub reported_print : (stop : WriteStop) (code : ℕ) → code ≡ code_of (cut_status stop) → HasWriteCause {T = Unit {0}} before.print now.print before.print_memory now.print_memory (Err stop) → IsReported before now code
+  pub reported_print : (stop : WriteStop) (code : ℕ) → code ≡ code_of (cut_status stop) → HasWriteCause {T = Unit {0}} print_old print_new (Err stop) → IsReported before now code
   reported_print stop code is cause = record {
     print_fault = λ more. fault_only stop code is cause more;
     print_memory = λ more. memory_only stop code is cause more;
@@ -64,11 +71,11 @@ module _ (before now : Counts) where
   }
 
   -- the print hasn't stopped: the status is that of a read or of the punch that has, if there is one
-  pub reported_other : (code : ℕ) → HasWriteCause {T = Unit {0}} before.print now.print before.print_memory now.print_memory (Ok tt) → (before.read < now.read → code ≡ 24) →
-      (before.punch < now.punch → code ≡ 26) → (before.punch_memory < now.punch_memory → code ≡ 28) → IsReported before now code
+  pub reported_other : (code : ℕ) → HasWriteCause {T = Unit {0}} print_old print_new (Ok tt) → (read_before < read_now → code ≡ 24) →
+      (punch_old.faults < punch_new.faults → code ≡ 26) → (punch_old.refusals < punch_new.refusals → code ≡ 28) → IsReported before now code
   reported_other code cause read fault memory = record {
-    print_fault = λ more. none_more before.print now.print cause.no_fault more;
-    print_memory = λ more. none_more before.print_memory now.print_memory cause.no_refusal more;
+    print_fault = λ more. none_more print_old.faults print_new.faults cause.no_fault more;
+    print_memory = λ more. none_more print_old.refusals print_new.refusals cause.no_refusal more;
     read_fault = λ more. inl (read more);
     punch_fault = λ more. inl (fault more);
     punch_memory = λ more. inl (memory more);
@@ -76,11 +83,10 @@ module _ (before now : Counts) where
 
   -- so where the last write to the punch came to this result, and the status is then that of its stop
   pub reported_punch : (result : Result (Unit {0}) WriteStop) (code : ℕ) → IfErr result (λ stop. code ≡ status_of (punch_end stop)) →
-      HasWriteCause {T = Unit {0}} before.print now.print before.print_memory now.print_memory (Ok tt) →
-      HasWriteCause before.punch now.punch before.punch_memory now.punch_memory result → (before.read < now.read → code ≡ 24) → IsReported before now code
+      HasWriteCause {T = Unit {0}} print_old print_new (Ok tt) → HasWriteCause punch_old punch_new result → (read_before < read_now → code ≡ 24) → IsReported before now code
   reported_punch (Ok done) code is cause punch read =
-      reported_other code cause read (λ more. none_more before.punch now.punch punch.no_fault more) (λ more. none_more before.punch_memory now.punch_memory punch.no_refusal more)
+      reported_other code cause read (λ more. none_more punch_old.faults punch_new.faults punch.no_fault more) (λ more. none_more punch_old.refusals punch_new.refusals punch.no_refusal more)
   reported_punch (Err Failed) code is cause punch read =
-      reported_other code cause read (λ more. is) (λ more. none_more before.punch_memory now.punch_memory (punch.failed_alone refl) more)
+      reported_other code cause read (λ more. is) (λ more. none_more punch_old.refusals punch_new.refusals (punch.failed_alone refl) more)
   reported_punch (Err NoMemory) code is cause punch read =
-      reported_other code cause read (λ more. none_more before.punch now.punch (punch.wanted_alone refl) more) (λ more. is)
+      reported_other code cause read (λ more. none_more punch_old.faults punch_new.faults (punch.wanted_alone refl) more) (λ more. is)

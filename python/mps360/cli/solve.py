@@ -1,4 +1,4 @@
-"""Solves an MPS file, or runs a job, and says the answer in the names of the file, with decimals beside the exact fractions.
+"""Solves an MPS file or a CPLEX LP file, or runs a job, and says the answer in the names of the file, with decimals beside the exact fractions.
 
 usage: solve [--json | --csv | --html FILE] [--basis FILE [--from WRITER]] [--with SOLVER,..|none] [--only ROUTE] [--seconds S] [--names MAP]
              [--keep FOLDER] [--write-basis FILE] [--solution FILE] [--life S] [--max | --min] [--ranging] [..] MODEL
@@ -24,8 +24,10 @@ usage: solve [--json | --csv | --html FILE] [--basis FILE [--from WRITER]] [--wi
   --serve        answers many requests in one process: a JSON object on each line of standard input, a reply on each line of standard output
                  (docs/PYTHON.md has them)
 
-No solver is believed: what each gives is where PRIMAL begins, or goes to the checker, and the answer says by which route it came. MODEL is an MPS file or a job (it begins with PROGRAM), or - for standard input. --max and --min go before what the file says, --ranging asks how
-far each number may move; every other word that begins with - is handed to mps2job.py as it stands (mps2job.py --help has them).
+No solver is believed: what each gives is where PRIMAL begins, or goes to the checker, and the answer says by which route it came. MODEL is an MPS
+file, an LP file (it begins with Minimize or Maximize) or a job (it begins with PROGRAM), or - for standard input. What of a model may be meant
+otherwise is said before it is solved. --max and --min go before what the file says, --ranging asks how far each number may move; every other word
+that begins with - is handed to mps2job.py as it stands (mps2job.py --help has them).
 
 It ends with the status of the run: 0, 1 no plan, 2 no bound, more in docs/FAULTS.md; or with 64 for wrong use, 65 where MODEL is refused, 66
 where it can't be read, 70 where there is no program or no solver, 73 where a file can't be written, 124 where there is no end in S seconds, 130
