@@ -425,9 +425,9 @@ def pairs(entries: Mapping[int, Fraction]) -> str:
     return " ".join([str(len(kept)), *(f"{k} {kept[k]}" for k in sorted(kept))])
 
 
-def lines_of(found: Certificate) -> Iterator[str]:
-    "the lines of a certificate whose bounds, if it has any, meet"
-    yield from (COMMENT, "VER 1.0", f"VAR {len(found.variables)}", *found.variables, "INT 0", f"OBJ {found.sense}", pairs(found.objective))
+def lines_of(found: Certificate, comment: str = COMMENT) -> Iterator[str]:
+    "the lines of a certificate whose bounds, if it has any, meet; the comment is the first one"
+    yield from (comment, "VER 1.0", f"VAR {len(found.variables)}", *found.variables, "INT 0", f"OBJ {found.sense}", pairs(found.objective))
     yield f"CON {len(found.constraints)} {found.limits}"
     yield from (f"{one.name} {one.sense} {one.side} {pairs(one.entries)}" for one in found.constraints)
     yield "RTP infeas" if found.bounds is None else f"RTP range {found.bounds[0]} {found.bounds[1]}"
