@@ -426,7 +426,7 @@ def program_of(options):
     "the program that runs; that it runs unproved is said"
     try:
         program = at_hand.solver_program(options.program)
-    except at_hand.NoProgram as cause:
+    except errors.NoProgram as cause:
         raise Ended(70, str(cause))
     if program.kind == "unproved" and not program.prepare:
         print(f"mps360: running UNPROVED, by the program that was compiled of these sources before; {at_hand.PROVES}", file=sys.stderr, flush=True)
@@ -437,7 +437,7 @@ def checker_of(options):
     "the checker of listings, or None"
     try:
         return at_hand.listing_checker(options.checker)
-    except at_hand.NoProgram as cause:
+    except errors.NoProgram as cause:
         raise Ended(70, str(cause))
 
 
