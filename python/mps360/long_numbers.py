@@ -88,10 +88,18 @@ class Split:
 def places_of(value: Fraction, model: Model) -> tuple[int, int]:
     "the digits of a number as an integer, and the power of ten of the last of them; Refused where they are too many or too small"
     parts = decimal_parts(value)
+    if parts is None and not is_decimal(value):
+        raise refused_number(value, model, "no decimal form, however many digits it had: multiply its row or its limit")
     if parts is None or len(str(abs(parts[0]))) > MOST_DIGITS or parts[1] < LEAST_POWER:
         raise refused_number(value, model, f"more than {MOST_DIGITS} digits, or digits below 1E{LEAST_POWER} or past 1E40: --round takes the nearest "
                              "number of 12 columns")
     return parts
+
+
+def is_decimal(value: Fraction) -> bool:
+    "whether a number has a decimal form: no prime but 2 and 5 divides its denominator"
+    bottom = value.denominator
+    return bool(pow(10, bottom.bit_length(), bottom) == 0)
 
 
 def refused_number(value: Fraction, model: Model, cause: str) -> Refused:
@@ -172,8 +180,9 @@ class Splitter:
 
     def __init__(self, model: Model) -> None:
         self.file = model
-        self.new = replace(model, rows={}, parts={}, columns={}, said=list(model.said), rhs=copied(model.rhs), ranges=copied(model.ranges),
-                           bounds=copied(model.bounds))
+        self.new = replace(model, said=list(model.said), rhs=copied(model.rhs), ranges=copied(model.ranges), bounds=copied(model.bounds))
+        # (parts come before their combinations, so the rows are put anew, in their order)
+        self.new.rows, self.new.parts, self.new.columns = {}, {}, {}
         self.split = Split(model, self.new)
         self.taken, self.count = {*model.rows, *model.columns}, 0
         self.rhs, self.ranges = self.new.rhs.get(model.rhs_set, {}), self.new.ranges.get(model.range_set, {})

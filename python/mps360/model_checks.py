@@ -46,10 +46,10 @@ def of_sense(model: Model, choices: Choices) -> Iterator[str]:
 
 
 def of_choices(model: Model, choices: Choices) -> Iterator[str]:
-    for what, sets, taken, word in (("RHS", model.rhs, model.rhs_set, "--rhs"), ("RANGES", model.ranges, model.range_set, "--ranges"),
-                                    ("BOUNDS", model.bounds, model.bound_set, "--bounds")):
-        if len(sets) > 1 and what not in choices.sets:
-            yield f"{what} has {len(sets)} sets; {(taken or '')[:30] or 'the one without a name'} is taken: {word} names another"
+    for what, count, taken, word in (("RHS", len(model.rhs), model.rhs_set, "--rhs"), ("RANGES", len(model.ranges), model.range_set, "--ranges"),
+                                     ("BOUNDS", len(model.bounds), model.bound_set, "--bounds")):
+        if count > 1 and what not in choices.sets:
+            yield f"{what} has {count} sets; {(taken or '')[:30] or 'the one without a name'} is taken: {word} names another"
     count = sum(kind == "N" for kind in model.rows.values())
     if count > 1 and not choices.objective:
         yield f"there are {count} N rows; the objective is {(model.objective or '')[:30]}: --objective names another"
@@ -74,10 +74,10 @@ def of_limits(model: Model) -> Iterator[str]:
     for column in model.bounds.get(model.bound_set, {}) if model.bound_set is not None else ():
         lower, upper = model.column_limits(column)
         if lower is not None and upper is not None and lower > upper:
-            crossed.append(column)
+            crossed.append((column, lower, upper))
     if crossed:
-        lower, upper = model.column_limits(crossed[0])
-        yield f"no plan keeps the bounds of {some_of(crossed)}: {crossed[0][:30]} is at least {decimal_text(lower)} and at most {decimal_text(upper)}"
+        column, lower, upper = crossed[0]
+        yield f"no plan keeps the bounds of {some_of([name for name, _, _ in crossed])}: {column[:30]} is at least {decimal_text(lower)} and at most {decimal_text(upper)}"
 
 
 def of_magnitudes(model: Model) -> Iterator[str]:

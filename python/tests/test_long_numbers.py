@@ -225,6 +225,22 @@ def test_too_many_digits(word, cause):
     assert lines[1] == f"     X NEED {word}" and lines[2] == " " * 12 + "^" * len(word)
 
 
+def test_a_number_without_a_decimal_form():
+    "of a model that no file was read for: 1/3, and what has a decimal form but no short one"
+    model = model_of(["N COST", "G NEED"], ["X COST 1", "X NEED 1"], ["B NEED 1"])
+    model.columns["X"]["NEED"] = Fraction(1, 3)
+    with pytest.raises(Refused) as refused:
+        long_numbers.exact_job(model)
+    assert str(refused.value) == "1/3 has no decimal form, however many digits it had: multiply its row or its limit"
+    model.columns["X"]["NEED"] = Fraction(1, 2 ** 40)
+    with pytest.raises(Refused) as refused:
+        long_numbers.exact_job(model)
+    assert "digits below 1E-36" in str(refused.value)
+    model.columns["X"]["NEED"] = Fraction(1, 2 ** 30)
+    _, reports = run_model(model)
+    exact_answers.check_solution(model, report_of(reports, "solution"), 2 ** 30)
+
+
 def test_too_many_rows():
     "999 rows fit, and the two parts of their costs don't"
     rows = ["N COST", *(f"L R{k}" for k in range(998))]
