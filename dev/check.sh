@@ -62,22 +62,14 @@ if command -v python3 >/dev/null; then
     # The page of faults is that of examples/faults, and the listings of examples/ are those that are worked out apart.
     python3 dev/faults.py --check || fail "dev/faults.py --write makes docs/FAULTS.md"
     bash dev/examples.sh --expected || fail "a listing of examples/"
-    python3 python/tests/check_decks.py || fail "free_deck.py changes a deck, or free decks are read otherwise than they are to be"
-    # The six that take longest run side by side.
+    # The tests run side by side.
+    python3 dev/run_tests.py &
+    tests=$!
     python3 python/tests/check_installed.py &
     installed=$!
     python3 python/tests/check_mps2job.py &
     files=$!
-    python3 python/tests/check_reports.py &
-    reports=$!
-    python3 python/tests/check_bases.py &
-    bases=$!
-    python3 python/tests/check_answers.py &
-    answers=$!
-    python3 python/tests/check_tools.py || fail "a script does otherwise than it is to do"
-    wait "$reports" || fail "solve, listing2html.py, listing2json.py or the page of reference answers does otherwise than it is to do"
-    wait "$bases" || fail "basis2deck.py or prove takes another basis than a solver wrote"
-    wait "$answers" || fail "a solution, a listing or a certificate becomes another than it is, or is taken where it should be refused"
+    wait "$tests" || fail "a test of python/tests"
     wait "$files" || fail "mps2job.py changes a problem, or takes a file that it should refuse"
     wait "$installed" || fail "build.sh, install.sh, an installed command or mps360-batch does otherwise than it is to do"
     if scripts/program.sh --fresh >/dev/null; then
@@ -87,7 +79,7 @@ if command -v python3 >/dev/null; then
         echo "check: no fresh proved program mps360; examples/ aren't run"
     fi
     if scripts/program.sh --fresh mps360check >/dev/null; then
-        python3 python/tests/check_listings.py --proved --jobs 0 40 || fail "the checker says otherwise of an altered listing than its rules"
+        python3 python/tests/altered_listings.py --proved --jobs 0 40 || fail "the checker says otherwise of an altered listing than its rules"
         python3 python/tests/random_jobs.py --attest 0 100 || fail "the checker says otherwise of a job's own listing than its rules"
     else
         echo "check: no fresh proved program mps360check; no altered listing is attested"
