@@ -62,16 +62,7 @@ if command -v python3 >/dev/null; then
     # The page of faults is that of examples/faults, and the listings of examples/ are those that are worked out apart.
     python3 dev/faults.py --check || fail "dev/faults.py --write makes docs/FAULTS.md"
     bash dev/examples.sh --expected || fail "a listing of examples/"
-    # The tests run side by side.
-    python3 dev/run_tests.py &
-    tests=$!
-    python3 python/tests/check_installed.py &
-    installed=$!
-    python3 python/tests/check_mps2job.py &
-    files=$!
-    wait "$tests" || fail "a test of python/tests"
-    wait "$files" || fail "mps2job.py changes a problem, or takes a file that it should refuse"
-    wait "$installed" || fail "build.sh, install.sh, an installed command or mps360-batch does otherwise than it is to do"
+    python3 dev/run_tests.py || fail "a test of python/tests"
     if scripts/program.sh --fresh >/dev/null; then
         bash dev/examples.sh || fail "the program prints other listings of examples/"
         python3 dev/faults.py --run || fail "the program ends the jobs of examples/faults otherwise"

@@ -2,6 +2,7 @@
 import collections
 import shutil
 
+import places  # pylint: disable=unused-import  (the packages are known from here on)
 import pytest
 from mps360 import bases as basis_file
 from mps360 import errors

@@ -177,6 +177,8 @@ def test_tables_of_listings(name, table, wanted):
 
 def test_ctrl_c(tmp_path):
     "Ctrl-C while PRIMAL runs, and while RANGE does: what was printed stands, and the program is ended too"
+    # (a shell that starts this in the background has it ignore Ctrl-C, and all that it starts)
+    signal.signal(signal.SIGINT, signal.default_int_handler)
     lines = (EXAMPLES / "ranging.listing").read_text().splitlines(keepends=True)
     for count, said, waits, status in ((3, "cut off before a verdict", b"waits for PRIMAL; the listing has 3 lines so far", None),
                                        (17, "OPTIMAL: the greatest PROFIT is 1038.4 = 5192/5", b"waits for RANGE", None)):
@@ -203,7 +205,7 @@ def test_the_page_of_reference_answers(tmp_path):
     shown, compare = (next(text for kind, text in blocks if kind == wanted) for wanted in ("csv", "python"))
     place = tmp_path / "reference"
     (place / "models").mkdir(parents=True)
-    for name, text in (("testprob", TESTPROB), ("glass", GLASS), ("beale", BEALE), ("conflict", CONFLICT)):
+    for name, text in (("testprob", TESTPROB), ("glass", GLASS_TEXT), ("beale", BEALE), ("conflict", CONFLICT)):
         (place / f"models/{name}.mps").write_bytes(text.encode())
     for name in ("scripts", "python"):
         shutil.copytree(places.TOP / name, place / name, ignore=shutil.ignore_patterns("__pycache__"))
