@@ -194,8 +194,10 @@ def as_bytes(text):
     return text if isinstance(text, bytes) else text.encode()
 
 
-@pytest.mark.parametrize("what, words, text, wanted", BY_HAND)
-def test_answers_by_hand(tmp_path, what, words, text, wanted):
+# (by numbers: pytest puts a test's name into the environment, which holds no text of a million letters)
+@pytest.mark.parametrize("number", range(len(BY_HAND)))
+def test_answers_by_hand(tmp_path, number):
+    what, words, text, wanted = BY_HAND[number]
     house = House(tmp_path)
     status, job, _, said = house.convert(text.encode(), words)
     assert status == 0, f"{what}: refused: {said}"
@@ -212,8 +214,9 @@ def test_gzipped_with_a_mark_with_returns_with_tabs(tmp_path, form):
     assert status == 0 and verdict_of(house.solved(job)) == ("optimal", "5", None), said
 
 
-@pytest.mark.parametrize("what, words, text, line, part, over", REFUSED)
-def test_what_is_refused(tmp_path, what, words, text, line, part, over):
+@pytest.mark.parametrize("number", range(len(REFUSED)))
+def test_what_is_refused(tmp_path, number):
+    what, words, text, line, part, over = REFUSED[number]
     status, _, _, said = House(tmp_path).convert(as_bytes(text), words)
     lines = said.split("\n")
     assert status == 65 and part in said and (line is None or f": line {line}: " in lines[0]), f"{what}: {said}"
@@ -224,9 +227,10 @@ def test_what_is_refused(tmp_path, what, words, text, line, part, over):
     assert all(letter.isprintable() or letter == "\n" for letter in said), "a control character is said"
 
 
-@pytest.mark.parametrize("what, words, text, part", SAID)
-def test_what_is_said(tmp_path, what, words, text, part):
+@pytest.mark.parametrize("number", range(len(SAID)))
+def test_what_is_said(tmp_path, number):
     "on standard error, in the table of names and in the job"
+    what, words, text, part = SAID[number]
     status, job, names, said = House(tmp_path).convert(as_bytes(text), words)
     assert status == 0 and part in said, f"{what}: {said}"
     assert any(part in sentence for sentence in names.get("said", [])), f"{what}: in the table of names: {names.get('said')}"

@@ -66,8 +66,12 @@ def test_there_are_listings():
     assert len(LISTINGS) > 20
 
 
-@pytest.mark.parametrize("text", [*(path.read_text() for path in LISTINGS), *MORE])
-def test_each_listing_is_lawful(text):
+TEXTS = {**{path.name: path.read_text() for path in LISTINGS}, **{f"more {k}": text for k, text in enumerate(MORE)}}
+
+
+@pytest.mark.parametrize("name", TEXTS)
+def test_each_listing_is_lawful(name):
+    text = TEXTS[name]
     assert all(is_lawful(document) for document in documents_of(text))
 
 

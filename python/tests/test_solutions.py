@@ -104,15 +104,17 @@ def made(tmp_path, model, solution):
     return status, told, job, listing
 
 
-@pytest.mark.parametrize("model, solution, wanted", TAKEN)
-def test_what_is_taken(tmp_path, model, solution, wanted):
+@pytest.mark.parametrize("number", range(len(TAKEN)))
+def test_what_is_taken(tmp_path, number):
+    model, solution, wanted = TAKEN[number]
     status, told, job, listing = made(tmp_path, model, solution)
     assert status == 0, told
     assert expected_attesting.attest(job.read_bytes(), listing.read_bytes())[1] == wanted
 
 
-@pytest.mark.parametrize("solution, wanted", NOT_TAKEN)
-def test_what_is_refused(tmp_path, solution, wanted):
+@pytest.mark.parametrize("number", range(len(NOT_TAKEN)))
+def test_what_is_refused(tmp_path, number):
+    solution, wanted = NOT_TAKEN[number]
     status, told, *_ = made(tmp_path, MODEL, solution)
     assert status == 65 and wanted in told, told[:300]
 
