@@ -1,6 +1,6 @@
 #!/usr/bin/env bash
 # Small checks of the repository, which run after the gate, in under a minute. A check whose tool is missing is skipped, and so is,
-# saying so, what needs the proved program where it isn't fresh.
+# saying so, what needs the proved program where it isn't fresh. With CHECK_WHOLE=1 a tool that is missing (pytest, mypy) is a fault too.
 # usage: check.sh      ends with 1 where a check fails
 set -u
 case ${1:-} in
@@ -13,7 +13,9 @@ case ${1:-} in
         ;;
 esac
 cd "$(dirname "$0")/.." || exit 1
-failed=0
+failed=0 missing='' typed=''
+room=$(mktemp -d)
+trap 'rm -rf "$room"' EXIT
 fail() {
     echo "check: $*" >&2
     failed=1
@@ -62,7 +64,18 @@ if command -v python3 >/dev/null; then
     # The page of faults is that of examples/faults, and the listings of examples/ are those that are worked out apart.
     python3 dev/faults.py --check || fail "dev/faults.py --write makes docs/FAULTS.md"
     bash dev/examples.sh --expected || fail "a listing of examples/"
+    # The tests of the packages, several files at once: by pytest where a python3 has it, else by plain_tests.py, which runs the same files.
     python3 dev/run_tests.py || fail "a test of python/tests"
+    for python in python3 /usr/bin/python3 none; do
+        ! "$python" -c 'import pytest' 2>/dev/null || break
+    done
+    [ "$python" != none ] || missing="pytest (apt-get install python3-pytest; dev/plain_tests.py ran the tests) "
+    if command -v mypy >/dev/null; then
+        (cd python && mypy --no-error-summary $typed) || fail "types of the packages"
+    else
+        missing="${missing}mypy (apt-get install mypy): no types were checked"
+    fi
+    [ -z "$missing" ] || [ -z "${CHECK_WHOLE:-}" ] || fail "missing: $missing"
     if scripts/program.sh --fresh >/dev/null; then
         bash dev/examples.sh || fail "the program prints other listings of examples/"
         python3 dev/faults.py --run || fail "the program ends the jobs of examples/faults otherwise"
@@ -77,5 +90,5 @@ if command -v python3 >/dev/null; then
     fi
 fi
 
-[ "$failed" -eq 0 ] && echo "check: ok"
+[ "$failed" -eq 0 ] && echo "check: ok${missing:+, but without $missing}"
 exit "$failed"

@@ -6,7 +6,10 @@ call and each clause of docs/CLAIMS.md is there. dev/check.sh runs it.
 
 usage: check_documents.py                     ends with 1 where something isn't so
        check_documents.py --walks [SEED]      prints ten rules, picked by a seed, with the links by which README.md leads to each"""
-import pathlib, random, re, sys
+import pathlib
+import random
+import re
+import sys
 
 TOP = pathlib.Path(__file__).resolve().parent.parent
 CRATES = TOP / "crates"

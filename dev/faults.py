@@ -5,7 +5,9 @@ usage: faults.py --write       makes docs/FAULTS.md
        faults.py --check       ends with 1 where docs/FAULTS.md isn't what --write makes
        faults.py --run         runs each job by the proved program, and ends with 1 where a status or a line differs (70: no program)
        faults.py --run --unproved      the same by the program as it stands, unproved, built once"""
-import pathlib, re, sys
+import pathlib
+import re
+import sys
 sys.path.insert(0, str(pathlib.Path(__file__).resolve().parents[1] / "python"))
 from mps360 import programs
 

@@ -7,7 +7,10 @@ usage: layers.py --write      makes docs/LAYERS.md, docs/layers.svg, and the sen
        layers.py --check      ends with 1 where one of these isn't what --write makes; where a crate stands on one of a higher layer, or
                               of its own layer but further down in crates.txt; where crates.txt lists another crate than the files
                               cite; and where a crate isn't listed in docs/ARCHITECTURE.md, under its layer, and in crates.txt"""
-import html, pathlib, re, sys
+import html
+import pathlib
+import re
+import sys
 
 TOP = pathlib.Path(__file__).resolve().parent.parent
 LIST, PAGE, PICTURE, MAP = TOP / "crates.txt", TOP / "docs/LAYERS.md", TOP / "docs/layers.svg", TOP / "docs/ARCHITECTURE.md"

@@ -5,7 +5,13 @@ crates.txt. With --duplicates it counts, by the command duplicates where that is
 six or more lines.
 
 usage: source_numbers.py [--duplicates] [TREE]     TREE is a checkout, this one where none is given"""
-import os, pathlib, re, shutil, subprocess, sys, tempfile
+import os
+import pathlib
+import re
+import shutil
+import subprocess
+import sys
+import tempfile
 import layers
 
 MANY = 7

@@ -48,7 +48,7 @@ for pair in "${commands[@]}"; do
     install -m 755 "$scripts/${pair%%:*}" "$home"
     ln -sf "../libexec/mps360/${pair%%:*}" "$prefix/bin/${pair##*:}"
 done
-(cd "$scripts/../python" && find mps360 oracle -name '*.py' -print0) | while IFS= read -r -d '' module; do
+(cd "$scripts/../python" && find mps360 -name '*.py' -print0) | while IFS= read -r -d '' module; do
     mkdir -p "$home/python/$(dirname "$module")"
     install -m 644 "$scripts/../python/$module" "$home/python/$module"
 done

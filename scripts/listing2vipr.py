@@ -6,4 +6,4 @@ HERE = os.path.dirname(os.path.realpath(__file__))
 sys.path.insert(0, next(path for path in (HERE + "/python", os.path.dirname(HERE) + "/python") if os.path.isdir(path)))
 from mps360.cli.listing2vipr import main
 
-sys.exit(main(sys.argv[1:]))
+sys.exit(main())

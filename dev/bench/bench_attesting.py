@@ -14,17 +14,23 @@ usage: bench_attesting.py [--itself | --program FILE] [--models N] [--rows N,N..
 esolver of QSopt_ex solves each model in exact fractions, and solution2listing.py makes a job and a listing of what it wrote. A number of the
 answer may not fit a fraction of 127 bits: then there is no listing, since none could have these numbers. It ends with 64 for wrong use, 70
 where there is no checker or no esolver."""
-import argparse, collections, pathlib, shutil, subprocess, sys, tempfile
+import argparse
+import collections
+import pathlib
+import shutil
+import subprocess
+import sys
+import tempfile
 sys.path.insert(0, str(pathlib.Path(__file__).resolve().parents[2] / "python"))
 import bench_bases
 from mps360 import mps
 from mps360.cli import mps2job
-from mps360.cli import prove
 from mps360.cli import solution2listing
 from mps360.jobs.write import job_of
-from mps360.listings import write as answer_listing
+from mps360.plain import Plain
+from mps360.listings.write import Answer, listing_of
 from mps360 import programs
-from oracle import attesting as expected_attesting
+from oracle.attesting import ATTESTED, UNCHECKED, attest
 
 HERE = pathlib.Path(__file__).resolve().parent
 ENDS = ("attested", "unchecked", "doesn't fit", "no end")
@@ -53,9 +59,9 @@ def end_of(asked, text, folder, seconds):
             return "doesn't fit"
         raise
     status, line = asked(job.text.encode("latin-1"), listing.encode("latin-1"))
-    if status not in (expected_attesting.ATTESTED, expected_attesting.UNCHECKED):
+    if status not in (ATTESTED, UNCHECKED):
         raise SystemExit(f"bench_attesting.py: of esolver's answer to {path.read_text().split()[1]} the checker says {line}")
-    return "attested" if status == expected_attesting.ATTESTED else "unchecked"
+    return "attested" if status == ATTESTED else "unchecked"
 
 
 def counts(asked, options):
@@ -67,8 +73,8 @@ def counts(asked, options):
             for decimals in bench_bases.DECIMALS:
                 ends = collections.Counter()
                 for number in range(1, options.models + 1):
-                    model = prove.plain_model(bench_bases.made_model(rows, decimals, number))
-                    ends[end_of(asked, prove.plain_text(model), pathlib.Path(folder), options.seconds)] += 1
+                    model = Plain(bench_bases.made_model(rows, decimals, number))
+                    ends[end_of(asked, model.text, pathlib.Path(folder), options.seconds)] += 1
                 print("| " + " | ".join(str(cell) for cell in (rows, decimals, options.models, *(ends[end] for end in ENDS))) + " |", flush=True)
 
 
@@ -87,7 +93,7 @@ def times(program):
     wide = programs.TOP / "examples/wide.job"
     print("| What | Bytes of the listing | Answer, processor time, memory |\n|---|---|---|")
     for what, job, listing in (("examples/wide", wide.read_text(), wide.with_suffix(".listing").read_text()),
-                               ("1,000 rows, 5,000 columns and 50,000 entries, with one SOLUTION", greatest.text, answer_listing.listing_of(greatest, answer_listing.Answer("optimal")))):
+                               ("1,000 rows, 5,000 columns and 50,000 entries, with one SOLUTION", greatest.text, listing_of(greatest, Answer("optimal")))):
         with tempfile.TemporaryDirectory() as folder:
             for name, text in (("JOB", job), ("LISTING", listing)):
                 pathlib.Path(folder, name).write_text(text)
@@ -125,7 +131,7 @@ def main(words):
     if options.times:
         times(program)
         return 0
-    counts((lambda job, listing: programs.attested_by(program, job, listing)) if program else expected_attesting.attest, options)
+    counts((lambda job, listing: programs.attested_by(program, job, listing)) if program else attest, options)
     return 0
 
 

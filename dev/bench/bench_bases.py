@@ -16,14 +16,26 @@ Each model has a third of its rows as limits on all its columns, so that it has 
 whole numbers. There are 7 columns for 6 rows, each with an entry above 0 in one of the first rows and with two of either sign in others; an
 entry is a number from 1 to 9, or of .1 to 9.9, or of .01 to 9.99. Of the runs that stopped since a number doesn't fit it is counted in how
 many the objective itself, which has but one value, doesn't fit in a fraction of 127 bits: esolver of qsopt-ex has it exactly."""
-import argparse, os, pathlib, random, re, resource, subprocess, sys, tempfile
+import argparse
+import os
+import pathlib
+import random
+import re
+import resource
+import subprocess
+import sys
+import tempfile
+import time
 from fractions import Fraction
 sys.path.insert(0, str(pathlib.Path(__file__).resolve().parents[2] / "python"))
-from mps360 import bases as basis_file
-from mps360.cli import prove
+from mps360.bases import BASIC, with_insert
+from mps360 import solvers
+from mps360.plain import Plain
+from mps360.processes import Processes
 from mps360.jobs.write import job_of
 from mps360.model import Model
 
+SOLVERS = ("clp", "esolver", "lp_solve", "glpsol")
 ROWS, DECIMALS, RUNS, SPARSE, MOST_NUMBER = (10, 20, 50, 100, 200, 300), (0, 1, 2), 5, (299, 0, 1), 2 ** 127 - 1
 STOPS, OTHERS = ("INSERT", "PRIMAL", "SOLUTION"), ("singular", "no basis", "no end")
 ENDS = ("printed", *STOPS, *OTHERS)
@@ -76,7 +88,7 @@ def has_wide_objective(model, seconds):
     "whether the best objective, as QSopt_ex has it in exact fractions, doesn't fit in a number of the program; False where there is none in time"
     with tempfile.TemporaryDirectory() as folder:
         path, solution = pathlib.Path(folder, "model.mps"), pathlib.Path(folder, "solution")
-        path.write_text(prove.plain_text(prove.plain_model(model)))
+        path.write_text(Plain(model).text)
         try:
             subprocess.run(["esolver", "-O", solution, path], capture_output=True, timeout=seconds)
         except (subprocess.TimeoutExpired, FileNotFoundError):
@@ -84,6 +96,18 @@ def has_wide_objective(model, seconds):
         found = re.search(r"Value = (\S+)", solution.read_text()) if solution.exists() else None
     value = Fraction(found[1]) if found else Fraction(0)
     return max(abs(value.numerator), value.denominator) > MOST_NUMBER
+
+
+def asked(options, model):
+    "the basis of the solver, or None where it gives none in time"
+    with Processes() as processes:
+        request = options.found.ask(Plain(model), processes)
+        if not processes.wait([request.process], time.monotonic() + options.seconds):
+            return None
+        try:
+            return request.basis()[0]
+        except solvers.NoBasis:
+            return None
 
 
 def end_of(status, listing):
@@ -113,11 +137,11 @@ def counts(options):
             ends, idle, opening, wide = dict.fromkeys(ENDS, 0), 0, 0, 0
             for number in range(1, options.models + 1):
                 model = made_model(rows, decimals, number)
-                job, (basis, _) = job_of(model), prove.ask(options.solver, model, options)
+                job, basis = job_of(model), asked(options, model)
                 if basis is None:
                     ends["no basis"] += 1
                 else:
-                    status, listing, _ = run(options.program, basis_file.with_insert(job, basis), options.seconds)
+                    status, listing, _ = run(options.program, with_insert(job, basis), options.seconds)
                     end = end_of(status, listing)
                     ends[end] += 1
                     idle += end == "printed" and steps_of(listing) == 0
@@ -140,14 +164,14 @@ def times(options):
     for words, model in (("transportation of 60 by 60", transport(60)), ("a sparse model of 300 rows", made_model(*SPARSE))):
         job = job_of(model)
         job.text = job.text.replace("         SOLUTION\n", "")
-        basis, _ = prove.ask(options.solver, model, options)
+        basis = asked(options, model)
         if basis is None:
             continue
-        inserted = basis_file.with_insert(job, basis)
+        inserted = with_insert(job, basis)
         alone, begun = job.text.replace("         PRIMAL\n", ""), inserted.replace("         PRIMAL\n", "")
         parts = [least(options.program, text, options.seconds) for text in (alone, begun, inserted, job.text)]
         shown = [f"{seconds:.3f}" if status == 0 else f"status {status}" for status, _, seconds in parts]
-        basic = sum(status == basis_file.BASIC for status in basis.columns.values())
+        basic = sum(status == BASIC for status in basis.columns.values())
         cells = [words, basic, *shown[:3], steps_of(parts[2][1]), shown[3], steps_of(parts[3][1])]
         print("| " + " | ".join(str(cell) for cell in cells) + " |", flush=True)
 
@@ -156,20 +180,22 @@ def main(words):
     if any(word in ("-h", "--help") for word in words):
         print(__doc__)
         return 0
-    prove.solve.NAME = "bench_bases.py"
     if words[:1] == ["--model"]:
-        sys.stdout.write(prove.plain_text(prove.plain_model(made_model(*(int(word) for word in words[1:4])))))
+        sys.stdout.write(Plain(made_model(*(int(word) for word in words[1:4]))).text)
         return 0
     parser = argparse.ArgumentParser(add_help=False)
     parser.error = lambda message: (print(f"bench_bases.py: {message}", file=sys.stderr), sys.exit(64))
-    parser.add_argument("--with", dest="solver", choices=prove.PACKAGES, default="clp")
+    parser.add_argument("--with", dest="solver", choices=SOLVERS, default="clp")
     parser.add_argument("--models", type=int, default=10)
     parser.add_argument("--rows", type=lambda word: [int(part) for part in word.split(",")], default=ROWS)
     parser.add_argument("--seconds", type=float, default=60)
     parser.add_argument("--times", action="store_true")
     parser.add_argument("program", type=os.path.abspath)
     options = parser.parse_args(words)
-    options.life = 0
+    options.found = solvers.find(options.solver)
+    if options.found is None:
+        print(f"bench_bases.py: {options.solver} isn't installed", file=sys.stderr)
+        return 70
     (times if options.times else counts)(options)
     return 0
 

@@ -9,7 +9,15 @@ usage: bench_beside.py [--runs N] [--program FILE]
   --program FILE   the program of jobs; without it the proved one
 
 It prints a table, and ends with 64 for wrong use, 70 where there is no program or no esolver."""
-import argparse, fractions, pathlib, re, resource, shutil, subprocess, sys, tempfile
+import argparse
+import fractions
+import pathlib
+import re
+import resource
+import shutil
+import subprocess
+import sys
+import tempfile
 sys.path.insert(0, str(pathlib.Path(__file__).resolve().parents[2] / "python"))
 from mps360 import programs
 

@@ -4,7 +4,8 @@ least, is followed by the tables of oracle/listing.py. Prints where it ends and 
 rates, of the values of variables with limits, which steps need, and of the objective.
 Usage: path_widths.py [--all DECK ..]. With --all it reads the named decks, and prints how many of them have no rate or needed value of
 more than 127 bits, which is as many as end without an overflow in the best case."""
-import pathlib, sys
+import pathlib
+import sys
 
 sys.path.insert(0, str(pathlib.Path(__file__).resolve().parents[2] / "python"))
 from oracle.listing import LinearProgram, Problem, Table

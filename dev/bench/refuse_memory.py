@@ -3,7 +3,12 @@
 listing, or with status 28 and a prefix of that listing, which STOP 28 MEMORY may end. With LISTING the program is mps360check, of which the
 same is asked of its one line.
 usage: refuse_memory.py PROGRAM JOB [LISTING]. It wants a C compiler, for an allocator that is loaded before the C library's."""
-import os, pathlib, shutil, subprocess, sys, tempfile
+import os
+import pathlib
+import shutil
+import subprocess
+import sys
+import tempfile
 
 ALLOCATOR = r"""
 #define _GNU_SOURCE

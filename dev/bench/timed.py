@@ -2,7 +2,9 @@
 """Runs a program five times on a job. Prints the last line of its listing, the least processor time and the peak memory; of the latter
 none less than what Python takes itself, some 14 MB, can be seen.
 usage: timed.py JOB PROGRAM [WORD..]"""
-import resource, subprocess, sys
+import resource
+import subprocess
+import sys
 
 if len(sys.argv) < 3:
     print(__doc__)

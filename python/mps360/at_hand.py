@@ -12,7 +12,7 @@ from dataclasses import dataclass
 from typing import Literal
 
 from mps360 import programs, unproved
-from mps360.programs import NoProgram
+from mps360.errors import NoProgram
 
 Kind = Literal["proved", "unproved", "other"]
 PROGRAM, CHECKER = "mps360", "mps360check"

@@ -1,14 +1,38 @@
-"What is said of a file that isn't taken."
+"The faults that the public calls raise: Error is above all of them."
 
 
-class Refused(Exception):
-    "why a file isn't taken; the line and the part of it that is shown, where there is one"
+class Error(Exception):
+    "a fault of the package's own"
 
-    def __init__(self, cause, word=None, line=None):
+
+class NoProgram(Error):
+    "neither a proved program nor another one can be had, or a solver that was asked for isn't installed"
+
+
+class CantRun(Error):
+    "a program can't be run, or gives no answer"
+
+
+class Refused(Error):
+    """why a file or a model isn't taken: cause; where it is known, file, line (counted from 1), text of the line, span (the columns of it that are meant,
+    counted from 0) and word"""
+
+    file: str | None
+    text: str | None
+    span: tuple[int, int] | None
+
+    def __init__(self, cause: str, word: int | str | tuple[int, int] | None = None, line: int | None = None) -> None:
+        "the word is shown in its line: as text, as the number of a word or field of the line (from 0), or as the columns from and to"
         super().__init__(cause)
-        self.cause, self.word, self.line, self.text, self.span = cause, word, line, None, None
+        self.cause, self.word, self.line = cause, word, line
+        self.file = self.text = self.span = None
 
-    def __str__(self):
+    @property
+    def column(self) -> int | None:
+        "the column of the line where the word begins, counted from 1; None where no word is meant"
+        return None if self.span is None else self.span[0] + 1
+
+    def __str__(self) -> str:
         if self.line is None:
             return self.cause
         told = f"line {self.line}: {self.cause}"

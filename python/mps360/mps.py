@@ -5,19 +5,22 @@
 
 Reading says how a file is read where programs differ, and which numbers are taken: "exact" takes every decimal number, "job" refuses
 one that a job can't hold, "round" rounds to the nearest number that 12 columns hold. PATH may be gzipped, or - for standard input."""
-import codecs, re, sys
+from typing import Any
+import codecs
+import re
+import sys
+from collections.abc import Iterator
 from dataclasses import dataclass, replace
 from fractions import Fraction
 from mps360.commands import called
 from mps360.errors import Refused
+from mps360.fields import FIELDS, LAST_COLUMN, Line
+from mps360.files import unzipped
 from mps360.model import MOST, Limits, Model, Place
 from mps360.model_checks import Choices, warnings
 from mps360.numbers import NUMBER, decimal_text, has_text, nearest, number, shortest_double, text_of
 from mps360.text import counted, lines_text, some_of
 
-FIELDS = ((1, 3), (4, 12), (14, 22), (24, 36), (39, 47), (49, 61))
-GAPS = ((0, 1), (3, 4), (12, 14), (22, 24), (36, 39), (47, 49))
-LAST_COLUMN = 61
 MOST_TEXT = 300_000_000
 INFINITY = Fraction(10) ** 20
 SENSES = {"MAX": "MAX", "MAXIMIZE": "MAX", "MAXIMISE": "MAX", "MAXIMUM": "MAX", "MIN": "MIN", "MINIMIZE": "MIN", "MINIMISE": "MIN", "MINIMUM": "MIN"}
@@ -27,14 +30,10 @@ SECTIONS = ("ROWS", "COLUMNS", "RHS", "RANGES", "BOUNDS")
 BOUNDS = {"UP": ("upper", True, False), "LO": ("lower", True, False), "FX": ("both", True, False), "FR": ("both", False, False),
           "MI": ("lower", False, False), "PL": ("upper", False, False), "BV": ("both", False, True), "LI": ("lower", True, True),
           "UI": ("upper", True, True)}
-FIRST_REMARK = {"ROWS": 2, "COLUMNS": 1, "RHS": 1, "RANGES": 1, "BOUNDS": 2}
 # the NAME line of a free deck of a job; the name stands in columns 15 to 22
 FREE_DECK = re.compile(r"NAME.{18}  FREE")
 # the first word behind the remarks of an MPS file and the comments of an LP file
 FIRST_WORD = re.compile(r"(?:\s|(?:(?<=\n)|^)\*[^\n]*\n?|\\[^\n]*\n?)*([^\s\\:]+)")
-WORDS = re.compile(r"[^ \t]+")
-# a line of fixed fields, which is filled up with blanks to its last column
-BY_COLUMNS = re.compile(r" ([^\t]{2}) ([^\t]{8})  ([^\t]{8})  ([^\t]{12})   ([^\t]{8})  ([^\t]{12})[^\t]*")
 
 
 @dataclass(frozen=True)
@@ -56,94 +55,32 @@ class Reading:
     bound_set: str | None = None
 
 
-class Line:
-    "the words or the fields of a line, by which its parts are known"
-
-    def __init__(self, text, fixed):
-        self.text, self.fixed = text, fixed
-        if fixed:
-            self.check_gaps()
-            text = self.text
-            self.words = [text[a:b].strip(" ") if k in (0, 3, 5) else text[a:b].rstrip(" ") for k, (a, b) in enumerate(FIELDS)]
-        else:
-            self.words = WORDS.findall(text)
-
-    @property
-    def spans(self):
-        "where the words or the fields stand"
-        if self.fixed:
-            return [(a, max(a + 1, min(b, len(self.text)))) for a, b in FIELDS]
-        return [found.span() for found in WORDS.finditer(self.text)]
-
-    def check_gaps(self):
-        if "\t" in self.text:
-            raise Refused("a tab has no place among columns", "\t")
-        self.check_remark()
-        if self.text[LAST_COLUMN - 1:LAST_COLUMN].strip(" ") and self.text[LAST_COLUMN:LAST_COLUMN + 1].strip(" "):
-            raise Refused(f"field 6 goes on past column {LAST_COLUMN}", (LAST_COLUMN, len(self.text)))
-        for a, b in GAPS:
-            if between := self.text[a:b].strip(" "):
-                start = self.text.index(between, a)
-                raise Refused(f"something stands between the fields, in columns {a + 1} to {b}", (start, start + len(between)))
-
-    def check_remark(self):
-        "a $ at the start of field 3 or 5 begins a remark"
-        self.remark = next((a for a, b in (FIELDS[2], FIELDS[4]) if self.text[a:a + 1] == "$"), None)
-        if self.remark is not None:
-            self.marked = self.text[self.remark:self.remark + 8].rstrip(" ")
-            self.text = self.text[:self.remark].rstrip(" ")
-
-    def cut_remark(self, section, known):
-        "leaves out a remark; refused where the word that begins it is a name"
-        if self.fixed:
-            if self.remark is not None and self.marked in known:
-                raise Refused(f"{self.marked} is a name, and where it stands a $ begins a remark")
-            return
-        if "$" not in self.text:
-            return
-        for place in range(FIRST_REMARK[section], len(self.words)):
-            if self.words[place].startswith("$"):
-                if self.words[place] in known:
-                    raise Refused(f"{self.words[place][:30]} is a name, and where it stands a $ begins a remark", place)
-                self.text = self.text[:self.spans[place][0]].rstrip(" \t")
-                del self.words[place:]
-                return
-
-    def by_columns(self):
-        "the parts of the line by the columns of fields, or None where something stands between these"
-        found = BY_COLUMNS.fullmatch(self.text.ljust(LAST_COLUMN))
-        return found and [part.strip(" ") for part in found.groups()]
-
-    def span_of(self, word):
-        "where a part stands: a place among the words, a word, or columns"
-        if isinstance(word, tuple):
-            return word
-        if isinstance(word, int):
-            return self.spans[word] if word < len(self.spans) else (len(self.text), len(self.text) + 1)
-        place = next((place for place, other in enumerate(self.words) if other == word), None)
-        if place is not None:
-            return self.spans[place][0], self.spans[place][0] + len(word)
-        at = self.text.find(word)
-        return (at, at + len(word)) if at >= 0 else None
-
-
 class Reader:
-    def __init__(self, reading):
+    "takes the lines of a file one after the other; line is the number of the present one, counted from 1"
+    def __init__(self, reading: Reading) -> None:
         self.reading, self.model = reading, Model(constant_sign=-1 if reading.constant == "minus" else 1)
-        self.sets = {"RHS": self.model.rhs, "RANGES": self.model.ranges, "BOUNDS": self.model.bounds}
+        self.sets: dict[str, dict[str, dict[str, Any]]] = {"RHS": self.model.rhs, "RANGES": self.model.ranges, "BOUNDS": self.model.bounds}
         self.entries = self.line = 0
-        self.section = self.said_sense = self.said_objective = self.last_column = None
+        self.section = ""
+        self.said_sense: str | None = None
+        self.said_objective: tuple[str, int] | None = None
+        self.last_column: str | None = None
         # the type and the name on the line of ROWS before, where that is a combination's
-        self.combining = None
-        self.last_set, self.whole, self.marked, self.lines = {}, {}, {}, {}
+        self.combining: tuple[str, str] | None = None
+        self.last_set: dict[str, str] = {}
+        self.whole: dict[str, int] = {}
+        self.marked: dict[str, int] = {}
+        self.lines: dict[str, list[int]] = {}
         self.named = self.between_markers = False
         self.exact = reading.numbers == "exact"
         self.takes = {"ROWS": self.take_row, "COLUMNS": self.take_column, "RHS": self.take_value, "RANGES": self.take_value, "BOUNDS": self.take_bound}
 
-    def note(self, kind):
+    def note(self, kind: str) -> None:
+        "the present line is one of this kind"
         self.lines.setdefault(kind, []).append(self.line)
 
-    def read(self, text):
+    def read(self, text: str) -> Model:
+        "the model of a whole text"
         lines = re.split(r"\r\n|\n|\r", text)
         try:
             for self.line, line in enumerate(lines, 1):
@@ -162,18 +99,20 @@ class Reader:
             raise
         return self.model
 
-    def show(self, cause, lines):
+    def show(self, cause: Refused, lines: list[str]) -> None:
         "gives a refusal its line, and the part of that which is meant"
         if cause.line and cause.text is None:
             cause.text = lines[cause.line - 1]
             if isinstance(cause.word, str):
                 cause.span = Line(cause.text, False).span_of(cause.word)
 
-    def take_comment(self, line):
+    def take_comment(self, line: str) -> None:
+        "a remark; one that asks for the greatest objective is told, since remarks aren't read"
         if re.match(r"\*\s*sense\s*:\s*max", line, re.I):
             self.lines.setdefault("maximizing", []).append(self.line)
 
-    def take(self, text):
+    def take(self, text: str) -> None:
+        "a line that isn't blank and no remark"
         line = None
         try:
             if text[0] not in " \t":
@@ -183,8 +122,7 @@ class Reader:
                 line = Line(text, self.reading.form == "fixed")
                 if line.fixed and line.text[LAST_COLUMN:]:
                     self.note("past")
-                known = self.model.columns if self.section == "BOUNDS" else self.model.rows
-                line.cut_remark(self.section, known)
+                line.cut_remark(self.section, self.model.columns.keys() if self.section == "BOUNDS" else self.model.rows.keys())
                 self.takes[self.section](line)
             else:
                 line = Line(text, False)
@@ -195,7 +133,8 @@ class Reader:
                 cause.span = (line or Line(text, False)).span_of(cause.word)
             raise
 
-    def take_section(self, line):
+    def take_section(self, line: Line) -> None:
+        "the line that begins a section"
         section, rest = line.words[0].upper(), line.words[1:]
         if self.section in ("OBJSENSE", "OBJNAME"):
             raise Refused(f"{self.section} says nothing before this section", 0)
@@ -214,7 +153,7 @@ class Reader:
             if rest:
                 self.take_word(line, 1 if len(line.words) > 1 else 0, rest[0])
             return
-        elif section in ("VAR", "PARAM", "SET") and not self.named and self.section is None:
+        elif section in ("VAR", "PARAM", "SET") and not self.named and not self.section:
             raise Refused(MATHPROG, 0)
         elif section not in (*SECTIONS, "ENDATA"):
             raise Refused(f"the section {section[:30]} can't be kept", 0)
@@ -222,7 +161,7 @@ class Reader:
             self.note("header")
         self.section = section
 
-    def take_word(self, line, place=0, word=None):
+    def take_word(self, line: Line, place: int = 0, word: str | None = None) -> None:
         "the word of OBJSENSE or of OBJNAME"
         word = word or line.words[place]
         if self.section == "OBJSENSE" and word.upper() in SENSES and len(line.words) <= place + 1:
@@ -235,13 +174,18 @@ class Reader:
             raise Refused(f"this is a job already, and no MPS file: {called('mps360')} runs it, {called('solve')} too", place)
         else:
             raise Refused("a data line where no section takes one", place)
-        self.section = None
+        self.section = ""
 
-    def most(self, what, count):
+    def is_infinite(self, value: Fraction | float) -> bool:
+        "whether a number is infinite, or as large as what is read as that"
+        return isinstance(value, float) or abs(value) >= self.reading.infinity
+
+    def most(self, what: str, count: int) -> None:
+        "Refused where there are so many already, and one more than a job holds"
         if count >= MOST[what]:
             raise Refused(f"a job holds at most {MOST[what]:,} {what}")
 
-    def value(self, place, line):
+    def value(self, place: int, line: Line) -> Fraction | float:
         "the number of a word, as the model has it: rounded where that is asked for"
         word = line.words[place]
         try:
@@ -252,11 +196,11 @@ class Reader:
         except Refused as cause:
             cause.word = place
             raise
-        if self.exact and not has_text(word):
+        if isinstance(value, Fraction) and self.exact and not has_text(word):
             self.model.long.setdefault(value, Place(word, self.line, line.text, line.spans[place]))
-        if self.exact or has_text(word) or self.section not in ("ROWS", "COLUMNS") and abs(value) >= self.reading.infinity:
+        if self.exact or has_text(word) or self.section not in ("ROWS", "COLUMNS") and self.is_infinite(value):
             return value
-        if self.section == "RHS" and self.model.rows[line.words[place - 1]] == "N":
+        if isinstance(value, float) or self.section == "RHS" and self.model.rows[line.words[place - 1]] == "N":
             return value
         near = nearest(value)
         if near is None:
@@ -266,7 +210,7 @@ class Reader:
         self.model.rounded.append((self.line, word, near))
         return near
 
-    def take_row(self, line):
+    def take_row(self, line: Line) -> None:
         words = [word for word in line.words if word] if not line.fixed else line.words[:2] + [word for word in line.words[2:] if word]
         kind = words[0].upper()
         if kind not in ("N", "L", "G", "E", *COMBINATIONS):
@@ -284,7 +228,7 @@ class Reader:
         self.most("rows", len(self.model.rows))
         self.model.rows[words[1]] = kind
 
-    def take_combination(self, kind, line, goes_on):
+    def take_combination(self, kind: str, line: Line, goes_on: bool) -> None:
         "a line of a row that is a sum of multiples of earlier rows; it begins one, or goes on with that of the line before"
         if not line.fixed and (len(line.words) % 2 or len(line.words) > 6):
             raise Refused("a combination wants a name, and none, one or two pairs of a row and a multiplier (names with blanks: --fixed)", len(line.words) - 1)
@@ -303,11 +247,12 @@ class Reader:
                 raise Refused(f"no row before it is named {row[:30]}", at)
             if row in parts:
                 raise Refused(f"a second part on row {row[:30]}", at)
-            parts[row] = self.value(number_at, line)
-            if isinstance(parts[row], float):
+            value = self.value(number_at, line)
+            if isinstance(value, float):
                 raise Refused("a multiplier can't be infinite", number_at)
+            parts[row] = value
 
-    def pairs(self, line):
+    def pairs(self, line: Line) -> tuple[int | None, list[tuple[int, int]]]:
         "the place of the name in front, or None where it is blank, and the places of the pairs"
         if line.fixed:
             words = line.words
@@ -328,12 +273,13 @@ class Reader:
                 raise Refused(f"no row is named {line.words[row][:30]}", row)
         return name, places
 
-    def check_form(self, line, read):
+    def check_form(self, line: Line, read: tuple[str, list[tuple[str, str]]]) -> None:
         "refuses a line whose fields, by their columns, say another thing than its words"
         if self.reading.form != "either" or (fields := line.by_columns()) is None or [part for part in fields if part] == line.words:
             return
-        kind, name, *pairs = fields
-        pairs = [pair for pair in (tuple(pairs[:2]), tuple(pairs[2:])) if any(pair)]
+        kind, name = fields[:2]
+        pairs = [pair for pair in ((fields[2], fields[3]), (fields[4], fields[5])) if any(pair)]
+        lawful: object
         if self.section == "BOUNDS":
             takes = BOUNDS.get(kind.upper(), (None, None))[1]
             lawful = takes is not None and len(pairs) == 1 and pairs[0][0] in self.model.columns and (NUMBER.fullmatch(pairs[0][1]) or not takes)
@@ -344,7 +290,8 @@ class Reader:
         if lawful and (name, pairs) != read:
             raise Refused("this line's words say one thing, its fields by their columns another: --free or --fixed says which counts")
 
-    def take_marker(self, line):
+    def take_marker(self, line: Line) -> None:
+        "a line that begins or ends columns of whole numbers"
         words = [word.strip("'\"").upper() for word in line.words]
         kind = next((word for word in words if word in ("INTORG", "INTEND")), None)
         if kind is None:
@@ -353,9 +300,11 @@ class Reader:
             raise Refused("columns of whole numbers (MARKER); --relax takes them as columns of any numbers", "'MARKER'")
         self.between_markers = kind == "INTORG"
 
-    def take_column(self, line):
+    def take_column(self, line: Line) -> None:
+        "a line of COLUMNS"
         if "'MARKER'" in line.words:
-            return self.take_marker(line)
+            self.take_marker(line)
+            return
         place, places = self.pairs(line)
         if place is None:
             if self.last_column is None or not line.fixed and (line.text[:14].strip(" ") or "\t" in line.text):
@@ -385,7 +334,7 @@ class Reader:
             self.entries += 1
             column[line.words[row]] = value
 
-    def set_named(self, name, place):
+    def set_named(self, name: str, place: int) -> dict[str, Any]:
         "the items of the set of this name; a blank name beside others is refused, or is as the reading says"
         sets = self.sets[self.section]
         if name not in sets and (sets and not name or "" in sets):
@@ -400,7 +349,8 @@ class Reader:
         self.last_set[self.section] = name
         return sets.setdefault(name, {})
 
-    def take_value(self, line):
+    def take_value(self, line: Line) -> None:
+        "a line of RHS or RANGES"
         place, places = self.pairs(line)
         if not places:
             raise Refused("a row and a number are wanted", 1)
@@ -416,28 +366,30 @@ class Reader:
             else:
                 self.take_range(items, row, number_at, line)
 
-    def take_rhs(self, items, row, at, line):
+    def take_rhs(self, items: dict[str, Fraction], row: str, at: int, line: Line) -> None:
+        "a right-hand side, or the constant of an N row"
         value = self.value(at, line)
-        if self.model.rows[row] == "N" and isinstance(value, float):
-            raise Refused("a constant can't be infinite", at)
-        if self.model.rows[row] != "N" and abs(value) >= self.reading.infinity:
+        if self.model.rows[row] != "N" and self.is_infinite(value):
             also = " (or say --infinity NUMBER, of more than it)" if not isinstance(value, float) and nearest(value) is not None else ""
             raise Refused(f"a right-hand side of {decimal_text(self.reading.infinity)} and more is infinite in some programs; "
                           f"make the row an N row, or leave it out{also}", at)
+        if isinstance(value, float):
+            raise Refused("a constant can't be infinite", at)
         items[row] = value
 
-    def take_range(self, items, row, at, line):
+    def take_range(self, items: dict[str, Fraction], row: str, at: int, line: Line) -> None:
+        "a range of a row"
         value = self.value(at, line)
         if self.model.rows[row] == "N":
             self.note("range on N")
-        elif abs(value) < self.reading.infinity:
+        elif isinstance(value, Fraction) and abs(value) < self.reading.infinity:
             items[row] = value
         elif self.model.rows[row] == "E":
             raise Refused("an infinite range on an E row", at)
         else:
             self.note("infinite range")
 
-    def bound_parts(self, line):
+    def bound_parts(self, line: Line) -> tuple[str, int | None, int, int | None]:
         "the type of a bound, and the places of set, column and number, None where there is none"
         kind = line.words[0].upper()
         if kind == "SC":
@@ -457,7 +409,8 @@ class Reader:
             return kind, None, 1, 2 if takes else None
         return kind, 1, 2, 3 if count == 4 else None
 
-    def take_bound(self, line):
+    def take_bound(self, line: Line) -> None:
+        "a line of BOUNDS"
         kind, place, at, number_at = self.bound_parts(line)
         ends, takes, whole = BOUNDS[kind]
         name, column = line.words[place] if place is not None else "", line.words[at]
@@ -470,24 +423,24 @@ class Reader:
             self.whole[column] = self.line
         if not takes and number_at is not None:
             self.note("number on " + kind)
-        value = self.limit(kind, number_at, line) if takes else None
+        value = self.limit(kind, number_at, line) if takes and number_at is not None else None
         limits = self.set_named(name, place if place is not None else at).setdefault(column, Limits())
         if ends in ("lower", "both"):
             self.touch(limits, "lower", Fraction(0) if kind == "BV" else value, at)
         if ends in ("upper", "both"):
             self.touch(limits, "upper", Fraction(1) if kind == "BV" else value, at)
 
-    def limit(self, kind, at, line):
+    def limit(self, kind: str, at: int, line: Line) -> Fraction | None:
         "a limit, or None where it is infinite"
         value = self.value(at, line)
-        if abs(value) < self.reading.infinity:
+        if isinstance(value, Fraction) and abs(value) < self.reading.infinity:
             return value
         if (value > 0) != (kind in ("UP", "UI")) or kind == "FX":
             raise Refused(f"a bound {kind} of {line.words[at][:30]} is infinite, and leaves no number", at)
         self.note("infinite bound")
         return None
 
-    def touch(self, limits, end, value, at):
+    def touch(self, limits: Limits, end: str, value: Fraction | None, at: int) -> None:
         "sets an end of a column's limits; refused where another line sets it to another value"
         before = getattr(limits, end + "_line")
         if before and getattr(limits, end) != value:
@@ -496,7 +449,7 @@ class Reader:
         setattr(limits, end, value)
         setattr(limits, end + "_line", before or self.line)
 
-    def end(self):
+    def end(self) -> None:
         "what can be known at the end alone"
         if not any(kind == "N" for kind in self.model.rows.values()):
             raise Refused("there is no N row, so no objective")
@@ -507,7 +460,8 @@ class Reader:
         self.model.warned = warnings(self.model, self.choices())
         self.model.said += self.model.warned
 
-    def end_bounds(self):
+    def end_bounds(self) -> None:
+        "negative upper limits where nothing is said of the lower one"
         for items in self.model.bounds.values():
             for column, limits in items.items():
                 if limits.upper is None or limits.upper >= 0 or limits.lower_line:
@@ -519,7 +473,7 @@ class Reader:
                     limits.lower = None
                 self.lines.setdefault("negative " + self.reading.negative_up, []).append(limits.upper_line)
 
-    def end_markers(self):
+    def end_markers(self) -> None:
         "the upper limits of whole-number columns between markers of which no bound says one"
         sets = list(self.model.bounds.values()) or [{}]
         changed = {}
@@ -541,7 +495,7 @@ class Reader:
                                    "upper limit is 1, as you said")
         self.model.relaxed = list(self.whole)
 
-    def choose(self):
+    def choose(self) -> None:
         "the objective, the sense and the sets that are taken"
         model, reading = self.model, self.reading
         first = next(row for row, kind in model.rows.items() if kind == "N")
@@ -550,20 +504,22 @@ class Reader:
         if model.rows.get(model.objective) != "N":
             raise Refused(f"the objective {model.objective[:30]} isn't an N row", model.objective, None if reading.objective else line)
         model.sense = reading.sense or self.said_sense or "MIN"
-        for attribute, sets, what in (("rhs_set", model.rhs, "RHS"), ("range_set", model.ranges, "RANGES"), ("bound_set", model.bounds, "BOUNDS")):
+        for attribute, what in (("rhs_set", "RHS"), ("range_set", "RANGES"), ("bound_set", "BOUNDS")):
+            sets = self.sets[what]
             wanted = getattr(reading, attribute)
             if wanted is not None and wanted not in sets:
                 raise Refused(f"no set of {what} is named {wanted[:30]}")
             setattr(model, attribute, wanted if wanted is not None else next(iter(sets), None))
 
-    def choices(self):
+    def choices(self) -> Choices:
         "what the file or the reading says, so that nothing was chosen here"
         reading = self.reading
         named = {"RHS": reading.rhs_set, "RANGES": reading.range_set, "BOUNDS": reading.bound_set}
         return Choices((reading.sense or self.said_sense) is not None, (reading.objective or self.said_objective) is not None,
                        frozenset(what for what, name in named.items() if name is not None))
 
-    def tell(self):
+    def tell(self) -> None:
+        "a sentence for each thing that was left out or chosen"
         model, told = self.model, self.model.said
         sentences = {"after": "what follows ENDATA isn't read", "header": "what follows the name of a section isn't read",
                      "range on N": "a range on an N row says nothing, and is left out",
@@ -589,14 +545,14 @@ class Reader:
         told += numbers_told(model)
 
 
-def numbers_told(model):
+def numbers_told(model: Model) -> Iterator[str]:
     "a sentence for the numbers that were rounded, and one for those that were taken as doubles"
     if model.doubles:
         line, word, short = model.doubles[0]
         yield (f"{counted(len(model.doubles), 'number', 'of 16 or 17 digits was', 'of 16 or 17 digits were')} taken as the shortest decimal that is the same double, as {short} for "
                f"{word[:40]} in line {line}")
     if model.rounded:
-        exact = [(line, word, near, number(word)) for line, word, near in model.rounded]
+        exact = [(line, word, near, Fraction(number(word))) for line, word, near in model.rounded]
         changes = [(abs(near - value), abs(near / value - 1), line, word) for line, word, near, value in exact]
         most, least = max(changes), max(changes, key=lambda change: change[1])
         told = f"{counted(len(changes), 'number', 'was', 'were')} rounded to 12 columns; "
@@ -610,7 +566,7 @@ COMPRESSED = ((b"\xfd7zXZ\0", "xz", "unxz"), (b"BZh", "bzip2", "bunzip2"), (b"\x
 MATHPROG = "it is a model in the language MathProg or AMPL: glpsol --check -m MODEL.mod --wfreemps MODEL.mps makes an MPS file of a MathProg model"
 
 
-def is_lp(text, name=""):
+def is_lp(text: str, name: str = "") -> bool:
     "whether a text is a CPLEX LP file: by its first word, or by its name where that word begins no MPS file either"
     found = FIRST_WORD.match(text)
     word = found[1].upper() if found else ""
@@ -618,14 +574,15 @@ def is_lp(text, name=""):
     return word in SENSES or is_named and word not in ("NAME", "OBJSENSE", "OBJNAME", *SECTIONS)
 
 
-def read_text(text, reading=Reading(), name=""):
+def read_text(text: str, reading: Reading = Reading(), name: str = "") -> Model:
+    "the model of a text; Refused names the line"
     if is_lp(text, name):
-        from mps360 import lp_file
+        from mps360 import lp_file  # pylint: disable=import-outside-toplevel
         return lp_file.read_text(text, reading)
     return Reader(reading).read(text)
 
 
-def refuse_other_forms(data, name):
+def refuse_other_forms(data: bytes, name: str) -> None:
     "refuses what is compressed otherwise than by gzip, and models in another language, and says what makes an MPS file of it"
     for begin, how, unpacks in COMPRESSED:
         if data.startswith(begin):
@@ -634,30 +591,24 @@ def refuse_other_forms(data, name):
         raise Refused(MATHPROG)
 
 
-def read_bytes(data, reading=Reading(), name=""):
+def read_bytes(data: bytes, reading: Reading = Reading(), name: str = "") -> Model:
+    "the model of the bytes of a file, gzipped or not, in UTF-8 or Latin-1; its name may tell its form"
     refuse_other_forms(data, name)
-    if data[:2] == b"\x1f\x8b":
-        import gzip, io, zlib
-        try:
-            with gzip.open(io.BytesIO(data)) as source:
-                data = source.read(MOST_TEXT + 1)
-        except (OSError, EOFError, zlib.error) as cause:
-            raise Refused(f"it begins as a gzipped file, and isn't one: {cause}")
-    if len(data) > MOST_TEXT:
-        raise Refused(f"it has more than {MOST_TEXT:,} bytes")
+    data = unzipped(data, MOST_TEXT)
     if data[:2] in (codecs.BOM_UTF16_LE, codecs.BOM_UTF16_BE):
         raise Refused("it is UTF-16; save it as UTF-8")
     try:
         return read_text(data.decode("utf-8-sig"), reading, name)
     except UnicodeDecodeError as cause:
         if data.startswith(codecs.BOM_UTF8):
-            raise Refused("it begins as UTF-8, and has a byte that isn't", line=cause.object[:cause.start].count(b"\n") + 1)
+            raise Refused("it begins as UTF-8, and has a byte that isn't", line=cause.object[:cause.start].count(b"\n") + 1) from None
         model = read_text(data.decode("latin-1"), reading, name)
     model.said.append("the file isn't UTF-8: its letters are read as Latin-1")
     return model
 
 
-def read_file(path, reading=Reading()):
+def read_file(path: str, reading: Reading = Reading()) -> Model:
+    "the model of a file; - is standard input"
     if str(path) == "-":
         return read_bytes(sys.stdin.buffer.read(), reading)
     with open(path, "rb") as source:

@@ -12,7 +12,7 @@ from typing import Any
 CANT_WRITE, INTERRUPTED = 73, 130
 OUT, ERRORS = "to standard output", "to standard error"
 CLOSED = "it is closed"
-Main = Callable[[list[str]], int]
+Main = Callable[[list[str] | None], int]
 
 
 class CantWrite(Exception):
@@ -128,7 +128,7 @@ def command(name: str) -> Callable[[Main], Main]:
     does Ctrl-C, where the command doesn't meet it itself, with INTERRUPTED."""
     def of(main: Main) -> Main:
         @functools.wraps(main)
-        def checked(words: list[str]) -> int:
+        def checked(words: list[str] | None = None) -> int:
             with checked_streams() as (out, errors):
                 try:
                     try:

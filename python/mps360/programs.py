@@ -1,18 +1,20 @@
 """Runs jobs, and attests listings, for the other scripts: by the proved program where it is fresh, else all jobs unproved, built once
 (`rt try --cases`)."""
-import pathlib, re, shutil, subprocess, tempfile
+from collections.abc import Mapping
+import pathlib
+import re
+import shutil
+import subprocess
+import tempfile
 from mps360 import unproved
+from mps360.errors import NoProgram
 
 # the repository, or the folder where the commands are installed
 TOP = pathlib.Path(__file__).resolve().parents[2]
 COMMANDS = TOP / "scripts" if (TOP / "scripts").is_dir() else TOP
 
 
-class NoProgram(Exception):
-    "neither a proved program nor an unproved run can be had"
-
-
-def proved_program(name="mps360"):
+def proved_program(name: str = "mps360") -> str | None:
     "the path of the proved program of this name, installed or fresh, or None where there is none"
     installed = COMMANDS / {"mps360": "program", "mps360check": "check"}[name]
     if installed.exists():
@@ -21,7 +23,7 @@ def proved_program(name="mps360"):
     return found.stdout.strip() if found.returncode == 0 else None
 
 
-def checker_program(is_unproved=False):
+def checker_program(is_unproved: bool = False) -> str:
     "the path of the checker of listings: the proved one, or where there is none and an unproved one is wanted, that which is compiled of its sources"
     program = proved_program("mps360check")
     if program:
@@ -34,7 +36,7 @@ def checker_program(is_unproved=False):
         raise NoProgram(str(cause)) from None
 
 
-def attested_by(program, job, listing):
+def attested_by(program: str, job: bytes, listing: bytes) -> tuple[int, str]:
     "the status of a checker of listings, and what it prints"
     with tempfile.TemporaryDirectory() as folder:
         pathlib.Path(folder, "LISTING").write_bytes(listing)
@@ -42,7 +44,7 @@ def attested_by(program, job, listing):
     return ended.returncode, ended.stdout.decode("latin-1")
 
 
-def run_proved(program, job):
+def run_proved(program: str, job: bytes) -> tuple[int, bytes, bytes | None]:
     "the status, the listing and the punched deck (None where nothing is punched) of a job"
     with tempfile.TemporaryDirectory() as folder:
         ended = subprocess.run([program], input=job, stdout=subprocess.PIPE, cwd=folder, timeout=600)
@@ -50,7 +52,7 @@ def run_proved(program, job):
         return ended.returncode, ended.stdout, punch.read_bytes() if punch.exists() else None
 
 
-def run_jobs(jobs, unproved=False, whole=True):
+def run_jobs(jobs: Mapping[str, bytes], unproved: bool = False, whole: bool = True) -> dict[str, tuple[int | None, bytes]]:
     """from names to bytes of jobs, the status and the listing of each. The unproved run may have no answer to a job: then the status is None,
     or, where the whole is wanted, that is told as the want of a program."""
     program = None if unproved else proved_program()

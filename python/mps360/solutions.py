@@ -5,10 +5,15 @@
 
 Two forms are read, gzipped too: what `esolver -O` of QSopt_ex writes, which leaves out what is 0; and JSON, which the page on models of other
 solvers describes. Numbers are whole, or fractions such as -7/3: a decimal number is refused, since most programs round it."""
-import gzip, io, json, re, zlib
+from typing import Any, NoReturn
+from mps360.model import Model
+import json
+import re
 from fractions import Fraction
 
 from mps360.commands import called
+from mps360.errors import Refused
+from mps360.files import unzipped
 from mps360.listings.write import Answer
 from mps360.model import Sums
 
@@ -31,7 +36,8 @@ class NoSolution(Exception):
     "why a file isn't taken"
 
 
-def number(word):
+def number(word: str) -> Fraction:
+    "an exact number, whole or a fraction"
     if DECIMAL.fullmatch(word) and not FRACTION.fullmatch(word):
         raise NoSolution(f"{word[:40]} is a decimal number, which may be rounded: an exact one is whole, or a fraction such as -7/3. {OF_FLOATS}")
     if not FRACTION.fullmatch(word) or re.search(r"/0+$", word):
@@ -41,10 +47,11 @@ def number(word):
 
 class Names:
     "the names of a model's rows and columns"
-    def __init__(self, model):
+    def __init__(self, model: Model) -> None:
         self.rows, self.columns = model.rows, model.columns
 
-    def put(self, table, kind, name, value):
+    def put(self, table: dict[str, Fraction], kind: str, name: str, value: Fraction) -> None:
+        "puts the number of a row or a column into a table; kind is rows or columns"
         if name not in getattr(self, kind):
             raise NoSolution(f"the model has no {kind[:-1]} {name[:60]!r}")
         if name in table:
@@ -54,13 +61,15 @@ class Names:
 
 # ---- what esolver writes
 
-def read_esolver(text, model):
+def read_esolver(text: str, model: Model) -> Answer:
+    "the answer of what esolver -O writes"
     lines = text.split("\n")
-    status = re.match(r"status(?: =)? (\S+)", lines[0])
-    if status[1] != "OPTIMAL":
-        raise NoSolution(f"esolver says {status[1]}, and writes no ray and no direction that would prove it. PRIMAL finds them: "
+    status = lines[0].removeprefix("status").strip(" =").split(" ")[0]
+    if status != "OPTIMAL":
+        raise NoSolution(f"esolver says {status}, and writes no ray and no direction that would prove it. PRIMAL finds them: "
                          f"{called('solve')} MODEL.mps, or with another solver's basis {called('solve')} --basis BASIS MODEL.mps")
-    names, tables, told, section = Names(model), {}, None, None
+    names, told, section = Names(model), None, ""
+    tables: dict[str, dict[str, Fraction]] = {}
     for place, line in enumerate(lines, 1):
         try:
             if line.strip() in SECTIONS:
@@ -68,9 +77,9 @@ def read_esolver(text, model):
                 if section in tables:
                     raise NoSolution(f"a second section {line.strip()}")
                 tables[section] = {}
-            elif section is None and (found := re.match(r"\s*Value = (.*)", line)):
+            elif not section and (found := re.match(r"\s*Value = (.*)", line)):
                 told = number(found[1].strip())
-            elif section is not None and line.strip():
+            elif section and line.strip():
                 name, equals, word = line.rpartition(" = ")
                 if not equals:
                     raise NoSolution(f"{line[:60]!r} isn't a name and its number")
@@ -84,7 +93,7 @@ def read_esolver(text, model):
     return Answer("optimal", columns=tables["columns"], prices=tables["prices"], reduced=tables["reduced"])
 
 
-def check_objective(told, columns, model):
+def check_objective(told: Fraction | None, columns: dict[str, Fraction], model: Model) -> None:
     "an objective that isn't that of the activities tells of another model, or of one that was read otherwise; a constant may be in it or not"
     if told is None:
         return
@@ -97,11 +106,13 @@ def check_objective(told, columns, model):
 
 # ---- JSON
 
-def no_float(word):
+def no_float(word: str) -> NoReturn:
+    "NoSolution, since a decimal number may be rounded"
     raise NoSolution(f"{word[:40]} is a decimal number, which may be rounded: write an exact one as text, such as \"-7/3\". {OF_FLOATS}")
 
 
-def no_twice(pairs):
+def no_twice(pairs: list[tuple[str, Any]]) -> dict[str, Any]:
+    "an object of JSON, in which no key stands twice"
     table = dict(pairs)
     if len(table) < len(pairs):
         seen = [key for key, _ in pairs]
@@ -109,7 +120,8 @@ def no_twice(pairs):
     return table
 
 
-def read_json(text, model):
+def read_json(text: str, model: Model) -> Answer:
+    "the answer of a JSON object"
     try:
         whole = json.loads(text, parse_float=no_float, parse_constant=no_float, object_pairs_hook=no_twice)
     except RecursionError:
@@ -135,7 +147,8 @@ def read_json(text, model):
     return Answer(kind, crossed=read_crossed(whole["crossed"], model) if "crossed" in whole else None, **tables)
 
 
-def json_number(key, value):
+def json_number(key: str, value: object) -> Fraction:
+    "an exact number of JSON"
     if isinstance(value, bool) or not isinstance(value, (int, str)):
         raise NoSolution(f"{key}: {str(value)[:40]} isn't a number, whole or a text such as \"-7/3\"")
     try:
@@ -144,10 +157,12 @@ def json_number(key, value):
         raise NoSolution(f"{key}: {cause}") from None
 
 
-def read_table(key, given, model):
+def read_table(key: str, given: object, model: Model) -> dict[str, Fraction]:
+    "a table of names and numbers"
     if not isinstance(given, dict):
         raise NoSolution(f"{key!r} is to be a table of names and numbers")
-    names, table = Names(model), {}
+    names = Names(model)
+    table: dict[str, Fraction] = {}
     for name, value in given.items():
         try:
             names.put(table, TABLES[key], name, json_number(name[:60], value))
@@ -156,25 +171,23 @@ def read_table(key, given, model):
     return table
 
 
-def read_crossed(given, model):
+def read_crossed(given: object, model: Model) -> tuple[str, str]:
+    "the row or the column whose limits cross"
     kind, name = next(iter(given.items())) if isinstance(given, dict) and len(given) == 1 else (None, None)
     if kind not in ("row", "column") or not isinstance(name, str):
         raise NoSolution('crossed: it is to be {"row": NAME} or {"column": NAME}')
-    Names(model).put({}, kind + "s", name, None)
+    Names(model).put({}, kind + "s", name, Fraction(0))
     return kind, name
 
 
 # ---- a file
 
-def read_bytes(data, model):
-    if data[:2] == b"\x1f\x8b":
-        try:
-            with gzip.open(io.BytesIO(data)) as source:
-                data = source.read(MOST_BYTES + 1)
-        except (OSError, EOFError, zlib.error) as cause:
-            raise NoSolution(f"it begins as a gzipped file, and isn't one: {cause}") from None
-    if len(data) > MOST_BYTES:
-        raise NoSolution(f"it has more than {MOST_BYTES:,} bytes")
+def read_bytes(data: bytes, model: Model) -> Answer:
+    "the answer of the bytes of a file, gzipped or not"
+    try:
+        data = unzipped(data, MOST_BYTES)
+    except Refused as cause:
+        raise NoSolution(str(cause)) from None
     try:
         text = data.decode("utf-8-sig")
     except UnicodeDecodeError:
@@ -186,6 +199,7 @@ def read_bytes(data, model):
     raise NoSolution(f"it is neither what esolver -O writes, which begins with status, nor a JSON object. {OF_FLOATS}")
 
 
-def read_file(path, model):
+def read_file(path: str, model: Model) -> Answer:
+    "the answer of a file"
     with open(path, "rb") as source:
         return read_bytes(source.read(MOST_BYTES + 1), model)

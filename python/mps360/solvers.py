@@ -33,7 +33,7 @@ NAMES = tuple(PACKAGES)   # the order in which they are asked
 TITLES = {"highs": "HiGHS"}
 LEAST_SCIPY = (1, 9)
 DEBIAN_PYTHON = "/usr/bin/python3"
-VERSION_SECONDS = 5.0
+VERSION_SECONDS = 15.0
 MODEL, WRITTEN, OPTIONS, BASIS = "plain.mps", "written", "options", "basis"
 # how each tells its version, and where it stands in what it prints
 VERSIONS = {"clp": (("-stop",), r"Coin LP version (\S+?),? build|Coin LP version (\S+)"), "esolver": (("-v",), r"QSopt_ex (\d\S*)"), "glpsol": (("--version",), r"Solver,? v?(\d\S*)"),

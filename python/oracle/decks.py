@@ -1,6 +1,8 @@
 """Decks of problems and of revisions for oracle/listing.py, read apart from the program by the rules of docs/DECKS.md: the problem that a
 deck, fixed or free, describes, or its first fault."""
-import collections, copy, re
+import collections
+import copy
+import re
 from fractions import Fraction
 
 SECTIONS = ("NAME", "ROWS", "COLUMNS", "RHS", "RANGES", "BOUNDS", "ENDATA")

@@ -5,10 +5,12 @@ INSERT is about by the rows' equations solved anew, the activity of a combinatio
 
 Where a linear program has a feasible point, it has one at which each nonbasic variable stands at a limit, or at 0 where it has none; and
 where it has a best one, one of these is best. It has none where some direction that keeps all limits improves the objective."""
-import copy, itertools, math
+import copy
+import itertools
+import math
 from fractions import Fraction
-from oracle import bases as expected_bases
-from oracle import listing as expected_listing
+from oracle.bases import stands_for
+from oracle.listing import Problem, Run, Table, VerbFault, fields, is_skipped
 
 MOST = 3000
 LITTLE, MUCH = Fraction(1, 10**9), Fraction(10**9)
@@ -130,7 +132,7 @@ def end_of(word):
     return None if word == "NONE" else Fraction(word)
 
 
-class Watched(expected_listing.Run):
+class Watched(Run):
     "a run that looks at what it says, where its linear program is small enough"
     def __init__(self, text):
         super().__init__(text)
@@ -203,7 +205,7 @@ class Watched(expected_listing.Run):
         "the deck that is written converts to its problem, but for columns without entries"
         first = len(self.punched)
         super().punch()
-        problem, again = self.filed("XPBNAME"), expected_listing.Problem(self.punched[first:])
+        problem, again = self.filed("XPBNAME"), Problem(self.punched[first:])
         columns = {name: entries for name, entries in again.columns.items() if problem.columns.get(name)}
         wanted = {name: entries for name, entries in problem.columns.items() if entries}
         same = (again.name, again.rows, again.parts, columns, again.sets) == (problem.name, problem.rows, problem.parts, wanted, problem.sets)
@@ -221,7 +223,7 @@ class Watched(expected_listing.Run):
         self.looked += 1
         try:
             end = super().dual()
-        except expected_listing.VerbFault as fault:
+        except VerbFault as fault:
             self.check("the first wrong price", fault.more == f" VARIABLE {min(wrong, default=-1) + 1}")
             raise
         self.check("DUAL goes on from wrong prices, or to one", not wrong and not self.wrong_prices() and end[0] != "UNBOUNDED")
@@ -232,8 +234,8 @@ class Watched(expected_listing.Run):
         "a punched deck, read again, stands for the basis"
         first = len(self.punched)
         super().basis_out()
-        opening = expected_listing.Table(self.lp).at
-        again = expected_bases.stands_for(self.punched[first:], self.lp, opening, expected_listing.is_skipped, expected_listing.fields)
+        opening = Table(self.lp).at
+        again = stands_for(self.punched[first:], self.lp, opening, is_skipped, fields)
         self.looked += 1
         self.check("the basis deck that is punched", again == self.table.at)
 
@@ -241,7 +243,7 @@ class Watched(expected_listing.Run):
         self.looked += 1
         try:
             super().insert()
-        except expected_listing.VerbFault as fault:
+        except VerbFault as fault:
             self.check("the dependency", not fault.lines or self.is_dependency(fault.lines))
             raise
         lp, table = self.lp, self.table

@@ -6,7 +6,13 @@ usage: check_vipr.py CERTIFICATE      CERTIFICATE may be gzipped; - is standard 
 
 It prints what is proved, infeasible or the objective's bounds, and ends with 0; with 1 where something isn't so, with the place. Derivations
 by other means than multipliers (lin), as branching needs them, are refused. 65: it isn't such a certificate; 66: it can't be read."""
-import errno, gzip, io, os, re, sys, zlib
+import errno
+import gzip
+import io
+import os
+import re
+import sys
+import zlib
 from dataclasses import dataclass, field
 from fractions import Fraction
 

@@ -21,12 +21,14 @@ from fractions import Fraction
 import places
 import random_jobs
 from mps360 import programs
-from mps360.cli import listing2vipr
-from oracle import attesting as expected_attesting
+from mps360.listings.made import OtherJob
+from mps360.listings.read import NoListing
+from mps360.vipr import NoClaim, claims_of, lines_of
+from oracle import attesting
 from oracle import listing as expected_listing
-from oracle import rules as job_rules
-from oracle import vipr as check_vipr
-from oracle.attesting import ATTESTED, OPEN, UNCHECKED
+from oracle import rules
+from oracle import vipr
+from oracle.claims import ATTESTED, OPEN, UNCHECKED
 
 ALTERATIONS = 10
 PRINTABLE = "".join(map(chr, range(32, 127)))
@@ -143,8 +145,8 @@ def altered_job(chance, job, listing):
     end = next((place for place, card in enumerate(cards) if card.split() == ["PEND"]), len(cards) - 1) + 1
     text = "\n".join(random_jobs.changed(chance, cards[:end]) + cards[end:]).encode("latin-1")
     try:
-        job_rules.Program(job_rules.cut(text))
-    except job_rules.Stop as stop:
+        rules.Program(rules.cut(text))
+    except rules.Stop as stop:
         return text, (stop.text + "\n").encode("latin-1")
     return text, listing
 
@@ -175,29 +177,34 @@ def table_claim(line, place):
         yield line[:15]
 
 
+class Follower(attesting.Walk):
+    "a walk that counts the optima and the conflicts that have passed their test"
+    proofs = 0
+
+    def met(self, line, lp, claim):
+        self.proofs += claim.kind == "INFEASIBLE" or claim.prices is not None
+
+
 def is_proved_again(job, listing):
-    "whether each optimum and each conflict that is attested is one by its certificate too"
-    follower = listing2vipr.Follower(job, listing)
+    "whether each optimum and each conflict that is attested is one by its certificate too, as the package writes it and the oracle checks it"
+    follower = Follower(job, listing)
     try:
         follower.run()
-    except expected_attesting.Found:
+    except attesting.Found:
         pass
-    for _, lp, claim in follower.claims:
-        if claim.kind == "INFEASIBLE" or claim.prices is not None:
-            try:
-                found = check_vipr.parse("\n".join(listing2vipr.certificate(lp, claim, {})))
-                said = check_vipr.check(found)
-            except (check_vipr.Wrong, check_vipr.NoCertificate, KeyError):
-                return False
-            if said != ("infeasible" if claim.kind == "INFEASIBLE" else f"optimal, the objective is {claim.objective}"):
-                return False
-    return True
+    try:
+        claims = [claim for claim in claims_of(job.decode("latin-1"), listing.decode("latin-1")) if claim.certificate]
+        said = [vipr.check(vipr.parse("\n".join(lines_of(claim.certificate)))) for claim in claims]
+    except (vipr.Wrong, vipr.NoCertificate, NoClaim, NoListing, OtherJob):
+        return False
+    ends = [claim.certificate.bounds for claim in claims]
+    return len(claims) == follower.proofs and said == ["infeasible" if bounds is None else f"optimal, the objective is {bounds[0]}" for bounds in ends]
 
 
 def faults(job, listing, original, checker):
     """the status, and what is wrong about what is said of a listing; original is the listing that was altered, None where this is as the job prints
     it, and () where it is the job that was altered"""
-    status, line = expected_attesting.attest(job, listing)
+    status, line = attesting.attest(job, listing)
     told = []
     if original is None and status not in (ATTESTED, OPEN, UNCHECKED):
         told.append(f"the job's own listing: {line}")

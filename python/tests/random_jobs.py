@@ -24,7 +24,7 @@ import collections, random, re, sys
 import places
 from mps360 import programs
 from mps360.cli import free_deck
-from oracle import attesting as expected_attesting
+from oracle import attesting
 from oracle import decks as expected_decks
 from oracle import every_basis
 from oracle import listing as expected_listing
@@ -421,10 +421,10 @@ def attest(jobs, program):
         run = expected_listing.Run(text)
         run.run()
         job, listing = text.encode("latin-1"), ("\n".join(run.lines) + "\n").encode("latin-1")
-        status, line = expected_attesting.attest(job, listing)
+        status, line = attesting.attest(job, listing)
         said = programs.attested_by(program, job, listing) if program else (status, line + "\n")
         answers[line.split(" ")[0]] += 1
-        if said != (status, line + "\n") or status in (expected_attesting.WRONG, expected_attesting.LONG):
+        if said != (status, line + "\n") or status in (attesting.WRONG, attesting.LONG):
             wrong[name] = f"{text}\n{listing.decode('latin-1')}the program says {said}, and it is worked out as {(status, line)}"
     return answers, wrong
 

@@ -9,7 +9,7 @@ import places
 import pytest
 from mps360 import programs
 from mps360.cli import free_deck
-from oracle import listing as expected_listing
+from oracle import listing
 
 SCRIPT = places.SCRIPTS / "free_deck.py"
 
@@ -161,7 +161,7 @@ def revision_cases():
 
 
 def listing_of(text):
-    run = expected_listing.Run(text)
+    run = listing.Run(text)
     run.run()
     return ("\n".join(run.lines) + "\n").encode(), "".join(card + "\n" for card in run.punched).encode() or None
 

@@ -14,8 +14,8 @@ from fractions import Fraction
 import pytest
 
 import places
+from long_models import random_text
 from mps360 import programs
-from test_long_numbers import random_text
 
 LONG = """NAME LONG
 ROWS

@@ -3,7 +3,8 @@ import json
 
 import places
 import pytest
-from mps360.listings import read as listing2json
+from mps360.listings import tables
+from mps360.listings.read import parse
 from schema import SCHEMA, violations
 
 LISTINGS = sorted([*places.EXAMPLES.glob("*.listing"), *places.DATA.glob("*.listing")])
@@ -29,9 +30,9 @@ def by_jsonschema():
 
 def documents_of(text):
     "the JSON of a listing, without decimals and with them"
-    yield listing2json.document(listing2json.parse(text))
-    whole = listing2json.document(listing2json.parse(text))
-    listing2json.add_decimals(whole)
+    yield tables.document(parse(text))
+    whole = tables.document(parse(text))
+    tables.add_decimals(whole)
     yield whole
 
 
@@ -59,7 +60,7 @@ def spoiled(whole):
 
 
 def first():
-    return listing2json.document(listing2json.parse((places.EXAMPLES / "first.listing").read_text()))
+    return tables.document(parse((places.EXAMPLES / "first.listing").read_text()))
 
 
 def test_there_are_listings():

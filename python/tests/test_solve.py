@@ -19,7 +19,7 @@ from test_routes import ESOLVER, GOOD_DECK, SOLUTION, real_program
 from test_solvers import GLASS
 
 INFEASIBLE = GLASS.replace(" B P1 4\n", " B P1 -4\n")
-WORDS = {"primal": (), "clp": ("--only", "basis", "--with", "clp"), "esolver": ("--only", "basis", "--with", "esolver"),
+WORDS = {"primal": ("--only", "primal"), "clp": ("--only", "basis", "--with", "clp"), "esolver": ("--only", "basis", "--with", "esolver"),
          "glpsol": ("--only", "basis", "--with", "glpsol"), "lp_solve": ("--only", "basis", "--with", "lp_solve"), "highs": ("--only", "basis", "--with", "highs"),
          "exact": ("--only", "exact")}
 NEEDS = {**{name: name for name in solvers.NAMES}, "exact": "esolver"}

@@ -13,16 +13,26 @@ solution2listing.py takes: what `esolver -O` of QSopt_ex writes, or JSON.
 It ends with 0 where the answer is attested; with 40 where its numbers don't prove it, 42 where an operation of a test doesn't fit 127 bits, 43
 where the listing is too long, other statuses of the checker as they are; with 64 for wrong use, 65 where a file is refused, 66 where it can't be
 read, 70 where there is no checker, 73 where a file can't be written."""
-import json, os, pathlib, re, subprocess, sys, tempfile
+from mps360.jobs.write import Job
+import json
+import os
+import pathlib
+import re
+import subprocess
+import sys
+import tempfile
 from fractions import Fraction
 from mps360.cli import mps2job
 from mps360.cli import solution2listing
-from mps360.cli.words import taken
-from mps360 import notes, programs, solution_checks
-from mps360.commands import here
-from mps360.output import command, make_folder, write_file
+from mps360 import programs
 from mps360.cli.solution2listing import Ended
 from mps360.text import as_lines, as_text
+from mps360.output import command, make_folder, write_file
+from mps360.commands import here
+from mps360 import notes, solution_checks
+from mps360.listings.write import Answer
+from mps360.cli.words import taken
+from mps360.model import Model
 
 NAME = "attest"
 ANSWER = re.compile(r"(?:ATTESTED \d+ REPORTS|(?:WRONG|OPEN|UNCHECKED) LINE (\d+)|LONG LISTING|STOP .*)\n")
@@ -32,53 +42,55 @@ VERDICT = re.compile(r"^PRIMAL (OPTIMAL|INFEASIBLE|UNBOUNDED) STEPS \d+ (?:OBJEC
 MEANS = {"INFEASIBLE": ", no plan keeps all limits", "UNBOUNDED": ", the objective has no bound"}
 
 
-def told(message):
+def told(message: object) -> None:
+    "a line on standard error"
     mps2job.say(f"{NAME}: {as_lines(str(message))}")
 
 
-def checker_of(file):
+def checker_of(file: str | None) -> tuple[list[str], str]:
     "what calls the checker in the folder of the files JOB and LISTING, and which one it is"
     if not file:
         is_installed = (programs.COMMANDS / "check").exists()
         is_proved = is_installed or not os.environ.get("MPS360_UNPROVED") and programs.proved_program("mps360check")
-        return [programs.COMMANDS / "mps360check", "JOB", "LISTING"], "proved" if is_proved else "unproved"
+        return [str(programs.COMMANDS / "mps360check"), "JOB", "LISTING"], "proved" if is_proved else "unproved"
     if not os.access(file, os.X_OK) or os.path.isdir(file):
         raise Ended(70, f"{file} isn't a program that can be run")
     return [os.path.abspath(file)], "other"
 
 
-def answer_of(command, job, listing):
+def answer_of(program: list[str], job: bytes, listing: bytes) -> tuple[int, int | None]:
     "the status of the checker, and the line of the listing that it names"
     with tempfile.TemporaryDirectory() as folder:
         for name, text in (("JOB", job), ("LISTING", listing)):
             pathlib.Path(folder, name).write_bytes(text)
         try:
             with open(pathlib.Path(folder, "JOB"), "rb") as given:
-                ended = subprocess.run(command, stdin=given, stdout=subprocess.PIPE, cwd=folder)
+                ended = subprocess.run(program, check=False, stdin=given, stdout=subprocess.PIPE, cwd=folder)
         except OSError as cause:
-            raise Ended(70, f"can't run {command[0]}: {cause.strerror}") from None
+            raise Ended(70, f"can't run {program[0]}: {cause.strerror}") from None
     said = ended.stdout.decode("latin-1")
     answer = ANSWER.fullmatch(said)
     if ended.returncode == 70 or not answer and ended.returncode not in (25, 28) or said.startswith("ATTESTED") != (ended.returncode == 0):
-        raise Ended(70, f"{command[0]} ended with {ended.returncode} and gave no answer: {said[:80]!r}")
+        raise Ended(70, f"{program[0]} ended with {ended.returncode} and gave no answer: {said[:80]!r}")
     return ended.returncode, int(answer[1]) if answer and answer[1] else None
 
 
-def outcome(status, number, listing, model, answer):
+def outcome(status: int, number: int | None, listing: str, model: Model, answer: Answer) -> str:
     "what the answer is, or why it isn't attested"
     if status:
         lines = listing.split("\n")
         place = f": line {number} of the listing, {lines[number - 1][:60]}" if number and number <= len(lines) else ""
         fault = solution_checks.first_fault(model, answer) if status == 40 else None
         return "not attested: " + REFUSED.get(status, f"the checker ended with {status}") + (f": {fault} ({place[2:]})" if fault else place)
-    verdict, objective = VERDICT.search(listing).groups()
+    found = VERDICT.search(listing)
+    verdict, objective = (found[1], found[2]) if found else ("", "0")
     changed = notes.after_verdict(model)
     if verdict != "OPTIMAL":
-        return verdict + changed + MEANS[verdict]
+        return verdict + changed + MEANS.get(verdict, ", the listing has no verdict")
     return f"OPTIMAL{changed}, objective {objective}" + (f", {Fraction(objective) + model.constant} with the file's constant" if model.constant else "")
 
 
-def kept(folder, job, listing, others):
+def kept(folder: str, job: Job, listing: str, others: tuple[str, str]) -> None:
     "the job, its listing and the table of names stay"
     texts = {pathlib.Path(folder, f"model.{ending}"): text for ending, text in (("job", job.text), ("listing", listing), ("names", json.dumps(job.name_map(), indent=1) + "\n"))}
     solution2listing.check_places(*texts, *others)
@@ -87,7 +99,8 @@ def kept(folder, job, listing, others):
         write_file(path, text)
 
 
-def run(words):
+def run(words: list[str]) -> int:
+    "the command, or Ended"
     try:
         words, keep = taken(words, "--keep")
         words, program = taken(words, "--program")
@@ -98,21 +111,23 @@ def run(words):
     options = mps2job.parsed_options(words[:-1], solution2listing.wrong_use)
     if options.job or options.names:
         raise Ended(64, "--keep FOLDER keeps the job and the table of names")
-    command, which = checker_of(program)
+    checker, which = checker_of(program)
     job, answer, listing = solution2listing.answered(options, words[-1])
     for sentence in job.said if keep else job.said_without(job.of_table, job.of_listing):
         told(sentence)
     if keep:
         kept(keep, job, listing, (options.file, words[-1]))
-    status, number = answer_of(command, job.text.encode(), listing.encode())
+    status, number = answer_of(checker, job.text.encode(), listing.encode())
     print(("" if status else BEFORE[which]) + as_text(outcome(status, number, listing, job.file, answer)))
     return status
 
 
 @command(NAME)
-def main(words):
+def main(words: list[str] | None = None) -> int:
+    "the command; its status"
+    words = sys.argv[1:] if words is None else words
     if any(word in ("-h", "--help") for word in words):
-        print(here(__doc__))
+        print(here(__doc__ or ""))
         return 0
     try:
         return run(words)

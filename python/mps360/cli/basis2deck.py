@@ -15,17 +15,21 @@ A column that no line names stands where SETUP puts it: at its lower limit, or e
 shortened for the job are shortened here. What is placed otherwise than the file says, since a limit isn't there, is said on standard error:
 a basis is a place to begin, and none makes another problem. It ends with 0, with 64 for wrong use, 65 where a file is refused, 66 where it
 can't be read, 73 where DECK can't be written."""
-import argparse, os, sys
-from mps360 import bases as basis_file
+from mps360.jobs.write import Job
+from mps360.model import Model
+from mps360.bases import Basis
+import os
+import sys
+from mps360.bases import WRITERS, deck_of, read_file
 from mps360.cli import mps2job
-from mps360.cli.words import joined
-from mps360.listings import read as listing2json
+from mps360.listings.read import NoNames, read_names
 from mps360 import errors
 from mps360 import mps
-from mps360.commands import here
+from mps360.cli.options import Parser, ending
 from mps360.output import command, write_file
+from mps360.commands import here
+from mps360.cli.words import joined
 from mps360.long_numbers import exact_job
-
 
 NAME = "basis2deck.py"
 
@@ -34,59 +38,62 @@ class Ended(Exception):
     "the work is over, with this status and these words"
 
 
-def say(words):
+def say(words: str) -> None:
+    "a line on standard error"
     mps2job.say(f"{NAME}: {words}")
 
 
-def read_job(path, words):
+def read_job(path: str, words: list[str]) -> Job:
     "the model of an MPS file, read by these words for mps2job.py, and its job"
     try:
         options = mps2job.parsed_options([*words, "--", path])
         model = mps.read_file(path, mps2job.reading_of(options))
         return exact_job(model, options.ranging, model.name or path)
     except OSError as cause:
-        raise Ended(66, f"can't read {path}: {cause.strerror}")
+        raise Ended(66, f"can't read {path}: {cause.strerror}") from None
     except errors.Refused as cause:
-        raise Ended(65, f"{path}: {cause}")
+        raise Ended(65, f"{path}: {cause}") from None
 
 
-def check_names(path, job):
+def check_names(path: str, job: Job) -> None:
     "the table of names is to be the one of this job"
     try:
-        names, *_ = listing2json.read_names(path)
+        names, *_ = read_names(path)
     except (OSError, ValueError) as cause:
-        raise Ended(66, f"can't read {path}: {getattr(cause, 'strerror', None) or cause}")
-    except listing2json.NoNames as cause:
-        raise Ended(65, f"{path}: {cause}")
+        raise Ended(66, f"can't read {path}: {getattr(cause, 'strerror', None) or cause}") from None
+    except NoNames as cause:
+        raise Ended(65, f"{path}: {cause}") from None
     here = job.name_map()
     if any(names.get(key, {}) != here[key] for key in ("rows", "columns")):
         raise Ended(65, f"{path} isn't the table of names of {job.model.name or 'this model'}, read in this way")
 
 
-def read_basis(path, model, writer):
+def read_basis(path: str, model: Model, writer: str | None) -> Basis:
+    "the basis of a file, or Ended"
     try:
-        return basis_file.read_file(path, model, writer)
+        return read_file(path, model, writer)
     except OSError as cause:
-        raise Ended(66, f"can't read {path}: {cause.strerror}")
+        raise Ended(66, f"can't read {path}: {cause.strerror}") from None
     except errors.Refused as cause:
-        raise Ended(65, f"{path}: {cause}")
+        raise Ended(65, f"{path}: {cause}") from None
 
 
-def same_file(path, other):
+def same_file(path: str, other: str | None) -> bool:
     "(a device isn't written over)"
     return other is not None and os.path.isfile(other) and os.path.realpath(path) == os.path.realpath(other)
 
 
 @command(NAME)
-def main(words):
+def main(words: list[str] | None = None) -> int:
+    "the command; its status"
+    words = sys.argv[1:] if words is None else words
     if any(word in ("-h", "--help") for word in words):
-        print(here(__doc__))
+        print(here(__doc__ or ""))
         return 0
-    parser = argparse.ArgumentParser(add_help=False, allow_abbrev=False)
-    parser.error = lambda message: (say(message), sys.exit(64))
+    parser = Parser(ending(say))
     parser.add_argument("-o", dest="deck")
     parser.add_argument("--names")
-    parser.add_argument("--from", dest="writer", choices=basis_file.WRITERS)
+    parser.add_argument("--from", dest="writer", choices=WRITERS)
     parser.add_argument("model")
     parser.add_argument("basis")
     options, passed = parser.parse_known_args(joined(words))
@@ -101,13 +108,12 @@ def main(words):
         basis = read_basis(options.basis, job.file, options.writer)
         for sentence in basis.said:
             say(sentence)
-        deck = basis_file.deck_of(basis, job)
+        deck = deck_of(basis, job)
         if options.deck:
             write_file(options.deck, deck)
         else:
             sys.stdout.write(deck)
     except Ended as ended:
-        status, words = ended.args
-        say(words)
-        return status
+        say(ended.args[1])
+        return int(ended.args[0])
     return 0

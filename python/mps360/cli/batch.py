@@ -28,13 +28,29 @@ The proved program is used where it is built; else all run UNPROVED, compiled on
 
 Ends with 0 where each ended with an END line; 3 where one didn't; 64 for wrong use; 66 where there is no such folder or file, or
 nothing to run in it; 70 where no program or no solver can be had; 73 where OUT or standard output can't be written; 130 where it was interrupted."""
-import argparse, collections, csv, hashlib, itertools, json, os, pathlib, re, shlex, shutil, signal, subprocess, sys, tempfile, threading, time
+import argparse
+import collections
+import csv
+import hashlib
+import itertools
+import json
+import os
+import pathlib
+import re
+import shlex
+import shutil
+import signal
+import subprocess
+import sys
+import tempfile
+import threading
+import time
 from concurrent.futures import FIRST_COMPLETED, ThreadPoolExecutor, wait
-from mps360.listings import read as listing2json
+from mps360.listings.read import NUMBER
 from mps360 import programs, solvers
 from mps360.cli import mps2job
 from mps360.cli.options import solvers_of
-from mps360 import text as strangers_text
+from mps360.text import as_text, guard
 from mps360.commands import here
 from mps360.output import CantWrite, command
 from mps360 import unproved
@@ -134,7 +150,7 @@ def files_of(options):
 
 def for_a_sheet(text):
     "text that no spreadsheet takes for a formula"
-    text = strangers_text.as_text(str(text))
+    text = as_text(str(text))
     return "'" + text if text[:1] in tuple("=+-@") else text
 
 
@@ -190,7 +206,7 @@ class Summary:
         "both files whole, in the order of the names; summary.json says too what isn't done"
         self.write_csv()
         states = collections.Counter(record["state"] for record in self.records.values())
-        jobs = [{key: strangers_text.as_text(value) if isinstance(value, str) else value for key, value in record.items()}
+        jobs = [{key: as_text(value) if isinstance(value, str) else value for key, value in record.items()}
                 for _, record in sorted(self.records.items())]
         whole = {"files": len(files), "states": dict(sorted(states.items())), "not done": len(files) - len(self.records), "jobs": jobs}
         self.replace(self.json, lambda file: file.write(json.dumps(whole, indent=1) + "\n"))
@@ -309,7 +325,7 @@ class Runs:
         os.replace(part, self.out / f"{name}.listing")
         text = (self.out / f"{name}.listing").read_text(encoding="latin-1")
         record |= {"state": "ended" if status in (0, 1, 2) else "stopped", "status": status, "end": how_it_ended(text)}
-        found = re.findall(rf"^(?:PRIMAL|DUAL) OPTIMAL STEPS \d+ OBJECTIVE ({listing2json.NUMBER}) ", text, re.M)
+        found = re.findall(rf"^(?:PRIMAL|DUAL) OPTIMAL STEPS \d+ OBJECTIVE ({NUMBER}) ", text, re.M)
         if found:
             record["objective"] = found[-1]
 
@@ -496,8 +512,9 @@ def positive(kind):
 
 
 @command("mps360-batch")
-def main(words):
-    strangers_text.guard()
+def main(words=None):
+    words = sys.argv[1:] if words is None else words
+    guard()
     if any(word in ("-h", "--help") for word in words):
         print(here(__doc__))
         return 0

@@ -8,12 +8,15 @@ to be deleted, one of the words MODIFY, DELETE, BEFORE and AFTER where it would 
 What isn't read in a fixed deck is left out, and said: text behind the fields or the name, a number on a bound that takes none.
 Basis decks are always fixed, and stay as they are. It ends with 0, with 64 for wrong use, 65 where the file is refused, 66 where it can't be
 read."""
-import pathlib, re, sys
-from mps360.jobs import decks as job_decks
-from mps360 import text as strangers_text
-from mps360.commands import here
-from mps360.output import command
+from collections.abc import Callable, Iterator
+import pathlib
+import re
+import sys
+from mps360.jobs import decks
+from mps360.text import guard
 from mps360.jobs.decks import ACTIONS, BOUNDS, FIELDS, NAMES, VALUED, DeckFault, is_skipped
+from mps360.output import command
+from mps360.commands import here
 
 MEANS = {3: "an unknown row type", 8: "a number is faulty", 10: "an unknown bound type", 20: "something stands where a fixed card is to be blank",
          25: "no card of this section has so many words", 26: "a name of more than 8 bytes", 27: "a number of more than 12 bytes"}
@@ -24,7 +27,7 @@ class Refused(Exception):
     "why a card isn't turned"
 
 
-def program_end(cards):
+def program_end(cards: list[str]) -> int:
     "the number of cards of the control program; 0 where the file has decks alone"
     first = next((card for card in cards if not is_skipped(card)), "")
     if first.split(" ")[0] == "NAME" and "PROGRAM" not in first:
@@ -35,7 +38,7 @@ def program_end(cards):
     return end
 
 
-def decks(cards, begun):
+def each_deck(cards: list[str], begun: int) -> Iterator[list[int]]:
     "the places of the cards of each deck that are to be read"
     deck = []
     for place in range(begun, len(cards)):
@@ -49,18 +52,20 @@ def decks(cards, begun):
 
 class Form:
     "one of the two forms of cards"
-    def __init__(self, is_free):
+    def __init__(self, is_free: bool) -> None:
         self.is_free = is_free
 
-    def read(self, card, section, deletes):
+    def read(self, card: str, section: str, deletes: bool) -> dict[int, str]:
         "the fields of a data card, without the blanks around numbers"
-        text = (job_decks.free_fields(card, section, deletes) if self.is_free else job_decks.fixed_fields(card)).text
+        text = (decks.free_fields(card, section, deletes) if self.is_free else decks.fixed_fields(card)).text
         return {field: word if field in NAMES else word.strip() for field, word in text.items()}
 
-    def action(self, card):
-        return job_decks.action_on(card, self.is_free)
+    def action(self, card: str) -> tuple[str, str] | None:
+        "the word and the name on an action card"
+        return decks.action_on(card, self.is_free)
 
-    def written(self, text):
+    def written(self, text: dict[int, str]) -> str:
+        "a data card of these fields"
         if self.is_free:
             return " " + " ".join(word for word in text.values() if word)
         card = ""
@@ -68,24 +73,28 @@ class Form:
             card = card.ljust(first - 1) + text[field] if text[field] else card
         return card
 
-    def written_action(self, word, name):
+    def written_action(self, word: str, name: str) -> str:
+        "an action card"
         return f" {word} {name}".rstrip() if self.is_free else f" {word:<13}{name}".rstrip()
 
-    def name_card(self, card):
+    def name_card(self, card: str) -> str:
+        "the NAME card"
         return f"{card[:22]:<22}  FREE" if self.is_free else card[:22].rstrip()
 
 
 class Turner:
     "turns the cards of one deck"
-    def __init__(self, is_free, cards, say):
+    def __init__(self, is_free: bool, cards: list[str], say: Callable[[str], object]) -> None:
         self.old, self.new, self.cards, self.say = Form(not is_free), Form(is_free), cards, say
-        self.section, self.action, self.revises = None, None, None
+        self.section, self.action = "", ""
+        self.revises: bool | None = None
 
-    def turn(self, deck):
+    def turn(self, deck: list[int]) -> None:
+        "turns the cards at these places"
         name, is_basis = self.cards[deck[0]], len(deck) > 1 and self.cards[deck[1]].startswith(" ")
         if name.split(" ")[0] != "NAME":
             raise Refused(f"card {deck[0] + 1}: a deck begins with NAME")
-        if is_basis or job_decks.is_free(name) == self.new.is_free:
+        if is_basis or decks.is_free(name) == self.new.is_free:
             return
         for place in deck:
             try:
@@ -95,12 +104,13 @@ class Turner:
             except Refused as cause:
                 raise Refused(f"card {place + 1}: {cause}") from None
 
-    def turned(self, card, number):
+    def turned(self, card: str, number: int) -> str:
+        "a card in the other form"
         if card.split(" ")[0] == "NAME":
             self.leave_out(card[22:] if self.new.is_free else "", f"card {number}: what stands behind the name")
             return self.new.name_card(card)
         if card[0] != " ":
-            self.section, self.action = card.split(" ")[0], None
+            self.section, self.action = card.split(" ")[0], ""
             return card
         action = self.old.action(card) if self.revises is not False else None
         if self.revises is None:
@@ -109,11 +119,13 @@ class Turner:
             return self.turned_action(card, number, *action)
         return self.turned_data(card, number)
 
-    def leave_out(self, text, what):
+    def leave_out(self, text: str, what: str) -> None:
+        "tells what isn't read"
         if text.strip():
             self.say(f"{what}, which isn't read, is left out: {text.strip()}")
 
-    def turned_action(self, card, number, word, name):
+    def turned_action(self, card: str, number: int, word: str, name: str) -> str:
+        "an action card in the other form"
         if word not in ACTIONS:
             raise Refused(f"{word} is no action")
         if not self.new.is_free and len(name) > 8:
@@ -129,7 +141,8 @@ class Turner:
             raise Refused(f"the name '{name}' has blanks, and a word has none")
         return changed
 
-    def turned_data(self, card, number):
+    def turned_data(self, card: str, number: int) -> str:
+        "a data card in the other form"
         deletes = self.action == "DELETE"
         text = self.old.read(card, self.section, deletes)
         if not self.old.is_free:
@@ -143,7 +156,8 @@ class Turner:
         self.test_same(changed, text, deletes)
         return changed
 
-    def test_same(self, changed, text, deletes):
+    def test_same(self, changed: str, text: dict[int, str], deletes: bool) -> None:
+        "Refused where the card in the other form has other fields"
         try:
             read = self.new.read(changed, self.section, deletes)
         except DeckFault as fault:
@@ -151,7 +165,7 @@ class Turner:
         if read != text:
             raise Refused(f"as '{changed.strip()}' it would have other fields")
 
-    def leave_unread(self, text, number, deletes):
+    def leave_unread(self, text: dict[int, str], number: int, deletes: bool) -> None:
         "fields of fixed cards that a section has and doesn't read"
         unread = [1] if deletes and self.section in ("ROWS", "BOUNDS") else []
         if not deletes and self.section == "BOUNDS" and text[1] in BOUNDS and text[1] not in VALUED:
@@ -160,7 +174,8 @@ class Turner:
             self.leave_out(text[field], f"card {number}: field {field}")
             text[field] = ""
 
-    def test_words(self, text, deletes):
+    def test_words(self, text: dict[int, str], deletes: bool) -> None:
+        "Refused where a field can't be a word"
         for field in (*NAMES, 4, 6):
             if " " in text[field]:
                 raise Refused(f"field {field} is '{text[field]}': a word has no blanks, so a free deck can't have it")
@@ -168,7 +183,7 @@ class Turner:
             raise Refused("what is to be deleted has the empty name, and a free deck has no word for it")
 
 
-def turned(data, is_free, say):
+def turned(data: str, is_free: bool, say: Callable[[str], object]) -> str:
     "the file with its decks in the other form"
     lines = data.split("\n")
     cards = [line.rstrip(" \r") for line in lines]
@@ -176,16 +191,18 @@ def turned(data, is_free, say):
         if len(card) > 80 or re.search(r"[^ -~]", card):
             raise Refused(f"card {number}: it has more than 80 bytes, or one that isn't printable")
     changed = list(cards)
-    for deck in decks(cards, program_end(cards)):
+    for deck in each_deck(cards, program_end(cards)):
         Turner(is_free, changed, say).turn(deck)
     return "\n".join(line if new == old else new + line[len(line.rstrip("\r")):] for line, old, new in zip(lines, cards, changed))
 
 
 @command("free_deck.py")
-def main(words):
-    strangers_text.guard()
+def main(words: list[str] | None = None) -> int:
+    "the command; its status"
+    words = sys.argv[1:] if words is None else words
+    guard()
     if words and words[0] in ("-h", "--help"):
-        print(here(__doc__))
+        print(here(__doc__ or ""))
         return 0
     is_free = words[:1] != ["--fixed"]
     words = words if is_free else words[1:]
@@ -197,7 +214,7 @@ def main(words):
     except OSError as cause:
         print(f"free_deck.py: can't read {cause.filename}: {cause.strerror}", file=sys.stderr)
         return 66
-    said = []
+    said: list[str] = []
     try:
         text = turned(data.decode("latin-1"), is_free, said.append)
     except Refused as cause:

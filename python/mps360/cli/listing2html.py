@@ -9,21 +9,30 @@ The page has each verdict in a sentence, the plan and the rows as tables with de
 RANGE beside them, a ray as the rows that conflict, a direction as what grows, and parametric runs as plots; the listing stands at its end.
 It ends with 0, with 64 for wrong use, 65 where the text isn't a listing, or is one of another job, 66 where a file can't be read, 73
 where the page can't be written."""
-import argparse, sys
+import sys
 from mps360.listings.made import OtherJob
 from mps360.listings.read import NO_NAMES, NoListing, NoNames, read_names
-from mps360.commands import here
+from mps360.pages.html import Page
+from mps360.cli.options import Parser, ending
 from mps360.output import command, write_file
-from mps360.pages.html import page
+from mps360.commands import here
+
+NAME = "listing2html.py"
 
 
-@command("listing2html.py")
-def main(words):
+def say(message: str) -> None:
+    "a line on standard error"
+    print(f"{NAME}: {message}", file=sys.stderr)
+
+
+@command(NAME)
+def main(words: list[str] | None = None) -> int:
+    "the command; its status"
+    words = sys.argv[1:] if words is None else words
     if any(word in ("-h", "--help") for word in words):
-        print(here(__doc__))
+        print(here(__doc__ or ""))
         return 0
-    parser = argparse.ArgumentParser(add_help=False)
-    parser.error = lambda message: (print(f"listing2html.py: {message}", file=sys.stderr), sys.exit(64))
+    parser = Parser(ending(say), allow_abbrev=True)
     parser.add_argument("--names")
     parser.add_argument("-o", dest="page")
     parser.add_argument("job")
@@ -33,19 +42,22 @@ def main(words):
         job, listing = (open(path, encoding="latin-1").read() for path in (options.job, options.listing))
         names = read_names(options.names) if options.names else NO_NAMES
     except (OSError, ValueError) as cause:
-        print(f"listing2html.py: can't read: {cause}", file=sys.stderr)
+        say(f"can't read: {cause}")
         return 66
     except NoNames as cause:
-        print(f"listing2html.py: {options.names}: {cause}", file=sys.stderr)
+        say(f"{options.names}: {cause}")
         return 65
     try:
-        text = page(job, listing, names)
+        page = Page(job, listing, names)
+        text = page.whole()
     except (NoListing, OtherJob, ZeroDivisionError, TypeError, ValueError) as cause:
-        print(f"listing2html.py: no page of this: {cause}", file=sys.stderr)
+        say(f"no page of this: {cause}")
         return 65
+    if not page.has_constant:
+        say("the objective or its right-hand side isn't that of the table of names; no constant is added")
     if options.page:
         write_file(options.page, text)
     else:
-        sys.stdout.reconfigure(encoding="utf-8")
+        getattr(sys.stdout, "reconfigure")(encoding="utf-8")
         sys.stdout.write(text)
     return 0

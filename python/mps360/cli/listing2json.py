@@ -14,20 +14,32 @@ usage: listing2json.py [--csv | --table NAME] [--decimal] [--names MAP] [FILE]  
 In CSV a name that a spreadsheet could take for a formula (it begins with = + - @ or an apostrophe) has an apostrophe before it, and a control
 character stands as an escape; in JSON names are exact. It ends with 0, with 64 for wrong use, 65 where the text isn't a listing, 66 where it
 can't be read."""
-import argparse, sys
-from mps360.listings.read import NoListing, NoNames, TABLES, add_decimals, document, json_text, name_back, parse, read_names, write_solution, write_table
-from mps360 import notes
-from mps360.commands import here
+import sys
+from mps360.listings.read import NoListing, NoNames, name_back, parse, read_names
+from mps360.listings.tables import TABLES, add_decimals, document, json_text, write_solution, write_table
+from mps360.cli.options import Parser, ending
 from mps360.output import command
+from mps360.commands import here
+from mps360 import notes
+
+OTHER_OBJECTIVE = "the objective or its right-hand side isn't that of the table of names; no constant is added"
+
+NAME = "listing2json.py"
 
 
-@command("listing2json.py")
-def main(words):
+def say(message: str) -> None:
+    "a line on standard error"
+    print(f"{NAME}: {message}", file=sys.stderr)
+
+
+@command(NAME)
+def main(words: list[str] | None = None) -> int:
+    "the command; its status"
+    words = sys.argv[1:] if words is None else words
     if any(word in ("-h", "--help") for word in words):
-        print(here(__doc__))
+        print(here(__doc__ or ""))
         return 0
-    parser = argparse.ArgumentParser(add_help=False)
-    parser.error = lambda message: (print(f"listing2json.py: {message}", file=sys.stderr), sys.exit(64))
+    parser = Parser(ending(say), allow_abbrev=True)
     kind = parser.add_mutually_exclusive_group()
     kind.add_argument("--csv", action="store_true")
     kind.add_argument("--table", choices=TABLES)
@@ -39,18 +51,18 @@ def main(words):
         text = open(options.file, encoding="latin-1").read() if options.file else sys.stdin.buffer.read().decode("latin-1")
         names = read_names(options.names) if options.names else None
     except (OSError, ValueError) as cause:
-        print(f"listing2json.py: can't read: {cause}", file=sys.stderr)
+        say(f"can't read: {cause}")
         return 66
     except NoNames as cause:
-        print(f"listing2json.py: {options.names}: {cause}", file=sys.stderr)
+        say(f"{options.names}: {cause}")
         return 65
-    sys.stdout.reconfigure(encoding="utf-8")
+    getattr(sys.stdout, "reconfigure")(encoding="utf-8")
     try:
         listing = parse(text)
         if not listing["reports"] and not listing["end"]:
             raise NoListing("it is empty")
-        if names:
-            name_back(listing, names)
+        if names and not name_back(listing, names):
+            say(OTHER_OBJECTIVE)
         more = None if names is None else {notes.COLUMN: notes.as_cell(notes.of_table(names[0]))}
         if options.csv:
             write_solution(listing, options.decimal, sys.stdout, more)
@@ -62,6 +74,6 @@ def main(words):
                 add_decimals(whole)
             sys.stdout.write(json_text(whole))
     except NoListing as cause:
-        print(f"listing2json.py: not a listing: {cause}", file=sys.stderr)
+        say(f"not a listing: {cause}")
         return 65
     return 0

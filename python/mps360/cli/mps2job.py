@@ -27,30 +27,41 @@ Two have a usual meaning, and other options for other programs:
 Rows of type DN, DL, DG and DE, which are sums of multiples of rows before them, are taken with their parts. Numbers of more than 38
 digits, sections that jobs don't know and problems past the limits are refused. It ends with 0, with 64 for wrong use, 65 where the file
 is refused, 66 where it can't be read, 73 where JOB or MAP can't be written."""
-import argparse, json, os, sys
+import argparse
+import json
+import os
+import sys
+from collections.abc import Callable
+from fractions import Fraction
+from typing import NoReturn
+
 from mps360 import errors
 from mps360 import mps
+from mps360.cli.options import Parser
 from mps360.long_numbers import exact_job
 from mps360.numbers import number
-from mps360.commands import here
 from mps360.output import command, write_file
+from mps360.commands import here
+
+Refuse = Callable[[str], NoReturn]
 
 
-def say(message):
+def say(message: str) -> None:
     "a message whose parts come from a file: no control character of it reaches the terminal"
     for line in message.split("\n"):
         shown = "".join(letter if letter.isprintable() else "?" for letter in line)
         print(shown.encode(sys.stderr.encoding or "ascii", "backslashreplace").decode(sys.stderr.encoding or "ascii"), file=sys.stderr)
 
 
-def wrong_use(message):
+def wrong_use(message: str) -> NoReturn:
+    "tells wrong use, and ends the command"
     say(f"mps2job.py: {message}")
     sys.exit(64)
 
 
-def parsed_options(words, refuse=wrong_use):
-    parser = argparse.ArgumentParser(add_help=False, allow_abbrev=False, usage="mps2job.py --help says what there is")
-    parser.error = refuse
+def parsed_options(words: list[str], refuse: Refuse = wrong_use) -> argparse.Namespace:
+    "the options that these words say; wrong use is handed to refuse"
+    parser = Parser(refuse)
     sense, form = parser.add_mutually_exclusive_group(), parser.add_mutually_exclusive_group()
     sense.add_argument("--max", dest="sense", action="store_const", const="MAX")
     sense.add_argument("--min", dest="sense", action="store_const", const="MIN")
@@ -68,12 +79,13 @@ def parsed_options(words, refuse=wrong_use):
     return parser.parse_args(words)
 
 
-def reading_of(options, refuse=wrong_use):
+def reading_of(options: argparse.Namespace, refuse: Refuse = wrong_use) -> mps.Reading:
+    "how the options have a file read"
     infinity = mps.INFINITY
     if options.infinity is not None:
         try:
-            infinity = number(options.infinity)
-        except errors.Refused as cause:
+            infinity = Fraction(number(options.infinity))
+        except (errors.Refused, OverflowError) as cause:
             refuse(f"--infinity: {cause}")
         if infinity <= 0:
             refuse("--infinity is more than 0")
@@ -83,7 +95,7 @@ def reading_of(options, refuse=wrong_use):
                             rhs_set=options.rhs, range_set=options.ranges, bound_set=options.bounds)
 
 
-def check_places(options):
+def check_places(options: argparse.Namespace) -> None:
     "nothing is written over another file of this call"
     places = [os.path.realpath(place) for place in (options.job, options.names, options.file if options.file != "-" else None)
               if place and (os.path.isfile(place) or not os.path.exists(place))]
@@ -92,9 +104,11 @@ def check_places(options):
 
 
 @command("mps2job.py")
-def main(words):
+def main(words: list[str] | None = None) -> int:
+    "the command; its status"
+    words = sys.argv[1:] if words is None else words
     if any(word in ("-h", "--help") for word in words):
-        print(here(__doc__))
+        print(here(__doc__ or ""))
         return 0
     options = parsed_options(words)
     check_places(options)

@@ -2,15 +2,38 @@
 from __future__ import annotations
 
 import argparse
+import sys
 import time
+from collections.abc import Callable
+from typing import NoReturn
 
 from mps360 import routes, solvers
 
 NOBODY = "none"
+WRONG_USE = 64
 ROUTE_OPTIONS = """  --with SOLVER,..   who may be asked for a basis, of highs, clp, esolver, glpsol and lp_solve, in this order; none for nobody. Without it
                      those that are installed
   --only ROUTE       primal (from the opening basis), basis (of a solver), or exact (esolver's exact answer, which the checker attests), alone
   --seconds S        bounds all of it"""
+
+
+class Parser(argparse.ArgumentParser):
+    "parses the words of a command; wrong use is told by refuse, which ends the command"
+
+    def __init__(self, refuse: Callable[[str], NoReturn], allow_abbrev: bool = False) -> None:
+        super().__init__(add_help=False, allow_abbrev=allow_abbrev)
+        self.refuse = refuse
+
+    def error(self, message: str) -> NoReturn:
+        self.refuse(message)
+
+
+def ending(say: Callable[[str], object]) -> Callable[[str], NoReturn]:
+    "tells wrong use, and ends the command with 64"
+    def refuse(message: str) -> NoReturn:
+        say(message)
+        sys.exit(WRONG_USE)
+    return refuse
 
 
 def positive(word: str) -> float:

@@ -9,22 +9,31 @@ usage: plot_parametric.py [--svg] [--run K] [-o FILE] [LISTING]      without LIS
 The value at each parameter is the sum of price times activity over rows and columns, which for a best plan is its objective (with the
 parameter's share of the change row, in a run of PARAOBJ). It ends with 0, with 64 for wrong use, 65 where the text isn't a listing, or has
 no such run, 66 where a file can't be read, 73 where one can't be written."""
-import argparse, sys
-from mps360 import text as strangers_text
-from mps360.commands import here
-from mps360.output import command, write_file
-from mps360.listings import read as listing2json
+import sys
+from mps360.text import guard
+from mps360.listings.read import NoListing, parse
 from mps360.pages.parametric import NoRun, in_letters, in_svg, points_of
+from mps360.cli.options import Parser, ending
+from mps360.output import command, write_file
+from mps360.commands import here
+
+NAME = "plot_parametric.py"
 
 
-@command("plot_parametric.py")
-def main(words):
+def say(message: str) -> None:
+    "a line on standard error"
+    print(f"{NAME}: {message}", file=sys.stderr)
+
+
+@command(NAME)
+def main(words: list[str] | None = None) -> int:
+    "the command; its status"
+    words = sys.argv[1:] if words is None else words
     if any(word in ("-h", "--help") for word in words):
-        print(here(__doc__))
+        print(here(__doc__ or ""))
         return 0
-    strangers_text.guard()
-    parser = argparse.ArgumentParser(add_help=False)
-    parser.error = lambda message: (print(f"plot_parametric.py: {message}", file=sys.stderr), sys.exit(64))
+    guard()
+    parser = Parser(ending(say), allow_abbrev=True)
     parser.add_argument("--svg", action="store_true")
     parser.add_argument("--run", type=int)
     parser.add_argument("-o", dest="out")
@@ -32,7 +41,7 @@ def main(words):
     options = parser.parse_args(words)
     try:
         text = open(options.file, encoding="latin-1").read() if options.file else sys.stdin.read()
-        runs = [report for report in listing2json.parse(text)["reports"] if report["report"] == "parametric" and report["intervals"]]
+        runs = [report for report in parse(text)["reports"] if report["report"] == "parametric" and report["intervals"]]
         number = len(runs) if options.run is None else options.run
         if not 1 <= number <= len(runs):
             raise NoRun(f"it has {len(runs)} parametric runs")
@@ -43,9 +52,9 @@ def main(words):
         else:
             sys.stdout.write(picture)
     except OSError as cause:
-        print(f"plot_parametric.py: {cause.filename}: {cause.strerror}", file=sys.stderr)
+        say(f"{cause.filename}: {cause.strerror}")
         return 66
-    except (listing2json.NoListing, NoRun) as cause:
-        print(f"plot_parametric.py: can't be drawn: {cause}", file=sys.stderr)
+    except (NoListing, NoRun) as cause:
+        say(f"can't be drawn: {cause}")
         return 65
     return 0

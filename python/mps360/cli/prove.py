@@ -20,7 +20,12 @@ PRIMAL begins at the opening basis instead, in the end; without a basis it alway
 It ends with the status of the run whose listing is printed: 0, 1 no plan, 2 no bound, 20 a number doesn't fit, more in docs/FAULTS.md; or with
 64 for wrong use, 65 where a file is refused, 66 where it can't be read, 70 where there is no program or no solver, 73 where a file can't be
 written, 124 where a run was ended after S seconds, 130 after Ctrl-C or a TERM signal."""
-import argparse, json, os, pathlib, signal, sys
+import argparse
+import json
+import os
+import pathlib
+import signal
+import sys
 from fractions import Fraction
 from mps360 import notes, routes, runs, solvers
 from mps360.bases import WRITERS
@@ -131,7 +136,8 @@ def options_of(words, life):
 
 
 @command(NAME)
-def main(words):
+def main(words=None):
+    words = sys.argv[1:] if words is None else words
     if any(word in ("-h", "--help") for word in words):
         print(here(__doc__))
         return 0

@@ -2,6 +2,7 @@
 
 usage: solve [--json | --csv | --html FILE] [--basis FILE [--from WRITER]] [--with SOLVER,..|none] [--only ROUTE] [--seconds S] [--names MAP]
              [--keep FOLDER] [--write-basis FILE] [--solution FILE] [--life S] [--max | --min] [--ranging] [..] MODEL
+       solve --serve [--program FILE] [--checker FILE]
 
   --json         JSON on standard output, in place of a text (docs/listing.schema.json has its fields)
   --csv          CSV: the plan with its rows; where there is no best plan, the ray or the direction
@@ -20,6 +21,8 @@ usage: solve [--json | --csv | --html FILE] [--basis FILE [--from WRITER]] [--wi
   --life S       the first line of life on standard error after S seconds (5), the next after twice as long each time; 0 for none
   --program FILE another program than scripts/mps360: it gets the job on standard input. What it prints is called unproved
   --checker FILE another checker than scripts/mps360check
+  --serve        answers many requests in one process: a JSON object on each line of standard input, a reply on each line of standard output
+                 (docs/PYTHON.md has them)
 
 No solver is believed: what each gives is where PRIMAL begins, or goes to the checker, and the answer says by which route it came. MODEL is an MPS
 file, an LP file (it begins with Minimize or Maximize) or a job (it begins with PROGRAM), or - for standard input. What of a model may be meant
@@ -29,17 +32,28 @@ that begins with - is handed to mps2job.py as it stands (mps2job.py --help has t
 It ends with the status of the run: 0, 1 no plan, 2 no bound, more in docs/FAULTS.md; or with 64 for wrong use, 65 where MODEL is refused, 66
 where it can't be read, 70 where there is no program or no solver, 73 where a file can't be written, 124 where there is no end in S seconds, 130
 after Ctrl-C or a TERM signal: then what stands is said. A deck that is punched goes to the file PUNCH of this folder."""
-import argparse, hashlib, io, json, os, pathlib, re, shlex, signal, sys
+import argparse
+import hashlib
+import io
+import json
+import os
+import pathlib
+import re
+import shlex
+import signal
+import sys
 from mps360.cli import mps2job
 from fractions import Fraction
-from mps360.listings import read as listing2json
+from mps360.listings import tables
+from mps360.listings.read import NO_NAMES, NoListing, NoNames, each_line, name_back, names_of, parse, read_names
 from mps360 import at_hand, errors, life, mps, notes, routes, runs, solvers
 from mps360.cli.options import add_routes, check_routes, plan_of
 from mps360.cli.words import joined
 from mps360.provenance import Provenance
 from mps360.commands import called, here
 from mps360.long_numbers import exact_job
-from mps360.listings import made as made_listing, restore
+from mps360.listings import restore
+from mps360.listings.made import OtherJob, check_made
 from mps360.output import command, make_folder, write_file
 from mps360.text import marked_decimal
 from mps360.text import as_lines, as_text
@@ -86,7 +100,7 @@ def explaining(options, passed):
 class Model:
     "a model, as the job that is run and the table of its names"
     def __init__(self, options, passed):
-        self.path, self.notes, self.names, self.table, self.converted = options.model, [], listing2json.NO_NAMES, b"", None
+        self.path, self.notes, self.names, self.table, self.converted = options.model, [], NO_NAMES, b"", None
         self.basis, self.has_basis, self.explained = None, False, explaining(options, passed)
         try:
             content = sys.stdin.buffer.read() if options.model == "-" else pathlib.Path(options.model).read_bytes()
@@ -95,7 +109,7 @@ class Model:
         except (OSError, ValueError) as cause:
             what = options.model if isinstance(cause, OSError) and cause.filename != options.names else options.names
             raise Ended(66, f"can't read {what}: {getattr(cause, 'strerror', None) or cause}")
-        except listing2json.NoNames as cause:
+        except NoNames as cause:
             raise Ended(65, f"{options.names}: {cause}")
         self.checksum = hashlib.sha256(content).hexdigest()
         if is_job(content):
@@ -110,7 +124,7 @@ class Model:
             self.convert(content, options, passed)
 
     def take_names(self, path):
-        self.names, self.table = listing2json.read_names(path), pathlib.Path(path).read_bytes()
+        self.names, self.table = read_names(path), pathlib.Path(path).read_bytes()
 
     def convert(self, content, options, passed):
         words = mps2job.parsed_options([*passed, "--", self.path], wrong_use)
@@ -126,7 +140,7 @@ class Model:
         if options.basis:
             self.take_basis(options, job)
         table = job.name_map()
-        self.names, self.table = listing2json.names_of(table), (json.dumps(table, indent=1) + "\n").encode()
+        self.names, self.table = names_of(table), (json.dumps(table, indent=1) + "\n").encode()
 
     def take_basis(self, options, job):
         from mps360.cli import basis2deck
@@ -152,12 +166,13 @@ class Answer:
         self.run, self.provenance, self.model = run, provenance, model
         self.text = run.listing.decode("latin-1")
         try:
-            self.listing = listing2json.parse(self.text)
+            self.listing = parse(self.text)
             self.objective = as_text(self.objective_of(self.listing["reports"]))
-        except (listing2json.NoListing, made_listing.OtherJob) as cause:
+        except (NoListing, OtherJob) as cause:
             raise Ended(70, f"what the program printed isn't the listing of this job: {cause}")
-        listing2json.name_back(self.listing, model.names)
-        self.result = listing2json.result_of(self.listing)
+        if not name_back(self.listing, model.names):
+            model.notes.append("the objective or its right-hand side isn't that of the table of names: no constant is added")
+        self.result = tables.result_of(self.listing)
         if self.result["status"] == OVERFLOW and model.converted and model.converted.split:
             model.notes.append(SHORTER)
 
@@ -166,11 +181,11 @@ class Answer:
         job = self.model.converted
         self.variable = None
         if job:
-            made_listing.check_made(job, reports, self.model.has_basis, self.model.ranging)
+            check_made(job, reports, self.model.has_basis, self.model.ranging)
             self.variable = variables_of(job)
             return job.model.objective
-        from mps360.listings import follow as follow_listing
-        about, _ = follow_listing.follow(self.model.job.decode("latin-1"), reports)
+        from mps360.listings.follow import follow
+        about, _ = follow(self.model.job.decode("latin-1"), reports)
         programs = [program for program, report in zip(about, reports) if program and report["report"] == "verdict"]
         name = programs[-1].names[programs[-1].objective] if programs else "the objective"
         if programs:
@@ -200,18 +215,18 @@ class Answer:
     def json(self):
         run = {"model": self.model.path, "program": self.provenance.kind, "seconds": round(self.run.seconds, 3), "interrupted": self.run.interrupted,
                "notes": self.model.notes, **self.provenance.as_json()}
-        whole = listing2json.document(self.listing, run)
-        listing2json.add_decimals(whole)
-        return listing2json.json_text(whole)
+        whole = tables.document(self.listing, run)
+        tables.add_decimals(whole)
+        return tables.json_text(whole)
 
     def csv(self):
         out = io.StringIO()
         if self.last("solution") and self.result["verdict"] == "optimal":
-            listing2json.write_solution(self.listing, True, out)
+            tables.write_solution(self.listing, True, out)
         elif any(report["report"] == "parametric" for report in self.listing["reports"]):
-            listing2json.write_table(self.listing, "intervals", True, out)
+            tables.write_table(self.listing, "intervals", True, out)
         else:
-            listing2json.write_table(self.listing, "rays" if self.result["verdict"] else "verdicts", True, out)
+            tables.write_table(self.listing, "rays" if self.result["verdict"] else "verdicts", True, out)
         if out.getvalue().count("\n") < 2:
             for note in self.model.notes:
                 say(note)
@@ -264,7 +279,7 @@ class Answer:
             return
         solution = self.last("solution")
         if verdict["verdict"] == "optimal" and solution:
-            near = {line["number"]: line for _, line in listing2json.each_line(self.last("ranges") or {})}
+            near = {line["number"]: line for _, line in each_line(self.last("ranges") or {})}
             yield from self.solution_table("Column", "reduced", solution.get("columns", []), near, "activity",
                                            ("cost_low", "cost_high", "same plan while the cost is"))
             yield from self.solution_table("Row", "dual", solution.get("rows", []), near, "dual",
@@ -316,7 +331,7 @@ def conflict(ray, variable):
         return
     taken = [(line, factor := Fraction(line["multiplier"]), variable(line["number"])[3 if factor > 0 else 2]) for line in ray]
     if any(limit is None for _, _, limit in taken):
-        raise made_listing.OtherJob("the ray names a limit that the job hasn't")
+        raise OtherJob("the ray names a limit that the job hasn't")
     lines = [(line["name"], both(line["multiplier"]), f"at {'most' if factor > 0 else 'least'} {both(str(limit))}", both(str(factor * limit)))
              for line, factor, limit in taken]
     yield from table("Row or column", ("factor", "its limit", "factor times activity is at most"), lines)
@@ -395,8 +410,8 @@ def write_outputs(options, model, answer):
     if options.keep:
         kept(pathlib.Path(options.keep), f"{stem_of(options)}.listing", answer.text.encode("latin-1"))
     if options.html:
-        from mps360.pages import html as listing2html
-        page = listing2html.page(model.job.decode("latin-1"), answer.text, model.names, answer.printed_by(), model.notes)
+        from mps360.pages.html import page as page_of
+        page = page_of(model.job.decode("latin-1"), answer.text, model.names, answer.printed_by(), model.notes)
         path = pathlib.Path(options.html)
         kept(path.parent, path.name, page.encode("utf-8"))
     if options.json:
@@ -486,10 +501,14 @@ def interrupt(*_):
 
 
 @command(NAME)
-def main(words):
+def main(words=None):
+    words = sys.argv[1:] if words is None else words
     if any(word in ("-h", "--help") for word in words):
         print(here(__doc__))
         return 0
+    if "--serve" in words:
+        from mps360.cli.serve import main as serve
+        return serve(words)
     parser = argparse.ArgumentParser(add_help=False, allow_abbrev=False)
     parser.error = lambda message: (say(message), sys.exit(64))
     form = parser.add_mutually_exclusive_group()

@@ -7,11 +7,14 @@ listing2json.py puts the file's names back: the names that were changed by those
 constants, the rounded numbers, the relaxed columns, and all that was said."""
 from __future__ import annotations
 
+from collections.abc import Callable, Iterator
+import itertools
+from fractions import Fraction
 import re
 from dataclasses import dataclass, field
-from typing import TYPE_CHECKING
+from typing import TYPE_CHECKING, Any
 from mps360.errors import Refused
-from mps360.model import MOST, Model
+from mps360.model import MOST, Limits, Model
 from mps360.numbers import text_of
 from mps360.text import counted, some_of
 
@@ -22,56 +25,56 @@ if TYPE_CHECKING:
 class Names:
     "names of at most 8 characters, kept where they are lawful"
 
-    def __init__(self, letter):
-        self.letter, self.short, self.used = letter, {}, set()
+    def __init__(self, letter: str) -> None:
+        self.letter = letter
+        self.short: dict[str, str | None] = {}
+        self.used: set[str] = set()
 
-    def add(self, name, quoted=False):
+    def add(self, name: str, quoted: bool = False) -> None:
+        "a name, which may have to stand between quotes"
         lawful = 0 < len(name) <= 8 and all(" " <= letter <= "~" for letter in name) and name != "'MARKER'" and not (quoted and "'" in name)
         self.short[name] = name if lawful else None
         if lawful:
             self.used.add(name)
 
-    def settle(self):
-        count = 0
-        for name, short in self.short.items():
-            while self.short[name] is None:
-                count += 1
-                made = f"{self.letter}{count:07}"
-                if made not in self.used:
-                    self.used.add(made)
-                    self.short[name] = made
-        return self.short
+    def settle(self) -> dict[str, str]:
+        "the name in the job of each that was added"
+        made = (word for count in itertools.count(1) if (word := f"{self.letter}{count:07}") not in self.used)
+        return {name: next(made) if short is None else short for name, short in self.short.items()}
 
 
 @dataclass
 class Job:
+    "a job of a model, and the names that its rows, columns and sets have in it"
     model: Model
     text: str = ""
     problem: str = ""
-    rows: dict = field(default_factory=dict)
-    columns: dict = field(default_factory=dict)
-    sets: dict = field(default_factory=dict)
+    rows: dict[str, str] = field(default_factory=dict)
+    columns: dict[str, str] = field(default_factory=dict)
+    sets: dict[str, str] = field(default_factory=dict)
     rhs_on_objective: str | None = None  # the number of the objective in RHS, where the deck has it
-    said: list = field(default_factory=list)
+    said: list[str] = field(default_factory=list)
     # those of said which are for a reader of the table of names, or of the listing, alone
-    of_table: list = field(default_factory=list)
-    of_listing: list = field(default_factory=list)
+    of_table: list[str] = field(default_factory=list)
+    of_listing: list[str] = field(default_factory=list)
     split: Split | None = None  # where the model is one of short numbers, made of the file's
 
     @property
-    def file(self):
+    def file(self) -> Model:
         "the model as the file has it, with its long numbers"
         return self.split.file if self.split else self.model
 
-    def said_without(self, *unread):
+    def said_without(self, *unread: list[str]) -> list[str]:
         "what was said, without these, as no such reader is there"
         return [sentence for sentence in self.said if not any(sentence in sentences for sentences in unread)]
 
     @property
-    def renamed(self):
+    def renamed(self) -> bool:
+        "whether a name is another in the job"
         return any(name != short for names in (self.rows, self.columns, self.sets) for name, short in names.items())
 
-    def name_map(self):
+    def name_map(self) -> dict[str, Any]:
+        "the table of names, for JSON"
         model, file = self.model, self.file
         changed = {key: {short: name for name, short in getattr(self, key).items() if name != short} for key in ("rows", "columns", "sets")}
         taken = {"RHS": model.rhs_set, "RANGES": model.range_set, "BOUNDS": model.bound_set}
@@ -90,14 +93,16 @@ class TooLong(Refused):
     "a number that 12 columns don't hold"
 
 
-def card_number(value):
+def card_number(value: Fraction) -> str:
+    "the text of a number; Refused where 12 columns don't hold it"
     text = text_of(value)
     if text is None:
         raise TooLong(f"the number {value} has no exact form of 12 columns")
     return text
 
 
-def bound_cards(limits):
+def bound_cards(limits: Limits) -> list[tuple[str, str]]:
+    "the types of the bounds that say these limits, and their numbers"
     lower, upper = limits.lower, limits.upper
     if lower is not None and lower == upper:
         return [("FX", card_number(lower))]
@@ -107,7 +112,8 @@ def bound_cards(limits):
     return cards + ([] if upper is None else [("UP", card_number(upper))])
 
 
-def name_all(job):
+def name_all(job: Job) -> None:
+    "gives each row, column and set its name in the job"
     model = job.model
     rows, columns, sets = Names("R"), Names("C"), Names("S")
     for name, kind in model.rows.items():
@@ -131,7 +137,7 @@ def name_all(job):
     job.said += job.of_table
 
 
-def rhs_cards(job, item):
+def rhs_cards(job: Job, item: Callable[[str, str, str], str]) -> list[str]:
     "the items of RHS; an N row's number that 12 columns don't hold is left out, and told"
     cards, model = [], job.model
     for name, items in model.rhs.items():
@@ -150,7 +156,7 @@ def rhs_cards(job, item):
     return cards
 
 
-def row_cards(job, row):
+def row_cards(job: Job, row: str) -> list[str]:
     "the card of a row, or a card for each part of a combination"
     kind, name = job.model.rows[row], job.rows[row]
     if row not in job.model.parts:
@@ -158,7 +164,8 @@ def row_cards(job, row):
     return [f" D{kind} {name:<10}{job.rows[part]:<10}{card_number(times)}" for part, times in job.model.parts[row].items()] or [f" D{kind} {name}"]
 
 
-def deck_cards(job):
+def deck_cards(job: Job) -> list[str]:
+    "the deck of the problem"
     model, item = job.model, "    {:<10}{:<10}{}".format
     cards = [f"NAME          {job.problem}".rstrip(), "ROWS", *(card for row in model.rows for card in row_cards(job, row)), "COLUMNS"]
     first, empty = next((job.rows[row] for row in model.rows if row not in model.parts), None), []
@@ -180,7 +187,7 @@ def deck_cards(job):
     return cards + ["ENDATA"]
 
 
-def remark_cards(said):
+def remark_cards(said: list[str]) -> Iterator[str]:
     "all that was said, as cards that mean nothing to the job"
     if said:
         import textwrap
@@ -189,19 +196,20 @@ def remark_cards(said):
         yield from textwrap.wrap(text, 72, initial_indent="* ", subsequent_indent="*   ")
 
 
-def job_of(model, ranging=False, title=""):
+def job_of(model: Model, ranging: bool = False, title: str = "") -> Job:
+    "the job of a model, with RANGE if ranging is asked; Refused where a job can't hold it"
     job = Job(model)
     name_all(job)
     deck = deck_cards(job)
     words = ["'MAX'"] if model.sense == "MAX" else []
-    if any(bound_cards(limits) for limits in model.bounds.get(model.bound_set, {}).values()):
+    if model.bound_set is not None and any(bound_cards(limits) for limits in model.bounds.get(model.bound_set, {}).values()):
         words.append(f"'BOUND','{job.sets[model.bound_set]}'")
-    if model.ranges.get(model.range_set):
+    if model.range_set is not None and model.ranges.get(model.range_set):
         words.append(f"'RANGE','{job.sets[model.range_set]}'")
     moves = []
     if model.objective != next(row for row, kind in model.rows.items() if kind == "N"):
         moves.append(f"MOVE(XOBJ,'{job.rows[model.objective]}')")
-    if model.rhs_set != next(iter(model.rhs), None):
+    if model.rhs_set is not None and model.rhs_set != next(iter(model.rhs), None):
         moves.append(f"MOVE(XRHS,'{job.sets[model.rhs_set]}')")
     title = re.sub(r"[^ -&(-~]", " ", title or model.name)[:54]
     statements = ["PROGRAM", f"TITLE('{title}')", "MOVE(XITERLIM,1000000)", *moves, "CONVERT", "SETUP" + (f"({','.join(words)})" if words else ""),

@@ -5,7 +5,8 @@ point and the prices, the ray or the direction that are handed in. Nothing is so
 
 Only jobs as mps2job.py makes them: one PRIMAL, and SOLUTION. STEPS is 0, since no steps are known, and AT says where a value stands among its
 limits, since no basis is known."""
-import re
+from mps360.jobs.write import Job
+from mps360.model import of_set
 from dataclasses import dataclass, field
 from fractions import Fraction
 from math import lcm
@@ -29,16 +30,16 @@ class Answer:
     rows) and, if they are known, reduced costs; infeasible, with a ray (of rows and, if they are known, columns) or the variable that is
     crossed, as ("row" or "column", name); unbounded, with columns and a direction (of columns)."""
     kind: str
-    columns: dict = field(default_factory=dict)
-    prices: dict = field(default_factory=dict)
-    reduced: dict | None = None
-    ray: dict = field(default_factory=dict)
-    column_ray: dict | None = None
-    crossed: tuple | None = None
-    direction: dict = field(default_factory=dict)
+    columns: dict[str, Fraction] = field(default_factory=dict)
+    prices: dict[str, Fraction] = field(default_factory=dict)
+    reduced: dict[str, Fraction] | None = None
+    ray: dict[str, Fraction] = field(default_factory=dict)
+    column_ray: dict[str, Fraction] | None = None
+    crossed: tuple[str, str] | None = None
+    direction: dict[str, Fraction] = field(default_factory=dict)
 
 
-def code(lower, upper, value):
+def code(lower: Fraction | None, upper: Fraction | None, value: Fraction) -> str:
     "where a value stands among its limits"
     if lower is not None and value < lower or upper is not None and value > upper:
         return "**"
@@ -47,14 +48,16 @@ def code(lower, upper, value):
     return "EQ" if lower == upper else "LL" if value == lower else "UL"
 
 
-def fits(value):
+def fits(value: Fraction) -> bool:
+    "whether a number is one of the program's, of 127 bits"
     return abs(value.numerator) <= GREATEST and value.denominator <= GREATEST
 
 
 class Writer:
     "what the job would print, were the answer this one; rows and columns by their places, rows before columns"
-    def __init__(self, job, answer):
-        model, self.job, self.answer, self.lines = job.model, job, answer, []
+    def __init__(self, job: Job, answer: Answer) -> None:
+        model, self.job, self.answer = job.model, job, answer
+        self.lines: list[str] = []
         self.row_names, self.column_names = list(job.rows.values()), list(job.columns.values())
         self.names, self.m = self.row_names + self.column_names, len(job.rows)
         place = {row: k for k, row in enumerate(model.rows)}
@@ -62,26 +65,31 @@ class Writer:
         self.sums = Sums(model)
         self.columns = [{place[row]: value for row, value in self.sums.of(column).items()} for column in model.columns]
         self.limits = [self.row_limits(row) for row in model.rows] + [model.column_limits(column) for column in model.columns]
-        values = model.rhs.get(model.rhs_set, {})
+        values = of_set(model.rhs, model.rhs_set)
         self.rhs = [ZERO if text_of(value) is None else value for value in (values.get(row, ZERO) for row in model.rows)]
         if model.parts:
             self.check_sums()
 
-    def row_limits(self, row):
+    def row_limits(self, row: str) -> tuple[Fraction | None, Fraction | None]:
+        "the limits of a row, whose sums fit"
         limits, model = self.job.model.row_limits(row), self.job.model
-        span = model.ranges.get(model.range_set, {}).get(row)
+        span = of_set(model.ranges, model.range_set).get(row)
         if span is not None:
-            limit = model.rhs.get(model.rhs_set, {}).get(row, ZERO)
+            limit = of_set(model.rhs, model.rhs_set).get(row, ZERO)
             self.check_added(limit, abs(span))
-            self.check_added(limit, -abs(span)) if limits[0] != limit else None
+            if limits[0] != limit:
+                self.check_added(limit, -abs(span))
         return limits
 
-    def check_added(self, x, y):
+    def check_added(self, x: Fraction, y: Fraction) -> None:
+        "Refused where a sum doesn't fit over the least common denominator"
         common = lcm(x.denominator, y.denominator)
-        if max(abs(x.numerator) * (common // x.denominator), abs(y.numerator) * (common // y.denominator), abs((x + y) * common)) > GREATEST or not fits(x + y):
+        parts = x.numerator * (common // x.denominator), y.numerator * (common // y.denominator)
+        if any(abs(part) > GREATEST for part in (*parts, sum(parts))) or not fits(x + y):
             raise Refused("a limit made of a right-hand side and a range, or a sum of a combination's parts, doesn't fit 128 bits")
 
-    def check_sums(self):
+    def check_sums(self) -> None:
+        "Refused where a sum of a combination doesn't fit"
         model = self.job.model
         for column in model.columns:
             numbers = self.sums.of(column)
@@ -93,7 +101,7 @@ class Writer:
                         self.check_added(total, times * numbers[part])
                         total += times * numbers[part]
 
-    def activities(self, columns):
+    def activities(self, columns: dict[str, Fraction]) -> list[Fraction]:
         "the activities of the rows, and those of the columns behind them"
         point = [columns.get(name, ZERO) for name in self.column_names]
         rows = [ZERO] * self.m
@@ -102,22 +110,25 @@ class Writer:
                 rows[row] += entry * value
         return rows + point
 
-    def left_over(self, wanted, multipliers):
+    def left_over(self, wanted: list[Fraction], multipliers: list[Fraction]) -> list[Fraction]:
         "what is left of a number of each column once its entries, each times the row's multiplier, are taken away"
         return [want - sum((multipliers[row] * entry for row, entry in entries.items()), ZERO) for want, entries in zip(wanted, self.columns)]
 
-    def number(self, k, value):
+    def number(self, k: int, value: Fraction) -> str:
+        "a number of a variable as text; Refused where it doesn't fit"
         if not fits(value):
             raise Refused(f"a number of {self.names[k]} doesn't fit 128 bits")
         return str(value)
 
-    def table_line(self, k, *words):
+    def table_line(self, k: int, *words: str) -> None:
+        "a line of a table"
         self.lines.append(f"{k + 1:5} {self.names[k]:<8} " + " ".join(words))
 
-    def write(self):
+    def write(self) -> None:
+        "all lines"
         job, answer, model, say = self.job, self.answer, self.job.model, self.lines.append
         entries = sum(max(1, len(column)) for column in model.columns.values())
-        say("TITLE " + re.search(r"TITLE\('([^']*)'\)", job.text)[1])
+        say("TITLE " + job.text.partition("TITLE('")[2].partition("'")[0])
         say(f"CONVERT {job.problem:<8} ROWS {self.m} COLUMNS {len(self.columns)} ENTRIES {entries}")
         say(f"SETUP   {job.problem:<8} {model.sense}")
         if answer.kind == "infeasible":
@@ -132,7 +143,8 @@ class Writer:
                     self.table_line(k, *(self.number(k, value) for value in pair))
         say(f"END {STATUS[answer.kind]}")
 
-    def infeasible(self):
+    def infeasible(self) -> None:
+        "the verdict that there is no plan, with its ray or its crossed variable"
         answer = self.answer
         if answer.crossed:
             kind, name = answer.crossed
@@ -146,7 +158,8 @@ class Writer:
             if value:
                 self.table_line(k, self.number(k, value))
 
-    def solution(self, point):
+    def solution(self, point: list[Fraction]) -> None:
+        "the two tables of SOLUTION"
         answer = self.answer
         prices = [answer.prices.get(name, ZERO) for name in self.row_names]
         costs = [entries.get(self.objective, ZERO) for entries in self.columns]
@@ -162,7 +175,8 @@ class Writer:
             self.lines += ["SECTION 2 - COLUMNS", HEADS[1]]
 
 
-def listing_of(job, answer):
+def listing_of(job: Job, answer: Answer) -> str:
+    "the listing of a job whose answer is this one"
     writer = Writer(job, answer)
     writer.write()
     return "\n".join(writer.lines) + "\n"

@@ -1,12 +1,12 @@
 "Makes a page of a job and its listing: one HTML file without outside parts and without scripts."
 import hashlib, html
 from fractions import Fraction
-from mps360.listings import follow as follow_listing
-from mps360.listings import read as listing2json
-from mps360.listings import restore
 from mps360.commands import called
+from mps360.listings import restore
+from mps360.listings.follow import OtherJob, follow
+from mps360.listings.read import NO_NAMES, each_line, name_back, parse
 from mps360.notes import of_table
-from mps360.pages import plots as parametric_svg
+from mps360.pages import plots
 from mps360.text import as_text, marked_decimal
 
 PLACES = {"BS": "in the basis", "LL": "at its lower limit", "UL": "at its upper limit", "EQ": "at its limits, which are equal",
@@ -18,6 +18,7 @@ STOPS = {"4": "the program was called with words that it doesn't know", "8": "th
 MOST_SHOWN_BYTES, MOST_FORMULAS, LONG, MOST_NAMED = 1_000_000, 20_000, 24, 6
 PRICES = ("A shadow price is by how much the objective rises for each unit by which the limit rises at which the row stands, and a reduced cost the "
           "same for a column's limit. ")
+UNKNOWN_PROGRAM = "This page can't see which program printed the listing."
 HOLD = "Each holds while that limit alone moves in its interval."
 NO_RANGE = "How far it may move RANGE says, which this listing hasn't beside this plan (solve --ranging, or mps2job.py --ranging, asks for it)."
 STYLE = """
@@ -149,16 +150,16 @@ def row_heads(solution, near):
 
 
 class Page:
-    def __init__(self, job, listing, names, printed_by, notes):
+    def __init__(self, job, listing, names=NO_NAMES, printed_by=UNKNOWN_PROGRAM, notes=None):
         self.job, self.listing, self.printed_by = job, listing, printed_by
-        self.parsed = listing2json.parse(listing)
+        self.parsed = parse(listing)
         self.reports = self.parsed["reports"]
-        self.about, self.shifts = follow_listing.follow(job, self.reports)
+        self.about, self.shifts = follow(job, self.reports)
         self.long = names[0].get("rows", {}), names[0].get("columns", {})
-        listing2json.name_back(self.parsed, names)
+        self.has_constant = name_back(self.parsed, names)
         # (of a job whose long numbers were dealt out: the limits of the file)
         self.moved = restore.Table(names[0]["long"]) if "long" in names[0] else None
-        self.sense, self.parts, self.notes = "MIN", [], notes
+        self.sense, self.parts, self.notes = "MIN", [], of_table(names[0]) if notes is None else notes
 
     # ---- what is known of the linear program
 
@@ -224,7 +225,7 @@ class Page:
                 moves = shift.get(program.names[at], Fraction(0)) if at < program.m else Fraction(0)
                 return factor, self.limits_of(program, at)[1 if factor > 0 else 0], moves
             if any(limit(line)[1] is None for line in ray):
-                raise follow_listing.OtherJob("the ray names a limit that the job hasn't")
+                raise OtherJob("the ray names a limit that the job hasn't")
             total = tuple(sum(limit(line)[0] * limit(line)[part] for line in ray) for part in (1, 2))
             heads += [("Its limit*", lambda line: joined(["at most " if limit(line)[0] > 0 else "at least ", affine(*limit(line)[1:])])),
                       ("Factor times activity is at most", lambda line: affine(*(limit(line)[0] * part for part in limit(line)[1:])))]
@@ -260,7 +261,7 @@ class Page:
         "the plan and the rows, of a SOLUTION with the RANGE beside it, or of one of the two"
         if solution and solution["mark"] != "optimal":
             self.say(f"The activities below are where the path ended. They aren't a best plan: the problem is {solution['mark']}.")
-        near = {line["number"]: line for _, line in listing2json.each_line(ranges or {})}
+        near = {line["number"]: line for _, line in each_line(ranges or {})}
         if solution:
             rows, columns = solution.get("rows", []), solution.get("columns", [])
         else:
@@ -309,7 +310,7 @@ class Page:
 
     def interval_table(self, report):
         def line(part):
-            pieces = parametric_svg.objective_of(part)
+            pieces = plots.objective_of(part)
             return {**part, "constant": str(pieces[0]), "rate": str(pieces[1]),
                     "low": str(pieces[0] + pieces[1] * Fraction(part["from"])), "high": str(pieces[0] + pieces[1] * Fraction(part["to"]))}
         heads = [("Theta", lambda part: interval(part["from"], part["to"])),
@@ -324,7 +325,7 @@ class Page:
         return table(f"Interval {count}: theta from {said(part['from'])} to {said(part['to'])}", heads, part["lines"])
 
     def plots(self, k, report):
-        figures, left_out = parametric_svg.figures(report, self.objective(k))
+        figures, left_out = plots.figures(report, self.objective(k))
         for title, group in figures:
             self.parts.append(tag("h3", title))
             self.parts.append(tag("div", *(tag("figure", tag("figcaption", name), Html(svg)) for name, svg in group), class_="plots"))
@@ -425,6 +426,6 @@ def affine(constant, rate):
     return joined([number(str(constant)), " − " if rate < 0 else " + ", factor, "θ"])
 
 
-def page(job, listing, names=listing2json.NO_NAMES, printed_by="This page can't see which program printed the listing.", notes=None):
+def page(job, listing, names=NO_NAMES, printed_by=UNKNOWN_PROGRAM, notes=None):
     "the page of a job and its listing, as text; the notes are those of the table of names where none are given"
-    return Page(job, listing, names, printed_by, of_table(names[0]) if notes is None else notes).whole()
+    return Page(job, listing, names, printed_by, notes).whole()

@@ -1,7 +1,7 @@
 "The best value over the parameter of a parametric run: its breakpoints, and pictures of it in letters and in SVG."
 from fractions import Fraction
 from xml.sax.saxutils import escape
-from mps360 import text as strangers_text
+from mps360.text import as_text
 
 WIDTH, HEIGHT = 61, 17
 # of the picture: its width, and of its labels the width of a letter, as wide as those of usual fonts are, and the height of a row
@@ -113,7 +113,7 @@ def in_svg(report, points):
     missing = len(points) - len(labels)
 
     def text(x, y, words, anchor="middle"):
-        return f'<text x="{x:.1f}" y="{y:.1f}" text-anchor="{anchor}">{escape(strangers_text.as_text(words))}</text>'
+        return f'<text x="{x:.1f}" y="{y:.1f}" text-anchor="{anchor}">{escape(as_text(words))}</text>'
 
     parts = [f'<svg xmlns="http://www.w3.org/2000/svg" viewBox="0 0 {WHOLE} {below + 80}" font-family="sans-serif" font-size="12">',
              f'<rect width="{WHOLE}" height="{below + 80}" fill="white"/>', text(320, 20, title(report)),

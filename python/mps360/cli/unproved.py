@@ -1,0 +1,105 @@
+"""Runs a job, or attests a listing, unproved: compiles the program as its sources stand, keeps it beside them for the next run, and says
+how far it is.
+
+usage: unproved.py [--make N]               the job is read from standard input; ends with the run's status, or 70 where there is no answer
+       unproved.py --program mps360check    the same by the checker of listings: the listing is the file LISTING in the present folder
+       unproved.py [--program NAME] --compile     compiles alone, optimised, and prints the program's path
+
+The parts of the first time, as measured of mps360 on one free processor: rt reads all crates and lowers them (40 seconds), LLVM compiles
+(15 seconds, optimised 50). The program NAME that comes of it is kept in crates/NAME/out/unproved under the checksum of the sources,
+and later runs begin at once. rt try would compile with a sanitizer besides, and stop after a minute; it has the last word only where
+its module can't be had, and of mps360 alone, since it doesn't show a program the files of the present folder."""
+import os
+import re
+import shutil
+import signal
+import subprocess
+import sys
+import tempfile
+import time
+from typing import BinaryIO
+
+from mps360.unproved import ATTESTS, PROVES, RUNS, Answered, NoAnswer, crate_of, kept, make, say
+from mps360.output import CantWrite, command
+
+LONG_RUN = 10
+
+
+def run(name: str, program: str, words: list[str], job: BinaryIO | None = None) -> int:
+    "runs the program; its status"
+    begun = time.monotonic()
+    ended = subprocess.run([program, *words], stdin=job)
+    if time.monotonic() - begun > LONG_RUN and os.path.basename(program) != "fast":
+        option = "" if name == RUNS else f"--program {name} "
+        say(name, f"it ran for {time.monotonic() - begun:.0f} s; scripts/unproved.py {option}--compile makes an optimised program, in a minute or two: some 30 times as fast")
+    if ended.returncode < 0:
+        raise NoAnswer(f"the unproved program was ended by signal {-ended.returncode}, so there is no answer; scripts/build.sh builds the proved one")
+    return ended.returncode
+
+
+def told(answer: Answered) -> int:
+    "the answer of rt try"
+    try:
+        sys.stdout.buffer.write(answer.listing)
+        sys.stdout.flush()
+    except CantWrite:
+        # (as the program ends where its listing can't be written)
+        getattr(sys.stdout, "give_up")()
+        return 25
+    if re.search(rb"^BCDOUT  ", answer.listing, re.M):
+        say(RUNS, "this unproved run keeps no punched deck; the program that scripts/build.sh builds does")
+    return answer.status
+
+
+def own_words(words: list[str]) -> tuple[str, bool, list[str]] | None:
+    "the program's name, whether it is compiled alone, and the words that it gets; None where the words are no use of this"
+    name, words = (words[1], words[2:]) if words[:1] == ["--program"] and len(words) > 1 else (RUNS, words)
+    is_made = name == RUNS and words[:1] != [] and words[0].startswith("--make")
+    return (name, words == ["--compile"], words if is_made else []) if name in (RUNS, ATTESTS) and (is_made or words in ([], ["--compile"])) else None
+
+
+def answer(name: str, words: list[str]) -> int:
+    "runs the program that was kept, or compiles it first; its status"
+    program = kept(name) if crate_of(name).is_dir() else None
+    if program:
+        say(name, f"running UNPROVED, by the program that was compiled of these sources before; {PROVES}")
+        return run(name, program, words)
+    say(name, f"running UNPROVED, which takes about a minute the first time, to compile; {PROVES}")
+    with tempfile.NamedTemporaryFile(prefix="mps360-job-") as job:
+        if not words:
+            shutil.copyfileobj(sys.stdin.buffer, job)
+            job.flush()
+        program = make(name, job=job.name, words=words)
+        with open(job.name, "rb") as given:
+            return run(name, program, words, given)
+
+
+@command("unproved.py")
+def main(words: list[str] | None = None) -> int:
+    "the command; its status"
+    words = sys.argv[1:] if words is None else words
+    signal.signal(signal.SIGTERM, lambda *_: sys.exit(143))
+    if words and words[0] in ("-h", "--help"):
+        print(__doc__)
+        return 0
+    own = own_words(words)
+    if own is None:
+        print(f"usage: unproved.py [--make N | --program {ATTESTS}] | [--program NAME] --compile", file=sys.stderr)
+        return 64
+    name, is_compiled_alone, words = own
+    try:
+        if is_compiled_alone:
+            print(make(name, optimised=True))
+            return 0
+        return answer(name, words)
+    except Answered as answered:
+        return told(answered)
+    except NoAnswer as cause:
+        say(name, str(cause))
+        return 70
+    except KeyboardInterrupt:
+        say(name, "interrupted; what was compiled before is kept")
+        return 130
+    except OSError as cause:
+        say(name, f"{cause.filename}: {cause.strerror}")
+        return 70

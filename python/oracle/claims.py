@@ -1,0 +1,301 @@
+"What a listing claims, as it is read and as the checks test it, with plain operations of 128 bits."
+import re
+from dataclasses import dataclass
+from fractions import Fraction
+
+from oracle.rules import GREATEST, add, multiply, subtract
+
+MOST_LISTING, MOST_STATEMENTS = 64_000_000, 100_000
+ATTESTED, WRONG, OPEN, UNCHECKED, LONG = 0, 40, 41, 42, 43
+DEFAULTS = {"XPARAM": Fraction(0)}
+DEMAND_OF = {"INFEASIBLE": "XDONFS", "UNBOUNDED": "XDOUNB"}
+# more than a fraction of 128 bits has
+MOST_DIGITS = 100
+FRACTION = r"-?\d+(?:/\d+)?"
+OPERATIONS = ("ADD", "SUB", "MUL", "DIV")
+# stops whose cause needs a path, a basis or a device: # is a count, / a fraction, ! an operation
+OPEN_STOPS = ("STOP 16 ITERATION LIMIT # CARD #", "STOP 24 READ FAULT", "STOP 26 PUNCH FAULT", "STOP 28 MEMORY", "STOP 10 VERB FAULT 15 CARD #",
+              "STOP 10 VERB FAULT 16 CARD # VARIABLE #", "STOP 20 OVERFLOW F# ! / / P # Q # I # J # TERM # THETA / CARD #")
+
+
+class Found(Exception):
+    "the end of the walk: a status, and a line or the number of reports"
+    def __init__(self, status, number):
+        super().__init__(status, number)
+        self.status, self.number = status, number
+
+
+class Misses(Exception):
+    "what is due isn't of its form, or fails a test"
+
+
+def ask(holds):
+    if not holds:
+        raise Misses
+
+
+# ---- reading: lines of the listing, and words of a line
+
+class Listing:
+    "the lines of a listing, and the next one"
+    def __init__(self, text):
+        self.lines, self.at = text.split("\n"), 0
+        self.last = self.lines.pop()
+        self.has_part = bool(self.last)
+
+    def line(self):
+        "the number of the next line"
+        return self.at + 1
+
+    def peek(self):
+        "the next line; None at the end, and of a line without its line feed"
+        return self.lines[self.at] if self.at < len(self.lines) else None
+
+    def take(self):
+        line = self.peek()
+        ask(line is not None)
+        self.at += 1
+        return line
+
+    def is_over(self):
+        return self.at == len(self.lines) and not self.has_part
+
+
+def fraction(word):
+    "a fraction as it is written in lowest terms, of 128 bits"
+    ask(len(word) <= MOST_DIGITS and re.fullmatch(FRACTION, word, re.ASCII))
+    parts = word.split("/")
+    ask(len(parts) == 1 or int(parts[1]))
+    value = Fraction(int(parts[0]), int(parts[1]) if len(parts) == 2 else 1)
+    ask(str(value) == word and abs(value.numerator) <= GREATEST and value.denominator <= GREATEST)
+    return value
+
+
+def count(word, most=2 ** 32 - 1):
+    ask(len(word) <= MOST_DIGITS and re.fullmatch(r"0|[1-9]\d*", word, re.ASCII) and int(word) <= most)
+    return int(word)
+
+
+def is_open_stop(line):
+    "whether a line is the first one of a stop text that can't be attested"
+    return any(has_form(line.split(" "), form.split(" ")) for form in OPEN_STOPS)
+
+
+def has_form(words, form):
+    try:
+        ask(len(words) == len(form))
+        for word, piece in zip(words, form):
+            if piece.endswith("#"):
+                ask(word.startswith(piece[:-1]))
+                count(word[len(piece) - 1:])
+            elif piece == "/":
+                fraction(word)
+            else:
+                ask(word in OPERATIONS if piece == "!" else word == piece)
+    except Misses:
+        return False
+    return True
+
+
+def is_checked(words):
+    "whether the words at the end of a verdict say CHECKED; the other form names an operation and its operands"
+    if words == ["CHECKED"]:
+        return True
+    ask(len(words) == 4 and words[0] == "UNCHECKED" and words[1] in OPERATIONS)
+    fraction(words[2]), fraction(words[3])
+    return False
+
+
+def shown(value):
+    return "NONE" if value is None else str(value)
+
+
+class Sheet:
+    "a linear program whose table lines are read"
+    def __init__(self, lp):
+        self.lp, self.size = lp, lp.m + lp.n
+
+    def head(self, k):
+        return f"{k + 1:5} {self.lp.names[k]:<8} "
+
+    def values(self, line, k):
+        "the words behind the head of a variable's line"
+        ask(line.startswith(self.head(k)))
+        return line[len(self.head(k)):].split(" ")
+
+    def table(self, listing, *kinds):
+        "a line for each variable: an AT code for a kind of None, and a number for one of 0; the columns of numbers"
+        lines = []
+        for k in range(self.size):
+            words = self.values(listing.take(), k)
+            ask(len(words) == len(kinds))
+            lines.append([read_code(word) if kind is None else fraction(word) for kind, word in zip(kinds, words)])
+        return [list(column) for column in zip(*lines)] if lines else [[] for _ in kinds]
+
+    def ray(self, listing):
+        "the lines of a ray, ascending, each with a number other than 0; no other table line may follow"
+        ray = [Fraction(0)] * self.size
+        for k in range(self.size):
+            line = listing.peek()
+            if line is None or not line.startswith(self.head(k)):
+                continue
+            words = self.values(listing.take(), k)
+            ask(len(words) == 1)
+            ray[k] = fraction(words[0])
+            ask(ray[k])
+        ask(not re.match(r" *\d+ ", listing.peek() or ""))
+        return ray
+
+
+def read_code(word):
+    ask(word in ("BS", "**", "EQ", "LL", "UL", "FR"))
+    return word
+
+
+# ---- the sums of the checks, with plain operations of 128 bits
+
+def total(start, products):
+    for x, y in products:
+        start = add(start, multiply(x, y))
+    return start
+
+
+def check_equations(lp, point):
+    rows = [[] for _ in range(lp.m)]
+    for j, entries in enumerate(lp.columns):
+        for i, value in entries:
+            rows[i].append((value, point[lp.m + j]))
+    for i, products in enumerate(rows):
+        ask(total(Fraction(0), products) == point[i])
+
+
+def check_limits(lp, point):
+    for value, lower, upper in zip(point, lp.lower, lp.upper):
+        ask((lower is None or value >= lower) and (upper is None or value <= upper))
+
+
+def cost(lp, entries):
+    "the cost of a column"
+    own = dict(entries)
+    if not lp.change:
+        return own.get(lp.objective, Fraction(0))
+    row, theta = lp.change
+    return add(own.get(lp.objective, Fraction(0)), multiply(theta, own.get(row, Fraction(0))))
+
+
+def check_prices(lp, prices):
+    for j, entries in enumerate(lp.columns):
+        worth = cost(lp, entries)
+        ask(subtract(worth, total(Fraction(0), ((prices[i], value) for i, value in entries))) == prices[lp.m + j])
+
+
+def for_min(lp, price):
+    return price if lp.sense == "MIN" else -price
+
+
+def check_optimal(lp, point, prices):
+    check_equations(lp, point)
+    check_limits(lp, point)
+    check_prices(lp, prices)
+    for k, price in enumerate(prices):
+        ask(not price or point[k] == (lp.lower if for_min(lp, price) > 0 else lp.upper)[k])
+
+
+def check_crossed(lp, k):
+    ask(None not in (lp.lower[k], lp.upper[k]) and lp.lower[k] > lp.upper[k])
+
+
+def ray_sum(lp, ray):
+    "the sum of the multipliers, each times its limit, after the tests of the columns and of the limits"
+    for j, entries in enumerate(lp.columns):
+        ask(total(ray[lp.m + j], ((ray[i], value) for i, value in entries)) == 0)
+    whole = Fraction(0)
+    for k, factor in enumerate(ray):
+        if factor:
+            limit = (lp.upper if factor > 0 else lp.lower)[k]
+            ask(limit is not None)
+            whole = add(whole, multiply(factor, limit))
+    return whole
+
+
+def check_direction(lp, point, direction):
+    "a feasible point, and a direction that keeps all limits"
+    check_equations(lp, point)
+    check_limits(lp, point)
+    check_equations(lp, direction)
+    for k, by in enumerate(direction):
+        ask(not by or (lp.lower if by < 0 else lp.upper)[k] is None)
+
+
+def worth_of(lp, direction):
+    "what the objective gains along a direction, counted for MIN"
+    worth = direction[lp.objective]
+    if lp.change:
+        worth = add(worth, multiply(lp.change[1], direction[lp.change[0]]))
+    return for_min(lp, worth)
+
+
+# ---- parametric runs
+
+class Changing:
+    "the linear programs of a parametric run: the objective with theta times a row, or the limits with theta times the rows' shifts"
+    def __init__(self, lp, row=None, shift=None):
+        self.lp, self.row, self.shift = lp, row, shift
+
+    def at(self, theta):
+        if self.row is not None:
+            return self.lp.with_(change=(self.row, theta))
+        lower, upper = list(self.lp.lower), list(self.lp.upper)
+        for i, by in enumerate(self.shift):
+            for limits in (lower, upper):
+                if limits[i] is not None:
+                    limits[i] = add(limits[i], multiply(theta, by))
+        return self.lp.with_(lower=lower, upper=upper)
+
+
+def along(theta, values, rates):
+    return [add(value, multiply(theta, rate)) for value, rate in zip(values, rates)]
+
+
+def check_interval(changing, is_first, first, last, most, columns):
+    ask(first < last or is_first and first == last)
+    ask(last <= most)
+    ends = []
+    for theta in (first, last):
+        lp = changing.at(theta)
+        point, prices = along(theta, columns[1], columns[2]), along(theta, columns[3], columns[4])
+        check_optimal(lp, point, prices)
+        ends.append((lp, point, prices))
+    for _, _, prices in ends:
+        for k, price in enumerate(prices):
+            if price:
+                ask(all(point[k] == (lp.lower if for_min(lp, price) > 0 else lp.upper)[k] for lp, point, _ in ends))
+
+
+# ---- verdicts
+
+@dataclass
+class Claim:
+    "a verdict as it is read, or a SOLUTION OPTIMAL: its kind, whether its word is CHECKED, and its numbers"
+    kind: str
+    is_checked: bool
+    objective: Fraction | None = None
+    crossed: int | None = None
+    ray: list | None = None
+    point: list | None = None
+    direction: list | None = None
+    prices: list | None = None
+
+    def test(self, lp):
+        "the test of its proof; an optimal one is tested at SOLUTION"
+        if self.kind == "OPTIMAL":
+            return
+        if self.crossed is not None:
+            check_crossed(lp, self.crossed)
+        elif self.kind == "INFEASIBLE":
+            ask(ray_sum(lp, self.ray) < 0)
+        else:
+            check_direction(lp, self.point, self.direction)
+            ask(worth_of(lp, self.direction) < 0)
+            ask(self.objective == self.point[lp.objective])
+        ask(self.is_checked)

@@ -1,0 +1,524 @@
+"The rules of decks with their faults (of problems, of revisions, of bases), fixed and free, read apart from the programs by docs/DECKS.md."
+import re
+
+from oracle.rules import MOST_COLUMNS, MOST_ENTRIES, MOST_ROWS, NUMBER_CHARACTER, Stop, is_skipped, name_field, number_fault, value_of, word_of
+
+
+# ---- problems
+
+ROW_TYPES, COMBINATIONS = ("N", "G", "L", "E"), ("DN", "DG", "DL", "DE")
+BOUND_KINDS = ("UP", "LO", "FX", "FR", "MI", "PL")
+TOUCHED = {"UP": "U", "PL": "U", "LO": "L", "MI": "L", "FX": "LU", "FR": "LU"}
+
+
+class Row:
+    "a row of a type, plain or a combination: the sum of its parts, which are numbers by the names of rows before it"
+    def __init__(self, kind, parts=None):
+        self.kind, self.parts = kind, parts
+
+    def copy(self):
+        return Row(self.kind, None if self.parts is None else dict(self.parts))
+
+
+class Problem:
+    "rows and columns by their names in order, and the sets of each section"
+    def __init__(self):
+        self.name, self.rows, self.columns = "", {}, {}
+        self.rhs, self.ranges, self.bounds = {}, {}, {}
+
+    def copy(self):
+        other = Problem()
+        other.name = self.name
+        other.rows = {name: row.copy() for name, row in self.rows.items()}
+        other.columns = {name: dict(entries) for name, entries in self.columns.items()}
+        other.rhs, other.ranges = ({name: dict(items) for name, items in sets.items()} for sets in (self.rhs, self.ranges))
+        other.bounds = {name: list(items) for name, items in self.bounds.items()}
+        return other
+
+    def entries(self):
+        return sum(map(len, self.columns.values()))
+
+    def punched_cards(self):
+        "the number of cards that BCDOUT writes"
+        has_plain_row = any(row.parts is None for row in self.rows.values())
+        rows = sum(max(1, len(row.parts or ())) for row in self.rows.values())
+        entries = sum(len(entries) or has_plain_row for entries in self.columns.values())
+        sets = sum(bool(sets) + sum(map(len, sets.values())) for sets in (self.rhs, self.ranges, self.bounds))
+        return 4 + rows + entries + sets
+
+    def drop_empty_sets(self):
+        for sets in (self.rhs, self.ranges, self.bounds):
+            for name in [name for name, items in sets.items() if not items]:
+                del sets[name]
+
+
+# ---- the fields of a data card
+
+FIELD_COLUMNS = ((2, 3), (5, 12), (15, 22), (25, 36), (40, 47), (50, 61))
+GAPS = (1, 4, 13, 14, 23, 24, 37, 38, 39, 48, 49)
+
+
+class Fields:
+    "the six fields of a data card, each with its first column"
+    def __init__(self):
+        self.texts, self.columns = [""] * 6, [0] * 6
+
+    def __getitem__(self, k):
+        return self.texts[k - 1]
+
+    def put(self, k, text, column):
+        self.texts[k - 1], self.columns[k - 1] = text, column
+
+    def any(self, *ks):
+        return any(self[k] for k in ks)
+
+
+def fixed_fields(card):
+    fields = Fields()
+    for k, (first, last) in enumerate(FIELD_COLUMNS, 1):
+        text = card[first - 1:last].rstrip(" ")
+        fields.put(k, text.strip(" ") if k == 1 else text, first)
+    return fields
+
+
+def free_words(card):
+    "the words of a card, each with its first column"
+    return [(found[0], found.start() + 1) for found in re.finditer(r"[^ ]+", card)]
+
+
+SECTIONS = ("NAME", "ROWS", "COLUMNS", "RHS", "RANGES", "BOUNDS", "ENDATA")
+MARKER = "'MARKER'"
+
+
+class Deck:
+    "the reading of a deck, card by card; first is the number of its first card, last the job's last card"
+    def __init__(self, cards, first, last):
+        self.cards, self.first, self.job_last = cards, first, last
+        self.section, self.is_free, self.card = None, False, first
+
+    def fault(self, number, more=""):
+        return Stop(f"STOP 12 DECK FAULT {number} CARD {self.card}{more}")
+
+    def read(self):
+        for place, card in enumerate(self.cards):
+            self.card = self.first + place
+            if is_skipped(card):
+                continue
+            if card[0] != " ":
+                self.begin_section(card)
+            elif self.section is None or self.section == "NAME" and not self.data_after_name():
+                raise self.fault(1)
+            else:
+                self.data(card)
+        if self.section != "ENDATA":
+            self.card = self.job_last
+            raise self.fault(13)
+
+    def data_after_name(self):
+        return False
+
+    def begin_section(self, card):
+        word = word_of(card)
+        if self.section is None and word != "NAME":
+            raise self.fault(1)
+        if word not in SECTIONS:
+            raise self.fault(2)
+        if not self.may_follow(word):
+            raise self.fault(1)
+        self.section = word
+        if word == "NAME":
+            self.is_free = card[24:28] == "FREE" and not (card[22:24] + card[28:]).strip(" ")
+        self.begun()
+
+    def may_follow(self, word):
+        if self.section is None:
+            return word == "NAME"
+        now, then = SECTIONS.index(self.section), SECTIONS.index(word)
+        return now < then and all(section in self.may_be_missing() for section in SECTIONS[now + 1:then])
+
+    def may_be_missing(self):
+        return ("RHS", "RANGES", "BOUNDS")
+
+    def begun(self):
+        "what a section card begins"
+
+    # -- fields
+
+    def fields(self, card, kinds):
+        "the fields of a card: those of its columns, or in a free deck the words, by the numbers of fields that a count of words stands for"
+        if not self.is_free:
+            if any(card[column - 1:column].strip(" ") for column in GAPS):
+                raise self.fault(20)
+            return fixed_fields(card)
+        words = free_words(card)
+        if len(words) not in kinds:
+            raise self.fault(25)
+        fields = Fields()
+        for k, (text, column) in zip(kinds[len(words)], words):
+            fields.put(k, text, column)
+        if any(len(fields[k]) > 8 for k in (2, 3, 5)):
+            raise self.fault(26)
+        if any(len(fields[k]) > 12 for k in (4, 6)):
+            raise self.fault(27)
+        return fields
+
+    def unused(self, fields, *ks):
+        if not self.is_free and fields.any(*ks):
+            raise self.fault(20)
+
+    def number(self, fields, k):
+        found = number_fault(fields[k])
+        if found:
+            column = f" COLUMN {fields.columns[k - 1] + found[1] - 1}" if found[0] == NUMBER_CHARACTER else ""
+            raise self.fault(8, f" NUMBER {found[0]}{column}")
+        return value_of(fields[k])
+
+    def row_fields(self, card):
+        "the fields of a card of a row; a free one has a type, which tells how many words there may be"
+        word = free_words(card)[0][0]
+        if self.is_free and word not in ROW_TYPES + COMBINATIONS:
+            raise self.fault(3)
+        return self.fields(card, COMBINATION_WORDS if word in COMBINATIONS else ROW_WORDS)
+
+    def bound_fields(self, card):
+        if self.is_free:
+            word = free_words(card)[0][0]
+            if word not in BOUND_KINDS:
+                raise self.fault(10)
+            return self.fields(card, {4: (1, 2, 3, 4), 3: (1, 3, 4)} if word in ("UP", "LO", "FX") else {3: (1, 2, 3), 2: (1, 3)})
+        return self.fields(card, None)
+
+
+ROW_WORDS, COMBINATION_WORDS = {2: (1, 2)}, {2: (1, 2), 4: (1, 2, 3, 4), 6: (1, 2, 3, 4, 5, 6)}
+COLUMN_WORDS = {3: (2, 3, 4), 5: (2, 3, 4, 5, 6)}
+SET_WORDS = {3: (2, 3, 4), 5: (2, 3, 4, 5, 6), 2: (3, 4), 4: (3, 4, 5, 6)}
+
+
+class DataDeck(Deck):
+    "a deck that describes a problem"
+    def __init__(self, cards, first, last):
+        super().__init__(cards, first, last)
+        self.problem, self.entries = Problem(), 0
+        # the column, or the type and the name of the combination, of the card before
+        self.before = None
+
+    def begun(self):
+        self.before = None
+
+    def data(self, card):
+        {"ROWS": self.row, "COLUMNS": self.column, "RHS": self.set_items, "RANGES": self.set_items, "BOUNDS": self.bound}[self.section](card)
+
+    def insert_row(self, name, row):
+        self.problem.rows[name] = row
+
+    def insert_column(self, name):
+        self.problem.columns[name] = {}
+
+    def place_of_row(self):
+        "how many rows stand before a new one"
+        return len(self.problem.rows)
+
+    def row(self, card):
+        fields, rows = self.row_fields(card), self.problem.rows
+        kind, name = fields[1], fields[2]
+        if kind not in ROW_TYPES + COMBINATIONS:
+            raise self.fault(3)
+        if not name:
+            raise self.fault(15)
+        is_same = (kind, name) == self.before
+        if not is_same:
+            if name in rows:
+                raise self.fault(4)
+            if len(rows) == MOST_ROWS:
+                raise self.fault(16)
+        self.before = (kind, name) if kind in COMBINATIONS else None
+        if kind in ROW_TYPES:
+            self.unused(fields, 3, 4, 5, 6)
+            self.insert_row(name, Row(kind))
+            return
+        parts = rows[name].parts if is_same else {}
+        place = list(rows).index(name) if is_same else self.place_of_row()
+        self.parts(fields, parts, place, may_replace=False)
+        if not is_same:
+            self.insert_row(name, Row(kind[1], parts))
+
+    def parts(self, fields, parts, place, may_replace):
+        "the parts of a combination at a place among the rows, which stand on the rows before"
+        earlier = list(self.problem.rows)[:place]
+        for k in (3, 5):
+            if not fields.any(k, k + 1):
+                continue
+            name = fields[k]
+            if not name:
+                raise self.fault(15)
+            if name not in earlier:
+                raise self.fault(6)
+            if name in parts and not may_replace:
+                raise self.fault(7)
+            parts[name] = self.number(fields, k + 1)
+
+    def column(self, card):
+        fields = self.column_fields(card)
+        name, columns = fields[2], self.problem.columns
+        if name != self.before and name in columns:
+            raise self.fault(5)
+        if name not in columns:
+            if len(columns) == MOST_COLUMNS:
+                raise self.fault(17)
+            self.insert_column(name)
+        self.before = name
+        self.pairs(fields, columns[name], may_replace=False, is_column=True)
+
+    def column_fields(self, card):
+        fields = self.fields(card, COLUMN_WORDS)
+        self.unused(fields, 1)
+        if MARKER in (fields[3], fields[5]):
+            raise self.fault(14)
+        if not fields[2]:
+            raise self.fault(15)
+        return fields
+
+    def pairs(self, fields, items, may_replace, is_column=False):
+        "the pairs of a row and a number"
+        for k in (3, 5):
+            if k == 5 and not fields.any(5, 6):
+                continue
+            name = fields[k]
+            if not name:
+                raise self.fault(15)
+            if name not in self.problem.rows:
+                raise self.fault(6)
+            if is_column and self.problem.rows[name].parts is not None:
+                raise self.fault(28)
+            if self.section == "RANGES" and self.problem.rows[name].kind == "N":
+                raise self.fault(9)
+            if name in items and not may_replace:
+                raise self.fault(7)
+            value = self.number(fields, k + 1)
+            if is_column and name not in items:
+                if self.entries == MOST_ENTRIES:
+                    raise self.fault(18)
+                self.entries += 1
+            items[name] = value
+
+    def sets(self):
+        return {"RHS": self.problem.rhs, "RANGES": self.problem.ranges, "BOUNDS": self.problem.bounds}[self.section]
+
+    def set_items(self, card, may_replace=False):
+        fields = self.fields(card, SET_WORDS)
+        self.unused(fields, 1)
+        self.pairs(fields, self.sets().setdefault(fields[2], {}), may_replace)
+
+    def bound(self, card, may_replace=False):
+        fields = self.bound_fields(card)
+        kind, group, column = fields[1], fields[2], fields[3]
+        if kind not in BOUND_KINDS:
+            raise self.fault(10)
+        if not column:
+            raise self.fault(15)
+        if column not in self.problem.columns:
+            raise self.fault(11)
+        items = self.problem.bounds.get(group, [])
+        kept = [item for item in items if item[1] != column or not set(TOUCHED[item[0]]) & set(TOUCHED[kind])]
+        if not may_replace and len(kept) < len(items):
+            raise self.fault(12)
+        value = self.number(fields, 4) if kind in ("UP", "LO", "FX") else None
+        self.unused(fields, 5, 6)
+        self.problem.bounds[group] = kept + [(kind, column, value)]
+
+
+ACTIONS = ("MODIFY", "DELETE", "BEFORE", "AFTER")
+
+
+class RevisionDeck(DataDeck):
+    "a deck that revises a problem"
+    def __init__(self, problem, cards, first, last):
+        super().__init__(cards, first, last)
+        self.problem, self.entries, self.action, self.place = problem.copy(), problem.entries(), None, 0
+
+    def may_be_missing(self):
+        return SECTIONS[1:6]
+
+    def begun(self):
+        self.action, self.before = None, None
+
+    def action_of(self, card):
+        "the action and the name of an action card; None for a data card"
+        if not self.is_free:
+            return (word_of(card[1:]), name_field(card)) if " " not in card[1:4].ljust(3) else None
+        words = [text for text, _ in free_words(card)]
+        return (words[0], (words + [""])[1]) if len(words) <= 2 and words[0] in ACTIONS else None
+
+    def data(self, card):
+        action = self.action_of(card)
+        if action:
+            self.begin_action(*action)
+        elif self.action is None:
+            raise self.fault(21)
+        elif self.action == "DELETE":
+            self.delete(card)
+            self.entries = self.problem.entries()
+        elif self.action == "MODIFY":
+            self.modify(card)
+        else:
+            super().data(card)
+        self.problem.drop_empty_sets()
+
+    def begin_action(self, word, name):
+        listed = list({"ROWS": self.problem.rows, "COLUMNS": self.problem.columns}.get(self.section, ()))
+        if word not in ACTIONS or word in ("BEFORE", "AFTER") and self.section not in ("ROWS", "COLUMNS"):
+            raise self.fault(21)
+        if word in ("BEFORE", "AFTER") and name and name not in listed:
+            raise self.fault(22)
+        self.action, self.before = word, None
+        if word == "BEFORE":
+            self.place = listed.index(name) if name else 0
+        elif word == "AFTER":
+            self.place = listed.index(name) + 1 if name else len(listed)
+
+    def insert(self, things, name, value):
+        listed = list(things.items())
+        listed.insert(self.place, (name, value))
+        things.clear()
+        things.update(listed)
+        self.place += 1
+
+    def insert_row(self, name, row):
+        self.insert(self.problem.rows, name, row)
+
+    def place_of_row(self):
+        return self.place
+
+    def insert_column(self, name):
+        self.insert(self.problem.columns, name, {})
+
+    def modify(self, card):
+        if self.section == "ROWS":
+            self.modify_row(card)
+        elif self.section == "COLUMNS":
+            fields = self.column_fields(card)
+            if fields[2] not in self.problem.columns:
+                raise self.fault(24)
+            self.pairs(fields, self.problem.columns[fields[2]], may_replace=True, is_column=True)
+        elif self.section == "BOUNDS":
+            self.bound(card, may_replace=True)
+        else:
+            self.set_items(card, may_replace=True)
+
+    def modify_row(self, card):
+        fields = self.row_fields(card)
+        kind, name, rows = fields[1], fields[2], self.problem.rows
+        if not name:
+            raise self.fault(15)
+        if name not in rows:
+            raise self.fault(24)
+        row = rows[name]
+        if kind not in (ROW_TYPES if row.parts is None else COMBINATIONS):
+            raise self.fault(3)
+        if kind in ("N", "DN") and any(name in items for items in self.problem.ranges.values()):
+            raise self.fault(9)
+        if row.parts is None:
+            self.unused(fields, 3, 4, 5, 6)
+        else:
+            self.parts(fields, row.parts, list(rows).index(name), may_replace=True)
+        row.kind = kind[-1]
+
+    def delete(self, card):
+        fields = self.fields(card, {1: (2,)} if self.section == "ROWS" else {1: (2,), 2: (2, 3)})
+        if self.section in ("COLUMNS", "RHS", "RANGES"):
+            self.unused(fields, 1)
+        {"ROWS": self.delete_row, "COLUMNS": self.delete_column, "BOUNDS": self.delete_bound}.get(self.section, self.delete_item)(fields)
+
+    def delete_row(self, fields):
+        name, problem = fields[2], self.problem
+        if not name:
+            raise self.fault(15)
+        if name not in problem.rows:
+            raise self.fault(23)
+        self.unused(fields, 3, 4, 5, 6)
+        del problem.rows[name]
+        parts = [row.parts for row in problem.rows.values() if row.parts]
+        for items in [*parts, *problem.columns.values(), *problem.rhs.values(), *problem.ranges.values()]:
+            items.pop(name, None)
+
+    def delete_column(self, fields):
+        name, row, problem = fields[2], fields[3], self.problem
+        if not name:
+            raise self.fault(15)
+        if name not in problem.columns:
+            raise self.fault(23)
+        self.named_in(row, problem.rows, 6, problem.columns[name])
+        self.unused(fields, 4, 5, 6)
+        if row:
+            del problem.columns[name][row]
+            return
+        del problem.columns[name]
+        for group, items in problem.bounds.items():
+            problem.bounds[group] = [item for item in items if item[1] != name]
+
+    def delete_item(self, fields):
+        name, row, sets = fields[2], fields[3], self.sets()
+        if name not in sets:
+            raise self.fault(23)
+        self.named_in(row, self.problem.rows, 6, sets[name])
+        self.unused(fields, 4, 5, 6)
+        if row:
+            del sets[name][row]
+        else:
+            del sets[name]
+
+    def delete_bound(self, fields):
+        name, column, sets = fields[2], fields[3], self.problem.bounds
+        if name not in sets:
+            raise self.fault(23)
+        self.named_in(column, self.problem.columns, 11, [item[1] for item in sets[name]])
+        self.unused(fields, 4, 5, 6)
+        if column:
+            sets[name] = [item for item in sets[name] if item[1] != column]
+        else:
+            del sets[name]
+
+    def named_in(self, name, known, number, items):
+        "where a name is given it has to be known, and to be among the items"
+        if name and name not in known:
+            raise self.fault(number)
+        if name and name not in items:
+            raise self.fault(23)
+
+
+class BasisDeck(Deck):
+    "a deck that stands for a basis of a linear program; it is read for its faults alone"
+    def __init__(self, lp, cards, first, last):
+        super().__init__(cards, first, last)
+        self.lp, self.named = lp, set()
+
+    def data_after_name(self):
+        return True
+
+    def begin_section(self, card):
+        super().begin_section(card)
+        self.is_free = False
+
+    def may_follow(self, word):
+        return word == "NAME" if self.section is None else word == "ENDATA" and self.section == "NAME"
+
+    def data(self, card):
+        fields = self.fields(card, None)
+        code, lp = fields[1], self.lp
+        if code not in ("XU", "XL", "UL", "LL"):
+            raise self.fault(30)
+        if fields[2] not in lp.column_names:
+            raise self.fault(11)
+        column = lp.m + lp.column_names.index(fields[2])
+        row = None
+        if code in ("XU", "XL"):
+            if fields[3] not in lp.row_names:
+                raise self.fault(6)
+            row = lp.row_names.index(fields[3])
+        if column in self.named or row in self.named:
+            raise self.fault(31)
+        self.named |= {column, row} - {None}
+        limited = column if row is None else row
+        if (lp.upper if code in ("XU", "UL") else lp.lower)[limited] is None:
+            raise self.fault(32)
+        self.unused(fields, *((4, 5, 6) if row is not None else (3, 4, 5, 6)))
