@@ -36,13 +36,13 @@ def stub(folder):
     return programs_at_hand.script(folder, "stub", "cat >/dev/null\necho END 0\n")
 
 
-@pytest.mark.parametrize("name, lines", (("bench_converting.sh", 11), ("bench_revising.sh", 4), ("bench_reading.sh", 1)))
+@pytest.mark.parametrize("name, lines", (("bench_converting.sh", 10), ("bench_revising.sh", 4), ("bench_reading.sh", 1)))
 def test_benches_of_decks(tmp_path, name, lines):
     "they write the decks, and time a stand-in for the program over each"
     assert len(TIMED.findall(ran(0, BENCH / name, stub(tmp_path)))) == lines
 
 
-@pytest.mark.parametrize("words, rows", ((("--dense", "1"), 16), (("--queens", "2"), 9), (("--transportation", "2"), 5), (("--sparse",), 301), (("--narrow",), 1000)))
+@pytest.mark.parametrize("words, rows", ((("--dense", "1"), 16), (("--queens", "2"), 7), (("--transportation", "2"), 5), (("--sparse",), 300), (("--narrow",), 1000)))
 def test_decks_of_the_path(words, rows):
     "the deck is one, of so many rows"
     deck = ran(0, BENCH / "bench_path.sh", *words).decode()
@@ -88,6 +88,23 @@ def test_a_refused_allocation(tmp_path):
     (tmp_path / "a.c").write_text('#include <unistd.h>\nint main(void) { char c[1]; while (read(0, c, 1) == 1); return write(1, "END 0\\n", 6) != 6; }\n')
     subprocess.run(["cc", "-o", tmp_path / "a", tmp_path / "a.c"], check=True)
     assert ran(0, BENCH / "refuse_memory.py", tmp_path / "a", places.EXAMPLES / "store.job")
+
+
+def test_the_bench_of_the_python_side():
+    "once each, and wrong use"
+    assert ran(0, BENCH / "bench_python.py", "--runs", "1").count(b"\n") >= 3
+    ran(64, BENCH / "bench_python.py", "--runs", "x")
+
+
+def test_the_size_of_the_source():
+    assert b"lines" in ran(0, places.DEV / "source_numbers.py")
+
+
+@pytest.mark.parametrize("name, words, status", (
+    ("random_mps.py", ("1", "7"), 0), ("random_mps.py", ("x",), 64), ("solver_bases.py", ("--fresh", "1", "7"), 0), ("solver_bases.py", ("--fresh",), 64),
+    ("altered_listings.py", ("0", "2"), 0)))
+def test_tools_that_make_cases_at_random(name, words, status):
+    ran(status, places.TESTS / name, *words)
 
 
 @pytest.mark.parametrize("name", sorted(path.name for path in BENCH.iterdir() if path.is_file()))
