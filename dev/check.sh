@@ -64,35 +64,12 @@ if command -v python3 >/dev/null; then
     # The page of faults is that of examples/faults, and the listings of examples/ are those that are worked out apart.
     python3 dev/faults.py --check || fail "dev/faults.py --write makes docs/FAULTS.md"
     bash dev/examples.sh --expected || fail "a listing of examples/"
-    # The six that take longest run side by side.
-    python3 python/tests/check_installed.py &
-    installed=$!
-    python3 python/tests/check_mps2job.py &
-    files=$!
-    python3 python/tests/check_reports.py &
-    reports=$!
-    python3 python/tests/check_bases.py &
-    bases=$!
-    python3 python/tests/check_answers.py &
-    answers=$!
-    python3 python/tests/check_tools.py || fail "a script does otherwise than it is to do"
-    wait "$reports" || fail "solve, listing2html.py, listing2json.py or the page of reference answers does otherwise than it is to do"
-    wait "$bases" || fail "basis2deck.py or prove takes another basis than a solver wrote"
-    wait "$answers" || fail "a solution, a listing or a certificate becomes another than it is, or is taken where it should be refused"
-    wait "$files" || fail "mps2job.py changes a problem, or takes a file that it should refuse"
-    wait "$installed" || fail "build.sh, install.sh, an installed command or mps360-batch does otherwise than it is to do"
-    # The tests of the packages: by pytest where a python3 has it, else by plain_tests.py, which runs the same files.
-    tester=
-    for python in python3 /usr/bin/python3; do
-        [ -n "$tester" ] || ! "$python" -c 'import pytest' 2>/dev/null || tester=$python
+    # The tests of the packages, several files at once: by pytest where a python3 has it, else by plain_tests.py, which runs the same files.
+    python3 dev/run_tests.py || fail "a test of python/tests"
+    for python in python3 /usr/bin/python3 none; do
+        ! "$python" -c 'import pytest' 2>/dev/null || break
     done
-    if [ -n "$tester" ]; then
-        "$tester" -m pytest -q python/tests >"$room/tests" 2>&1 || { tail -n 60 "$room/tests" >&2 && fail "a test of python/tests"; }
-        tail -n 1 "$room/tests" | sed 's/^/check: python\/tests: /'
-    else
-        missing="pytest (apt-get install python3-pytest; dev/plain_tests.py ran the tests) "
-        python3 dev/plain_tests.py || fail "a test of python/tests"
-    fi
+    [ "$python" != none ] || missing="pytest (apt-get install python3-pytest; dev/plain_tests.py ran the tests) "
     if command -v mypy >/dev/null; then
         # Every module of the package but those of dev/untyped.txt.
         (cd python && find mps360 -name '*.py' | sort | grep -vxFf ../dev/untyped.txt \
@@ -108,7 +85,7 @@ if command -v python3 >/dev/null; then
         echo "check: no fresh proved program mps360; examples/ aren't run"
     fi
     if scripts/program.sh --fresh mps360check >/dev/null; then
-        python3 python/tests/check_listings.py --proved --jobs 0 40 || fail "the checker says otherwise of an altered listing than its rules"
+        python3 python/tests/altered_listings.py --proved --jobs 0 40 || fail "the checker says otherwise of an altered listing than its rules"
         python3 python/tests/random_jobs.py --attest 0 100 || fail "the checker says otherwise of a job's own listing than its rules"
     else
         echo "check: no fresh proved program mps360check; no altered listing is attested"

@@ -21,7 +21,12 @@ def checker(folder):
 
 
 def command(folder, name, words):
+    return script(folder, name, f"exec {sys.executable} {places.ORACLE} {words}\n")
+
+
+def script(folder, name, text):
+    "an executable shell script of this name in a folder, and its path"
     path = pathlib.Path(folder, name)
-    path.write_text(f"#!/bin/sh\nexec {sys.executable} {places.ORACLE} {words}\n", encoding="utf-8")
+    path.write_text(f"#!/bin/sh\n{text}", encoding="utf-8")
     path.chmod(0o755)
     return str(path)

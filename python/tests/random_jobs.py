@@ -19,7 +19,7 @@ large or so small that many a sum of a selection doesn't fit, and the run ends w
 program shows the first, as the script does. --itself: no program runs; what oracle/listing.py says is checked by the meaning of the words,
 where a job is small enough (python/oracle/every_basis.py). --attest: the checker of listings, mps360check, is compared with
 python/oracle/attesting.py on the listing of each job, from most of which what can't be attested is left out; none may be found wrong. With
---itself no program runs. python/tests/check_listings.py alters listings."""
+--itself no program runs. python/tests/altered_listings.py alters listings."""
 import collections, random, re, sys
 import places
 from mps360 import programs

@@ -5,7 +5,7 @@ import shutil
 import subprocess
 from fractions import Fraction
 
-import check_bases
+import solver_bases
 import pytest
 from mps360 import at_hand, bases, highs_files, routes, solution_out
 from mps360.errors import Refused
@@ -87,7 +87,7 @@ def test_solvers_begin_there(tmp_path, solver):
 @pytest.mark.parametrize("seed", range(1, 9))
 def test_solvers_begin_at_random_bases(tmp_path, seed):
     "models with rows and columns of all kinds: the basis of the program's own plan"
-    text = check_bases.made_model(seed)
+    text = solver_bases.made_model(seed)
     model = read_text(text, Reading(negative_up="free"))
     job = job_of(model)
     outcome = routes.Routes(job, at_hand.Tool((real_program(tmp_path),), "other"), routes.Plan(only="primal")).run()

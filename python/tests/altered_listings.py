@@ -3,7 +3,7 @@
 them. Whatever it attests of an altered listing may differ from the listing that was altered only in what isn't attested (AT codes, counts of
 steps) or in numbers that prove the same; and each optimum and each conflict that it attests is checked again as a VIPR certificate.
 
-usage: check_listings.py [--proved | --unproved | --program FILE] [--jobs] [--keep FOLDER] [FIRST [COUNT]]
+usage: altered_listings.py [--proved | --unproved | --program FILE] [--jobs] [--keep FOLDER] [FIRST [COUNT]]
        listings FIRST, FIRST + 1, ..; 0 and 300 where nothing is said, each as it is and with ten alterations
 
   --proved         the proved program mps360check is to say the same of each
@@ -252,7 +252,7 @@ def main(words):
     try:
         checker = program_of(asked, file)
     except programs.NoProgram as cause:
-        print(f"check_listings.py: {cause}", file=sys.stderr)
+        print(f"altered_listings.py: {cause}", file=sys.stderr)
         return 70
     by_hand, statuses, wrong = written_by_hand(), collections.Counter(), 0
     for number in range(first, first + count):
@@ -265,7 +265,7 @@ def main(words):
             statuses[status] += 1
             for sentence in told:
                 wrong += 1
-                print(f"check_listings.py: {number} ({name}), alteration {place} ({', '.join(kind.__name__ for kind in kinds)}): {sentence}", file=sys.stderr)
+                print(f"altered_listings.py: {number} ({name}), alteration {place} ({', '.join(kind.__name__ for kind in kinds)}): {sentence}", file=sys.stderr)
             if told and keep:
                 for ending, content in (("job", given), ("listing", text)):
                     pathlib.Path(keep).mkdir(parents=True, exist_ok=True)
