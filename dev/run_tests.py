@@ -16,6 +16,7 @@ import subprocess
 import sys
 import time
 from concurrent.futures import ThreadPoolExecutor
+from typing import NoReturn
 
 TOP = pathlib.Path(__file__).resolve().parents[1]
 TESTS, PLAIN = TOP / "python/tests", TOP / "dev/plain_tests.py"
@@ -38,14 +39,21 @@ def outcome(words: list[str], path: pathlib.Path) -> tuple[pathlib.Path, int, st
     return path, ended.returncode, ended.stdout.decode(errors="replace"), time.monotonic() - begun
 
 
+class Parser(argparse.ArgumentParser):
+    "wrong use is told in a line, and ends with 64"
+
+    def error(self, message: str) -> NoReturn:
+        print(f"run_tests.py: {message}", file=sys.stderr)
+        sys.exit(64)
+
+
 def main(words: list[str]) -> int:
-    parser = argparse.ArgumentParser(add_help=False, allow_abbrev=False)
+    parser = Parser(add_help=False, allow_abbrev=False)
     parser.add_argument("-j", dest="at_once", type=int, default=os.cpu_count() or 1)
     parser.add_argument("files", nargs="*", type=pathlib.Path)
     if any(word in ("-h", "--help") for word in words):
         print(__doc__)
         return 0
-    parser.error = lambda message: (print(f"run_tests.py: {message}", file=sys.stderr), sys.exit(64))  # type: ignore[assignment,return-value]
     options = parser.parse_args(words)
     # (a shell that starts this in the background has it ignore Ctrl-C, and all that it starts)
     signal.signal(signal.SIGINT, signal.default_int_handler)
