@@ -48,7 +48,7 @@ pub once_answer : {job : Job} {failures : Failures} {status : ℕ} {PrintGains P
     IsAnsweredOnce linear_programming job failures status PrintGains PunchGains
 once_answer {job} {failures} {status} {PrintGains} {PunchGains} is =
     answered_once linear_programming runs_are_functions own_runs job failures status PrintGains PunchGains
-    (is.printed, (is.punched, (is.print_gains, (is.punch_gains, is.is_answer))))
+    (is.printed, is.punched, is.print_gains, is.punch_gains, is.is_answer)
 
 -- ---- the job that is asked for
 
