@@ -36,7 +36,7 @@ module _ (limit : Option ℕ) where
       passed got (Failed part number) h e = cc e
       passed got (Unchecked refused) h e = absurd (h refused refl)
 
-      by_form : (o : Parsed X) → reads (form_in (any limit)) rest ≡ o → reads (fraction_in (any limit)) rest ≡ None → (b : Bool) → (if b && is_some o then Refuses {X = X} else Fails) ≡ Refuses → HasLong (any limit) rest
+      by_form : (o : Parsed X) → reads (form_in (any limit)) rest ≡ o → reads (fraction_in (any limit)) rest ≡ None → (b : Bool) → (let unread : Judged X = if b && is_some o then Refuses else Fails in unread ≡ Refuses) → HasLong (any limit) rest
       by_form None is none true e = cc e
       by_form o is none false e = cc e
       by_form (Some got) is none true e = found (formed.agree rest got is)

@@ -21,11 +21,11 @@ use Rattle.listing_answers.proofs.Tables.{column_is}
 abbrev with_columns : (sheet : Sheet) → List Line × List ℕ → Parsed SolutionLines
 with_columns sheet got = option_map (λ more. (record { rows = got.0; columns = more.0 }, more.1)) (with_text columns_head (table_in (fraction_in checker_of_128_bits) sheet (column_slots sheet) (column_numbers sheet.lp)) got.1)
 
-pub solution_read : (sheet : Sheet) (mark : Mark) (old first middle second new : List ℕ) (rows columns : List Line) → left_after (rows_head mark) old ≡ Some first → table_in sheet (row_slots sheet) (row_numbers sheet.lp) first ≡ Some (rows, middle) →
-    left_after columns_head middle ≡ Some second → table_in sheet (column_slots sheet) (column_numbers sheet.lp) second ≡ Some (columns, new) → solution_in sheet mark old ≡ Some (record { rows = rows; columns = columns }, new)
+pub solution_read : (sheet : Sheet) (mark : Mark) (old first middle second new : List ℕ) (rows columns : List Line) → left_after (rows_head mark) old ≡ Some first → table_in (fraction_in checker_of_128_bits) sheet (row_slots sheet) (row_numbers sheet.lp) first ≡ Some (rows, middle) →
+    left_after columns_head middle ≡ Some second → table_in (fraction_in checker_of_128_bits) sheet (column_slots sheet) (column_numbers sheet.lp) second ≡ Some (columns, new) → solution_in (fraction_in checker_of_128_bits) sheet mark old ≡ Some (record { rows = rows; columns = columns }, new)
 solution_read sheet mark old first middle second new rows columns head are_rows heads are_columns =
-    ap (option_and_then (with_columns sheet)) (ap (option_and_then (table_in sheet (row_slots sheet) (row_numbers sheet.lp))) head ∙ are_rows)
-    ∙ ap (option_map {U = SolutionLines × List ℕ} (λ more. (record { rows = rows; columns = more.0 }, more.1))) (ap (option_and_then (table_in sheet (column_slots sheet) (column_numbers sheet.lp))) heads ∙ are_columns)
+    ap (option_and_then (with_columns sheet)) (ap (option_and_then (table_in (fraction_in checker_of_128_bits) sheet (row_slots sheet) (row_numbers sheet.lp))) head ∙ are_rows)
+    ∙ ap (option_map {U = SolutionLines × List ℕ} (λ more. (record { rows = rows; columns = more.0 }, more.1))) (ap (option_and_then (table_in (fraction_in checker_of_128_bits) sheet (column_slots sheet) (column_numbers sheet.lp))) heads ∙ are_columns)
 
 module _ (sheet : Sheet) (read : Lines) (lines : SolutionLines) (printed : Printed) (are : AreLines sheet read lines) (is : IsPrinted read.rows.items read.columns.items printed) where
   pub printed_shows : Shows printed lines

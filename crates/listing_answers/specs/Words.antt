@@ -31,8 +31,8 @@ labelled text of rest = with_text text (with_word of (λ x left. Some (x, left))
 -- ---- the word of a check
 
 abbrev pub refusal_in : List ℕ → Parsed Refused
-refusal_in = with_text (codes "UNCHECKED ") (with_word (named all_operations) (λ op. with_text (codes " ") (with_word fraction_in (λ left.
-    with_text (codes " ") (with_word fraction_in (λ right. with_text (codes "\n") (λ rest. Some (record { op = op; left = left; right = right }, rest))))))))
+refusal_in = with_text (codes "UNCHECKED ") (with_word (named all_operations) (λ op. with_text (codes " ") (with_word (fraction_in checker_of_128_bits) (λ left.
+    with_text (codes " ") (with_word (fraction_in checker_of_128_bits) (λ right. with_text (codes "\n") (λ rest. Some (record { op = op; left = left; right = right }, rest))))))))
 
 -- whatever is read after it
 pub record IsCheck (reading : (Check → List ℕ → Parsed Claim) → List ℕ → Parsed Claim) (old new : List ℕ) (is_checked : Bool) : Type 0 where

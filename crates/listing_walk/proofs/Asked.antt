@@ -80,15 +80,15 @@ module _ (question : Question) (sheet : Sheet) (old : ListingPlace) (open_there 
   pub found_open : (found : Found) → ((w : walks.Walker) → Faces old w → option_map found_view (Some found) ≡ open_there w) → (w : walks.Walker) (go : AnswerTo question → StatementOutcome) → Faces old w →
       asked_turn w question sheet go ≡ walks.Finds (found_view found)
   found_open found there_is w go f =
-      ap (λ (x : Option walks.Found). walks.unless_found x (walks.answered w question sheet go (judged checker_of_128_bits question sheet w.rest))) (opens w go ∙ sym (there_is w f))
+      ap (λ (x : Option walks.Found). walks.unless_found x (walks.answered checker_of_128_bits w question sheet go (judged checker_of_128_bits question sheet w.rest))) (opens w go ∙ sym (there_is w f))
 
   module _ (none : (w : walks.Walker) → Faces old w → None ≡ open_there w) where
     -- then the answer
     pub turn_answered : (w : walks.Walker) (go : AnswerTo question → StatementOutcome) → Faces old w → (given : Judged (AnswerTo question)) → judged checker_of_128_bits question sheet old.cursor ≡ given →
-        asked_turn w question sheet go ≡ walks.answered w question sheet go given
+        asked_turn w question sheet go ≡ walks.answered checker_of_128_bits w question sheet go given
     turn_answered w go f given is =
-        ap (λ (x : Option walks.Found). walks.unless_found x (walks.answered w question sheet go (judged checker_of_128_bits question sheet w.rest))) (opens w go ∙ sym (none w f)) ∙
-        ap (λ (rest : List ℕ). walks.answered w question sheet go (judged checker_of_128_bits question sheet rest)) f.rest ∙ ap (walks.answered w question sheet go) is
+        ap (λ (x : Option walks.Found). walks.unless_found x (walks.answered checker_of_128_bits w question sheet go (judged checker_of_128_bits question sheet w.rest))) (opens w go ∙ sym (none w f)) ∙
+        ap (λ (rest : List ℕ). walks.answered checker_of_128_bits w question sheet go (judged checker_of_128_bits question sheet rest)) f.rest ∙ ap (walks.answered checker_of_128_bits w question sheet go) is
 
     -- it isn't right, or an operation of its test is refused
     pub stopped_answered : {X Y : Type 0} (Shows : X → AnswerTo question → Type 0) (Holds : Y → AnswerTo question → Type 0) (new : ListingPlace) (cursor : List ℕ) (stop : Stop) (rest : Bor (List ℕ)) → rest.now ≡ old.cursor →
@@ -134,15 +134,15 @@ module _ (solver : Solver) (limit : Option ℕ) (sheet : Sheet) (old new : Listi
 
 -- the same test, by the check that stands in the listing
 settles_by : (pending : Pending) (objective : ℚ) (check : Check) → says_checked check ≡ pending.is_checked →
-    walks.settles (record { rest = pending.rest.now; objective = pending.objective; check = check }) objective ≡ settled_by pending objective
+    walks.settles checker_of_128_bits (record { rest = pending.rest.now; objective = pending.objective; check = check }) objective ≡ settled_by pending objective
 settles_by pending objective check same = ap (λ (b : Bool). if eq_ℚ pending.objective objective then b else false) same
 
 abbrev turn_settled : walks.WalkTurn → Pending → Bool → walks.WalkTurn
 turn_settled turn pending b = if b then turn else walks.Finds (walks.Wrong pending.rest.now)
 
-is_settled : (w : walks.Walker) (pending : Pending) (viewed : Option walks.Pending) (objective : ℚ) (turn : walks.WalkTurn) → ShowsPending (Some pending) viewed → walks.settled w viewed objective turn ≡ turn_settled turn pending (settled_by pending objective)
+is_settled : (w : walks.Walker) (pending : Pending) (viewed : Option walks.Pending) (objective : ℚ) (turn : walks.WalkTurn) → ShowsPending (Some pending) viewed → walks.settled checker_of_128_bits w viewed objective turn ≡ turn_settled turn pending (settled_by pending objective)
 is_settled w pending viewed objective turn shows =
-    ap (λ (p : Option walks.Pending). walks.settled w p objective turn) shows.1 ∙ ap (turn_settled turn pending) (settles_by pending objective shows.0 shows.2)
+    ap (λ (p : Option walks.Pending). walks.settled checker_of_128_bits w p objective turn) shows.1 ∙ ap (turn_settled turn pending) (settles_by pending objective shows.0 shows.2)
 
 by_none : (turn : walks.WalkTurn) (pending : Pending) (b : Bool) → None ≡ (if b then None else Some (Wrong pending.rest)) → turn_settled turn pending b ≡ turn
 by_none turn pending true h = refl
@@ -152,12 +152,12 @@ by_some : (turn : walks.WalkTurn) (pending : Pending) (found : Found) (b : Bool)
 by_some turn pending found true h = absurd (cc h)
 by_some turn pending found false h = ap (λ (x : Found). walks.Finds (found_view x)) (sym (same_Some found (Wrong pending.rest) h))
 
-settled_none : (w : walks.Walker) (pending : Option Pending) (viewed : Option walks.Pending) (objective : ℚ) (turn : walks.WalkTurn) → ShowsPending pending viewed → IsSettling pending objective None → walks.settled w viewed objective turn ≡ turn
-settled_none w None viewed objective turn shows is = ap (λ (p : Option walks.Pending). walks.settled w p objective turn) shows
+settled_none : (w : walks.Walker) (pending : Option Pending) (viewed : Option walks.Pending) (objective : ℚ) (turn : walks.WalkTurn) → ShowsPending pending viewed → IsSettling pending objective None → walks.settled checker_of_128_bits w viewed objective turn ≡ turn
+settled_none w None viewed objective turn shows is = ap (λ (p : Option walks.Pending). walks.settled checker_of_128_bits w p objective turn) shows
 settled_none w (Some pending) viewed objective turn shows is = is_settled w pending viewed objective turn shows ∙ by_none turn pending (settled_by pending objective) is
 
 settled_some : (w : walks.Walker) (pending : Option Pending) (viewed : Option walks.Pending) (objective : ℚ) (turn : walks.WalkTurn) (found : Found) → ShowsPending pending viewed → IsSettling pending objective (Some found) →
-    walks.settled w viewed objective turn ≡ walks.Finds (found_view found)
+    walks.settled checker_of_128_bits w viewed objective turn ≡ walks.Finds (found_view found)
 settled_some w None viewed objective turn found shows is = absurd (cc is)
 settled_some w (Some pending) viewed objective turn found shows is = is_settled w pending viewed objective turn shows ∙ by_some turn pending found (settled_by pending objective) is
 
@@ -184,7 +184,7 @@ module _ (sheet : Sheet) (old : ListingPlace) (none : (w : walks.Walker) → Fac
           answer = lines;
           walker = v;
           is_turn = turn_answered (OfSolution marks.Optimal) sheet old (open_by true false) (opens_view sheet marks.Optimal) none w go f (Right lines cursor) taken.is_right ∙
-              ap (λ (x : ℚ). walks.settled w w.pending x (walks.follows v (go lines))) (sym taken.shows) ∙
+              ap (λ (x : ℚ). walks.settled checker_of_128_bits w w.pending x (walks.follows v (go lines))) (sym taken.shows) ∙
               settled_none w old.pending w.pending objective (walks.follows v (go lines)) f.pending settling;
           faces = record { rest = sym is_cursor; pending = subst (λ (p : Option Pending). ShowsPending p None) (sym is_none) refl; reports = ap (λ n. n + 1) f.reports ∙ sym counted };
           holds = tt;
@@ -196,12 +196,12 @@ module _ (sheet : Sheet) (old : ListingPlace) (none : (w : walks.Walker) → Fac
       let lines : SolutionLines = taken.answer in
       let v : walks.Walker = record (walks.passed cursor 1 w) { pending = None } in
       turn_answered (OfSolution marks.Optimal) sheet old (open_by true false) (opens_view sheet marks.Optimal) none w go f (Right lines cursor) taken.is_right ∙
-      ap (λ (x : ℚ). walks.settled w w.pending x (walks.follows v (go lines))) (sym taken.shows) ∙
+      ap (λ (x : ℚ). walks.settled checker_of_128_bits w w.pending x (walks.follows v (go lines))) (sym taken.shows) ∙
       settled_some w old.pending w.pending objective (walks.follows v (go lines)) found f.pending settling
 
   module _ (new : ListingPlace) (is_cursor : new.cursor ≡ cursor) (kept : new.pending ≡ old.pending) (counted : new.reports ≡ old.reports + 1) where
     reported_by : (mark : Mark) → is_optimal mark ≡ false → (w : walks.Walker) (go : SolutionLines → StatementOutcome) (lines : SolutionLines) → Faces old w →
-        walks.answered w (OfSolution mark) sheet go (Right lines cursor) ≡ walks.follows (record (walks.passed cursor 1 w) { pending = w.pending }) (go lines)
+        walks.answered checker_of_128_bits w (OfSolution mark) sheet go (Right lines cursor) ≡ walks.follows (record (walks.passed cursor 1 w) { pending = w.pending }) (go lines)
     reported_by marks.Optimal other w go lines f = absurd (cc other)
     reported_by marks.Infeasible other w go lines f = refl
     reported_by marks.Unbounded other w go lines f = refl
@@ -219,13 +219,13 @@ module _ (sheet : Sheet) (old : ListingPlace) (none : (w : walks.Walker) → Fac
 -- under OPTIMAL
 module _ (sheet : Sheet) (old : ListingPlace) (none : (w : walks.Walker) → Faces old w → None ≡ open_by true false w) (cursor : List ℕ) (objective : ℚ) where
   pub optimal_by : (mark : Mark) → is_optimal mark ≡ true → IsSettling old.pending objective None → (new : ListingPlace) → new.cursor ≡ cursor → new.pending ≡ None → new.reports ≡ old.reports + 1 →
-      Taken (IsReportedObjective sheet) (judged (OfSolution mark) sheet old.cursor) cursor (Ok objective) → Answered (OfSolution mark) sheet old new (IsAny (OfSolution mark)) (Ok tt)
+      Taken (IsReportedObjective sheet) (judged checker_of_128_bits (OfSolution mark) sheet old.cursor) cursor (Ok objective) → Answered (OfSolution mark) sheet old new (IsAny (OfSolution mark)) (Ok tt)
   optimal_by marks.Optimal is settling new is_cursor is_none counted taken = optimal_answered sheet old none cursor objective settling new is_cursor is_none counted taken
   optimal_by marks.Infeasible is settling new is_cursor is_none counted taken = absurd (cc is)
   optimal_by marks.Unbounded is settling new is_cursor is_none counted taken = absurd (cc is)
 
   pub unsettled_by : (mark : Mark) → is_optimal mark ≡ true → (found : Found) (new : ListingPlace) → IsSettling old.pending objective (Some found) →
-      Taken (IsReportedObjective sheet) (judged (OfSolution mark) sheet old.cursor) cursor (Ok objective) → Answered {X = Unit {0}} (OfSolution mark) sheet old new (IsAny (OfSolution mark)) (Err (Finds found))
+      Taken (IsReportedObjective sheet) (judged checker_of_128_bits (OfSolution mark) sheet old.cursor) cursor (Ok objective) → Answered {X = Unit {0}} (OfSolution mark) sheet old new (IsAny (OfSolution mark)) (Err (Finds found))
   unsettled_by marks.Optimal is found new settling taken = unsettled sheet old none cursor objective found new settling taken
   unsettled_by marks.Infeasible is found new settling taken = absurd (cc is)
   unsettled_by marks.Unbounded is found new settling taken = absurd (cc is)

@@ -15,6 +15,7 @@ use Rattle.run_machine.specs.declared.machine.Machine.{Machine}
 use Rattle.run_machine.specs.Ends.{end_view}
 use Rattle.run_machine.specs.Standing as machines
 use Rattle.run_machine.specs.Statements.{Follows}
+use Rattle.walk_definitions.specs.Checkers.{checker_of_128_bits}
 use Rattle.walk_definitions.specs.Words.{left_after}
 use Rattle.walk_definitions.specs.Walker as walks
 use Rattle.listing_walk.specs.declared.chosen.Chosen.{Chosen}
@@ -125,7 +126,7 @@ module _ (machine : Machine Chosen) (old new : ListingPlace) (act : Act) (text :
   module _ (none : (w : walks.Walker) → Faces old w → None ≡ open_by (ends_run act || is_loud text) (ends_run act || is_none machine.mark) w) where
     -- nothing is open
     turn_taken : (w : walks.Walker) (card : ℕ) (move : StatementMove) (cards : List (List ℕ)) (position executed : ℕ) (gain : Gain) → Faces old w → walks.refuses_selection move ≡ false → (o : IsOf machine act text w card move cards position executed gain) →
-        gain_text gain ≡ text → walks.walk_move w move ≡ walks.taken w o.outcome (left_after text old.cursor)
+        gain_text gain ≡ text → walks.walk_move checker_of_128_bits w move ≡ walks.taken w o.outcome (left_after text old.cursor)
     turn_taken w card move cards position executed gain f plain o same =
         settled w card move o.outcome o.settles plain ∙
         ap (λ (x : Option walks.Found). walks.unless_found x (walks.taken w o.outcome (left_after (gain_text (gain_of o.outcome)) w.rest))) (o.opens ∙ sym (none w f)) ∙

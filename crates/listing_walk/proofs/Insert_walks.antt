@@ -22,6 +22,7 @@ use Rattle.run_machine.specs.declared.act.Act.TheVariants as acts
 use Rattle.run_machine.specs.declared.end.End.TheVariants as ends
 use Rattle.run_machine.specs.declared.machine.Machine.{Machine}
 use Rattle.run_machine.specs.Standing as machines
+use Rattle.walk_definitions.specs.Checkers.{checker_of_128_bits}
 use Rattle.walk_definitions.specs.Forms.{is_inserted}
 use Rattle.walk_definitions.specs.Walker as walks
 use Rattle.listing_walk.specs.declared.chosen.Chosen.{Chosen}
@@ -54,9 +55,9 @@ inserting_move card state = refl
 
 -- the end by a fault of a deck
 deck_faulted : (cards : List (List ℕ)) (machine : Machine Chosen) (old new : ListingPlace) (fault : DeckFault) (card : ℕ) (w' : Went) → Passes machine old new (acts.Ends (ends.Deck fault)) [] w' →
-    (w : walks.Walker) (move : StatementMove) (position executed : ℕ) → Faces old w → move ≡ Does (stops (deck_stop fault)) → Comes (walks.walk_move w move) cards machine position executed new w'
+    (w : walks.Walker) (move : StatementMove) (position executed : ℕ) → Faces old w → move ≡ Does (stops (deck_stop fault)) → Comes (walks.walk_move checker_of_128_bits w move) cards machine position executed new w'
 deck_faulted cards machine old new fault card w' passes w move position executed f is =
-    subst (λ (m : StatementMove). Comes (walks.walk_move w m) cards machine position executed new w') (sym is)
+    subst (λ (m : StatementMove). Comes (walks.walk_move checker_of_128_bits w m) cards machine position executed new w') (sym is)
     (passes w card (Does (stops (deck_stop fault))) cards position executed Nothing f refl refl refl)
 
 module _ (card : ℕ) (state : State) (present : Present) (lp : LinearProgram) (w : walks.Walker) where
@@ -98,7 +99,7 @@ module _ (card : ℕ) (cards : List (List ℕ)) (machine : Machine Chosen) (old 
         let p = present_at s chosen is_setup problem on_file in
         let present = present_with problem chosen.options p.opening p.steps in
         let q = unmade_here card cards machine s (insert_move card state) chosen problem p w refused in
-        ap (walks.walk_move w) (inserting_move card state) ∙ q.1 ∙
+        ap (walks.walk_move checker_of_128_bits w) (inserting_move card state) ∙ q.1 ∙
         ap (λ (o : Option (List Card × List (List Card))). walks.unless_found (walks.opened w (insert_by card state present q.0 o)) (walks.Finds (walks.Unchecked w.rest))) (deck_at s) ∙
         ap (λ (o : Option walks.Found). walks.unless_found o (walks.Finds (walks.Unchecked w.rest))) (opened_so card state present q.0 w cards deck (ap (is_line_of cards deck) f.rest ∙ none)) ∙ u w f
 
@@ -148,6 +149,6 @@ module _ (card : ℕ) (cards : List (List ℕ)) (machine : Machine Chosen) (old 
             Walks Insert card cards machine machine old new (went.Finds found)
         insert_due stands stands_is basis is found due =
             made_walks Insert card (insert_move card) (inserting_move card) cards machine old new chosen is_setup problem on_file lp made machine (went.Finds found) (λ position executed state w opening steps s f is_viewed.
-            ap (walks.walk_move w) (read_move (Ok basis) is s opening steps) ∙
+            ap (walks.walk_move checker_of_128_bits w) (read_move (Ok basis) is s opening steps) ∙
             ap (λ (b : Bool). walks.unless_found (open_install b w) (walks.Finds (walks.Wrong w.rest))) (ap (is_inserted (deck_name (live deck_fields))) f.rest ∙ ap (λ (o : Option Deck). is_line_of cards o old.cursor) (sym is_one) ∙ sym stands_is) ∙
             due w f)

@@ -30,6 +30,7 @@ use Rattle.run_machine.specs.declared.machine.Machine.{Machine}
 use Rattle.run_machine.specs.Findings.{act_of}
 use Rattle.run_machine.specs.Standing.{AreDemands}
 use Rattle.run_machine.specs.Standing as machines
+use Rattle.walk_definitions.specs.Checkers.{checker_of_128_bits}
 use Rattle.walk_definitions.specs.Walker as walks
 use Rattle.parametric_request.specs.declared.request.Change.{Change}
 use Rattle.parametric_request.specs.declared.request.Change.TheVariants as changes
@@ -143,7 +144,7 @@ module _ (verb : ParametricVerb) (card : ℕ) (cards : List (List ℕ)) (machine
     module _ (lp : LinearProgram) (made : IsMade problem (choice_of machine.cells chosen.options) lp) where
       abbrev through : (after : Machine Chosen) (w' : Went) →
           ((position executed : ℕ) (state : State) (w : walks.Walker) (opening : Basis) (steps : List Basis) → machines.Represents IsView cards machine position executed state → Faces old w → state.setup ≡ Some (present_with problem chosen.options opening steps) →
-          Comes (walks.walk_move w (tested_move verb card state (present_with problem chosen.options opening steps) lp)) cards after position executed new w') → Walks (verb_of verb) card cards machine after old new w'
+          Comes (walks.walk_move checker_of_128_bits w (tested_move verb card state (present_with problem chosen.options opening steps) lp)) cards after position executed new w') → Walks (verb_of verb) card cards machine after old new w'
       through = made_walks (verb_of verb) card (tested_move verb card) (parametric_move verb card) cards machine old new chosen is_setup problem on_file lp made
 
       unasked_by : (fault : VerbFault) → IsAskFault verb problem machine.cells fault → (w' : Went) → Passes machine old new (acts.Ends (ends.Verb fault card)) [] w' → Walks (verb_of verb) card cards machine machine old new w'
@@ -164,10 +165,10 @@ module _ (verb : ParametricVerb) (card : ℕ) (cards : List (List ℕ)) (machine
 
         -- the turn is that of the question
         turn_asked : {position executed : ℕ} {state : State} (w : walks.Walker) (opening : Basis) (steps : List Basis) → machines.Represents IsView cards machine position executed state →
-            walks.walk_move w (tested_move verb card state (present_with problem chosen.options opening steps) lp) ≡
+            walks.walk_move checker_of_128_bits w (tested_move verb card state (present_with problem chosen.options opening steps) lp) ≡
             asked_turn w (OfParametricRun parametric_run) (record { problem = problem; lp = lp }) (after_parametric_run card parametric_run (present_with problem chosen.options opening steps) state)
         turn_asked {state = state} w opening steps s =
-            ap (walks.walk_move w)
+            ap (walks.walk_move checker_of_128_bits w)
             (asked_move verb card state (present_with problem chosen.options opening steps) lp parametric_run (subst (λ (c : Cells). IsAsked verb problem c parametric_run) (sym s.cells) asked))
 
         found_walks : (after : Machine Chosen) (found : Found) → ((limit : ℕ) → Answered {X = ParametricRunAnswer} (OfParametricRun (parametric_run_of limit request)) (record { problem = problem; lp = lp }) old new IsParametricRunAnswer (Err (stops.Finds found))) →
@@ -248,7 +249,7 @@ module _ (verb : ParametricVerb) (card : ℕ) (cards : List (List ℕ)) (machine
               (through (left_by x machine) w' (λ position executed state w opening steps s f is_viewed.
               let a = answered (steps_allowed machine.cells) w (after_parametric_run card parametric_run (present_with problem chosen.options opening steps) state) f in
               ends_by x act (is_act ∙ ap (λ (m : Machine Chosen). act_of m.cells card (finding_of x)) is) w' finishes position executed state opening steps s
-              (walks.walk_move w (tested_move verb card state (present_with problem chosen.options opening steps) lp)) a.walker a.answer (turn_asked w opening steps s ∙ a.is_turn) a.faces a.holds))
+              (walks.walk_move checker_of_128_bits w (tested_move verb card state (present_with problem chosen.options opening steps) lp)) a.walker a.answer (turn_asked w opening steps s ∙ a.is_turn) a.faces a.holds))
           parametric_ended x answered after is act is_act (Err stop) finishes = tt
 
 -- and stays sound

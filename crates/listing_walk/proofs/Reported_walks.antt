@@ -20,6 +20,7 @@ use Rattle.run_definitions.specs.Verbs.{max_counted, asks, shows_present, if_opt
 use Rattle.run_machine.specs.declared.act.Act.TheVariants as acts
 use Rattle.run_machine.specs.declared.end.End.TheVariants as ends
 use Rattle.run_machine.specs.declared.machine.Machine.{Machine}
+use Rattle.walk_definitions.specs.Checkers.{checker_of_128_bits}
 use Rattle.walk_definitions.specs.Forms.{is_ranges, is_punched}
 use Rattle.walk_definitions.specs.Walker as walks
 use Rattle.listing_walk.specs.declared.chosen.Chosen.{Chosen}
@@ -88,7 +89,7 @@ module _ (card : ℕ) (cards : List (List ℕ)) (machine : Machine Chosen) (old 
           let present = present_with r.problem chosen.options p.opening p.steps in
           let ok : selected r.problem (choice_of state.cells chosen.options) ≡ Ok chosen.lp =
           ap (λ (c : Cells). selected r.problem (choice_of c chosen.options)) s.cells ∙ selected_now machine chosen is_setup mark is_mark r.problem r.on_file solved in
-          ap (walks.walk_move w)
+          ap (walks.walk_move checker_of_128_bits w)
           (ranging_move card state ∙ showing_mark card cards machine s (range_move card state) present p.is_viewed mark is_mark ∙
           found_move card NotOptimal (if_optimal mark) (λ (optimal : Mark). shows_present card state present OfRanges Ranges) marks.Optimal (optimal_so mark is) ∙
           selected_move card (selected r.problem (choice_of state.cells chosen.options))
@@ -118,7 +119,7 @@ module _ (card : ℕ) (cards : List (List ℕ)) (machine : Machine Chosen) (old 
     unmade_walks : IsRefused problem (choice_of machine.cells chosen.options) → (found : Found) → IsReported old stands false found → Walks Punch card cards machine machine old new (went.Finds found)
     unmade_walks refused found h = λ position executed state w s f.
         let p = present_at s chosen is_setup problem on_file in
-        ap (walks.walk_move w) (punching_move card state) ∙ (unmade_here card cards machine s (punch_move card state) chosen problem p w refused).1 ∙ at_line old stands false found h (is_punched problem.name) stands_is w f
+        ap (walks.walk_move checker_of_128_bits w) (punching_move card state) ∙ (unmade_here card cards machine s (punch_move card state) chosen problem p w refused).1 ∙ at_line old stands false found h (is_punched problem.name) stands_is w f
 
     pub punch_refused : (refusal : Unselected) → IsNotMade problem (choice_of machine.cells chosen.options) refusal → (result : Result Went NoMemory) → IfOk result (RefusesReport machine old new card stands refusal) →
         IfOk result (Walks Punch card cards machine machine old new)

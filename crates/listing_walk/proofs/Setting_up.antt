@@ -23,6 +23,7 @@ use Rattle.run_machine.specs.Choosing.{HasSelectionFault}
 use Rattle.run_machine.specs.Standing.{named, filed}
 use Rattle.run_machine.specs.Standing as machines
 use Rattle.run_machine.proofs.Giving.{problem_view}
+use Rattle.walk_definitions.specs.Checkers.{checker_of_128_bits}
 use Rattle.walk_definitions.specs.Walker as walks
 use Rattle.listing_walk.specs.declared.chosen.Chosen.{Chosen}
 use Rattle.listing_walk.specs.declared.chosen.Named.{Named}
@@ -51,9 +52,9 @@ filed_none wanted file none = rw none refl
 
 -- a move that is a verb fault
 pub faulted : (cards : List (List ℕ)) (machine : Machine Chosen) (old new : ListingPlace) (fault : VerbFault) (card : ℕ) (went : Went) → Passes machine old new (acts.Ends (ends.Verb fault card)) [] went →
-    (w : walks.Walker) (move : StatementMove) (position executed : ℕ) → Faces old w → move ≡ Does (stops (VerbStop (record { fault = fault; card = card }))) → Comes (walks.walk_move w move) cards machine position executed new went
+    (w : walks.Walker) (move : StatementMove) (position executed : ℕ) → Faces old w → move ≡ Does (stops (VerbStop (record { fault = fault; card = card }))) → Comes (walks.walk_move checker_of_128_bits w move) cards machine position executed new went
 faulted cards machine old new fault card went passes w move position executed f is =
-    subst (λ (m : StatementMove). Comes (walks.walk_move w m) cards machine position executed new went) (sym is)
+    subst (λ (m : StatementMove). Comes (walks.walk_move checker_of_128_bits w m) cards machine position executed new went) (sym is)
     (passes w card (Does (stops (VerbStop (record { fault = fault; card = card })))) cards position executed Nothing f refl refl refl)
 
 -- ---- what SETUP comes to
@@ -109,11 +110,11 @@ module _ (card : ℕ) (cards : List (List ℕ)) (machine : Machine Chosen) (opti
 
   unchecked_by : (refusal : Unselected) → refusal ≡ Unchecked → IsNotOpened machine.cells machine.file options refusal → (found : Found) (place : ListingPlace) → IsUnchecked place found →
       {position executed : ℕ} (state : State) (w : walks.Walker) → machines.Represents IsView cards machine position executed state → Faces place w →
-      walks.walk_move w (verb_move (SetupVerb options) card state) ≡ walks.Finds (found_view found)
+      walks.walk_move checker_of_128_bits w (verb_move (SetupVerb options) card state) ≡ walks.Finds (found_view found)
   unchecked_by (Fault other) is (no_problem none) found place u state w s f = absurd (cc is)
   unchecked_by refusal is (not_selected problem some h) found place u state w s f =
       let r : IsRefused problem (choice_of state.cells options) = subst (λ (c : Cells). IsRefused problem (choice_of c options)) (sym s.cells) (subst (IsNotMade problem (choice_of machine.cells options)) is h) in
-      ap (walks.walk_move w) (set_up_move card options state problem r.lp (problem_view s (λ (c : Cells). c.xpbname) (Some problem) some) r.is_selected) ∙
+      ap (walks.walk_move checker_of_128_bits w) (set_up_move card options state problem r.lp (problem_view s (λ (c : Cells). c.xpbname) (Some problem) some) r.is_selected) ∙
       refused_turn w problem (choice_of state.cells options) (Does (outcome_of problem options r.lp state)) r.is_refused ∙ u w f
 
   pub setup_unchecked : IsNotOpened machine.cells machine.file options Unchecked → (found : Found) (old new : ListingPlace) → IsUnchecked old found →
@@ -144,7 +145,7 @@ module _ (card : ℕ) (cards : List (List ℕ)) (machine : Machine Chosen) (opti
         problem_view s (λ (c : Cells). c.xpbname) (Some o.problem) (filed_by machine.cells.xpbname machine.file opened.chosen.name (Some o.problem) o.is_named o.is_filed) in
         let outcome : StatementOutcome = outcome_of o.problem options opened.chosen.lp state in
         subst (λ (t : walks.WalkTurn). Comes t cards machine_after position executed new went)
-        (sym (ap (walks.walk_move w) (set_up_move card options state o.problem opened.chosen.lp is_problem made.is_selected) ∙ made_turn w o.problem (choice_of state.cells options) (Does outcome) made.is_made))
+        (sym (ap (walks.walk_move checker_of_128_bits w) (set_up_move card options state o.problem opened.chosen.lp is_problem made.is_selected) ∙ made_turn w o.problem (choice_of state.cells options) (Does outcome) made.is_made))
         (passes w card (Does outcome) cards position executed (Prints (SetUp o.problem.name options.sense)) f refl
         (after_setup o.problem options opened.chosen.lp state, refl, stands_set_up s)
         (ap (λ (n : Name). report_text (SetUp n options.sense)) (sym o.is_own) ∙ sym is))

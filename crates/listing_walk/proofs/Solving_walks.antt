@@ -29,6 +29,7 @@ use Rattle.run_machine.specs.Ends.{end_view}
 use Rattle.run_machine.specs.Findings.{demanded_act, act_of}
 use Rattle.run_machine.specs.Standing.{AreDemands}
 use Rattle.run_machine.specs.Standing as machines
+use Rattle.walk_definitions.specs.Checkers.{checker_of_128_bits}
 use Rattle.walk_definitions.specs.Walker as walks
 use Rattle.listing_walk.specs.declared.chosen.Chosen.{Chosen}
 use Rattle.listing_walk.specs.declared.found.Found.{Found}
@@ -107,23 +108,23 @@ module _ (card : ℕ) (cards : List (List ℕ)) (machine : Machine Chosen) {posi
     selected_here : (lp : LinearProgram) → selected problem (choice state.cells) ≡ Ok lp → selecting card state go ≡ MayStop (InSelection problem (choice state.cells)) (go present lp)
     selected_here lp ok = setup_move ∙ selected_move card (selected problem (choice state.cells)) (λ (q : LinearProgram). MayStop (InSelection problem (choice state.cells)) (go present q)) lp ok
 
-    pub made_here : (w : walks.Walker) (lp : LinearProgram) → IsMade problem (choice machine.cells) lp → walks.walk_move w (selecting card state go) ≡ walks.walk_move w (go present lp)
+    pub made_here : (w : walks.Walker) (lp : LinearProgram) → IsMade problem (choice machine.cells) lp → walks.walk_move checker_of_128_bits w (selecting card state go) ≡ walks.walk_move checker_of_128_bits w (go present lp)
     made_here w lp made =
         let k : IsMade problem (choice state.cells) lp = subst (λ (c : Cells). IsMade problem (choice c) lp) (sym s.cells) made in
-        ap (walks.walk_move w) (selected_here lp k.is_selected) ∙ made_turn w problem (choice state.cells) (go present lp) k.is_made
+        ap (walks.walk_move checker_of_128_bits w) (selected_here lp k.is_selected) ∙ made_turn w problem (choice state.cells) (go present lp) k.is_made
 
     -- an operation of the selection is refused, at whatever comes of it
-    pub unmade_here : (w : walks.Walker) → IsRefused problem (choice machine.cells) → (lp : LinearProgram) × (walks.walk_move w (selecting card state go) ≡ walks.unless_found (walks.opened w (go present lp)) (walks.Finds (walks.Unchecked w.rest)))
+    pub unmade_here : (w : walks.Walker) → IsRefused problem (choice machine.cells) → (lp : LinearProgram) × (walks.walk_move checker_of_128_bits w (selecting card state go) ≡ walks.unless_found (walks.opened w (go present lp)) (walks.Finds (walks.Unchecked w.rest)))
     unmade_here w refused =
         let k : IsRefused problem (choice state.cells) = subst (λ (c : Cells). IsRefused problem (choice c)) (sym s.cells) refused in
-        (k.lp, ap (walks.walk_move w) (selected_here k.lp k.is_selected) ∙ refused_turn w problem (choice state.cells) (go present k.lp) k.is_refused)
+        (k.lp, ap (walks.walk_move checker_of_128_bits w) (selected_here k.lp k.is_selected) ∙ refused_turn w problem (choice state.cells) (go present k.lp) k.is_refused)
 
     -- an operation of the selection is refused
     pub refused_here : (opens : (w : walks.Walker) (lp : LinearProgram) → walks.opened w (go present lp) ≡ open_by true true w) → IsRefused problem (choice machine.cells) → (found : Found) (place : ListingPlace) → IsUnchecked place found →
-        (w : walks.Walker) → Faces place w → walks.walk_move w (selecting card state go) ≡ walks.Finds (found_view found)
+        (w : walks.Walker) → Faces place w → walks.walk_move checker_of_128_bits w (selecting card state go) ≡ walks.Finds (found_view found)
     refused_here opens refused found place u w f =
         let k : IsRefused problem (choice state.cells) = subst (λ (c : Cells). IsRefused problem (choice c)) (sym s.cells) refused in
-        ap (walks.walk_move w) (selected_here k.lp k.is_selected) ∙ refused_turn w problem (choice state.cells) (go present k.lp) k.is_refused ∙
+        ap (walks.walk_move checker_of_128_bits w) (selected_here k.lp k.is_selected) ∙ refused_turn w problem (choice state.cells) (go present k.lp) k.is_refused ∙
         ap (λ (x : Option walks.Found). walks.unless_found x (walks.Finds (walks.Unchecked w.rest))) (opens w k.lp) ∙ u w f
 
 -- ---- by the verdict
@@ -160,7 +161,7 @@ module _ (verb : Verb ℕ) (card : ℕ) (go : State → Present → LinearProgra
         (found : Found) → IsUnchecked old found → Walks verb card cards machine machine old new (went.Finds found)
     refused_walks opens refused found u = λ position executed state w s f.
         let p = present_at s chosen is_setup problem on_file in
-        ap (walks.walk_move w) (is_move state) ∙
+        ap (walks.walk_move checker_of_128_bits w) (is_move state) ∙
         refused_here card cards machine s (go state) chosen problem p (opens state (present_with problem chosen.options p.opening p.steps)) refused found old u w f
 
     -- nothing is selected
@@ -177,8 +178,8 @@ module _ (verb : Verb ℕ) (card : ℕ) (go : State → Present → LinearProgra
     -- with a linear program
     pub made_walks : (lp : LinearProgram) → IsMade problem (choice_of machine.cells chosen.options) lp → (after : Machine Chosen) (w' : Went) →
         ((position executed : ℕ) (state : State) (w : walks.Walker) (opening : Basis) (steps : List Basis) → machines.Represents IsView cards machine position executed state → Faces old w → state.setup ≡ Some (present_with problem chosen.options opening steps) →
-        Comes (walks.walk_move w (go state (present_with problem chosen.options opening steps) lp)) cards after position executed new w') → Walks verb card cards machine after old new w'
+        Comes (walks.walk_move checker_of_128_bits w (go state (present_with problem chosen.options opening steps) lp)) cards after position executed new w') → Walks verb card cards machine after old new w'
     made_walks lp made after w' comes = λ position executed state w s f.
         let p = present_at s chosen is_setup problem on_file in
-        subst (λ (t : walks.WalkTurn). Comes t cards after position executed new w') (sym (ap (walks.walk_move w) (is_move state) ∙ made_here card cards machine s (go state) chosen problem p w lp made))
+        subst (λ (t : walks.WalkTurn). Comes t cards after position executed new w') (sym (ap (walks.walk_move checker_of_128_bits w) (is_move state) ∙ made_here card cards machine s (go state) chosen problem p w lp made))
         (comes position executed state w p.opening p.steps s f p.is_viewed)

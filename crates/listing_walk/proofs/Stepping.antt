@@ -39,20 +39,20 @@ counted_stands s = record {
 
 abbrev turn_by : Program → walks.Walker → Bool → Bool → walks.WalkTurn
 turn_by program w over more =
-    if over then walks.closes w (Ended 0) else if more then walks.walk_statement w (slice_get program.statements (w.state.position - 1)) else walks.closes w StatementLimit
+    if over then walks.closes w (Ended 0) else if more then walks.walk_statement checker_of_128_bits w (slice_get program.statements (w.state.position - 1)) else walks.closes w StatementLimit
 
-is_turn : (program : Program) (w : walks.Walker) → walks.turn program w ≡ turn_by program w (nat_lt (length program.statements) w.state.position) (nat_lt w.state.executed max_executed)
+is_turn : (program : Program) (w : walks.Walker) → walks.turn checker_of_128_bits program w ≡ turn_by program w (nat_lt (length program.statements) w.state.position) (nat_lt w.state.executed max_executed)
 unfolding walks.turn
 is_turn program w = refl
 
 -- the program's end
-turn_over : (program : Program) (w : walks.Walker) → length program.statements < w.state.position → walks.turn program w ≡ walks.closes w (Ended 0)
+turn_over : (program : Program) (w : walks.Walker) → length program.statements < w.state.position → walks.turn checker_of_128_bits program w ≡ walks.closes w (Ended 0)
 turn_over program w over =
     let e : nat_lt (length program.statements) w.state.position ≡ true = search rules in
     is_turn program w ∙ ap (λ (b : Bool). turn_by program w b (nat_lt w.state.executed max_executed)) e
 
 -- the statement limit
-turn_at_limit : (program : Program) (w : walks.Walker) → w.state.position ≤ length program.statements → 100000 ≤ w.state.executed → walks.turn program w ≡ walks.closes w StatementLimit
+turn_at_limit : (program : Program) (w : walks.Walker) → w.state.position ≤ length program.statements → 100000 ≤ w.state.executed → walks.turn checker_of_128_bits program w ≡ walks.closes w StatementLimit
 turn_at_limit program w within most =
     let e : nat_lt (length program.statements) w.state.position ≡ false = search rules in
     let f : nat_lt w.state.executed max_executed ≡ false = search rules in
@@ -60,18 +60,18 @@ turn_at_limit program w within most =
 
 -- a statement
 turn_at : (program : Program) (w : walks.Walker) (statement : Statement ℕ) → w.state.position ≤ length program.statements → w.state.executed < 100000 →
-    slice_get program.statements (w.state.position - 1) ≡ Some statement → walks.turn program w ≡ walks.walk_statement w (Some statement)
+    slice_get program.statements (w.state.position - 1) ≡ Some statement → walks.turn checker_of_128_bits program w ≡ walks.walk_statement checker_of_128_bits w (Some statement)
 turn_at program w statement within more there =
     let e : nat_lt (length program.statements) w.state.position ≡ false = search rules in
     let f : nat_lt w.state.executed max_executed ≡ true = search rules in
     is_turn program w ∙ ap (λ (b : Bool). turn_by program w b (nat_lt w.state.executed max_executed)) e ∙ ap (λ (b : Bool). turn_by program w false b) f ∙
-    ap (walks.walk_statement w) there
+    ap (walks.walk_statement checker_of_128_bits w) there
 
 -- ---- a statement
 
 module _ (program : Program) (cards : List (List ℕ)) (position : ℕ) (statement : Statement ℕ) (there : slice_get program.statements (position - 1) ≡ Some statement) (within : position ≤ length program.statements)
     (old new : Machine Chosen) (place_old place_new : ListingPlace) where
-  turn_here : (executed : ℕ) (w : walks.Walker) → executed < 100000 → Represents cards old position executed place_old w → walks.turn program w ≡ walks.walk_statement w (Some statement)
+  turn_here : (executed : ℕ) (w : walks.Walker) → executed < 100000 → Represents cards old position executed place_old w → walks.turn checker_of_128_bits program w ≡ walks.walk_statement checker_of_128_bits w (Some statement)
   turn_here executed w more s =
       turn_at program w statement (rw s.state.is_position within) (rw s.state.is_executed more) (rw s.state.is_position there)
 

@@ -23,6 +23,7 @@ use Rattle.run_machine.specs.declared.machine.Machine.{Machine}
 use Rattle.run_machine.specs.Findings.{act_of}
 use Rattle.run_machine.specs.Standing.{AreDemands}
 use Rattle.run_machine.specs.Standing as machines
+use Rattle.walk_definitions.specs.Checkers.{checker_of_128_bits}
 use Rattle.walk_definitions.specs.Walker as walks
 use Rattle.listing_walk.specs.declared.chosen.Chosen.{Chosen}
 use Rattle.listing_walk.specs.declared.answering.Stopped.{Stopped}
@@ -128,7 +129,7 @@ module _ (verb : SolvingVerb) (card : ℕ) (cards : List (List ℕ)) (machine : 
             (λ position executed state w opening steps s f is_viewed.
             let present = present_with problem chosen.options opening steps in
             let a = answered (limit_of verb state.cells) w (after_path (solver_of verb) card present state) f in
-            ends_by w' finishes position executed state present refl refl s (walks.walk_move w (path_move verb card state present lp)) a.walker a.answer a.is_turn a.faces a.holds)
+            ends_by w' finishes position executed state present refl refl s (walks.walk_move checker_of_128_bits w (path_move verb card state present lp)) a.walker a.answer a.is_turn a.faces a.holds)
 
         pub solving_ended : (after : Machine Chosen) → after ≡ machine_with mark → (result : Result Went NoMemory) → IfOk result (Finishes mid new act) → IfOk result (Walks (verb_of verb) card cards machine after old new)
         solving_ended after is (Ok w') finishes = subst (λ (m : Machine Chosen). Walks (verb_of verb) card cards machine m old new w') (sym is) (ended_walks w' finishes)

@@ -19,6 +19,7 @@ use Rattle.run_machine.specs.declared.act.Act.TheVariants as acts
 use Rattle.run_machine.specs.declared.end.End.TheVariants as ends
 use Rattle.run_machine.specs.declared.machine.Machine.{Machine}
 use Rattle.run_machine.specs.Standing as machines
+use Rattle.walk_definitions.specs.Checkers.{checker_of_128_bits}
 use Rattle.walk_definitions.specs.Walker as walks
 use Rattle.listing_walk.specs.declared.answering.Stopped.{Stopped}
 use Rattle.listing_walk.specs.declared.answering.Stopped.TheVariants as stops
@@ -107,12 +108,12 @@ module _ (card : ℕ) (cards : List (List ℕ)) (machine : Machine Chosen) (old 
       go_on state lines = next (Prints (Solution mark lines)) state
 
       turn_view : {position executed : ℕ} {state : State} (w : walks.Walker) → machines.Represents IsView cards machine position executed state →
-          walks.walk_move w (verb_move SolutionVerb card state) ≡ asked_turn w (OfSolution mark) (record { problem = problem; lp = chosen.lp }) (go_on state)
+          walks.walk_move checker_of_128_bits w (verb_move SolutionVerb card state) ≡ asked_turn w (OfSolution mark) (record { problem = problem; lp = chosen.lp }) (go_on state)
       turn_view {state = state} w s =
           let p = present_at s chosen is_setup problem on_file in
           let present = present_with problem chosen.options p.opening p.steps in
           let ok : selected problem (choice_of state.cells chosen.options) ≡ Ok chosen.lp = ap (λ (c : Cells). selected problem (choice_of c chosen.options)) s.cells ∙ selected_now machine chosen is_setup mark is_mark problem on_file solved in
-          ap (walks.walk_move w) (solution_move card state ∙ showing_mark card cards machine s (lines_move card state) present p.is_viewed mark is_mark ∙
+          ap (walks.walk_move checker_of_128_bits w) (solution_move card state ∙ showing_mark card cards machine s (lines_move card state) present p.is_viewed mark is_mark ∙
           selected_move card (selected problem (choice_of state.cells chosen.options)) (λ (lp : LinearProgram). asks (OfSolution mark) (sheet_of present lp) present (go_on state)) chosen.lp ok)
 
       pub solution_view : Answered (OfSolution mark) (record { problem = problem; lp = chosen.lp }) old new (IsAny (OfSolution mark)) (Ok tt) → Walks SolutionVerb card cards machine machine old new went.Next

@@ -53,7 +53,7 @@ IsSettling None objective found = found ≡ None
 IsSettling (Some pending) objective found = found ≡ (if settled_by pending objective then None else Some (Wrong pending.rest))
 
 abbrev pub asked_turn : walks.Walker → (question : Question) → Sheet → (AnswerTo question → StatementOutcome) → walks.WalkTurn
-asked_turn w question sheet go = walks.unless_found (walks.open_question w question sheet go) (walks.answered w question sheet go (judged checker_of_128_bits question sheet w.rest))
+asked_turn w question sheet go = walks.unless_found (walks.open_question w question sheet go) (walks.answered checker_of_128_bits w question sheet go (judged checker_of_128_bits question sheet w.rest))
 
 -- an answer of which this holds was taken, and the walk goes on with it from a walker that stands here
 pub record IsTaken (question : Question) (Holds : AnswerTo question → Type 0) (new : ListingPlace) (turn : walks.WalkTurn) (go : AnswerTo question → StatementOutcome) : Type 0 where

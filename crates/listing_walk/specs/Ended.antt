@@ -24,4 +24,4 @@ decks_after program cards = decks_of (drop (program.decks_from - 1) (numbered_ca
 pub record IsFoundBy (program : Program) (cards : List (List ℕ)) (listing : List ℕ) (found : Found) : Type 0 where
   pub walker : walks.Walker
   pub reaches : Reaches checker_of_128_bits program (decks_after program cards) listing walker
-  pub finds : walks.turn program walker ≡ walks.Finds (found_view found)
+  pub finds : walks.turn checker_of_128_bits program walker ≡ walks.Finds (found_view found)

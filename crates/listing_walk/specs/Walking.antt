@@ -14,6 +14,7 @@ use Rattle.run_machine.specs.declared.end.End.TheVariants as ends
 use Rattle.run_machine.specs.declared.machine.Machine.{Machine}
 use Rattle.run_machine.specs.Standing as machines
 use Rattle.run_machine.specs.Statements.{Follows}
+use Rattle.walk_definitions.specs.Checkers.{checker_of_128_bits}
 use Rattle.walk_definitions.specs.Walker as walks
 use Rattle.listing_walk.specs.declared.chosen.Chosen.{Chosen}
 use Rattle.listing_walk.specs.declared.place.ListingPlace.{ListingPlace}
@@ -70,7 +71,7 @@ Finishes old new act went =
 abbrev pub Passes : Machine Chosen → ListingPlace → ListingPlace → Act → List ℕ → Went → Type 0
 Passes machine old new act text went =
     (w : walks.Walker) (card : ℕ) (move : StatementMove) (cards : List (List ℕ)) (position executed : ℕ) (gain : Gain) → Faces old w → walks.refuses_selection move ≡ false →
-    Follows IsView Settles card move cards machine position executed gain act → gain_text gain ≡ text → Comes (walks.walk_move w move) cards machine position executed new went
+    Follows IsView Settles card move cards machine position executed gain act → gain_text gain ≡ text → Comes (walks.walk_move checker_of_128_bits w move) cards machine position executed new went
 
 -- an operation is refused here, where a stop and what is pending come first
 abbrev pub IsUnchecked : ListingPlace → Found → Type 0
@@ -106,7 +107,7 @@ RefusesReport machine old new card stands NoMemory went = ⊥
 abbrev pub Walks : Verb ℕ → ℕ → List (List ℕ) → Machine Chosen → Machine Chosen → ListingPlace → ListingPlace → Went → Type 0
 Walks verb card cards old new place_old place_new went =
     (position executed : ℕ) (state : State) (w : walks.Walker) → machines.Represents IsView cards old position executed state → Faces place_old w →
-    Comes (walks.walk_move w (verb_move verb card state)) cards new position executed place_new went
+    Comes (walks.walk_move checker_of_128_bits w (verb_move verb card state)) cards new position executed place_new went
 
 -- the statement at a position
 abbrev pub ComesTo : walks.WalkTurn → List (List ℕ) → Machine Chosen → ℕ → ListingPlace → Onward → Type 0
@@ -115,4 +116,4 @@ ComesTo turn cards machine executed place (onward.Finds found) = turn ≡ walks.
 
 abbrev pub Steps : Program → List (List ℕ) → ℕ → Machine Chosen → Machine Chosen → ListingPlace → ListingPlace → Onward → Type 0
 Steps program cards position old new place_old place_new went =
-    (executed : ℕ) (w : walks.Walker) → executed < 100000 → Represents cards old position executed place_old w → ComesTo (walks.turn program w) cards new (executed + 1) place_new went
+    (executed : ℕ) (w : walks.Walker) → executed < 100000 → Represents cards old position executed place_old w → ComesTo (walks.turn checker_of_128_bits program w) cards new (executed + 1) place_new went
