@@ -208,10 +208,6 @@ class Answer:
         basis = self.run.basis if self.run.by_checker else None
         return solution_out.point_of(model, rows, columns, basis=basis, has_basis=basis is not None or not self.run.by_checker)
 
-    def printed_by(self):
-        "who printed the listing, by which route, and the checksums, as the page says it"
-        return " ".join(part for part in (self.provenance.page_sentence(), self.provenance.route_sentence(), self.provenance.checksum_sentence()) if part)
-
     def json(self):
         run = {"model": self.model.path, "program": self.provenance.kind, "seconds": round(self.run.seconds, 3), "interrupted": self.run.interrupted,
                "notes": self.model.notes, **self.provenance.as_json()}
@@ -411,7 +407,8 @@ def write_outputs(options, model, answer):
         kept(pathlib.Path(options.keep), f"{stem_of(options)}.listing", answer.text.encode("latin-1"))
     if options.html:
         from mps360.pages.html import page as page_of
-        page = page_of(model.job.decode("latin-1"), answer.text, model.names, answer.printed_by(), model.notes)
+        from mps360.pages.origin import Origin
+        page = page_of(model.job.decode("latin-1"), answer.text, model.names, Origin.of(answer.provenance, options.model), model.notes)
         path = pathlib.Path(options.html)
         kept(path.parent, path.name, page.encode("utf-8"))
     if options.json:

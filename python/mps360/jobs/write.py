@@ -86,7 +86,7 @@ class Job:
                 "relaxed": [self.columns[name] for name in model.relaxed],
                 "rounded": [{"line": line, "from": word, "to": text_of(near)} for line, word, near in model.rounded], "said": self.said,
                 **({"doubles": [{"line": line, "from": word, "to": short} for line, word, short in file.doubles]} if file.doubles else {}),
-                **({"long": self.split.table(self)} if self.split else {})}
+                **({"units": file.units} if file.units else {}), **({"long": self.split.table(self)} if self.split else {})}
 
 
 class TooLong(Refused):
