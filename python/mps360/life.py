@@ -1,6 +1,10 @@
-"""Lines of life: that a command still runs, and what it waits for, on standard error; one line that is written over on a terminal."""
+"""Lines of life: that a command still runs, and what it waits for, on standard error; one line that is written over on a terminal.
+
+The program prints a report once that is made, and nothing on PRIMAL's path: so a line says which route is in hand, for how many seconds, and of how
+many where they are bounded; it knows no steps."""
 from __future__ import annotations
 
+import os
 import re
 import sys
 import time
@@ -10,7 +14,8 @@ from typing import TextIO
 from mps360.text import as_lines, as_text
 
 FIRST, MOST, SILENT = 5.0, 60.0, 8.0   # seconds: before the first line, between two at most, after a line of the program itself
-WIDTH = 79
+WIDTH = 79          # letters of a line where the terminal doesn't tell how wide it is
+PATHS = ("PRIMAL", "DUAL")
 PRINTING = frozenset("TITLE CONVERT REVISE SETUP PRIMAL DUAL SOLUTION RANGE PARAOBJ PARARHS BCDOUT PUNCH INSERT".split())
 
 
@@ -19,6 +24,25 @@ def awaited(job: str, lines: Sequence[str]) -> str:
     if not lines:
         return "waits for the program's first line"
     return f"waits for {next_verb(job, lines) or 'the end'}; the listing has {len(lines)} lines so far"
+
+
+def is_on_path(job: str, lines: Sequence[str]) -> bool:
+    "whether a run of a job goes along a path now, as far as the lines of its listing tell"
+    return bool(lines) and next_verb(job, lines) in PATHS
+
+
+def within(seconds: float, limit: float | None) -> str:
+    "seconds that have gone by, and of how many"
+    return f"{seconds:.0f} s" if limit is None else f"{seconds:.0f} s of {round(limit, 1):g}"
+
+
+def width_of(stream: TextIO) -> int:
+    "the letters that a line of this terminal holds, but one"
+    try:
+        columns = os.get_terminal_size(stream.fileno()).columns
+    except (OSError, ValueError, AttributeError):
+        return WIDTH
+    return columns - 1 if columns > 1 else WIDTH
 
 
 def next_verb(job: str, lines: Sequence[str]) -> str | None:
@@ -31,10 +55,11 @@ def next_verb(job: str, lines: Sequence[str]) -> str | None:
 
 
 class Life:
-    "says that a command lives: after `first` seconds, and after twice as long each time, up to MOST; never where first is 0"
+    """says that a command lives: after `first` seconds, and after twice as long each time, up to MOST; never where first is 0. On a terminal it is one
+    line, written anew each second. seconds bounds the whole, where it is bounded"""
 
-    def __init__(self, name: str, first: float = FIRST, stream: TextIO | None = None) -> None:
-        self.name, self.first, self.stream = name, first, stream or sys.stderr
+    def __init__(self, name: str, first: float = FIRST, stream: TextIO | None = None, seconds: float | None = None) -> None:
+        self.name, self.first, self.stream, self.seconds = name, first, stream or sys.stderr, seconds
         self.is_terminal = self.stream.isatty()
         self.pause, self.due, self.shown, self.heard_at = first, min(first, 1.0) if self.is_terminal else first, 0, -MOST
 
@@ -42,12 +67,13 @@ class Life:
         "so many seconds have gone by"
         if self.first <= 0 or seconds < self.due or time.monotonic() - self.heard_at < SILENT:
             return
-        words = as_text(f"{self.name}: {seconds:.0f} s, {waits()}")
+        words = as_text(f"{self.name}: {within(seconds, self.seconds)}, {waits()}")
         if self.is_terminal:
             self.clear()
-            self.stream.write(words[:WIDTH])
+            shown = words[:width_of(self.stream)]
+            self.stream.write(shown)
             self.stream.flush()
-            self.shown = len(words[:WIDTH])
+            self.shown = len(shown)
             self.due = seconds + 1.0
         else:
             print(words, file=self.stream, flush=True)
@@ -69,4 +95,5 @@ class Life:
         "the line of life goes from the terminal"
         if self.shown:
             self.stream.write("\r" + " " * self.shown + "\r")
+            self.stream.flush()
             self.shown = 0

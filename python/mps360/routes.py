@@ -22,6 +22,7 @@ from mps360.at_hand import Tool
 from mps360.bases import Basis
 from mps360.errors import Refused
 from mps360.jobs.write import Job
+from mps360.life import within
 from mps360.listings import write
 from mps360.long_answers import listing_of
 from mps360.plain import Plain
@@ -175,9 +176,15 @@ class Routes:
     def wait(self, process: Process, seconds: float | None, waits: Callable[[], str]) -> bool:
         "whether the process ends within these seconds; Decided where the run beside it comes to a verdict"
         until = None if seconds is None else time.monotonic() + seconds
+        limit = None if seconds is None else process.seconds + seconds
+
+        def words() -> str:
+            beside = f"; {OPENING} goes on beside it" if self.opening and self.opening.process is not process else ""
+            return f"{waits()}, {within(process.seconds, limit)}{beside}"
+
         while True:
             beside = [self.opening.process] if self.opening and self.opening.process and self.opening.process is not process else []
-            ended = self.processes.wait([process, *beside], until, lambda: self.observer.tick(time.monotonic() - self.begun, waits))
+            ended = self.processes.wait([process, *beside], until, lambda: self.observer.tick(time.monotonic() - self.begun, words))
             if ended is None or ended is process:
                 return ended is process
             self.end_opening(None)

@@ -102,7 +102,7 @@ def outcome_of(options, job, program, life):
 
 
 def prove(options, passed):
-    life = Life(NAME, options.life)
+    life = Life(NAME, options.life, seconds=options.seconds)
     job = basis2deck.read_job(options.model, passed)
     program = solve.program_of(options)
     for sentence in job.said if options.keep else job.said_without(job.of_table):

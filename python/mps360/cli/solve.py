@@ -477,7 +477,7 @@ def solve(options, passed):
     if model.table:
         keep(options, f"{stem}.names", model.table)
     program, checker = program_of(options), checker_of(options) if model.converted else None
-    outcome = outcome_of(options, model, program, checker, life.Life(NAME, options.life))
+    outcome = outcome_of(options, model, program, checker, life.Life(NAME, options.life, seconds=options.seconds))
     attempt = outcome.attempt
     model.ran(attempt)
     keep(options, f"{stem}.job", model.job)
