@@ -261,7 +261,7 @@ class Routes:
         "whether PRIMAL from the opening basis has ended within these seconds, without a verdict"
         opening = self.opening
         assert opening is not None and opening.process is not None
-        if not self.wait(opening.process, seconds, lambda: waits_for(opening)):
+        if not self.wait(opening.process, seconds, functools.partial(waits_for, opening)):
             return False
         self.end_opening(None)
         return True
@@ -340,7 +340,7 @@ class Routes:
             if self.checker is None:
                 raise NoBasis("no checker of listings is at hand (scripts/build.sh builds it)")
             self.observer.going(f"asking {solver.title} for an exact answer")
-            request = self.asked(lambda: solver.ask_exactly(self.plain_form(), self.processes, self.first_basis), solver)
+            request = self.asked(functools.partial(solver.ask_exactly, self.plain_form(), self.processes, self.first_basis), solver)
             attempt.written = request.written()
             attempt.listing = self.listing_of(attempt.written).encode("latin-1")
             attempt.basis = request.exact_basis()

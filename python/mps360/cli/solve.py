@@ -42,6 +42,7 @@ import re
 import shlex
 import signal
 import sys
+from typing import NoReturn
 from mps360.cli import mps2job
 from fractions import Fraction
 from mps360.listings import tables
@@ -72,15 +73,17 @@ class Ended(Exception):
     "the work is over, with this status and these words"
 
 
-def say(words):
+def say(words: object) -> None:
+    "a line on standard error"
     print(f"{NAME}: {as_lines(str(words))}", file=sys.stderr, flush=True)
 
 
-def wrong_use(message):
+def wrong_use(message: object) -> NoReturn:
+    "ends the command for wrong use"
     raise Ended(64, message)
 
 
-def is_job(content):
+def is_job(content: bytes) -> bool:
     "whether the first card that means something is PROGRAM"
     first = next((line for line in content.split(b"\n") if line.strip() and not line.startswith(b"*")), b"")
     return re.match(rb"(\S* +)PROGRAM\b", first) is not None
@@ -88,7 +91,7 @@ def is_job(content):
 
 # ---- the job
 
-def explaining(options, passed):
+def explaining(options: argparse.Namespace, passed: list[str]) -> str:
     "the words of the command that explains the listing"
     if options.keep or options.model == "-":
         folder = options.keep or "FOLDER"
@@ -373,12 +376,14 @@ def table(head, names, lines):
 
 # ---- the whole
 
-def kept(folder, name, content):
+def kept(folder: pathlib.Path, name: str, content: bytes) -> None:
+    "a file of a folder, which is made where it isn't there"
     make_folder(folder)
     write_file(folder / name, content)
 
 
-def stem_of(options):
+def stem_of(options: argparse.Namespace) -> str:
+    "the model's name, without its ending"
     return pathlib.Path(options.model).name.removesuffix(".gz").rsplit(".", 1)[0] if options.model != "-" else "model"
 
 
@@ -419,7 +424,7 @@ def write_outputs(options, model, answer):
         print("\n".join(answer.text_lines()))
 
 
-def program_of(options):
+def program_of(options: argparse.Namespace) -> at_hand.Tool:
     "the program that runs; that it runs unproved is said"
     try:
         program = at_hand.solver_program(options.program)
@@ -493,7 +498,8 @@ def solve(options, passed):
     return outcome.status
 
 
-def interrupt(*_):
+def interrupt(*_: object) -> NoReturn:
+    "a TERM signal is as Ctrl-C"
     raise KeyboardInterrupt
 
 
