@@ -1,8 +1,9 @@
 """Numbers that 12 columns don't hold, kept exactly: a model with such numbers becomes one of short numbers that says the same.
 
     split = split_model(MODEL)      a Split: the model of short numbers, and how answers of the one become answers of the other. Refused where
-                                    a number has too many digits, with its line
-    job = exact_job(MODEL, ..)      a Job of jobs.write; job.split is the Split, or None where no number was long
+                                    a number has too many digits, with its line, or a job can't hold what is added
+
+jobs.write.exact_job makes the job.
 
 The activity of a sum of rows is the sum of their activities, exactly. So
 
@@ -18,13 +19,15 @@ from __future__ import annotations
 
 from dataclasses import dataclass, field, replace
 from fractions import Fraction
-from typing import Any, Callable, Iterator, TypeVar
+from typing import TYPE_CHECKING, Any, Callable, Iterator, TypeVar
 
 from mps360.errors import Refused
-from mps360.jobs.write import Job, TooLong, job_of
 from mps360.model import MOST, Limits, Model, of_set
 from mps360.numbers import MOST_POWER, decimal_parts, text_of
 from mps360.text import counted, some_of
+
+if TYPE_CHECKING:
+    from mps360.jobs.write import Job
 
 # digits of an entry on a part: with a sign they fill 12 columns, and beside an exponent of two digits with its sign
 DIGITS, DIGITS_BESIDE_POWER = 11, 7
@@ -387,25 +390,6 @@ def copied(sets: dict[str, dict[str, Item]]) -> dict[str, dict[str, Item]]:
     return {name: dict(items) for name, items in sets.items()}
 
 
-def split_model(model: Model) -> Split:
-    return Splitter(model).run()
-
-
-# ---- a job
-
-def exact_job(model: Model, ranging: bool = False, title: str = "") -> Job:
-    "the job of a model, whose long numbers are kept exactly"
-    try:
-        return job_of(model, ranging, title)
-    except TooLong:
-        pass
-    split = split_model(model)
-    check_sizes(split)
-    job = job_of(split.model, ranging, title)
-    job.split = split
-    return job
-
-
 def check_sizes(split: Split) -> None:
     "Refused where the job would be too large by what was added"
     sizes = {"rows": (len(split.file.rows), len(split.model.rows)),
@@ -414,3 +398,10 @@ def check_sizes(split: Split) -> None:
         if after > MOST[what] >= before:
             raise Refused(f"the job would have {after:,} {what}, and {MOST[what]:,} are the most: {after - before:,} of them hold the digits of numbers "
                           "of more than 12 columns; --round rounds these, --doubles takes the shortest decimals that are the same doubles")
+
+
+def split_model(model: Model) -> Split:
+    "the model of short numbers that says the same as this one"
+    split = Splitter(model).run()
+    check_sizes(split)
+    return split

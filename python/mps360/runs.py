@@ -10,13 +10,16 @@ import re
 import time
 from collections.abc import Callable, Sequence
 from dataclasses import dataclass, field
+from typing import TYPE_CHECKING
 
-from mps360.at_hand import Tool
-from mps360.bases import Basis
 from mps360.life import awaited
 from mps360.output import CANT_WRITE
 from mps360.processes import Process, Processes
-from mps360.solvers import Solver
+
+if TYPE_CHECKING:
+    from mps360.at_hand import Tool
+    from mps360.bases import Basis
+    from mps360.solvers import Solver
 
 NO_END, NO_ANSWER, WRONG_USE = 124, 70, 64
 # what a program couldn't write that ended with this status

@@ -58,6 +58,7 @@ from mps360.cli.options import solvers_of
 from mps360.text import as_text, guard
 from mps360.commands import here
 from mps360.output import CantWrite, command
+from mps360.solver_names import not_installed
 from mps360 import unproved
 
 Record = dict[str, Any]
@@ -493,7 +494,7 @@ def check_words(options: argparse.Namespace) -> None:
         refuse(cause)
     missing = next((name for name in options.solvers or () if not solvers.find(name)), None)
     if missing:
-        raise Wrong(70, f"{solvers.TITLES.get(missing, missing)} isn't installed (apt-get install {solvers.PACKAGES[missing]})")
+        raise Wrong(70, not_installed(missing))
 
 
 def batch(options: argparse.Namespace, signals: Signals) -> int:

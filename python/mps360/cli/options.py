@@ -7,7 +7,8 @@ import time
 from collections.abc import Callable
 from typing import NoReturn
 
-from mps360 import routes, solvers
+from mps360.routes import ROUTES, Plan, processors_here
+from mps360.solver_names import EXACT_SOLVER, NAMES
 
 NOBODY = "none"
 WRONG_USE = 64
@@ -57,31 +58,31 @@ def solvers_of(word: str) -> tuple[str, ...]:
     if word == NOBODY:
         return ()
     names = tuple(dict.fromkeys(word.split(",")))
-    unknown = next((name for name in names if name not in solvers.NAMES), None)
+    unknown = next((name for name in names if name not in NAMES), None)
     if unknown is not None:
-        raise argparse.ArgumentTypeError(f"no solver {unknown[:30] or 'of an empty name'}; {', '.join(solvers.NAMES)} are known, and {NOBODY} for nobody")
+        raise argparse.ArgumentTypeError(f"no solver {unknown[:30] or 'of an empty name'}; {', '.join(NAMES)} are known, and {NOBODY} for nobody")
     return names
 
 
 def add_routes(parser: argparse.ArgumentParser) -> None:
     "the options of the routes to a proof"
     parser.add_argument("--with", dest="solvers", type=solvers_of)
-    parser.add_argument("--only", choices=routes.ROUTES)
+    parser.add_argument("--only", choices=ROUTES)
     parser.add_argument("--seconds", type=positive)
     parser.add_argument("--processors", type=counted)
     parser.set_defaults(begun=time.monotonic())
 
 
-def plan_of(options: argparse.Namespace) -> routes.Plan:
+def plan_of(options: argparse.Namespace) -> Plan:
     "the routes that these options leave"
-    return routes.Plan(solvers=options.solvers, only=options.only, seconds=options.seconds, begun=options.begun,
-                       processors=options.processors or routes.processors_here())
+    return Plan(solvers=options.solvers, only=options.only, seconds=options.seconds, begun=options.begun,
+                       processors=options.processors or processors_here())
 
 
 def check_routes(options: argparse.Namespace) -> str | None:
     "what is wrong with the options of the routes, or None"
     if options.only in ("basis", "exact") and options.solvers == ():
         return f"--only {options.only} asks a solver, and --with {NOBODY} lets nobody be asked"
-    if options.only == "exact" and options.solvers is not None and routes.EXACT_SOLVER not in options.solvers:
-        return f"--only exact asks {routes.EXACT_SOLVER}, which --with doesn't name"
+    if options.only == "exact" and options.solvers is not None and EXACT_SOLVER not in options.solvers:
+        return f"--only exact asks {EXACT_SOLVER}, which --with doesn't name"
     return None

@@ -29,7 +29,7 @@ import sys
 from collections.abc import Sequence
 from fractions import Fraction
 from typing import NoReturn
-from mps360 import notes, routes, runs, solvers
+from mps360 import notes, routes, runs
 from mps360.at_hand import Tool
 from mps360.bases import WRITERS
 from mps360.cli import basis2deck, solve
@@ -40,6 +40,7 @@ from mps360.life import FIRST, Life
 from mps360.model import Model
 from mps360.commands import here
 from mps360.output import command
+from mps360.solver_names import NoBasis
 
 NAME = "prove"
 NO_BASIS = "no basis of "
@@ -92,7 +93,7 @@ def keep(options: argparse.Namespace, attempt: runs.Attempt, job: Job) -> None:
 
 def outcome_of(options: argparse.Namespace, job: Job, program: Tool, life: Life) -> routes.Outcome:
     "what the routes came to"
-    way = routes.Routes(job, program, plan_of(options), None, runs.Observer(say=life.say, heard=life.heard, tick=life.tick))
+    way = routes.Routes(job, program, plan_of(options), observer=runs.Observer(say=life.say, heard=life.heard, tick=life.tick))
     if options.basis:
         way.begin_at(basis2deck.read_basis(options.basis, job.file, options.writer), os.path.basename(options.basis))
     try:
@@ -101,7 +102,7 @@ def outcome_of(options: argparse.Namespace, job: Job, program: Tool, life: Life)
         raise Ended(70, f"can't run {program.command[0]}: {cause.strerror}")
     except runs.NoAnswer as cause:
         raise Ended(cause.status, *cause.lines, str(cause))
-    except solvers.NoBasis as cause:
+    except NoBasis as cause:
         raise Ended(70, str(cause))
     finally:
         life.clear()

@@ -23,7 +23,7 @@ import pathlib
 from typing import NoReturn
 from collections.abc import Callable
 from fractions import Fraction
-from mps360.jobs.write import Job
+from mps360.jobs.write import Job, exact_job
 from mps360.listings.write import Answer
 import json
 import os
@@ -39,7 +39,6 @@ from mps360.output import command, write_file
 from mps360.commands import here
 from mps360.cli.words import taken
 from mps360.long_answers import listing_of
-from mps360.long_numbers import exact_job
 
 NAME = "solution2listing.py"
 

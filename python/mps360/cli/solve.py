@@ -46,23 +46,23 @@ import signal
 import sys
 from collections.abc import Callable, Iterator, Sequence
 from fractions import Fraction
-from typing import Any, NoReturn
-from mps360.bases import Basis
+from typing import TYPE_CHECKING, Any, NoReturn
 from mps360.cli import mps2job
 from mps360.listings import tables
-from mps360.listings.read import NO_NAMES, NoListing, NoNames, each_line, name_back, names_of, parse, read_names
-from mps360 import at_hand, errors, life, mps, notes, routes, runs, solvers
+from mps360.listings.read import NO_NAMES, NoListing, NoNames, each_line, long_table, name_back, names_of, parse, read_names
+from mps360 import at_hand, errors, life, mps, notes, routes, runs
 from mps360.cli.options import add_routes, check_routes, plan_of
 from mps360.cli.words import joined
 from mps360.provenance import Provenance
 from mps360.commands import called, here
-from mps360.jobs.write import Job
-from mps360.long_numbers import exact_job
-from mps360.listings import restore
+from mps360.jobs.write import Job, exact_job
 from mps360.listings.made import OtherJob, check_made
 from mps360.output import command, make_folder, write_file
-from mps360.text import marked_decimal
-from mps360.text import as_lines, as_text
+from mps360.solver_names import NoBasis
+from mps360.text import as_lines, as_text, marked_decimal
+
+if TYPE_CHECKING:
+    from mps360.bases import Basis
 
 # the kind of a variable, its name, and its limits; and what gives them for its number
 Limited = tuple[str, str, Fraction | None, Fraction | None]
@@ -338,7 +338,7 @@ def variables_of(job: Job) -> Variable:
 
 def variables_of_job(program: Any, names: dict[str, Any]) -> Variable:
     "the same of a linear program that a job selects, by the names of the table"
-    long = restore.Table(names["long"]) if "long" in names else None
+    long = long_table(names)
     def variable(number: int) -> Limited:
         kind, name = "row" if number <= program.m else "column", program.names[number - 1]
         limits = long.limits(number) if long else None
@@ -464,21 +464,21 @@ def program_of(options: argparse.Namespace) -> at_hand.Tool:
     return program
 
 
-def checker_of(options: argparse.Namespace) -> at_hand.Tool | None:
-    "the checker of listings, or None"
+def checker_of(options: argparse.Namespace) -> Callable[[], at_hand.Tool | None]:
+    "finds the checker of listings, where it is needed"
     try:
-        return at_hand.listing_checker(options.checker)
+        return at_hand.checker_finder(options.checker)
     except errors.NoProgram as cause:
         raise Ended(70, str(cause))
 
 
-def outcome_of(options: argparse.Namespace, model: Model, program: at_hand.Tool, checker: at_hand.Tool | None, alive: life.Life) -> routes.Outcome:
+def outcome_of(options: argparse.Namespace, model: Model, program: at_hand.Tool, alive: life.Life) -> routes.Outcome:
     "what the run of a job, or the routes of an MPS file, came to"
     observer = runs.Observer(say=alive.say, going=alive.say, heard=alive.heard, tick=alive.tick)
     try:
         if not model.converted:
-            return routes.Outcome(runs.run_alone(model.job, program, seconds=options.seconds, begun=options.begun, observer=observer), [])
-        way = routes.Routes(model.converted, program, plan_of(options), checker, observer)
+            return routes.Outcome(runs.run_alone(model.job, program, seconds=options.seconds, begun=options.begun, observer=observer), [], program)
+        way = routes.Routes(model.converted, program, plan_of(options), checker_of(options), observer)
         if model.basis:
             way.begin_at(model.basis, os.path.basename(options.basis))
         return way.run()
@@ -486,7 +486,7 @@ def outcome_of(options: argparse.Namespace, model: Model, program: at_hand.Tool,
         raise Ended(70, f"can't run {cause.filename or program.command[0]}: {cause.strerror}")
     except runs.NoAnswer as cause:
         raise Ended(cause.status, str(cause))
-    except solvers.NoBasis as cause:
+    except NoBasis as cause:
         raise Ended(70, str(cause))
     finally:
         alive.clear()
@@ -512,14 +512,13 @@ def solve(options: argparse.Namespace, passed: list[str]) -> int:
     keep(options, f"{stem}.job", model.job)
     if model.table:
         keep(options, f"{stem}.names", model.table)
-    program, checker = program_of(options), checker_of(options) if model.converted else None
-    outcome = outcome_of(options, model, program, checker, life.Life(NAME, options.life))
+    outcome = outcome_of(options, model, program_of(options), life.Life(NAME, options.life))
     attempt = outcome.attempt
     model.ran(attempt)
     keep(options, f"{stem}.job", model.job)
     if attempt.solver and attempt.written:
         keep(options, f"{stem}.{attempt.solver.name}", attempt.written.encode("latin-1"))
-    provenance = Provenance.of(outcome, program, checker, model.checksum)
+    provenance = Provenance.of(outcome, model.checksum)
     answer = Answer(model, attempt, provenance)
     if attempt.interrupted:
         say_interrupted(attempt)
