@@ -10,6 +10,7 @@ from __future__ import annotations
 import functools
 import hashlib
 import os
+import sys
 from collections.abc import Callable
 from dataclasses import dataclass
 from typing import Literal
@@ -62,6 +63,11 @@ def named(file: str, name: str) -> Tool:
     if os.path.isdir(file) or not os.access(file, os.X_OK):
         raise NoProgram(f"{file} isn't a program that can be run")
     return Tool((os.path.abspath(file),), "other", name=name)
+
+
+def say_unproved(name: str) -> None:
+    "a line on standard error"
+    print(f"{name}: running UNPROVED, by the program that was compiled of these sources before; {PROVES}", file=sys.stderr, flush=True)
 
 
 def solver_program(file: str | None = None) -> Tool:

@@ -54,7 +54,7 @@ from typing import Any, NoReturn, TextIO
 from mps360.listings.read import NUMBER
 from mps360 import programs, solvers
 from mps360.cli import mps2job
-from mps360.cli.options import solvers_of
+from mps360.cli.route_options import solvers_of
 from mps360.text import as_text, guard
 from mps360.commands import here
 from mps360.output import CantWrite, command

@@ -33,7 +33,7 @@ from mps360 import notes, routes, runs
 from mps360.at_hand import Tool
 from mps360.bases import WRITERS
 from mps360.cli import basis2deck, solve
-from mps360.cli.options import positive, solvers_of
+from mps360.cli.route_options import positive, solvers_of
 from mps360.cli.words import joined
 from mps360.jobs.write import Job
 from mps360.life import FIRST, Life

@@ -51,7 +51,7 @@ from mps360.cli import mps2job
 from mps360.listings import tables
 from mps360.listings.read import NO_NAMES, NoListing, NoNames, each_line, long_table, name_back, names_of, parse, read_names
 from mps360 import at_hand, errors, life, mps, notes, routes, runs
-from mps360.cli.options import add_routes, check_routes, plan_of
+from mps360.cli.route_options import add_routes, check_routes, plan_of
 from mps360.cli.words import joined
 from mps360.provenance import Provenance
 from mps360.commands import called, here
@@ -460,7 +460,7 @@ def program_of(options: argparse.Namespace) -> at_hand.Tool:
     except errors.NoProgram as cause:
         raise Ended(70, str(cause))
     if program.kind == "unproved" and not program.prepare:
-        print(f"mps360: running UNPROVED, by the program that was compiled of these sources before; {at_hand.PROVES}", file=sys.stderr, flush=True)
+        at_hand.say_unproved(at_hand.PROGRAM)
     return program
 
 
