@@ -7,9 +7,10 @@ from __future__ import annotations
 import os
 import re
 import sys
+import threading
 import time
 from collections.abc import Callable, Sequence
-from typing import TextIO
+from typing import Any, TextIO, cast
 
 from mps360.text import as_lines, as_text
 
@@ -55,11 +56,12 @@ def next_verb(job: str, lines: Sequence[str]) -> str | None:
 
 
 class Life:
-    """says that a command lives: after `first` seconds, and after twice as long each time, up to MOST; never where first is 0. On a terminal it is one
-    line, written anew each second. seconds bounds the whole, where it is bounded"""
+    """says that a command lives: after `first` seconds, and after twice as long each time, up to `most`; never where first is 0. On a terminal it is one
+    line, written anew each second. seconds bounds the whole, where it is bounded. Threads may call at once"""
 
-    def __init__(self, name: str, first: float = FIRST, stream: TextIO | None = None, seconds: float | None = None) -> None:
-        self.name, self.first, self.stream, self.seconds = name, first, stream or sys.stderr, seconds
+    def __init__(self, name: str, first: float = FIRST, stream: TextIO | None = None, seconds: float | None = None, most: float = MOST) -> None:
+        self.name, self.first, self.stream, self.seconds, self.most = name, first, stream or sys.stderr, seconds, most
+        self.lock = threading.RLock()
         self.is_terminal = self.stream.isatty()
         self.pause, self.due, self.shown, self.heard_at = first, min(first, 1.0) if self.is_terminal else first, 0, -MOST
 
@@ -69,16 +71,20 @@ class Life:
             return
         words = as_text(f"{self.name}: {within(seconds, self.seconds)}, {waits()}")
         if self.is_terminal:
-            self.clear()
-            shown = words[:width_of(self.stream)]
-            self.stream.write(shown)
-            self.stream.flush()
-            self.shown = len(shown)
+            self.write_over(words[:width_of(self.stream)])
             self.due = seconds + 1.0
         else:
             print(words, file=self.stream, flush=True)
-            self.pause = min(2 * self.pause, MOST)
+            self.pause = min(2 * self.pause, self.most)
             self.due = seconds + self.pause
+
+    def write_over(self, words: str) -> None:
+        "the line of a terminal, in place of the one before"
+        with self.lock:
+            self.clear()
+            self.stream.write(words)
+            self.stream.flush()
+            self.shown = len(words)
 
     def say(self, words: str) -> None:
         "a line of the command itself"
@@ -93,7 +99,30 @@ class Life:
 
     def clear(self) -> None:
         "the line of life goes from the terminal"
-        if self.shown:
-            self.stream.write("\r" + " " * self.shown + "\r")
-            self.stream.flush()
-            self.shown = 0
+        with self.lock:
+            if self.shown:
+                self.stream.write("\r" + " " * self.shown + "\r")
+                self.stream.flush()
+                self.shown = 0
+
+
+class Above:
+    "a stream to a terminal that has a line of life: what is written comes in place of that, which is written anew below it"
+
+    def __init__(self, stream: TextIO, life: Life) -> None:
+        self.stream, self.life = stream, life
+
+    def write(self, text: str) -> int:
+        "writes a text, once the line of life is away"
+        with self.life.lock:
+            self.life.clear()
+            return self.stream.write(text)
+
+    def __getattr__(self, name: str) -> Any:
+        return getattr(self.stream, name)
+
+
+def keep_above(life: Life) -> None:
+    "standard output and standard error come above the line of life from now on, where that is on a terminal"
+    if life.is_terminal:
+        sys.stdout, sys.stderr = cast(TextIO, Above(sys.stdout, life)), cast(TextIO, Above(sys.stderr, life))
