@@ -5,16 +5,20 @@ import json
 import re
 import shutil
 import subprocess
+from fractions import Fraction
 
 import places
 import programs_at_hand
 import pytest
+import random_jobs
 from calls import call
-from fractions import Fraction
 from mps360.pages import limits, shown
 from mps360.pages.html import page as page_of
 from mps360.pages.origin import Origin
+from mps360.provenance import Provenance
+from mps360.routes import Tried
 from mps360.units import units_of
+from oracle import listing as oracle_listing
 from page_checks import Read, check_page, words_of
 
 EXAMPLES, SCRIPTS = places.EXAMPLES, places.SCRIPTS
@@ -49,6 +53,26 @@ def test_no_verdict_is_proved_of_a_stop(listing, state):
     read = Read(page_of("", listing, origin=PROVED))
     assert read.pieces[read.pieces.index(state) + 1].startswith(": ")
     assert ("NO VERDICT" in read.text) == (state == "NO VERDICT")
+
+
+PRIMAL, CLP = "PRIMAL from the opening basis", "INSERT of clp's basis and PRIMAL"
+EXACT = "esolver's exact answer, attested by the checker"
+
+
+@pytest.mark.parametrize("provenance, state, words", (
+    (Provenance("proved", False, PRIMAL), "PROVED", ("the proved program printed the listing.", f"Route {PRIMAL} File")),
+    (Provenance("unproved", False, PRIMAL), "UNPROVED", ("an UNPROVED run of the program printed the listing.", "Program mps360, ")),
+    (Provenance("proved", False, CLP, (Tried(PRIMAL, 5.0, "no end in 5 seconds"), Tried(CLP, 1.0, None)), "clp", "1.17.6"), "PROVED",
+     (f"Route {CLP}, with clp 1.17.6 tried too: {PRIMAL}: no end in 5 seconds File",)),
+    (Provenance("proved", True, EXACT, (Tried(PRIMAL, 0.1, "a number doesn't fit"), Tried(EXACT, 1.0, None)), "esolver", "2.5.8"), "PROVED",
+     ("the proved checker attested the listing.", f"Route {EXACT}, with esolver 2.5.8", "Program mps360check, ")),
+    (Provenance("proved", False, PRIMAL, (Tried(PRIMAL, 9.0, "no end in 9 seconds"),), has_verdict=False), "NO VERDICT",
+     (f"Route tried: {PRIMAL}: no end in 9 seconds",))))
+def test_the_box_of_each_route(provenance, state, words):
+    "the box says by which route the answer came, with the solver's version, and who proved it"
+    origin = Origin.of(provenance, "plan.mps")
+    text = words_of(Read(origin.box(state != "NO VERDICT")).text)
+    assert text.startswith(f"{state} :") and all(words_of(word) in text for word in words), text
 
 
 def test_the_box_of_solve(tmp_path):
@@ -234,3 +258,15 @@ def test_on_paper(tmp_path, is_exact):
     page.write_text(text.replace('id="exact"', 'id="exact" checked') if is_exact else text, encoding="utf-8")
     browser(tmp_path, "--no-pdf-header-footer", f"--print-to-pdf={pdf}", f"file://{page}")
     assert 1 <= pages_of(pdf) <= 2
+
+
+# ---- random jobs
+
+@pytest.mark.parametrize("seed", range(40))
+def test_the_page_of_a_random_job(seed):
+    "whatever a job does, its page is made: each ray's activities add up to 0 by the job's entries, and no limit stops a direction; so is that of a part"
+    job = random_jobs.job(seed, True, True, True, True, True, True)
+    run = oracle_listing.Run(job)
+    run.run()
+    check_page(str(seed), page_of(job, "\n".join([*run.lines, ""])))
+    check_page(str(seed), page_of(job, "\n".join([*run.lines[:seed % len(run.lines)], ""])))
