@@ -2,7 +2,7 @@
 
 STYLE = """
 :root{color-scheme:light dark;--ink:#1b1f24;--paper:#fff;--soft:#57606a;--line:#d0d7de;--band:#f3f5f8;--blue:#0b57b8;
---good:#116329;--bad:#a40e26;--warn:#7d4e00;--bar:#9aa7b4}
+--good:#116329;--bad:#a40e26;--warn:#7d4e00;--bar:#75828f}
 @media (prefers-color-scheme:dark){:root{--ink:#e6edf3;--paper:#0f1419;--soft:#a3b0bd;--line:#343d47;--band:#1a2129;
 --blue:#7cb7ff;--good:#5bd076;--bad:#ff8f8f;--warn:#e3b341;--bar:#5b6875}}
 *{box-sizing:border-box}
@@ -53,7 +53,7 @@ tbody th{max-width:9.5rem}thead th:not(.t){min-width:0}td.t{min-width:0}
 .more{display:block;font-size:.88em}.more::after{content:" →"}
 table{width:max-content}td.t{max-width:15rem}}
 @media print{:root{color-scheme:light;--ink:#000;--paper:#fff;--soft:#333;--line:#999;--band:#fff;--blue:#000;--good:#000;--bad:#000;--warn:#000;
---bar:#bbb}
+--bar:#888}
 @page{margin:11mm 11mm 14mm;@bottom-right{content:counter(page) " / " counter(pages);font:8pt system-ui,sans-serif}}
 body{max-width:none;padding:0;font-size:9.5pt;line-height:1.35}h1{margin:0 0 .3rem}h2{margin:.9rem 0 .3rem}h3{margin:.6rem 0 .2rem}
 p,.paragraph{max-width:none;margin:.2rem 0}
