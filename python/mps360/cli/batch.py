@@ -24,7 +24,7 @@ NAME.listing.part).
 A disk that is full, and a device that gives no more, end the batch: what met it has no answer and no line, and --resume runs it. Without
 --resume an earlier summary of OUT is kept, as summary-1.csv and so on.
 
-The proved program is used where it is built; else all run UNPROVED, compiled once, in a minute or two (MPS360_PROVED=1 refuses that).
+The proved program is used where it is built; else all run UNPROVED, compiled once, in about a minute (MPS360_PROVED=1 refuses that).
 
 Ends with 0 where each ended with an END line; 3 where one didn't; 64 for wrong use; 66 where there is no such folder or file, or
 nothing to run in it; 70 where no program or no solver can be had; 73 where OUT or standard output can't be written; 130 where it was interrupted."""
