@@ -33,7 +33,7 @@ def page_text(name, origin=None, old="", new=""):
 
 # ---- where the answer comes from
 
-PROVED = Origin("2026-11-29 18:00 UTC", "plan.mps", "ab" * 32, True, "the proved program printed the listing.", "INSERT of clp's basis and PRIMAL, with clp 1.17.6",
+PROVED = Origin("2026-11-29 18:00 UTC", "plan.mps", "ab" * 32, True, "the proved program printed the listing.", "INSERT of clp's basis and PRIMAL (clp 1.17.6)",
                 ("PRIMAL from the opening basis: no end in 5 seconds",), "mps360, commit 1234567", "cd" * 32)
 
 
@@ -41,7 +41,7 @@ def test_the_box_at_the_top():
     "the box stands before the verdict, and says what is known"
     text = page_text("first", PROVED)
     before = text.partition("Optimal")[0]
-    for words in ("PROVED : the proved program printed the listing.", "Route INSERT of clp's basis and PRIMAL, with clp 1.17.6",
+    for words in ("PROVED : the proved program printed the listing.", "Route INSERT of clp's basis and PRIMAL (clp 1.17.6)",
                   "tried too: PRIMAL from the opening basis: no end in 5 seconds", f"File plan.mps SHA-256 {'ab' * 32}",
                   f"Program mps360, commit 1234567 SHA-256 {'cd' * 32}", "Page made 2026-11-29 18:00 UTC"):
         assert words_of(words) in words_of(before), words
@@ -63,9 +63,9 @@ EXACT = "esolver's exact answer, attested by the checker"
     (Provenance("proved", False, PRIMAL), "PROVED", ("the proved program printed the listing.", f"Route {PRIMAL} File")),
     (Provenance("unproved", False, PRIMAL), "UNPROVED", ("an UNPROVED run of the program printed the listing.", "Program mps360, ")),
     (Provenance("proved", False, CLP, (Tried(PRIMAL, 5.0, "no end in 5 seconds"), Tried(CLP, 1.0, None)), "clp", "1.17.6"), "PROVED",
-     (f"Route {CLP}, with clp 1.17.6 tried too: {PRIMAL}: no end in 5 seconds File",)),
+     (f"Route {CLP} (clp 1.17.6) tried too: {PRIMAL}: no end in 5 seconds File",)),
     (Provenance("proved", True, EXACT, (Tried(PRIMAL, 0.1, "a number doesn't fit"), Tried(EXACT, 1.0, None)), "esolver", "2.5.8"), "PROVED",
-     ("the proved checker attested the listing.", f"Route {EXACT}, with esolver 2.5.8", "Program mps360check, ")),
+     ("the proved checker attested the listing.", f"Route {EXACT} (esolver 2.5.8)", "Program mps360check, ")),
     (Provenance("proved", False, PRIMAL, (Tried(PRIMAL, 9.0, "no end in 9 seconds"),), has_verdict=False), "NO VERDICT",
      (f"Route tried: {PRIMAL}: no end in 9 seconds",))))
 def test_the_box_of_each_route(provenance, state, words):
