@@ -11,7 +11,7 @@ ghost use Rattle.answer_definitions.specs.Lines.{row_numbers};
 ghost use Rattle.answer_definitions.specs.ParametricRuns.{family_of};
 ghost use Rattle.parametric_request.specs.Asking.{ServesChange, changing_of};
 ghost use Rattle.walk_definitions.specs.Tests.{moving_steps, making_steps, along_steps};
-ghost use Rattle.listing_readers.specs.Read.{sheet_view};
+ghost use Rattle.listing_words.specs.Read.{sheet_view};
 ghost use Rattle.listing_answers.specs.Making.{Makes, moved, row_steps, shift_steps, AreLimits, IsAlong};
 
 use crate::answer::Stop;

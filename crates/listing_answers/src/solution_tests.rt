@@ -6,7 +6,7 @@ ghost use Rattle.check_definitions.specs.Steps.{verdict_of};
 ghost use Rattle.answer_definitions.specs.Lines.{row_numbers};
 ghost use Rattle.walk_definitions.specs.Checkers.{checker_of_128_bits};
 ghost use Rattle.walk_definitions.specs.Tests.{slack_steps, best_test};
-ghost use Rattle.listing_readers.specs.Read.{sheet_view};
+ghost use Rattle.listing_words.specs.Read.{sheet_view};
 ghost use Rattle.listing_answers.specs.Passing.{Judges};
 ghost use Rattle.listing_answers.specs.Solutions.{Counted, printed_test};
 

@@ -9,7 +9,7 @@ ghost use Rattle.walk_definitions.specs.Checkers.{checker_of_128_bits};
 ghost use Rattle.walk_definitions.specs.Words.{left_after, fraction_in};
 ghost use Rattle.walk_definitions.specs.Forms.{all_operations};
 ghost use Rattle.walk_definitions.specs.Tables.{all_codes, AnyCode, AnyNumber, Known, slot_in, line_head};
-ghost use Rattle.listing_readers.specs.Read.{taken, sheet_view};
+ghost use Rattle.listing_words.specs.Read.{taken, sheet_view};
 
 use crate::cursor::Cursor;
 use crate::numbers::fraction_in;

@@ -10,7 +10,7 @@ ghost use Rattle.card_definitions.specs.Words.{without_leading};
 ghost use Rattle.listing_tables.specs.Sheets.{IsSheet};
 ghost use Rattle.walk_definitions.specs.Words.{left_after};
 ghost use Rattle.walk_definitions.specs.Tables.{begins, begins_table_line, line_head};
-ghost use Rattle.listing_readers.specs.Read.{taken, sheet_view};
+ghost use Rattle.listing_words.specs.Read.{taken, sheet_view};
 ghost use Rattle.listing_readers.specs.Tables.{IsMultiplierRead, IsRayRead};
 
 use crate::cursor::Cursor;

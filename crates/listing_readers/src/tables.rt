@@ -8,7 +8,7 @@ ghost use Rattle.walk_definitions.specs.Checkers.{checker_of_128_bits};
 ghost use Rattle.walk_definitions.specs.Words.{fraction_in};
 ghost use Rattle.walk_definitions.specs.Tables.{AnyCode, AnyNumber, Known, pair_slots, part_slots, values_in};
 ghost use Rattle.walk_definitions.specs.Reading.{row_slots, column_slots};
-ghost use Rattle.listing_readers.specs.Read.{sheet_view};
+ghost use Rattle.listing_words.specs.Read.{sheet_view};
 ghost use Rattle.listing_readers.specs.Tables.{slots_of, MayRead, AreRead, IsLineRead, IsTableRead};
 
 use crate::cursor::Cursor;

@@ -6,7 +6,7 @@ use Rattle.parametric_request.specs.declared.request.Change.{Change}
 use Rattle.parametric_request.specs.Asking.{changing_of}
 use Rattle.walk_definitions.specs.Checkers.{checker_of_128_bits}
 use Rattle.walk_definitions.specs.Tests.{past_test, infeasible_past}
-use Rattle.listing_readers.specs.Read.{sheet_view}
+use Rattle.listing_words.specs.Read.{sheet_view}
 use Rattle.listing_answers.specs.Passing.{Judges}
 use Rattle.listing_answers.specs.Closings.{infeasible_test}
 use Rattle.listing_answers.proofs.closing_tests.check_infeasible.Goals as goal

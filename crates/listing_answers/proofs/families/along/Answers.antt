@@ -10,7 +10,7 @@ use Rattle.check_definitions.specs.Steps.{verdict_of}
 use Rattle.simplex_definitions.specs.Chain.{along}
 use Rattle.certificate_check.proofs.Each.{each_left}
 use Rattle.walk_definitions.specs.Tests.{along_steps}
-use Rattle.listing_readers.specs.Read.{sheet_view}
+use Rattle.listing_words.specs.Read.{sheet_view}
 use Rattle.listing_answers.specs.Passing.{Stops}
 use Rattle.listing_answers.specs.Making.{IsAlong}
 use Rattle.listing_answers.proofs.Passing.{made_handed, each_stops, each_goes_on, each_ends}

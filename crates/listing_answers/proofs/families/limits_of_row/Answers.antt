@@ -3,7 +3,7 @@ use Rattle.exact_values.specs.Rational.{ℚ}
 use Rattle.lp_definitions.specs.LinearProgram.{value_at, lower_of, upper_of}
 use Rattle.lp_laws.proofs.Places.{value_read}
 use Rattle.check_definitions.specs.Steps.{verdict_of}
-use Rattle.listing_readers.specs.Read.{sheet_view}
+use Rattle.listing_words.specs.Read.{sheet_view}
 use Rattle.listing_answers.specs.Making.{moved, row_steps}
 use Rattle.listing_answers.proofs.Passing.{made_handed}
 use Rattle.listing_answers.proofs.Limits.{low_stops, high_stops, row_passes}

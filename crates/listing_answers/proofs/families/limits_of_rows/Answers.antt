@@ -3,7 +3,7 @@ use Rattle.lp_definitions.specs.LinearProgram.{numbers_from}
 use Rattle.certificate_check.proofs.Each.{each_left}
 use Rattle.check_definitions.specs.Steps.{verdict_of}
 use Rattle.answer_definitions.specs.Lines.{row_numbers}
-use Rattle.listing_readers.specs.Read.{sheet_view}
+use Rattle.listing_words.specs.Read.{sheet_view}
 use Rattle.listing_answers.specs.Making.{AreLimits, row_steps, shift_steps, low_at, high_at}
 use Rattle.listing_answers.proofs.Passing.{made_handed, each_stops, each_goes_on, each_ends}
 use Rattle.listing_answers.proofs.Limits.{one_more, row_low, row_high}

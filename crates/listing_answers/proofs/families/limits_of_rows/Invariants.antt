@@ -1,7 +1,7 @@
 use Rattle.std.proofs.Common.{◌≡◌, map}
 use Rattle.lp_definitions.specs.LinearProgram.{numbers_from}
 use Rattle.certificate_check.proofs.Each.{EachLeft}
-use Rattle.listing_readers.specs.Read.{sheet_view}
+use Rattle.listing_words.specs.Read.{sheet_view}
 use Rattle.listing_answers.specs.Making.{row_steps, low_at, high_at}
 use Rattle.listing_answers.proofs.families.limits_of_rows.Given as goal
 

@@ -8,7 +8,7 @@ use Rattle.simplex_definitions.specs.Chain.{along}
 use Rattle.answer_definitions.specs.ParametricRuns.{family_of}
 use Rattle.parametric_request.specs.Asking.{changing_of}
 use Rattle.walk_definitions.specs.Tests.{making_steps, along_steps}
-use Rattle.listing_readers.specs.Read.{sheet_view}
+use Rattle.listing_words.specs.Read.{sheet_view}
 use Rattle.listing_answers.specs.Passing.{Stops}
 use Rattle.listing_answers.specs.Intervals.{IsEnd, end_verdict}
 use Rattle.listing_answers.proofs.Passing.{stops_first, stops_next, both_pass, made_handed}

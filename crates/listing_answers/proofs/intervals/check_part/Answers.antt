@@ -4,7 +4,7 @@ use Rattle.check_definitions.specs.declared.Verdict.{Verdict}
 use Rattle.check_definitions.specs.Steps.{verdict_of, in_turn}
 use Rattle.parametric_request.specs.Asking.{changing_of}
 use Rattle.walk_definitions.specs.Tests.{asked, keeping_steps}
-use Rattle.listing_readers.specs.Read.{sheet_view}
+use Rattle.listing_words.specs.Read.{sheet_view}
 use Rattle.listing_answers.specs.Passing.{Judges}
 use Rattle.listing_answers.specs.Intervals.{end_verdict}
 use Rattle.listing_answers.proofs.Passing.{then_by, last_by}

@@ -2,7 +2,7 @@ use Rattle.std.proofs.Common.{rules}
 use Rattle.lp_definitions.specs.LinearProgram.{value_at}
 use Rattle.walk_definitions.specs.Tests.{slack_steps}
 use Rattle.certificate_check.proofs.Each.{each_left}
-use Rattle.listing_readers.specs.Read.{sheet_view}
+use Rattle.listing_words.specs.Read.{sheet_view}
 use Rattle.listing_answers.proofs.Passing.{each_exit, each_goes_on, each_ends}
 use Rattle.listing_answers.proofs.solution_tests.check_slacks.Goals as goal
 

@@ -1,7 +1,7 @@
 use Rattle.lp_definitions.specs.LinearProgram.{value_at}
 use Rattle.walk_definitions.specs.Tests.{slack_steps}
 use Rattle.certificate_check.proofs.Each.{EachLeft}
-use Rattle.listing_readers.specs.Read.{sheet_view}
+use Rattle.listing_words.specs.Read.{sheet_view}
 use Rattle.listing_answers.proofs.solution_tests.check_slacks.Given as goal
 
 -- the slacks so far are right

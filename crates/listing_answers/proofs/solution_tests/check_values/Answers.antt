@@ -6,7 +6,7 @@ use Rattle.check_definitions.specs.Checks.{equations, reduced_costs}
 use Rattle.answer_definitions.specs.Lines.{row_numbers}
 use Rattle.walk_definitions.specs.Checkers.{checker_of_128_bits}
 use Rattle.walk_definitions.specs.Tests.{slack_steps, best_test}
-use Rattle.listing_readers.specs.Read.{sheet_view}
+use Rattle.listing_words.specs.Read.{sheet_view}
 use Rattle.listing_answers.proofs.Passing.{exit_by, then_by, last_by}
 use Rattle.listing_answers.proofs.solution_tests.check_values.Goals as goal
 

@@ -2,7 +2,7 @@ use Rattle.std.proofs.Common.{◌≡◌, ap, sym, ◌∙◌}
 use Rattle.exact_values.specs.Rational.{zero_ℚ}
 use Rattle.exact_values.specs.Tests.{eq_ℚ}
 use Rattle.walk_definitions.specs.Tables.{number_at}
-use Rattle.listing_readers.specs.Read.{taken, sheet_view}
+use Rattle.listing_words.specs.Read.{taken, sheet_view}
 use Rattle.listing_readers.specs.Tables.{of_line}
 use Rattle.listing_readers.proofs.Multipliers.{some_line}
 use Rattle.listing_readers.proofs.rays.multiplier.Goals as goal

@@ -2,7 +2,7 @@ use Rattle.std.proofs.Common.{◌≡◌, ◌+◌, ◌-◌, ◌<◌, ◌∷◌, �
 use Rattle.exact_values.specs.Rational.{ℚ}
 use Rattle.lp_definitions.specs.LinearProgram.{size}
 use Rattle.walk_definitions.specs.Tables.{begins_table_line}
-use Rattle.listing_readers.specs.Read.{sheet_view}
+use Rattle.listing_words.specs.Read.{sheet_view}
 use Rattle.listing_readers.proofs.Multipliers.{IsRaySoFar, ray_begins, ray_goes_on, ray_fails, ray_ends, line_follows}
 use Rattle.listing_readers.proofs.rays.ray.Goals as goal
 

@@ -1,6 +1,6 @@
 use Rattle.std.proofs.Common.{◌-◌, ◌≤◌}
 use Rattle.lp_definitions.specs.LinearProgram.{size}
-use Rattle.listing_readers.specs.Read.{sheet_view}
+use Rattle.listing_words.specs.Read.{sheet_view}
 use Rattle.listing_readers.proofs.Multipliers.{IsRaySoFar}
 use Rattle.listing_readers.proofs.rays.ray.Given as goal
 

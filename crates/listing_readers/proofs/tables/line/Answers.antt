@@ -2,7 +2,7 @@ use Rattle.std.proofs.Common.{◌≡◌, Option, Some, subst, sym, ap, ◌∙◌
 use Rattle.walk_definitions.specs.Words.{left_after}
 use Rattle.walk_definitions.specs.Tables.{line_head}
 use Rattle.listing_readers.specs.declared.tables.Numbers.{Numbers}
-use Rattle.listing_readers.specs.Read.{taken, sheet_view}
+use Rattle.listing_words.specs.Read.{taken, sheet_view}
 use Rattle.listing_readers.specs.Tables.{IsLineRead}
 use Rattle.listing_readers.proofs.Reading.{line_read, line_without_head, line_without_values, line_without_end}
 use Rattle.listing_readers.proofs.tables.line.Goals as goal

@@ -1,7 +1,7 @@
 use Rattle.std.proofs.Common.{◌≡◌, ◌+◌, ◌-◌, ◌∷◌, ◌++◌, [], ℕ, List, subst, subst₂, sym, arith, rules}
 use Rattle.lp_definitions.specs.LinearProgram.{numbers_from}
 use Rattle.listing_readers.specs.declared.tables.Numbers.{Numbers}
-use Rattle.listing_readers.specs.Read.{sheet_view}
+use Rattle.listing_words.specs.Read.{sheet_view}
 use Rattle.listing_readers.proofs.Reading.{IsReadSoFar, table_begins, table_goes_on, table_fails, table_ends}
 use Rattle.listing_readers.proofs.tables.table.Goals as goal
 

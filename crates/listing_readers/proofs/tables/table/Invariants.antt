@@ -1,6 +1,6 @@
 use Rattle.std.proofs.Common.{◌+◌, ◌-◌, ◌≤◌}
 use Rattle.lp_definitions.specs.LinearProgram.{numbers_from}
-use Rattle.listing_readers.specs.Read.{sheet_view}
+use Rattle.listing_words.specs.Read.{sheet_view}
 use Rattle.listing_readers.proofs.Reading.{IsReadSoFar}
 use Rattle.listing_readers.proofs.tables.table.Given as goal
 

@@ -4,7 +4,7 @@ use Rattle.exact_values.specs.Rational.{ℚ}
 use Rattle.walk_definitions.specs.Checkers.{checker_of_128_bits}
 use Rattle.walk_definitions.specs.Words.{left_after, fraction_in}
 use Rattle.walk_definitions.proofs.Numbers.{great_is_none}
-use Rattle.listing_readers.proofs.numbers.spelled.Goals as goal
+use Rattle.listing_words.proofs.numbers.spelled.Goals as goal
 
 pub returns-in_err-size-clause-none : goal.returns-in_err-size-clause-none
 returns-in_err-size-clause-none c =

@@ -4,8 +4,8 @@
 use Rattle.std.specs.Prelude.{◌≡◌, Result, Ok, Err}
 use Rattle.check_definitions.specs.declared.Verdict.{Verdict}
 use Rattle.check_definitions.specs.declared.Verdict.TheVariants.{Checked, Failed, Unchecked}
-use Rattle.listing_answers.specs.declared.answer.Stop.{Stop}
-use Rattle.listing_answers.specs.declared.answer.Stop.TheVariants as stops
+use Rattle.listing_claims.specs.declared.claims.Stop.{Stop}
+use Rattle.listing_claims.specs.declared.claims.Stop.TheVariants as stops
 
 -- a comparison fails
 abbrev pub IsFailed : Verdict → Type 0

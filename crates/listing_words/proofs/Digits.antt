@@ -26,14 +26,3 @@ whole_taken zero [] past = refl
 whole_taken (suc n) [] past = refl
 whole_taken zero (d ∷ digits) past = absurd (omega arith)
 whole_taken (suc n) (d ∷ digits) past = ap (λ ds. d ∷ ds) (whole_taken n digits (omega arith))
-
--- seven tests, of which three stand together
-pub any_form : (a b c d e f g : Bool) → (a || ((b || (c || d)) || (e || (f || g)))) ≡ (a || (b || (c || (d || (e || (f || (g || false)))))))
-any_form true b c d e f g = refl
-any_form false true c d e f g = refl
-any_form false false true d e f g = refl
-any_form false false false true e f g = refl
-any_form false false false false true f g = refl
-any_form false false false false false true g = refl
-any_form false false false false false false true = refl
-any_form false false false false false false false = refl

@@ -2,7 +2,7 @@
 ghost use Rattle.std.specs.Prelude.{◌≡◌, ◌≤◌, length, drop, false};
 ghost use Rattle.std.specs.List.{position_or_len};
 ghost use Rattle.walk_definitions.specs.Words.{left_after, ends_word, word_in};
-ghost use Rattle.listing_readers.specs.Read.{taken};
+ghost use Rattle.listing_words.specs.Read.{taken};
 
 use std::marker::Model;
 
