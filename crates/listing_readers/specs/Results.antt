@@ -1,6 +1,6 @@
 -- What a reader comes to.
 --     IfRead result Shows          what is read is shown so, or that it isn't there; nothing is said where there is no memory
-use Rattle.std.specs.Prelude.{◌≡◌, Option, Some, None, Result, Ok, Err}
+use Rattle.std.specs.Prelude.{Option, Some, None, Result, Ok, Err}
 use Rattle.listing_readers.specs.declared.unread.Unread.{Unread}
 use Rattle.listing_readers.specs.declared.unread.Unread.TheVariants.{Absent, NoMemory}
 
