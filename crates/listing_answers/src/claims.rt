@@ -6,7 +6,7 @@ ghost use Rattle.listing_tables.specs.Sheets.{IsSheet};
 ghost use Rattle.walk_definitions.specs.Checkers.{checker_of_128_bits};
 ghost use Rattle.walk_definitions.specs.Words.{left_after, fraction_in};
 ghost use Rattle.walk_definitions.specs.Reading.{optimal_in, crossed_in, infeasible_in, unbounded_in, claim_in, verdict_in};
-ghost use Rattle.listing_readers.specs.Read.{taken, sheet_view};
+ghost use Rattle.listing_words.specs.Read.{taken, sheet_view};
 ghost use Rattle.listing_answers.specs.Words.{Found, IsRayHeadRead};
 ghost use Rattle.listing_answers.specs.Claims.{IsPairRead, IsStated, Tried, optimum_in, shown_in};
 

@@ -8,7 +8,7 @@ ghost use Rattle.walk_definitions.specs.Checkers.{checker_of_128_bits};
 ghost use Rattle.walk_definitions.specs.Words.{fraction_in};
 ghost use Rattle.walk_definitions.specs.Tests.{close_test};
 ghost use Rattle.walk_definitions.specs.Reading.{close_in, tested};
-ghost use Rattle.listing_readers.specs.Read.{sheet_view};
+ghost use Rattle.listing_words.specs.Read.{sheet_view};
 ghost use Rattle.listing_answers.specs.Asked.{IsAskedOf};
 ghost use Rattle.listing_answers.specs.Words.{Found};
 ghost use Rattle.listing_answers.specs.Closings.{IsValueRead, IsEndRead, Closes, unbounded_in, infeasible_in, past_in, close_after_in, value_of};

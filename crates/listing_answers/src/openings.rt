@@ -6,7 +6,7 @@ ghost use Rattle.parametric_request.specs.Asking.{changing_of, parametric_run_of
 ghost use Rattle.walk_definitions.specs.Checkers.{checker_of_128_bits};
 ghost use Rattle.walk_definitions.specs.Words.{left_after};
 ghost use Rattle.walk_definitions.specs.Reading.{parametric_run_head, opening_in};
-ghost use Rattle.listing_readers.specs.Read.{taken, sheet_view};
+ghost use Rattle.listing_words.specs.Read.{taken, sheet_view};
 ghost use Rattle.listing_answers.specs.Asked.{IsAskedOf};
 ghost use Rattle.listing_answers.specs.Claims.{mark_by};
 ghost use Rattle.listing_answers.specs.Taken.{Taken, IsOpened};

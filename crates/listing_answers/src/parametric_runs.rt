@@ -6,7 +6,7 @@ ghost use Rattle.walk_definitions.specs.Checkers.{checker_of_128_bits};
 ghost use Rattle.walk_definitions.specs.Words.{left_after};
 ghost use Rattle.walk_definitions.specs.Reading.{run_in};
 ghost use Rattle.run_definitions.specs.Verbs.{last_value};
-ghost use Rattle.listing_readers.specs.Read.{taken, sheet_view};
+ghost use Rattle.listing_words.specs.Read.{taken, sheet_view};
 ghost use Rattle.listing_answers.specs.Asked.{IsAskedOf};
 ghost use Rattle.listing_answers.specs.Taken.{Taken};
 

@@ -7,7 +7,7 @@ ghost use Rattle.answer_definitions.specs.Lines.{row_numbers, column_numbers};
 ghost use Rattle.walk_definitions.specs.Checkers.{checker_of_128_bits};
 ghost use Rattle.walk_definitions.specs.Words.{left_after, fraction_in};
 ghost use Rattle.walk_definitions.specs.Reading.{solution_in};
-ghost use Rattle.listing_readers.specs.Read.{taken, sheet_view};
+ghost use Rattle.listing_words.specs.Read.{taken, sheet_view};
 ghost use Rattle.listing_readers.specs.Tables.{IsTableRead};
 ghost use Rattle.listing_answers.specs.Words.{Found};
 ghost use Rattle.listing_answers.specs.Solutions.{rows_head, columns_head, AreLines, IsPrinted};

@@ -3,7 +3,7 @@ use Rattle.std.proofs.Common.{◌≡◌, ℕ, ◌+◌, Bool, true, false, ◌||�
 use Rattle.std.specs.Prelude.{is_none, is_some, not, option_map}
 use denote.Bor.{Bor}
 use Rattle.job_devices.specs.declared.device.NoMemory.{NoMemory}
-use Rattle.listing_readers.specs.Read.{taken}
+use Rattle.listing_words.specs.Read.{taken}
 use Rattle.listing_definitions.specs.declared.Mark.{Mark}
 use Rattle.listing_definitions.specs.Ending.{Ending}
 use Rattle.run_definitions.specs.State.{State}

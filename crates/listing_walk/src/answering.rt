@@ -7,7 +7,7 @@ ghost use Rattle.question_definitions.specs.Answers.{OfPath, OfSolution, OfParam
 ghost use Rattle.run_definitions.specs.Verbs.{mark_of};
 ghost use Rattle.walk_definitions.specs.Walker as walks;
 ghost use Rattle.listing_tables.specs.Sheets.{IsSheet};
-ghost use Rattle.listing_readers.specs.Read.{sheet_view};
+ghost use Rattle.listing_words.specs.Read.{sheet_view};
 ghost use Rattle.parametric_request.specs.Asking.{Serves, parametric_run_of};
 ghost use Rattle.listing_answers.specs.Taken.{conclusion_of, IsParametricRunAnswer};
 ghost use Rattle.listing_walk.specs.Standing.{ShowsPending};

@@ -6,7 +6,7 @@ ghost use Rattle.report_text.specs.Views.{IsEnding, ending_view};
 ghost use Rattle.listing_definitions.specs.Listing.{ending_text};
 ghost use Rattle.walk_definitions.specs.Words.{left_after};
 ghost use Rattle.walk_definitions.specs.Walker as walks;
-ghost use Rattle.listing_readers.specs.Read.{taken};
+ghost use Rattle.listing_words.specs.Read.{taken};
 ghost use Rattle.listing_walk.specs.Ended.{found_view};
 ghost use Rattle.listing_walk.specs.Standing.{Faces};
 ghost use Rattle.listing_walk.specs.Walking.{open_by, is_loud, one_if, IsUnchecked, IsReported};

@@ -4,7 +4,7 @@ use Rattle.walk_definitions.specs.Checkers.{checker_of_128_bits}
 use Rattle.walk_definitions.specs.Words.{fraction_in}
 use Rattle.walk_definitions.specs.Tests.{verdict_test}
 use Rattle.walk_definitions.specs.Reading.{verdict_in}
-use Rattle.listing_readers.specs.Read.{sheet_view}
+use Rattle.listing_words.specs.Read.{sheet_view}
 use Rattle.listing_answers.proofs.Passing.{passes}
 use Rattle.listing_answers.proofs.Claimed.{stated_given, concluded, judged_right}
 use Rattle.listing_answers.proofs.answer.answer_to_path.Goals as goal

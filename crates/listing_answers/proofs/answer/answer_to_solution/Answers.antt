@@ -6,7 +6,7 @@ use Rattle.walk_definitions.specs.Checkers.{checker_of_128_bits}
 use Rattle.walk_definitions.specs.Words.{fraction_in}
 use Rattle.walk_definitions.specs.Tests.{point_of, solution_test}
 use Rattle.walk_definitions.specs.Reading.{solution_in}
-use Rattle.listing_readers.specs.Read.{sheet_view}
+use Rattle.listing_words.specs.Read.{sheet_view}
 use Rattle.listing_answers.specs.Passing.{Stops}
 use Rattle.listing_answers.proofs.Claimed.{tested_right, tested_stops}
 use Rattle.listing_answers.proofs.Solutions.{printed_shows, printed_counted, printed_tested}

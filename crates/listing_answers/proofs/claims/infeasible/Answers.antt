@@ -5,7 +5,7 @@ use Rattle.listing_definitions.specs.Report.{InfeasibleBy}
 use Rattle.walk_definitions.specs.Checkers.{checker_of_128_bits}
 use Rattle.walk_definitions.specs.Words.{fraction_in}
 use Rattle.walk_definitions.specs.Tables.{ray_in}
-use Rattle.listing_readers.specs.Read.{sheet_view}
+use Rattle.listing_words.specs.Read.{sheet_view}
 use Rattle.listing_answers.proofs.Tables.{multipliers_counted}
 use Rattle.listing_answers.proofs.claims.infeasible.Goals as goal
 

@@ -3,7 +3,7 @@ use Rattle.listing_definitions.specs.Report.{OptimalAt}
 use Rattle.walk_definitions.specs.Checkers.{checker_of_128_bits}
 use Rattle.walk_definitions.specs.Words.{fraction_in}
 use Rattle.walk_definitions.specs.Reading.{optimal_in}
-use Rattle.listing_readers.specs.Read.{sheet_view}
+use Rattle.listing_words.specs.Read.{sheet_view}
 use Rattle.listing_answers.specs.declared.claims.Stated.{Stated}
 use Rattle.listing_answers.specs.Words.{Found}
 use Rattle.listing_answers.specs.Claims.{IsStated}

@@ -1,4 +1,4 @@
-use Rattle.listing_readers.specs.Read.{sheet_view}
+use Rattle.listing_words.specs.Read.{sheet_view}
 use Rattle.listing_answers.proofs.Choices.{by_optimum, by_crossed, by_shown}
 use Rattle.listing_answers.proofs.claims.read_claim.Goals as goal
 

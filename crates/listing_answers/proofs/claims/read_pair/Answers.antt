@@ -5,7 +5,7 @@ use Rattle.walk_definitions.specs.Words.{fraction_in}
 use Rattle.walk_definitions.specs.Tables.{pair_slots, table_in}
 use Rattle.listing_readers.specs.declared.tables.Numbers.{Numbers}
 use Rattle.listing_readers.specs.declared.tables.Shape.TheVariants.{Pair}
-use Rattle.listing_readers.specs.Read.{sheet_view}
+use Rattle.listing_words.specs.Read.{sheet_view}
 use Rattle.listing_answers.proofs.Tables.{column_is, column_length, lines_counted}
 use Rattle.listing_answers.proofs.claims.read_pair.Goals as goal
 

@@ -1,5 +1,5 @@
 use Rattle.parametric_request.specs.Asking.{changing_of}
-use Rattle.listing_readers.specs.Read.{sheet_view}
+use Rattle.listing_words.specs.Read.{sheet_view}
 use Rattle.listing_answers.specs.Closings.{past_in}
 use Rattle.listing_answers.proofs.ClosingFacts.{end_first, end_then}
 use Rattle.listing_answers.proofs.closing.close_after.Goals as goal

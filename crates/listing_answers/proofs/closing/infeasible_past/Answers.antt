@@ -5,7 +5,7 @@ use Rattle.listing_definitions.specs.Report.{InfeasiblePast}
 use Rattle.walk_definitions.specs.Checkers.{checker_of_128_bits}
 use Rattle.walk_definitions.specs.Words.{fraction_in}
 use Rattle.walk_definitions.specs.Tables.{ray_in}
-use Rattle.listing_readers.specs.Read.{sheet_view}
+use Rattle.listing_words.specs.Read.{sheet_view}
 use Rattle.listing_answers.proofs.closing.infeasible_past.Goals as goal
 
 pub returns-in_default-2 : goal.returns-in_default-2

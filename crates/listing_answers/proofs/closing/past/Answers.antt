@@ -2,7 +2,7 @@ use Rattle.std.proofs.Common.{sym, subst}
 use Rattle.std.specs.Prelude.{IfOk}
 use Rattle.parametric_request.specs.declared.request.Change.{Change}
 use Rattle.parametric_request.specs.Asking.{changing_of}
-use Rattle.listing_readers.specs.Read.{sheet_view}
+use Rattle.listing_words.specs.Read.{sheet_view}
 use Rattle.listing_answers.specs.Words.{Found}
 use Rattle.listing_answers.specs.Closings.{Closes, past_in}
 use Rattle.listing_answers.proofs.closing.past.Goals as goal

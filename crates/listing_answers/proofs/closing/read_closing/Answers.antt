@@ -4,7 +4,7 @@ use Rattle.listing_definitions.specs.Text.{solver_text}
 use Rattle.question_definitions.specs.Answers.{parametric_solver}
 use Rattle.parametric_request.specs.Asking.{changing_of}
 use Rattle.walk_definitions.specs.Words.{left_after}
-use Rattle.listing_readers.specs.Read.{taken, sheet_view}
+use Rattle.listing_words.specs.Read.{taken, sheet_view}
 use Rattle.listing_answers.specs.Words.{Found}
 use Rattle.listing_answers.specs.Closings.{Closes}
 use Rattle.listing_answers.proofs.ClosingFacts.{close_taken}

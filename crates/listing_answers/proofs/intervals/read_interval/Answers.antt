@@ -4,7 +4,7 @@ use Rattle.lp_definitions.specs.LinearProgram.{variables}
 use Rattle.walk_definitions.specs.Checkers.{checker_of_128_bits}
 use Rattle.walk_definitions.specs.Words.{fraction_in}
 use Rattle.walk_definitions.specs.Tables.{part_slots, table_in}
-use Rattle.listing_readers.specs.Read.{sheet_view}
+use Rattle.listing_words.specs.Read.{sheet_view}
 use Rattle.listing_answers.proofs.intervals.read_interval.Goals as goal
 
 pub returns-in_default-2 : goal.returns-in_default-2

@@ -9,7 +9,7 @@ use Rattle.walk_definitions.specs.Checkers.{checker_of_128_bits}
 use Rattle.walk_definitions.specs.Words.{fraction_in}
 use Rattle.walk_definitions.specs.Tests.{making_steps, verdict_test}
 use Rattle.walk_definitions.specs.Reading.{Claim, verdict_in}
-use Rattle.listing_readers.specs.Read.{sheet_view}
+use Rattle.listing_words.specs.Read.{sheet_view}
 use Rattle.listing_answers.specs.Taken.{IsOpened}
 use Rattle.listing_answers.specs.Claims.{Fits}
 use Rattle.listing_answers.proofs.Passing.{passes, stops_given, stops_first, stops_next, both_pass}

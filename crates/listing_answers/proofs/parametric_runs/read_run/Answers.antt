@@ -3,7 +3,7 @@ use Rattle.parametric_request.specs.Asking.{parametric_run_of}
 use Rattle.walk_definitions.specs.Checkers.{checker_of_128_bits}
 use Rattle.walk_definitions.specs.Words.{left_after}
 use Rattle.walk_definitions.specs.Reading.{run_in}
-use Rattle.listing_readers.specs.Read.{taken, sheet_view}
+use Rattle.listing_words.specs.Read.{taken, sheet_view}
 use Rattle.listing_answers.proofs.Runs.{IsRunSoFar, room_left, run_goes_on, run_stops, run_fails, run_closes}
 use Rattle.listing_answers.proofs.parametric_runs.read_run.Goals as goal
 

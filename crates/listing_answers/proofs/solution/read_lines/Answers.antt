@@ -2,7 +2,7 @@ use Rattle.std.proofs.Common.{◌+◌, ap, ◌∙◌}
 use Rattle.lp_laws.proofs.Opening.{length-numbers_from}
 use Rattle.answer_definitions.specs.Lines.{row_numbers, column_numbers}
 use Rattle.walk_definitions.specs.Reading.{row_slots, column_slots}
-use Rattle.listing_readers.specs.Read.{taken, sheet_view}
+use Rattle.listing_words.specs.Read.{taken, sheet_view}
 use Rattle.listing_answers.proofs.Tables.{table_counted}
 use Rattle.listing_answers.proofs.Solutions.{solution_read}
 use Rattle.listing_answers.proofs.solution.read_lines.Goals as goal

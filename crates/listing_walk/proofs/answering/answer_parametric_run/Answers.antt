@@ -2,7 +2,7 @@
 use Rattle.std.proofs.Common.{true, refl}
 use Rattle.question_definitions.specs.Answers.{OfParametricRun}
 use Rattle.listing_answers.specs.Taken.{IsParametricRunAnswer}
-use Rattle.listing_readers.specs.Read.{sheet_view}
+use Rattle.listing_words.specs.Read.{sheet_view}
 use Rattle.parametric_request.specs.Asking.{parametric_run_of}
 use Rattle.listing_walk.specs.Walking.{open_by}
 use Rattle.listing_walk.proofs.Asked.{parametric_run_answered, stopped_answered}

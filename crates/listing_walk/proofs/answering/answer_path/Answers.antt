@@ -2,7 +2,7 @@
 use Rattle.std.proofs.Common.{refl}
 use Rattle.question_definitions.specs.Answers.{OfPath}
 use Rattle.listing_answers.specs.Taken.{IsConclusion}
-use Rattle.listing_readers.specs.Read.{sheet_view}
+use Rattle.listing_words.specs.Read.{sheet_view}
 use Rattle.listing_walk.specs.Asking.{IsMarked}
 use Rattle.listing_walk.specs.Walking.{open_by}
 use Rattle.std.proofs.Common.{true}

@@ -1,6 +1,6 @@
 -- What is open comes first, and then the lines.
 use Rattle.std.proofs.Common.{sym, refl, ◌∙◌}
-use Rattle.listing_readers.specs.Read.{sheet_view}
+use Rattle.listing_words.specs.Read.{sheet_view}
 use Rattle.listing_walk.proofs.Asked.{optimal_by, other_answered}
 use Rattle.listing_walk.proofs.answering.answer_solution.Goals as goal
 
