@@ -1,11 +1,11 @@
 -- The tests of an interval of a parametric run.
 --     end_verdict, interval_verdict    the tests at an end of it, and of the whole
---     IsInterval                   an interval in fractions
+--     IsInterval                   a part of a run, in fractions
 --     IsEnd, AreEnds               what is made at an end, and at both
 --     kept_steps start end         the comparisons of a variable at both ends
 use Rattle.std.specs.Prelude.{◌≡◌, ◌≤◌, ℕ, Bool, List, ◌++◌, map, length}
 use Rattle.exact_values.specs.Rational.{ℚ}
-use Rattle.lp_definitions.specs.LinearProgram.{LinearProgram, IsVariable, variables, value_at}
+use Rattle.lp_definitions.specs.LinearProgram.{IsVariable, variables, value_at}
 use Rattle.check_definitions.specs.declared.Verdict.{Verdict}
 use Rattle.check_definitions.specs.Steps.{Step}
 use Rattle.simplex_definitions.specs.Chain.{along}
@@ -22,11 +22,9 @@ use Rattle.checks_of_128_bits.specs.declared.interval_tests.IntervalEnd.{Interva
 abbrev pub end_verdict : Sheet → Changing → ℚ → FractionColumns → Verdict
 end_verdict sheet changing theta columns = end_test checker_of_128_bits sheet changing theta columns.value.items columns.value_rate.items columns.price.items columns.price_rate.items
 
-abbrev pub columns_verdict : Sheet → Changing → ℚ → ℚ → FractionColumns → Bool → ℚ → Verdict
-columns_verdict sheet changing from to columns = part_test checker_of_128_bits sheet changing from to columns.value.items columns.value_rate.items columns.price.items columns.price_rate.items
-
 abbrev pub interval_verdict : Sheet → Changing → Interval → Bool → ℚ → Verdict
-interval_verdict sheet changing interval = columns_verdict sheet changing interval.from interval.to interval.columns
+interval_verdict sheet changing interval =
+    part_test checker_of_128_bits sheet changing interval.from interval.to interval.columns.value.items interval.columns.value_rate.items interval.columns.price.items interval.columns.price_rate.items
 
 -- a part of a run that begins at a value, in fractions
 pub record IsInterval (from : ℚ) (part : Part) (interval : Interval) : Type 0 where

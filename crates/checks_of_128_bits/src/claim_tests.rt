@@ -36,12 +36,7 @@ fn test_pair(lp: &Lp, objective: Frac, pair: &FractionPair) -> Verdict
 }
 
 // The same, as the listing has them.
-fn check_pair(
-    alloc: Global,
-    lp: &Lp,
-    objective: &Number<'_>,
-    pair: &Pair<'_>,
-) -> Result<(), Stop>
+fn check_pair(alloc: Global, lp: &Lp, objective: &Number<'_>, pair: &Pair<'_>) -> Result<(), Stop>
     requires { ArePairOf lp.now pair.now }
     ensures { Judges (pair_test checker_of_128_bits lp.now objective.now pair.now) result }
 {
