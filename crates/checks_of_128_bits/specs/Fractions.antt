@@ -1,7 +1,7 @@
 -- What a listing has in numbers, in fractions.
---     IsPairOf                     a point and a direction have a value for each variable
+--     HasPair, HasColumns          they have a number for each variable
 --     pair_verdict p objective     the test of a point and a direction
---     AreFractions, HasColumns     the lines of an interval, and that they have a number for each variable
+--     AreFractions                 the same lines of an interval
 use Rattle.std.specs.Prelude.{◌≡◌, [], ◌∷◌, length}
 use Rattle.exact_values.specs.Rational.{ℚ}
 use Rattle.exact_values.specs.Tests.{eq_ℚ}
@@ -14,8 +14,9 @@ use Rattle.listing_claims.specs.declared.claims.Columns.{Columns}
 use Rattle.checks_of_128_bits.specs.declared.fractions.FractionPair.{FractionPair}
 use Rattle.checks_of_128_bits.specs.declared.fractions.FractionColumns.{FractionColumns}
 
-abbrev pub IsPairOf : LinearProgram → FractionPair → Type 0
-IsPairOf p pair = (length pair.point.items ≡ size p.matrix) × (length pair.direction.items ≡ size p.matrix)
+-- a point and a direction have a value for each variable
+abbrev pub HasPair : LinearProgram → FractionPair → Type 0
+HasPair p pair = (length pair.point.items ≡ size p.matrix) × (length pair.direction.items ≡ size p.matrix)
 
 -- they show that there is no best point, and the point has this objective
 abbrev pub pair_verdict : LinearProgram → ℚ → FractionPair → Verdict

@@ -6,10 +6,9 @@ ghost use Rattle.parametric_request.specs.Asking.{changing_of};
 ghost use Rattle.walk_definitions.specs.Checkers.{checker_of_128_bits};
 ghost use Rattle.listing_words.specs.Read.{sheet_view};
 ghost use Rattle.listing_claims.specs.Asked.{IsAskedOf};
-ghost use Rattle.listing_claims.specs.Claims.{Fits, pair_test, claim_test, opening_test};
-ghost use Rattle.listing_claims.specs.Claims.{IsPairOf as ArePairOf};
+ghost use Rattle.listing_claims.specs.Claims.{IsPairOf, Fits, pair_test, claim_test, opening_test};
 ghost use Rattle.listing_claims.specs.Passing.{Judges};
-ghost use Rattle.checks_of_128_bits.specs.Fractions.{IsPairOf, pair_verdict};
+ghost use Rattle.checks_of_128_bits.specs.Fractions.{HasPair, pair_verdict};
 
 use crate::families::program_at;
 use crate::fractions::{FractionPair, fraction, fractions, pair_of};
@@ -23,9 +22,9 @@ use lp_model::Lp;
 use parametric_request::ParametricRequest;
 use std::alloc::Global;
 
-// A point with this objective, and a direction.
+// A point with this objective, and a direction, in fractions.
 fn test_pair(lp: &Lp, objective: Frac, pair: &FractionPair) -> Verdict
-    requires { IsPairOf lp.now pair.now }
+    requires { HasPair lp.now pair.now }
     ensures { result ≡ pair_verdict lp.now objective pair.now }
 {
     let proof = check_unbounded(lp, &pair.point, &pair.direction);
@@ -35,9 +34,9 @@ fn test_pair(lp: &Lp, objective: Frac, pair: &FractionPair) -> Verdict
     )
 }
 
-// The same, as the listing has them.
+// A point with this objective, and a direction.
 fn check_pair(alloc: Global, lp: &Lp, objective: &Number<'_>, pair: &Pair<'_>) -> Result<(), Stop>
-    requires { ArePairOf lp.now pair.now }
+    requires { IsPairOf lp.now pair.now }
     ensures { Judges (pair_test checker_of_128_bits lp.now objective.now pair.now) result }
 {
     let objective = fraction(objective)?;
@@ -45,7 +44,7 @@ fn check_pair(alloc: Global, lp: &Lp, objective: &Number<'_>, pair: &Pair<'_>) -
     judge(test_pair(lp, objective, &made))
 }
 
-// A ray.
+// The multipliers of a ray.
 fn check_ray(alloc: Global, lp: &Lp, ray: &[Number<'_>]) -> Result<(), Stop>
     requires { length ray.now ≡ size lp.now.matrix }
     ensures { Judges (infeasible_check lp.now (value_at ray.now)) result }

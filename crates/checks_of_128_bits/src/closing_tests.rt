@@ -13,10 +13,10 @@ ghost use Rattle.listing_words.specs.Read.{sheet_view};
 ghost use Rattle.listing_claims.specs.Asked.{IsAskedOf};
 ghost use Rattle.listing_claims.specs.Passing.{Judges};
 ghost use Rattle.checks_of_128_bits.specs.Making.{Makes};
-ghost use Rattle.listing_claims.specs.Claims.{IsPairOf as ArePairOf};
+ghost use Rattle.listing_claims.specs.Claims.{IsPairOf};
 ghost use Rattle.listing_claims.specs.Closings.{ClosingFits, unbounded_test, infeasible_test, closing_test};
 ghost use Rattle.checks_of_128_bits.specs.Closings.{improving_test};
-ghost use Rattle.checks_of_128_bits.specs.Fractions.{IsPairOf};
+ghost use Rattle.checks_of_128_bits.specs.Fractions.{HasPair};
 
 use crate::families::{plus_product, program_at};
 use crate::fractions::{FractionPair, fraction, fractions, pair_of};
@@ -166,7 +166,7 @@ fn check_past_unbounded(
     pair: &FractionPair,
 ) -> Result<(), Stop>
     requires row { IsRow sheet.lp.now.matrix row }
-    requires pair { IsPairOf sheet.lp.now pair.now }
+    requires pair { HasPair sheet.lp.now pair.now }
     ensures { (changing : Changing) → Judges (past_test max last value (unbounded_past checker_of_128_bits (sheet_view sheet.entry) changing row value
         (value_at pair.now.point.items) (value_at pair.now.direction.items))) result }
 {
@@ -184,7 +184,7 @@ fn check_unbounded(
     pair: &FractionPair,
 ) -> Result<(), Stop>
     requires serves { Serves sheet.problem.now sheet.lp.now request.now }
-    requires pair { IsPairOf sheet.lp.now pair.now }
+    requires pair { HasPair sheet.lp.now pair.now }
     ensures { Judges (unbounded_test checker_of_128_bits (sheet_view sheet.entry)
         (changing_of request.now.name request.now.change) request.now.to last value pair.now.point.items pair.now.direction.items) result }
 {
@@ -245,7 +245,7 @@ fn check_infeasible(
     }
 }
 
-// The same, as the listing has it.
+// A run of the objective closes so, in the numbers of the listing.
 fn close_unbounded(
     alloc: Global,
     sheet: Sheet<'_>,
@@ -255,7 +255,7 @@ fn close_unbounded(
     pair: &Pair<'_>,
 ) -> Result<(), Stop>
     requires serves { Serves sheet.problem.now sheet.lp.now request.now }
-    requires pair { ArePairOf sheet.lp.now pair.now }
+    requires pair { IsPairOf sheet.lp.now pair.now }
     ensures { Judges (unbounded_test checker_of_128_bits (sheet_view sheet.entry)
         (changing_of request.now.name request.now.change) request.now.to last value.now pair.now.point.items pair.now.direction.items) result }
 {
@@ -264,7 +264,7 @@ fn close_unbounded(
     check_unbounded(sheet, request, last, value, &made)
 }
 
-// The same, as the listing has it.
+// A run of the right-hand side closes so, in the numbers of the listing.
 fn close_infeasible(
     alloc: Global,
     sheet: Sheet<'_>,
@@ -283,36 +283,12 @@ fn close_infeasible(
     check_infeasible(alloc, sheet, request, last, value, &made)
 }
 
-// The same, as the listing has it.
+// It ends at its last value, in the numbers of the listing.
 fn close_at(value: &Number<'_>, last: Frac, max: Frac) -> Result<(), Stop>
     ensures { Judges (in_turn (asked (eq_ℚ value.now last) ∷ asked (eq_ℚ value.now max) ∷ [])) result }
 {
     let value = fraction(value)?;
     check_end_at(value, last, max)
-}
-
-// How a run closes whose last interval ends here.
-fn check_close(
-    alloc: Global,
-    sheet: Sheet<'_>,
-    request: &ParametricRequest,
-    last: Frac,
-    closing: &Closing<'_>,
-) -> Result<(), Stop>
-    requires asked { IsAskedOf sheet request.now }
-    requires fits { ClosingFits sheet.lp.now closing.now }
-    ensures { Judges (closing_test checker_of_128_bits (sheet_view sheet.entry) (changing_of request.now.name request.now.change)
-        request.now.to last closing.now) result }
-{
-    match closing {
-        Closing::At(value) => close_at(value, last, request.to),
-        Closing::Unbounded(value, pair) => {
-            close_unbounded(alloc, sheet, request, last, value, pair)
-        }
-        Closing::Infeasible(value, ray) => {
-            close_infeasible(alloc, sheet, request, last, value, ray)
-        }
-    }
 }
 
 /// How a run closes whose last interval ends at a value.
@@ -329,5 +305,13 @@ pub fn check_closing(
         request.now.to last.now closing.now) result }
 {
     let last = fraction(last)?;
-    check_close(alloc, sheet, request, last, closing)
+    match closing {
+        Closing::At(value) => close_at(value, last, request.to),
+        Closing::Unbounded(value, pair) => {
+            close_unbounded(alloc, sheet, request, last, value, pair)
+        }
+        Closing::Infeasible(value, ray) => {
+            close_infeasible(alloc, sheet, request, last, value, ray)
+        }
+    }
 }
