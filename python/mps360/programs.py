@@ -11,13 +11,21 @@ from mps360.errors import NoProgram
 # the repository, or the folder where the commands are installed
 TOP = pathlib.Path(__file__).resolve().parents[2]
 COMMANDS = TOP / "scripts" if (TOP / "scripts").is_dir() else TOP
+# what the programs of a trial package end in
+UNPROVED = ".unproved"
 
 
-def proved_program(name: str = "mps360") -> str | None:
-    "the path of the proved program of this name, installed or fresh, or None where there is none"
-    installed = COMMANDS / {"mps360": "program", "mps360check": "check"}[name]
-    if installed.exists():
-        return str(installed)
+def installed_program(name: str, ending: str = "") -> str | None:
+    "the path of the program of this name that is installed beside these modules, proved, or with the ending .unproved of a trial package; else None"
+    installed = COMMANDS / ({"mps360": "program", "mps360check": "check"}[name] + ending)
+    return str(installed) if installed.exists() else None
+
+
+def proved_program(name: str = "mps360", may_be_built: bool = True) -> str | None:
+    "the path of the proved program of this name, installed or (where that is asked too) built here and fresh; None where there is none"
+    installed = installed_program(name)
+    if installed or not may_be_built or installed_program(name, UNPROVED):
+        return installed
     found = subprocess.run([COMMANDS / "program.sh", "--fresh", name], capture_output=True, text=True)
     return found.stdout.strip() if found.returncode == 0 else None
 

@@ -208,7 +208,7 @@ def test_the_compiled_program_is_taken(tmp_path):
     (tmp_path / "crates/mps360").mkdir(parents=True)
     (tmp_path / "crates.txt").write_text("mps360:\n")
     code = "import sys; sys.path.insert(0, sys.argv[1]); from mps360 import unproved; print(unproved.place_of('mps360') / unproved.key('mps360'))"
-    env = {**os.environ, "PATH": str(house.path) + ":/bin:/usr/bin"}
+    env = {**os.environ, "PATH": str(house.path) + ":/bin:/usr/bin", "XDG_CACHE_HOME": str(tmp_path / "cache")}
     fakes.program(house.path, "rt", "sys.exit('rt was called')")
     place = subprocess.run([sys.executable, "-c", code, tmp_path / "python"], stdout=subprocess.PIPE, check=True, env=env).stdout.decode().strip()
     os.makedirs(place)

@@ -24,7 +24,7 @@ NAME.listing.part).
 A disk that is full, and a device that gives no more, end the batch: what met it has no answer and no line, and --resume runs it. Without
 --resume an earlier summary of OUT is kept, as summary-1.csv and so on.
 
-The proved program is used where it is built; else all run UNPROVED, compiled once, in a minute or two (MPS360_PROVED=1 refuses that).
+The proved program is used where it is built; else all run UNPROVED, compiled once, in about a minute (MPS360_PROVED=1 refuses that).
 
 Ends with 0 where each ended with an END line; 3 where one didn't; 64 for wrong use; 66 where there is no such folder or file, or
 nothing to run in it; 70 where no program or no solver can be had; 73 where OUT or standard output can't be written; 130 where it was interrupted."""
@@ -55,6 +55,7 @@ from mps360.listings.read import NUMBER
 from mps360 import programs, solvers
 from mps360.cli import mps2job
 from mps360.cli.route_options import solvers_of
+from mps360.life import Life, keep_above
 from mps360.text import as_text, guard
 from mps360.commands import here
 from mps360.output import CantWrite, command
@@ -71,7 +72,7 @@ NO_ROUTE = {"route": "", "proved_by": "", "notes": ""}
 # seconds that a child has to end by itself: after its own limit, and after a signal
 LATE, GRACE = 10.0, 5.0
 NO_END, REFUSED, CANT_READ, CANT_WRITE, INTERRUPTED, OPEN, OLD_OPEN = 124, 65, 66, 73, 130, 3, 1
-LINE_EACH, PATIENCE, MOST_SAID = 10, 0.2, 5
+LINE_EACH, PATIENCE, MOST_SAID = 10.0, 0.2, 5
 DONE = ("ended", "stopped", "refused")
 # statuses of a run whose job couldn't be read, or whose listing or punched deck couldn't be written: no answer, but the want of a device
 DEVICE_FAULTS = {24: "the job couldn't be read", 25: "the listing couldn't be written", 26: "the deck couldn't be punched"}
@@ -255,6 +256,7 @@ class Runs:
         self.lock, self.is_over = threading.Lock(), False
         self.processes: dict[int, Process] = {}
         self.running: dict[str, float] = {}
+        self.saying: dict[str, Path] = {}
 
     def sum_of(self, path: Path) -> str:
         "a checksum of a file, and of the words for MPS files where it is one"
@@ -327,9 +329,18 @@ class Runs:
             record |= {"state": "time limit", "end": f"stopped after {self.limit:g} s" if self.limit else "interrupted"}
         finally:
             del self.running[name]
+            self.saying.pop(name, None)
         if part.exists() and not part.stat().st_size:
             part.unlink()
         return {**record, "seconds": round(time.monotonic() - begun, 3)}
+
+    def waits_for(self, now: float) -> str:
+        "what the file does that runs the longest, as far as it tells; now is the time of time.monotonic"
+        begun, name = min(((begun, name) for name, begun in list(self.running.items())), default=(now, ""))
+        if not name:
+            return ""
+        told = last_line(self.saying.get(name)).removeprefix("solve: ")
+        return f", the longest since {now - begun:.0f} s: {name}{f' ({told})' if told else ''}"
 
     # ---- a job
 
@@ -361,6 +372,7 @@ class Runs:
             words += ["--with", ",".join(self.solvers) or "none"]
         if until is not None:
             words += ["--seconds", f"{max(0.001, until - time.monotonic()):.3f}"]
+        self.saying[name] = folder / "said"
         with open(folder / "answer", "wb") as answer, open(folder / "said", "wb") as said:
             status = self.call([*words, str(path.resolve())], None if until is None else until + LATE, stdin=subprocess.DEVNULL, stdout=answer, stderr=said)
         told = (folder / "said").read_text(encoding="utf-8", errors="replace").strip()
@@ -402,6 +414,15 @@ class Runs:
             say(f"{name}: {note}")
         if len(run["notes"]) > MOST_SAID:
             say(f"{name}: {len(run['notes']) - MOST_SAID} notes more, which {name}.names has")
+
+
+def last_line(path: Path | None) -> str:
+    "the last whole line that a child has said so far; none where it has said nothing, or has ended"
+    try:
+        lines = path.read_bytes().decode("utf-8", "replace").split("\n")[:-1] if path else []
+    except OSError:
+        return ""
+    return lines[-1] if lines else ""
 
 
 def how_it_ended(listing: str) -> str:
@@ -458,9 +479,9 @@ class Lines:
             self.fault = cause
 
 
-def work_off(files: Mapping[str, Path], runs: Runs, summary: Summary, at_once: int, signals: Signals, lines: Lines) -> None:
+def work_off(files: Mapping[str, Path], runs: Runs, summary: Summary, at_once: int, signals: Signals, lines: Lines, life: Life) -> None:
     "runs what isn't done, and takes each result as it comes, until all are done or a signal came"
-    told = begun = time.monotonic()
+    begun = time.monotonic()
     total = len(files) + len(summary.records)
     with ThreadPoolExecutor(at_once) as pool:
         waiting = {pool.submit(runs.run, name, path) for name, path in files.items()}
@@ -472,16 +493,13 @@ def work_off(files: Mapping[str, Path], runs: Runs, summary: Summary, at_once: i
                     summary.add(record)
                     lines.tell(record)
                 now = time.monotonic()
-                if now - told >= LINE_EACH:
-                    told = now
-                    longest = min(((begun, name) for name, begun in list(runs.running.items())), default=None)
-                    waits = f", the longest since {now - longest[0]:.0f} s: {longest[1]}" if longest else ""
-                    say(f"{now - begun:.0f} s: {len(summary.records)} of {total} done, {len(runs.running)} running{waits}")
+                life.tick(now - begun, lambda: f"{len(summary.records)} of {total} done, {len(runs.running)} running{runs.waits_for(now)}")
         finally:
             for future in waiting:
                 future.cancel()
             if waiting:
                 runs.end()
+            life.clear()
 
 
 def check_words(options: argparse.Namespace) -> None:
@@ -497,7 +515,7 @@ def check_words(options: argparse.Namespace) -> None:
         raise Wrong(70, not_installed(missing))
 
 
-def batch(options: argparse.Namespace, signals: Signals) -> int:
+def batch(options: argparse.Namespace, signals: Signals, life: Life) -> int:
     "runs all, and gives the exit status"
     files, out = files_of(options)
     check_words(options)
@@ -514,7 +532,7 @@ def batch(options: argparse.Namespace, signals: Signals) -> int:
         if options.resume:
             say(f"{len(kept)} of {len(files)} are done already")
         signals.is_noted, lines = True, Lines()
-        work_off({name: path for name, path in files.items() if name not in kept}, runs, summary, options.at_once, signals, lines)
+        work_off({name: path for name, path in files.items() if name not in kept}, runs, summary, options.at_once, signals, lines, life)
         summary.end(files)
     except OSError as cause:
         raise Wrong(CANT_WRITE, f"can't write {cause.filename or out}: {cause.strerror}") from None
@@ -548,6 +566,7 @@ class Words(argparse.ArgumentParser):
 def main(words: list[str] | None = None) -> int:
     "the command; its status"
     words = sys.argv[1:] if words is None else words
+    errors = sys.stderr
     guard()
     if any(word in ("-h", "--help") for word in words):
         print(here(__doc__ or ""))
@@ -562,8 +581,10 @@ def main(words: list[str] | None = None) -> int:
     parser.add_argument("--mps2job", default="")
     parser.add_argument("--out")
     parser.add_argument("words", nargs="+")
+    life = Life("mps360-batch", LINE_EACH, errors, most=LINE_EACH)
+    keep_above(life)
     try:
-        return batch(parser.parse_args(words), Signals())
+        return batch(parser.parse_args(words), Signals(), life)
     except Wrong as cause:
         say(cause)
         return cause.status

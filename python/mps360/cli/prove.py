@@ -110,7 +110,7 @@ def outcome_of(options: argparse.Namespace, job: Job, program: Tool, life: Life)
 
 def prove(options: argparse.Namespace, passed: list[str]) -> int:
     "the whole; the exit status"
-    life = Life(NAME, options.life)
+    life = Life(NAME, options.life, seconds=options.seconds)
     job = basis2deck.read_job(options.model, passed)
     program = solve.program_of(options)
     for sentence in job.said if options.keep else job.said_without(job.of_table):

@@ -512,7 +512,7 @@ def solve(options: argparse.Namespace, passed: list[str]) -> int:
     keep(options, f"{stem}.job", model.job)
     if model.table:
         keep(options, f"{stem}.names", model.table)
-    outcome = outcome_of(options, model, program_of(options), life.Life(NAME, options.life))
+    outcome = outcome_of(options, model, program_of(options), life.Life(NAME, options.life, seconds=options.seconds))
     attempt = outcome.attempt
     model.ran(attempt)
     keep(options, f"{stem}.job", model.job)

@@ -7,12 +7,13 @@ from dataclasses import dataclass
 from datetime import datetime, timezone
 from typing import Literal
 
+from mps360.commands import called
 from mps360.pages.markup import Html, joined, paragraph, tag
 from mps360.provenance import Provenance
 from mps360.version import version
 
 State = Literal["PROVED", "UNPROVED", "NO VERDICT"]
-UNKNOWN = "this page can't see which program printed the listing. mps360check JOB LISTING says whether its numbers prove what it says."
+UNKNOWN = f"this page can't see which program printed the listing. {called('mps360check')} JOB LISTING says whether its numbers prove what it says."
 NOTHING = "the listing has no verdict, so nothing is claimed of the problem."
 
 

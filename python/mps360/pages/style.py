@@ -33,7 +33,7 @@ tfoot td,tfoot th{font-weight:600;border-top:2px solid var(--ink)}
 .unit{font-weight:400;color:var(--soft);font-size:.88em;overflow-wrap:anywhere}
 .e{display:none}#exact:checked~main .e{display:inline}#exact:checked~main .d{display:none}
 #most:checked~main tr.zero{display:none}
-.digits{display:inline-block;vertical-align:top;max-width:100%}.digits summary{cursor:pointer;white-space:normal}
+.digits{display:inline-block;vertical-align:top;max-width:100%}td .digits{max-width:13rem}.digits summary{cursor:pointer;white-space:normal}
 .states{display:grid;grid-template-columns:max-content 1fr;gap:.1rem .9rem;margin:.4rem 0;font-size:.92rem}
 summary{cursor:pointer}
 pre{overflow-x:auto;background:var(--band);padding:.7rem;font-size:.82rem;line-height:1.35}
