@@ -1,5 +1,5 @@
 -- What is read by its values, and how it is judged.
-use Rattle.std.proofs.Common.{◌≡◌, ℕ, Bool, true, false, ◌&&◌, List, Option, Some, None, Result, Err, refl, sym, ap, subst, ◌∙◌, if◌then◌else◌}
+use Rattle.std.proofs.Common.{◌≡◌, ℕ, Bool, true, false, ◌&&◌, List, Option, Some, None, Result, refl, sym, ap, subst, ◌∙◌, if◌then◌else◌}
 use Rattle.std.specs.Prelude.{is_some, IsErrAnd}
 use Rattle.std.proofs.lemmas.Result.{err_from_is_err_and}
 use Rattle.exact_values.specs.Rational.{ℚ}
@@ -12,7 +12,7 @@ use Rattle.listing_claims.specs.declared.claims.Stop.{Stop}
 use Rattle.listing_claims.specs.declared.claims.Stop.TheVariants as stops
 use Rattle.listing_claims.specs.Passing.{Stops}
 use Rattle.listing_answers.specs.Words.{Found}
-use Rattle.listing_answers.specs.Taken.{IsStopped, Taken, IsUnread, IsReadBy}
+use Rattle.listing_answers.specs.Taken.{IsStopped, Taken, IsUnread}
 
 -- what a `?` hands on
 pub handed_on : {A X : Type 0} (Shows : X → A → Type 0) (judged : Judged A) (new : List ℕ) (result : Result X Stop) (stop : Stop) → IsStopped judged stop → IsErrAnd result (λ y. y ≡ stop) → Taken Shows judged new result

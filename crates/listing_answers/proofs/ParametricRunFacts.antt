@@ -1,5 +1,5 @@
 -- The answer to a parametric run, by what stands before it.
-use Rattle.std.proofs.Common.{◌≡◌, ℕ, List, [], Some, None, Result, Ok, Err, sym, ap, subst, ◌∙◌}
+use Rattle.std.proofs.Common.{◌≡◌, ℕ, List, [], Some, None, Result, Ok, ap, ◌∙◌}
 use Rattle.std.specs.Prelude.{IsErrAnd}
 use Rattle.exact_values.specs.Rational.{ℚ}
 use Rattle.listing_definitions.specs.declared.Mark.{Mark}

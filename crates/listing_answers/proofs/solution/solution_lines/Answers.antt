@@ -1,4 +1,4 @@
-use Rattle.std.proofs.Common.{sym, subst, ap, ◌∙◌, List, ℕ}
+use Rattle.std.proofs.Common.{sym, subst, ◌∙◌, List, ℕ}
 use Rattle.walk_definitions.specs.Words.{form_in}
 use Rattle.listing_words.specs.Read.{sheet_view}
 use Rattle.walk_definitions.specs.Reading.{solution_in}
