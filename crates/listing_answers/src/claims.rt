@@ -282,7 +282,7 @@ fn read_verdict<'a, T: Checks>(
     read_claim::<T>(alloc, cursor, by, sheet, solver)
 }
 
-/// The verdict of a solving verb. It isn't checked where it isn't there but for a number that is too long.
+/// The verdict of a solving verb; it is left unchecked where only a number that is too long keeps it from being read.
 pub fn verdict<'a, T: Checks>(
     alloc: Global,
     cursor: &mut Cursor<'a>,

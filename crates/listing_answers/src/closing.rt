@@ -151,7 +151,7 @@ fn read_closing<'a, T: Checks>(
     close_after::<T>(alloc, cursor, by, sheet, request)
 }
 
-// How a run closes. It isn't checked where that isn't there but for a number that is too long.
+// How a run closes; that is left unchecked where only a number that is too long keeps it from being read.
 fn run_closing<'a, T: Checks>(
     alloc: Global,
     cursor: &mut Cursor<'a>,

@@ -158,7 +158,7 @@ fn read_interval<'a, T: Checks>(
     Ok(Some(Part { to, columns }))
 }
 
-// The interval of a number, from the last end on. It isn't checked where it isn't there but for a number that is too long.
+// The interval of a number, from the last end on; it is left unchecked where only a number that is too long keeps it from being read.
 fn interval<'a, T: Checks>(
     alloc: Global,
     cursor: &mut Cursor<'a>,

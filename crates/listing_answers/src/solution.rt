@@ -121,7 +121,7 @@ fn read_lines<'a, T: Checks>(
     Ok(Some(Lines { rows, columns }))
 }
 
-/// The lines of SOLUTION under a mark. They aren't checked where they aren't there but for a number that is too long.
+/// The lines of SOLUTION under a mark; they are left unchecked where only a number that is too long keeps them from being read.
 pub fn solution_lines<'a, T: Checks>(
     alloc: Global,
     cursor: &mut Cursor<'a>,
