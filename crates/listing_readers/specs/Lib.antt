@@ -1,2 +1,3 @@
-pub mod Read
+pub mod Results
+pub mod Lines
 pub mod Tables

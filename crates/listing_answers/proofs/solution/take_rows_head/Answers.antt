@@ -3,7 +3,7 @@ use Rattle.std.specs.Prelude.{option_and_then}
 use Rattle.listing_definitions.specs.Text.{mark_text}
 use Rattle.walk_definitions.specs.Words.{left_after}
 use Rattle.walk_definitions.proofs.Texts.{left_after_both}
-use Rattle.listing_readers.specs.Read.{taken}
+use Rattle.listing_words.specs.Read.{taken}
 use Rattle.listing_answers.proofs.solution.take_rows_head.Goals as goal
 
 pub returns-then-take : goal.returns-then-take

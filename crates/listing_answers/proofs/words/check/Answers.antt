@@ -1,7 +1,7 @@
 use Rattle.std.proofs.Common.{refl, ap, sym, ◌∙◌}
 use Rattle.std.specs.Prelude.{option_and_then}
 use Rattle.listing_definitions.specs.Report.{Unchecked}
-use Rattle.listing_readers.specs.Read.{taken}
+use Rattle.listing_words.specs.Read.{taken}
 use Rattle.listing_answers.specs.Words.{refusal_in}
 use Rattle.listing_answers.proofs.Chains.{after_refusal, not_made}
 use Rattle.listing_answers.proofs.words.check.Goals as goal

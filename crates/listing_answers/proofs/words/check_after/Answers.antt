@@ -1,5 +1,5 @@
 use Rattle.std.proofs.Common.{ap, ◌∙◌}
-use Rattle.listing_readers.specs.Read.{taken}
+use Rattle.listing_words.specs.Read.{taken}
 use Rattle.listing_answers.proofs.Chains.{check_after_text}
 use Rattle.listing_answers.proofs.words.check_after.Goals as goal
 

@@ -1,6 +1,6 @@
 use Rattle.std.proofs.Common.{◌||◌, ◌∙◌}
 use Rattle.walk_definitions.specs.Forms.{has_form, limit_stop, read_fault, punch_fault, memory_stop, singular_stop, price_stop, overflow_stop, is_open_stop}
-use Rattle.listing_readers.proofs.Digits.{any_form}
+use Rattle.listing_readers.proofs.Forms.{any_form}
 use Rattle.listing_readers.proofs.stops.is_open_stop.Goals as goal
 
 pub returns : goal.returns

@@ -1,0 +1,11 @@
+//! The words of a listing, read where they stand: texts, counts, and numbers, each of which is the word that is its text. Nothing is
+//! copied, and no memory is taken.
+#![tactic(auto)]
+
+mod cursor;
+mod number;
+mod numbers;
+
+pub use cursor::Cursor;
+pub use number::Number;
+pub use numbers::{count_in, fraction_in};
