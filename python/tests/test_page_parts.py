@@ -12,6 +12,10 @@ import programs_at_hand
 import pytest
 import random_jobs
 from calls import call
+from long_models import random_text
+from mps360.jobs.write import exact_job
+from mps360.listings.read import names_of
+from mps360.mps import Reading, read_text
 from mps360.pages import limits, shown
 from mps360.pages.html import page as page_of
 from mps360.pages.origin import Origin
@@ -270,3 +274,18 @@ def test_the_page_of_a_random_job(seed):
     run.run()
     check_page(str(seed), page_of(job, "\n".join([*run.lines, ""])))
     check_page(str(seed), page_of(job, "\n".join([*run.lines[:seed % len(run.lines)], ""])))
+
+
+@pytest.mark.parametrize("where", ("cb", "ub", "ar", "cbura"))
+@pytest.mark.parametrize("seed", range(8))
+def test_the_page_of_long_numbers(seed, where):
+    "of a model whose long numbers stand on several rows in its job, the activities of a ray add up to 0 by the file's rows and columns"
+    job = exact_job(read_text(random_text(seed, where, 3), Reading(negative_up="free", numbers="exact")), True, "long")
+    run = oracle_listing.Run(job.text)
+    run.run()
+    read = check_page(where, page_of(job.text, "\n".join([*run.lines, ""]), names_of(job.name_map())))
+    if "Infeasible." in read.text:
+        assert "The sum that proves it" in read.text and "The activities, column by column" in read.text
+        added = set(job.split.table(job)["rows"]) | set(job.split.table(job)["columns"]) if job.split else set()
+        shown_ = read.text.partition("What is proved")[0].split()
+        assert not added & {word.strip("()") for word in shown_}
