@@ -207,7 +207,7 @@ class Page:
                 Html(f'<meta http-equiv="Content-Security-Policy" content="{POLICY}">'), tag("title", title), Html(f"<style>{STYLE}</style>")]
         tools = Html('<a class="skip" href="#page">To the page</a>\n') + "".join(
             f'<input class="tools" type="checkbox" id="{key}"> <label class="tools" for="{key}">{words}</label>\n' for key, words in SWITCHES)
-        main = tag("main", tag("h1", title), self.origin.box(has_claims), *parts, *self.end(), self.notes_box(), *self.proved(), id="page")
+        main = tag("main", tag("h1", title), self.origin.box(has_claims), *parts, *self.end(), self.notes_box(), tag("section", *self.proved(), class_="end"), id="page")
         return f'<!DOCTYPE html>\n<html lang="en"><head>{joined(head)}</head>\n<body>\n{tools}{main}\n</body></html>\n'
 
     def proved(self) -> Iterator[Html]:

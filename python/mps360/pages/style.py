@@ -25,7 +25,7 @@ dt{font-weight:600}dd{margin:0;min-width:0;overflow-wrap:anywhere}.origin dd+dd{
 table{border-collapse:separate;border-spacing:0;font-size:15px;line-height:22px;font-variant-numeric:tabular-nums}
 caption{text-align:left;color:var(--soft);padding:.2rem 0}.more{display:none}
 th,td{border-top:1px solid var(--line);padding:4px .5rem;text-align:right;vertical-align:top}
-.long{display:inline-block;max-width:24rem;white-space:normal;overflow-wrap:anywhere}td{white-space:nowrap}td.t{white-space:normal;min-width:7rem}
+.long{display:inline-block;max-width:24rem;white-space:normal;overflow-wrap:anywhere}td{white-space:nowrap}td.t{white-space:normal;min-width:7rem;overflow-wrap:break-word}
 thead th{background:var(--band);vertical-align:bottom}tbody:last-child tr:last-child>*,tfoot tr>*{border-bottom:1px solid var(--line)}
 thead th:not(.t){min-width:5.5rem;max-width:9rem}
 th.t,td.t,tbody th,tfoot th{text-align:left}tbody th{font-weight:600;white-space:pre-wrap;overflow-wrap:break-word;max-width:20rem}
@@ -35,6 +35,7 @@ tfoot td,tfoot th{font-weight:600;border-top:2px solid var(--ink)}
 .unit{font-weight:400;color:var(--soft);font-size:.88em;overflow-wrap:anywhere}
 .e{display:none}#exact:checked~main .e{display:inline}#exact:checked~main .d{display:none}
 #most:checked~main tr.zero{display:none}
+p .long,.paragraph .long,.verdict .long{display:inline}
 .digits{display:inline-block;vertical-align:top;max-width:100%}td .digits{max-width:13rem}.digits summary{cursor:pointer;white-space:normal}
 .states{display:grid;grid-template-columns:max-content 1fr;gap:.1rem .9rem;margin:.4rem 0;font-size:.92rem}
 summary{cursor:pointer}
@@ -63,6 +64,6 @@ td.t{min-width:0;padding-left:.5rem}td.i{min-width:34mm}tbody th{max-width:12rem
 .origin,.verdict,.notes{padding:.3rem .7rem;margin:.35rem 0}.verdict{font-size:1em}
 .tools,.skip,details:not([open]):not(.digits){display:none}.wide{overflow:visible}
 tbody th,tfoot th,thead th:first-child{position:static}
-tr,figure,.origin,.verdict,.notes,.states{break-inside:avoid}thead{display:table-header-group}tfoot{display:table-row-group}
+tr,figure,.origin,.verdict,.notes,.states,.end{break-inside:avoid}thead{display:table-header-group}tfoot{display:table-row-group}
 h2,h3,caption{break-after:avoid}pre{white-space:pre-wrap}}
 """
