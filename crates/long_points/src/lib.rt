@@ -1,0 +1,11 @@
+//! The tests of points, prices, slacks and intervals in numbers of any length, each over the whole numbers of a vector over one
+//! denominator. Each tells exactly whether all comparisons of its definition hold.
+#![tactic(auto)]
+
+mod limits;
+mod prices;
+mod rows;
+
+pub use limits::{feasible, limits_hold, optimal, prices_stand};
+pub use prices::reduced_costs_hold;
+pub use rows::equations_hold;
