@@ -1,6 +1,6 @@
 -- The tests at a value of the parameter.
 use Rattle.std.proofs.Common.{◌≡◌, ℕ, ◌+◌, ◌-◌, ◌≤◌, List, [], Bool, refl, sym, ap, ap₂, subst, ◌∙◌, true, pos, arith, All}
-use Rattle.std.specs.Prelude.{ℤ, ◌↔◌}
+use Rattle.std.specs.Prelude.{ℤ, ◌↔◌, ◌&&◌}
 use Rattle.exact_values.specs.Rational.{ℚ, whole, zero_ℚ, ◌-ℚ◌, ◌*ℚ◌, ◌<ℚ◌, compare_ℚ}
 use Rattle.exact_values.proofs.Ring.{by_ring2, ◌⊖◌, ◌⊗◌, ◌≐◌, number}
 use Rattle.exact_values.specs.Tests.{eq_ℚ}
@@ -15,7 +15,11 @@ use Rattle.long_programs.specs.Programs.{program_of}
 use Rattle.long_programs.specs.Places.{IsPlace, IsSpread}
 use Rattle.long_programs.proofs.Moves.{matrix_at}
 use Rattle.long_programs.proofs.Compared.{compare_scaled}
-use Rattle.long_points.specs.Tests.{equation_test, limit_test, cost_test, price_test}
+use Rattle.problem_definitions.specs.Problem.{Problem}
+use Rattle.walk_definitions.specs.Tests.{slack_steps}
+use Rattle.std.proofs.lemmas.Bool.{and_parts}
+use Rattle.long_points.specs.Tests.{equation_test, limit_test, cost_test, price_test, slack_test, keep_test}
+use Rattle.long_points.specs.Ends.{Points, kept_steps, keeping_test}
 use Rattle.long_points.proofs.Holds.{Reads, append_hold, sums_hold, change_holds}
 use Rattle.check_definitions.proofs.Holding.{hold-append, last_holds}
 
@@ -67,3 +71,14 @@ module _ (p : LinearProgram) where
     let summed = hold-append (sum_steps zero_ℚ (column_products p y j)) _ priced.1 in
     summed.1.0),
   )
+
+  pub reads_slack : (problem : Problem ℕ) (z slack : Vector) → Reads (slack_steps (record { problem = problem; lp = p }) z slack) (slack_test p z slack)
+  reads_slack problem z slack i = ((λ e. (e, tt)), (λ h. h.0))
+
+pub reads_keeping : (p q : LinearProgram) (first last : Points) → Reads (kept_steps p q first last) (keeping_test p q first last)
+reads_keeping p q first last k = (
+  (λ e.
+  let both = and_parts (keep_test p q (value_at first.point) (value_at last.point) (value_at first.prices k) k) (keep_test p q (value_at first.point) (value_at last.point) (value_at last.prices k) k) e in
+  (both.0, (both.1, tt))),
+  (λ h. ap₂ ◌&&◌ h.0 h.1.0),
+)

@@ -4,7 +4,7 @@ use Rattle.std.specs.Prelude.{ℤ, nat_abs, ◌==◌, IsTrue}
 use Rattle.std.proofs.Math.Seq.{drop-cons}
 use Rattle.exact_values.specs.Rational.{ℚ, whole, zero_ℚ, one_ℚ, ◌+ℚ◌, ◌-ℚ◌, ◌*ℚ◌, neg_ℚ, compare_ℚ, ◌<ℚ◌}
 use Rattle.exact_values.specs.Sums.{sum_to, sum_up_to}
-use Rattle.exact_values.proofs.Ring.{by_ring2, by_ring3, by_ring4, ◌⊕◌, ◌⊖◌, ◌⊗◌, ◌≐◌, number, opposite}
+use Rattle.exact_values.proofs.Ring.{by_ring2, by_ring3, by_ring4, by_ring5, ◌⊕◌, ◌⊖◌, ◌⊗◌, ◌≐◌, number, opposite}
 use Rattle.exact_values.proofs.Ring_laws.{zero-mul, mul-zero, add-zero}
 use Rattle.lp_definitions.specs.declared.Entry.{Entry}
 use Rattle.lp_definitions.specs.LinearProgram.{LinearProgram, Vector, entry}
@@ -40,6 +40,14 @@ pub cost_compared : (total y cost d a b s w t : ℚ) → a ≡ total *ℚ d → 
 cost_compared total y cost d a b s w t summed one is made taken =
     taken ∙ ap (λ b. b -ℚ cost *ℚ d) (made ∙ (λ i. summed i +ℚ one i *ℚ is i))
     ∙ by_ring4 total y cost d (λ s y k d. s ⊗ d ⊕ number (pos 1) ⊗ (y ⊗ d) ⊖ k ⊗ d ≐ (y ⊖ (k ⊖ s)) ⊗ d) refl
+
+pub slack_compared : (right z slack d e : ℚ) (scale activity shown : ℚ) (w a b c s u : ℚ) → scale ≡ d *ℚ e → activity ≡ z *ℚ d *ℚ e → shown ≡ slack *ℚ e *ℚ d → w ≡ whole (negsuc 0) → u ≡ right →
+    a ≡ zero_ℚ → b ≡ a +ℚ u *ℚ scale → c ≡ b +ℚ w *ℚ activity → s ≡ c +ℚ w *ℚ shown → s ≡ ((right -ℚ z) -ℚ slack) *ℚ (d *ℚ e)
+slack_compared right z slack d e scale activity shown w a b c s u is_scale is_activity is_shown minus is_u none first second third =
+    let first_is : b ≡ zero_ℚ +ℚ right *ℚ (d *ℚ e) = first ∙ (λ i. none i +ℚ is_u i *ℚ is_scale i) in
+    let second_is : c ≡ zero_ℚ +ℚ right *ℚ (d *ℚ e) +ℚ whole (negsuc 0) *ℚ (z *ℚ d *ℚ e) = second ∙ (λ i. first_is i +ℚ minus i *ℚ is_activity i) in
+    third ∙ (λ i. second_is i +ℚ minus i *ℚ is_shown i)
+    ∙ by_ring5 right z slack d e (λ r z s d e. number (pos 0) ⊕ r ⊗ (d ⊗ e) ⊕ number (negsuc 0) ⊗ (z ⊗ d ⊗ e) ⊕ number (negsuc 0) ⊗ (s ⊗ e ⊗ d) ≐ ((r ⊖ z) ⊖ s) ⊗ (d ⊗ e)) refl
 
 -- ---- a row
 

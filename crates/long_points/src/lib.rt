@@ -2,10 +2,14 @@
 //! denominator. Each tells exactly whether all comparisons of its definition hold.
 #![tactic(auto)]
 
+mod keeping;
 mod limits;
 mod prices;
 mod rows;
+mod slacks;
 
+pub use keeping::{End, all_prices_keep};
 pub use limits::{feasible, limits_hold, optimal, prices_stand};
 pub use prices::reduced_costs_hold;
 pub use rows::equations_hold;
+pub use slacks::slacks_hold;

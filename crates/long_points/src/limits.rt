@@ -1,11 +1,11 @@
 // The limits of the variables, and the prices that stand at them.
-ghost use Rattle.std.specs.Prelude.{◌≡◌, ◌↔◌, ◌&&◌, ℕ, List, IsTrue, IfOk, None, length};
+ghost use Rattle.std.specs.Prelude.{◌≡◌, ◌↔◌, ◌&&◌, ℕ, List, IsTrue, IfOk, length};
 ghost use Rattle.exact_values.specs.Rational.{ℚ, whole, zero_ℚ, compare_ℚ};
 ghost use Rattle.lp_definitions.specs.LinearProgram.{IsVariable, size, value_at};
 ghost use Rattle.check_definitions.specs.Steps.{AllHold};
 ghost use Rattle.check_definitions.specs.Checks.{by_sign, within_limits, feasible_point, standing_prices, optimal_steps};
 ghost use Rattle.long_vectors.specs.Vectors.{IsOver};
-ghost use Rattle.long_programs.specs.Programs.{program_of, IsChangeIn};
+ghost use Rattle.long_programs.specs.Programs.{program_of, IsChangeIn, IsPlain};
 ghost use Rattle.long_programs.specs.Places.{IsSpread};
 ghost use Rattle.long_points.specs.Tests.{limit_test, price_test, not_below_by, not_above_by, at_by, counted_by};
 
@@ -111,16 +111,16 @@ pub fn feasible(alloc: Global, at: &ProgramAt<'_>, point: &Spread) -> Result<boo
     Ok(both(keeps, within))
 }
 
-// How a whole number compares with 0.
-fn sign_of(alloc: Global, top: &Integer) -> Ordering
+/// How a whole number compares with 0.
+pub fn sign_of(alloc: Global, top: &Integer) -> Ordering
     ensures { result ≡ compare_ℚ (whole top.now) zero_ℚ }
 {
     let zero = Integer::new(false, Natural::zero(alloc));
     top.compare(&zero)
 }
 
-// How a number that compares so with 0 does as it counts where less is better.
-fn counted(sense: Sense, order: Ordering) -> Ordering
+/// How a number that compares so with 0 does as it counts where less is better.
+pub fn counted(sense: Sense, order: Ordering) -> Ordering
     ensures { result ≡ counted_by sense order }
 {
     match sense {
@@ -198,7 +198,7 @@ pub fn optimal(
     prices: &Spread,
 ) -> Result<bool, AllocError>
     requires change { IsChangeIn at.now.lp.now at.now.change }
-    requires no_change { at.now.lp.now.change ≡ None }
+    requires plain { IsPlain at.now.lp.now at.now.change }
     requires places { length point.now.column.tops.items ≡ size at.now.lp.now.matrix }
     requires price_places { length prices.now.column.tops.items ≡ size at.now.lp.now.matrix }
     ensures { IfOk result (λ holds. (values costs : List ℚ) → (theta : ℚ) → IsSpread values theta point.now → IsSpread costs theta prices.now →

@@ -1,11 +1,11 @@
 // The prices of the columns.
-ghost use Rattle.std.specs.Prelude.{◌≡◌, ◌+◌, ◌≤◌, ◌↔◌, ℕ, List, IsTrue, IfOk, None, All, length};
+ghost use Rattle.std.specs.Prelude.{◌≡◌, ◌+◌, ◌≤◌, ◌↔◌, ℕ, List, IsTrue, IfOk, All, length};
 ghost use Rattle.exact_values.specs.Rational.{ℚ, whole, zero_ℚ, ◌+ℚ◌, ◌*ℚ◌};
 ghost use Rattle.lp_definitions.specs.LinearProgram.{IsColumn, size, value_at};
 ghost use Rattle.check_definitions.specs.Steps.{AllHold, sum_of};
 ghost use Rattle.check_definitions.specs.Checks.{entry_products, reduced_costs};
 ghost use Rattle.long_vectors.specs.Vectors.{IsOver};
-ghost use Rattle.long_programs.specs.Programs.{program_of};
+ghost use Rattle.long_programs.specs.Programs.{program_of, IsPlain};
 ghost use Rattle.long_programs.specs.Places.{IsSpread};
 ghost use Rattle.long_points.specs.Tests.{cost_test};
 
@@ -37,7 +37,7 @@ fn reduced_cost_holds(
     j: u32,
 ) -> Result<bool, AllocError>
     requires column { IsColumn at.now.lp.now.matrix j }
-    requires no_change { at.now.lp.now.change ≡ None }
+    requires plain { IsPlain at.now.lp.now at.now.change }
     requires places { length prices.now.column.tops.items ≡ size at.now.lp.now.matrix }
     ensures { IfOk result (λ holds. (values : List ℚ) → (theta : ℚ) → IsSpread values theta prices.now →
         holds ≡ cost_test (program_of at.now.lp.now at.now.change theta) (value_at values) j) }
@@ -57,7 +57,7 @@ pub fn reduced_costs_hold(
     at: &ProgramAt<'_>,
     prices: &Spread,
 ) -> Result<bool, AllocError>
-    requires no_change { at.now.lp.now.change ≡ None }
+    requires plain { IsPlain at.now.lp.now at.now.change }
     requires places { length prices.now.column.tops.items ≡ size at.now.lp.now.matrix }
     ensures { IfOk result (λ holds. (values : List ℚ) → (theta : ℚ) → IsSpread values theta prices.now →
         IsTrue holds ↔ AllHold (reduced_costs (program_of at.now.lp.now at.now.change theta) (value_at values))) }
