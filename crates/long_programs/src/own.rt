@@ -6,7 +6,7 @@ ghost use Rattle.long_programs.specs.Programs.{program_of, IsChangeIn, IsPlain, 
 ghost use Rattle.long_programs.specs.Places.{IsSpread};
 
 use crate::programs::{ChangeAt, ProgramAt};
-use crate::spreads::{Spread, spread_alone, spread_by};
+use crate::spreads::{Spread, spread_by};
 use frac128::Frac;
 use integers::Integer;
 use long_vectors::{Column, Value};
@@ -14,15 +14,28 @@ use lp_model::Lp;
 use naturals::Natural;
 use std::alloc::{AllocError, Global};
 
+// The numerator of a fraction.
+fn numerator_of(alloc: Global, fraction: Frac) -> Result<Integer, AllocError>
+    ensures { IfOk result (λ made. made ≡ fraction.numerator) }
+{
+    let top = fraction.num();
+    let size = Natural::from_wide(alloc, top.unsigned_abs())?;
+    Ok(Integer::new(top < 0, size))
+}
+
+// The denominator of a fraction.
+fn denominator_of(alloc: Global, fraction: Frac) -> Result<Natural, AllocError>
+    ensures { IfOk result (λ made. made ≡ fraction.denominator) }
+{
+    Natural::from_wide(alloc, fraction.den().unsigned_abs())
+}
+
 /// A fraction as a whole number over another one.
 pub fn fraction_value(alloc: Global, fraction: Frac) -> Result<Value, AllocError>
     ensures { IfOk result (IsValue fraction) }
 {
-    let num = fraction.num();
-    let den = fraction.den();
-    let size = Natural::from_wide(alloc, num.unsigned_abs())?;
-    let below = Natural::from_wide(alloc, den.unsigned_abs())?;
-    let top = Integer::new(num < 0, size);
+    let top = numerator_of(alloc, fraction)?;
+    let below = denominator_of(alloc, fraction)?;
     let bottom = Integer::new(false, below);
     Ok(Value { top, bottom })
 }
@@ -61,11 +74,7 @@ pub fn own_theta(alloc: Global, lp: &Lp) -> Result<Value, AllocError>
 pub fn spread_own(alloc: Global, lp: &Lp, column: Column) -> Result<Spread, AllocError>
     ensures { IfOk result (λ made. (values : List ℚ) → IsOver values column → IsSpread values (own_theta lp.now) made) }
 {
-    match lp.change {
-        None => Ok(spread_alone(alloc, column)),
-        Some(change) => {
-            let theta = fraction_value(alloc, change.theta)?;
-            spread_by(alloc, &theta, &column)
-        }
-    }
+    let theta = own_theta(alloc, lp)?;
+    let made = spread_by(alloc, &theta, &column)?;
+    Ok(made)
 }
