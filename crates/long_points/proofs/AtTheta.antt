@@ -1,12 +1,12 @@
 -- The tests at a value of the parameter.
-use Rattle.std.proofs.Common.{◌≡◌, ℕ, ◌+◌, ◌-◌, ◌≤◌, List, [], Bool, refl, sym, ap, ap₂, subst, ◌∙◌, true, pos, arith, All}
-use Rattle.std.specs.Prelude.{ℤ, ◌↔◌, ◌&&◌}
+use Rattle.std.proofs.Common.{◌≡◌, ℕ, ◌+◌, ◌-◌, ◌≤◌, List, [], refl, sym, ap, ap₂, subst, ◌∙◌, pos, arith, All}
+use Rattle.std.specs.Prelude.{ℤ, ◌&&◌}
 use Rattle.exact_values.specs.Rational.{ℚ, whole, zero_ℚ, ◌-ℚ◌, ◌*ℚ◌, ◌<ℚ◌, compare_ℚ}
 use Rattle.exact_values.proofs.Ring.{by_ring2, ◌⊖◌, ◌⊗◌, ◌≐◌, number}
 use Rattle.exact_values.specs.Tests.{eq_ℚ}
 use Rattle.lp_definitions.specs.LinearProgram.{LinearProgram, Matrix, Vector, IsMatrix, IsColumn, column, entry, cost, size, value_at}
 use Rattle.lp_definitions.specs.declared.Entry.{Entry}
-use Rattle.check_definitions.specs.Steps.{Step, AllHold, sum_steps, sum_of}
+use Rattle.check_definitions.specs.Steps.{sum_steps, sum_of}
 use Rattle.check_definitions.specs.Checks.{row_products, equation, equations, entry_products, column_products, combined_steps, reduced_cost, within_limit, standing_price}
 use Rattle.long_programs.specs.declared.programs.ChangeAt.{ChangeAt}
 use Rattle.long_programs.specs.declared.programs.ChangeAt.TheVariants.{Unchanged, Row, Set}
@@ -65,11 +65,11 @@ module _ (p : LinearProgram) where
   pub reads_cost : (y : Vector) → Reads (reduced_cost p y) (cost_test p y)
   reads_cost y j = (
     (λ e. append_hold (combined_steps p (λ i. entry p.matrix i j)) _ (change_holds p.change (λ i. entry p.matrix i j) (entry p.matrix p.objective j))
-    (append_hold (sum_steps zero_ℚ (column_products p y j)) _ (sums_hold zero_ℚ (column_products p y j)) (e, tt))),
+        (append_hold (sum_steps zero_ℚ (column_products p y j)) _ (sums_hold zero_ℚ (column_products p y j)) (e, tt))),
     (λ h.
-    let priced = hold-append (combined_steps p (λ i. entry p.matrix i j)) _ h in
-    let summed = hold-append (sum_steps zero_ℚ (column_products p y j)) _ priced.1 in
-    summed.1.0),
+        let priced = hold-append (combined_steps p (λ i. entry p.matrix i j)) _ h in
+        let summed = hold-append (sum_steps zero_ℚ (column_products p y j)) _ priced.1 in
+        summed.1.0),
   )
 
   pub reads_slack : (problem : Problem ℕ) (z slack : Vector) → Reads (slack_steps (record { problem = problem; lp = p }) z slack) (slack_test p z slack)
@@ -78,7 +78,7 @@ module _ (p : LinearProgram) where
 pub reads_keeping : (p q : LinearProgram) (first last : Points) → Reads (kept_steps p q first last) (keeping_test p q first last)
 reads_keeping p q first last k = (
   (λ e.
-  let both = and_parts (keep_test p q (value_at first.point) (value_at last.point) (value_at first.prices k) k) (keep_test p q (value_at first.point) (value_at last.point) (value_at last.prices k) k) e in
-  (both.0, (both.1, tt))),
+      let both = and_parts (keep_test p q (value_at first.point) (value_at last.point) (value_at first.prices k) k) (keep_test p q (value_at first.point) (value_at last.point) (value_at last.prices k) k) e in
+      (both.0, (both.1, tt))),
   (λ h. ap₂ ◌&&◌ h.0 h.1.0),
 )

@@ -1,12 +1,12 @@
 -- What an order tells.
-use Rattle.std.proofs.Common.{◌≡◌, ℕ, Bool, true, false, not, refl, sym, ap, ap₂, ◌∙◌, pos, Option, Some, None, arith}
+use Rattle.std.proofs.Common.{◌≡◌, not, refl, sym, ap, ◌∙◌, pos, Option, Some, None, arith}
 use Rattle.std.specs.Prelude.{ℤ, ◌*ℤ◌}
 use Rattle.std.proofs.lemmas.Int.{ints}
 use Rattle.std.specs.Ordering.{int_cmp}
 use Rattle.std.specs.declared.cmp.Ordering.{Ordering}
 use Rattle.std.specs.declared.cmp.Ordering.TheVariants.{Less, Equal, Greater}
 use Rattle.exact_values.specs.Rational.{ℚ, whole, zero_ℚ, neg_ℚ, compare_ℚ}
-use Rattle.exact_values.specs.Tests.{lt_ℚ, eq_ℚ, is_less, is_equal}
+use Rattle.exact_values.specs.Tests.{eq_ℚ, is_less, is_equal}
 use Rattle.exact_values.proofs.Ring.{by_ring1, opposite, number, ◌≐◌}
 use Rattle.exact_values.proofs.Compare.{lt_from_compare, same_from_compare, gt_from_compare, compare_from_lt, compare_from_gt, compare_from_same}
 use Rattle.exact_values.proofs.Order.{neg-lt-neg}

@@ -1,14 +1,14 @@
 -- Sums that are made term by term, times a denominator.
-use Rattle.std.proofs.Common.{◌≡◌, ℕ, zero, suc, ◌+◌, ◌<◌, ◌≤◌, List, [], ◌∷◌, ◌++◌, map, length, get_or, drop, refl, sym, ap, ap₂, subst, ◌∙◌, pos, negsuc, arith, add-one}
+use Rattle.std.proofs.Common.{◌≡◌, ℕ, zero, suc, ◌+◌, ◌<◌, List, [], ◌∷◌, length, get_or, drop, refl, sym, ap, ◌∙◌, pos, negsuc, arith, add-one}
 use Rattle.std.specs.Prelude.{ℤ, nat_abs, ◌==◌, IsTrue}
 use Rattle.std.proofs.Math.Seq.{drop-cons}
-use Rattle.exact_values.specs.Rational.{ℚ, whole, zero_ℚ, one_ℚ, ◌+ℚ◌, ◌-ℚ◌, ◌*ℚ◌, neg_ℚ, compare_ℚ, ◌<ℚ◌}
+use Rattle.exact_values.specs.Rational.{ℚ, whole, zero_ℚ, one_ℚ, ◌+ℚ◌, ◌-ℚ◌, ◌*ℚ◌}
 use Rattle.exact_values.specs.Sums.{sum_to, sum_up_to}
-use Rattle.exact_values.proofs.Ring.{by_ring2, by_ring3, by_ring4, by_ring5, ◌⊕◌, ◌⊖◌, ◌⊗◌, ◌≐◌, number, opposite}
-use Rattle.exact_values.proofs.Ring_laws.{zero-mul, mul-zero, add-zero}
+use Rattle.exact_values.proofs.Ring.{by_ring2, by_ring3, by_ring4, by_ring5, ◌⊕◌, ◌⊖◌, ◌⊗◌, ◌≐◌, number}
+use Rattle.exact_values.proofs.Ring_laws.{zero-mul}
 use Rattle.lp_definitions.specs.declared.Entry.{Entry}
 use Rattle.lp_definitions.specs.LinearProgram.{LinearProgram, Vector, entry}
-use Rattle.check_definitions.specs.Steps.{Product, product_of, sum_of}
+use Rattle.check_definitions.specs.Steps.{sum_of}
 use Rattle.check_definitions.specs.Checks.{entry_products, row_products}
 use Rattle.certificate_laws.proofs.Products.{sum_of-all}
 

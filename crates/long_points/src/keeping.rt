@@ -90,14 +90,7 @@ fn prices_keep(
     ensures { IfOk result (λ holds. (first last : Points) → (from to : ℚ) → IsEnd first from start.now → IsEnd last to end.now →
         holds ≡ keeping_test (program_of at.now.lp.now at.now.change from) (program_of at.now.lp.now at.now.change to) first last k) }
 {
-    let first = price_keeps(
-        alloc,
-        at,
-        &start.point,
-        &end.point,
-        &start.prices.column,
-        k,
-    )?;
+    let first = price_keeps(alloc, at, &start.point, &end.point, &start.prices.column, k)?;
     let last = price_keeps(alloc, at, &start.point, &end.point, &end.prices.column, k)?;
     Ok(both(first, last))
 }

@@ -9,7 +9,7 @@ mod rows;
 mod slacks;
 
 pub use keeping::{End, all_prices_keep};
-pub use limits::{feasible, limits_hold, optimal, prices_stand};
+pub use limits::{both, feasible, limits_hold, optimal, prices_stand};
 pub use prices::reduced_costs_hold;
 pub use rows::equations_hold;
 pub use slacks::slacks_hold;

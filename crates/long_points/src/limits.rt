@@ -79,11 +79,7 @@ fn limit_holds(
 }
 
 /// Whether all values are within their limits at theta.
-pub fn limits_hold(
-    alloc: Global,
-    at: &ProgramAt<'_>,
-    point: &Spread,
-) -> Result<bool, AllocError>
+pub fn limits_hold(alloc: Global, at: &ProgramAt<'_>, point: &Spread) -> Result<bool, AllocError>
     requires change { IsChangeIn at.now.lp.now at.now.change }
     requires places { length point.now.column.tops.items ≡ size at.now.lp.now.matrix }
     ensures { IfOk result (λ holds. (values : List ℚ) → (theta : ℚ) → IsSpread values theta point.now →

@@ -1,9 +1,8 @@
 -- Limits and costs at a value of the parameter.
-use Rattle.std.proofs.Common.{◌≡◌, ℕ, List, refl, sym, ap, ap₂, subst, ◌∙◌, pos, Option, Some, None, length}
-use Rattle.std.specs.Prelude.{option_map}
+use Rattle.std.proofs.Common.{◌≡◌, ℕ, refl, ap, ◌∙◌, pos, Option, Some, None}
 use Rattle.exact_values.specs.Rational.{ℚ, zero_ℚ, ◌+ℚ◌, ◌*ℚ◌}
 use Rattle.exact_values.proofs.Ring.{by_ring2, ◌⊕◌, ◌⊗◌, ◌≐◌, number}
-use Rattle.lp_definitions.specs.LinearProgram.{LinearProgram, Matrix, IsVariable, lower_of, upper_of, cost, entry, combined, with_change_row}
+use Rattle.lp_definitions.specs.LinearProgram.{LinearProgram, IsVariable, lower_of, upper_of, cost, entry, with_change_row}
 use Rattle.sensitivity_laws.proofs.MovedLimits.{moved, lower_is, upper_is}
 use Rattle.long_programs.specs.declared.programs.ChangeAt.{ChangeAt}
 use Rattle.long_programs.specs.declared.programs.ChangeAt.TheVariants.{Unchanged, Row, Set}

@@ -6,7 +6,7 @@
 --     shift_at p change k          what is added to the limits of variable k for each unit of theta
 --     rate_at p change j           what is added to the cost of column j for each unit of theta
 --     order_to limit x             how a number compares to a limit, if it is there
-use Rattle.std.specs.Prelude.{◌≡◌, ℕ, length, Option, Some, None, option_map}
+use Rattle.std.specs.Prelude.{◌≡◌, length, Option, Some, None, option_map}
 use Rattle.std.specs.declared.cmp.Ordering.{Ordering}
 use Rattle.exact_values.specs.Rational.{ℚ, zero_ℚ, compare_ℚ}
 use Rattle.lp_definitions.specs.LinearProgram.{LinearProgram, Vector, IsRow, entry}

@@ -1,4 +1,4 @@
-use Rattle.std.proofs.Common.{◌≡◌, ◌<◌, ◌≤◌, ◌∙◌, sym, true, false, arith, rules}
+use Rattle.std.proofs.Common.{◌≡◌, ◌∙◌, sym, true, false, arith, rules}
 use Rattle.lp_definitions.specs.LinearProgram.{size}
 use Rattle.long_programs.specs.Programs.{program_of}
 use Rattle.long_points.specs.Ends.{kept_steps, keeping_test}

@@ -1,5 +1,5 @@
-use Rattle.std.proofs.Common.{◌≡◌, ◌<◌, ◌≤◌, ◌∙◌, sym, ap, true, false, arith, rules}
-use Rattle.lp_definitions.specs.LinearProgram.{Matrix, value_at, size}
+use Rattle.std.proofs.Common.{◌≡◌, ◌∙◌, sym, ap, true, false, arith, rules}
+use Rattle.lp_definitions.specs.LinearProgram.{value_at, size}
 use Rattle.check_definitions.specs.Checks.{standing_price}
 use Rattle.long_programs.specs.Programs.{program_of}
 use Rattle.long_programs.proofs.Moves.{matrix_at}

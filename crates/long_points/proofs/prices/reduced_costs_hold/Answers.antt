@@ -1,4 +1,4 @@
-use Rattle.std.proofs.Common.{◌≡◌, ◌<◌, ◌≤◌, ◌∙◌, sym, ap, false, arith, rules}
+use Rattle.std.proofs.Common.{◌≡◌, ◌∙◌, sym, ap, false, arith, rules}
 use Rattle.lp_definitions.specs.LinearProgram.{LinearProgram, Matrix, value_at}
 use Rattle.check_definitions.specs.Checks.{reduced_cost}
 use Rattle.long_programs.specs.Programs.{program_of}

@@ -1,4 +1,4 @@
-use Rattle.std.proofs.Common.{◌≡◌, ◌<◌, ◌≤◌, ◌∙◌, sym, ap, false, arith, rules}
+use Rattle.std.proofs.Common.{◌≡◌, ◌∙◌, sym, ap, false, arith, rules}
 use Rattle.lp_definitions.specs.LinearProgram.{LinearProgram, value_at}
 use Rattle.check_definitions.specs.Checks.{equation}
 use Rattle.long_points.specs.Tests.{equation_test}
