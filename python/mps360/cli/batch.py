@@ -56,6 +56,7 @@ from mps360 import programs, solvers
 from mps360.cli import mps2job
 from mps360.cli.route_options import solvers_of
 from mps360.life import Life, keep_above
+from mps360.cli.words import taken
 from mps360.text import as_text, guard
 from mps360.commands import here
 from mps360.output import CantWrite, command
@@ -246,6 +247,14 @@ def as_record(line: Mapping[str, str], name: str, path: Path) -> Record:
 
 # ---- a run
 
+def copy(source: Path, target: Path) -> None:
+    "copies a file; OSError names the copy, which is what can't be written"
+    try:
+        shutil.copyfile(source, target)
+    except OSError as cause:
+        raise OSError(cause.errno, cause.strerror, str(target)) from None
+
+
 class Runs:
     "runs a file, and ends what is running where all is to end"
     def __init__(self, program: str, is_proved: bool, out: Path, options: argparse.Namespace) -> None:
@@ -350,7 +359,7 @@ class Runs:
         with open(path, "rb") as given, open(part, "wb") as printed:
             status = self.call([self.program], until, stdin=given, stdout=printed, stderr=subprocess.DEVNULL, cwd=folder)
         if punch.is_file():
-            shutil.copyfile(punch, self.out / f"{name}.punch")
+            copy(punch, self.out / f"{name}.punch")
         if status < 0:
             record["end"] = f"ended by signal {-status}"
             return
@@ -390,7 +399,7 @@ class Runs:
         for path in kept.iterdir() if kept.is_dir() else ():
             is_cut = path.suffix == ".listing" and status in (NO_END, INTERRUPTED)
             if path.suffix in (".job", ".names", ".listing"):
-                shutil.copyfile(path, self.out / f"{name}{path.suffix}{'.part' if is_cut else ''}")
+                copy(path, self.out / f"{name}{path.suffix}{'.part' if is_cut else ''}")
 
     def take(self, name: str, record: Record, status: int, answer: bytes, told: str) -> None:
         "the record of a child's JSON"
@@ -578,13 +587,17 @@ def main(words: list[str] | None = None) -> int:
     parser.add_argument("--with", dest="solvers", type=solvers_of)
     parser.add_argument("--old-codes", action="store_true")
     parser.add_argument("--resume", action="store_true")
-    parser.add_argument("--mps2job", default="")
     parser.add_argument("--out")
     parser.add_argument("words", nargs="+")
     life = Life("mps360-batch", LINE_EACH, errors, most=LINE_EACH)
     keep_above(life)
     try:
-        return batch(parser.parse_args(words), Signals(), life)
+        # (its value begins with --, which argparse takes for a word of its own)
+        words, converting = taken(words, "--mps2job")
+    except ValueError as cause:
+        parser.error(str(cause))
+    try:
+        return batch(parser.parse_args(words, argparse.Namespace(mps2job=converting or "")), Signals(), life)
     except Wrong as cause:
         say(cause)
         return cause.status
