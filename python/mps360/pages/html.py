@@ -85,9 +85,10 @@ class Page:
         most, more = ("greatest", "more") if self.sense == "MAX" else ("least", "less")
         if kind == "optimal":
             total = report.get("objective_with_constant", report["objective"])
-            sums = [" That is ", said(report["objective"]), " and the constant ", said(report["objective_constant"]), "."] if total != report["objective"] else []
-            return joined([f"The {most} value of {name} is ", said(total), unit_span(unit), f": the plan below reaches it, and no plan that keeps all limits has "
-                           f"{more}.", *sums])
+            parts = [f"The {most} value of {name} is ", said(total), unit_span(unit), f": the plan below reaches it, and no plan that keeps all limits has {more}."]
+            if total != report["objective"]:
+                parts += [" That is ", said(report["objective"]), " and the constant ", said(report["objective_constant"]), "."]
+            return joined(parts)
         if kind == "unbounded":
             return joined([f"There is no best plan: {name} {'grows' if self.sense == 'MAX' else 'falls'} without end."])
         if "crossed" in report:

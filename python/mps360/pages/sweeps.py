@@ -123,7 +123,8 @@ class Sweep:
         "by how much each unit of the way changes the objective with its part of the change row"
         program, lines = subject.program, self.report["direction"]
         step = next(Fraction(line["direction"]) for line in lines if line["number"] == program.objective + 1)
-        rate = next((Fraction(line["direction"]) for line in lines[:program.m] if line["name"] == self.report["change"]), Fraction(0))
+        rows = [line for line in lines if line["number"] <= program.m]
+        rate = next((Fraction(line["direction"]) for line in rows if line["name"] == self.report["change"]), Fraction(0))
         more = "more" if self.sense == "MAX" else "less"
         return paragraph(joined([f"Each unit changes {as_text(subject.objective)} + θ {as_text(self.report['change'])} by ", affine(step, rate)]),
                          f", which is {more} than 0 for every theta past ", said(self.report["at"]), ". A row or a bound that should stop this is missing.")
