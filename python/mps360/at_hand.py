@@ -115,4 +115,3 @@ def listing_checker() -> Tool | None:
         return Tool((proved,), "proved", name=CHECKER)
     kept = None if os.environ.get("MPS360_PROVED") else kept_program(CHECKER)
     return Tool((kept,), "unproved", name=CHECKER) if kept else None
-

@@ -14,7 +14,7 @@ from __future__ import annotations
 import functools
 import os
 import time
-from collections.abc import Callable, Sequence
+from collections.abc import Callable
 from dataclasses import dataclass, field
 from typing import TYPE_CHECKING
 
@@ -100,6 +100,7 @@ class Decided(Exception):
 
 class Routes:
     "the routes of one job, which mps360.jobs.write made of a model"
+    processes: Processes   # while it runs
 
     def __init__(self, job: Job, program: Tool, plan: Plan, find_checker: Callable[[], Tool | None] = lambda: None, observer: Observer | None = None) -> None:
         "find_checker finds the checker of listings, once a route needs it"

@@ -20,7 +20,8 @@ from fractions import Fraction
 from typing import Any, TypeVar
 
 from oracle.claims import (ATTESTED, Changing, Claim, DEFAULTS, DEMAND_OF, Found, LONG, Listing, MOST_LISTING, MOST_STATEMENTS, Misses, OPEN, Sheet,
-                           UNCHECKED, WRONG, ask, check_direction, check_equations, check_interval, check_optimal, check_prices, cost, count, for_min, fraction, has_form, is_checked, is_open_stop, ray_sum, read_code, shown, total, worth_of)
+                           UNCHECKED, WRONG, ask, check_direction, check_equations, check_interval, check_optimal, check_prices, cost, count,
+                           for_min, fraction, has_form, is_checked, is_open_stop, ray_sum, read_code, shown, total, worth_of)
 from oracle.deck_rules import BasisDeck, DataDeck, Problem, RevisionDeck
 from oracle.rules import Argument, Program, Refused, Statement, Stop, cut, is_skipped, name_field, subtract, word_of
 from oracle.selecting import LinearProgram, SelectionFault
@@ -102,6 +103,7 @@ class Walk:
             self.ends(stop.text)
 
     def statements(self, program: Program) -> None:
+        "executes the statements from the first on"
         at = executed = 0
         while at < len(program.statements):
             if executed == MOST_STATEMENTS:
@@ -287,20 +289,22 @@ class Walk:
         return self.setup
 
     def solution(self) -> None:
+        "SOLUTION: its numbers are tested, and with them an optimum that is pending"
         setup = self.needs_mark("OPTIMAL", "INFEASIBLE", "UNBOUNDED")
         self.open_stop()
         lp, line = self.setup_lp(setup), self.listing.line()
-        shown = self.read(lambda: self.tested_solution(lp))
+        claimed = self.read(lambda: self.tested_solution(lp))
         if self.mark != "OPTIMAL":
             return
         if self.pending:
             first, claim = self.pending
-            if claim.objective != shown.objective or not claim.is_checked:
+            if claim.objective != claimed.objective or not claim.is_checked:
                 raise Found(WRONG, first)
             self.pending = None
-        self.met(line, lp, shown)
+        self.met(line, lp, claimed)
 
     def tested_solution(self, lp: LinearProgram) -> Claim:
+        "the tables of SOLUTION, which are read and tested"
         listing, sheet = self.listing, Sheet(lp)
         ask(listing.take() == f"SOLUTION {self.mark}")
         point, prices, slacks = [], [], []
@@ -357,6 +361,7 @@ class Walk:
             raise self.wrong()
 
     def insert(self) -> None:
+        "INSERT: its deck is read for its faults, and what it leads to is open"
         lp = self.select()
         try:
             cards, first, name = self.deck()
@@ -381,6 +386,7 @@ class Walk:
         return self.parametric("PARARHS")
 
     def parametric(self, verb: str) -> str | None:
+        "PARAOBJ or PARARHS; the demand to which it goes, if any"
         lp = self.select()
         if lp.is_refused:
             self.open_stop()
@@ -412,6 +418,7 @@ class Walk:
         return DEMAND_OF[self.tested_claim(verb, changing.lp, tuple(DEMAND_OF), lambda: changing.at(self.cells["XPARAM"])).kind]
 
     def chain(self, verb: str, changing: Changing) -> None:
+        "the intervals of a parametric run, each tested at both ends"
         listing, sheet, last, most, number = self.listing, Sheet(changing.lp), self.cells["XPARAM"], self.cells["XPARMAX"], 0
         listing.take()
         while (listing.peek() or "").startswith("INTERVAL "):
@@ -427,6 +434,7 @@ class Walk:
         self.cells["XPARAM"] = last
 
     def closing(self, verb: str, changing: Changing, sheet: Sheet, last: Fraction, most: Fraction) -> None:
+        "the last line of a parametric run, with the test of what it says lies past the end"
         line, lp = self.listing.take(), changing.lp
         if line == f"{verb} ENDS AT {most}":
             ask(last == most)
@@ -467,6 +475,7 @@ def as_program(words: list[str]) -> tuple[int, str]:
 
 
 def main(words: list[str]) -> int:
+    "the command; its status"
     if words[:1] == ["--as-program"]:
         status, line = as_program(words[1:])
         print(line)

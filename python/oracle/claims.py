@@ -89,6 +89,7 @@ def is_open_stop(line: str) -> bool:
 
 
 def has_form(words: list[str], form: list[str]) -> bool:
+    "whether words are of a form: # stands for a count, / for a fraction, ! for an operation"
     try:
         ask(len(words) == len(form))
         for word, piece in zip(words, form):
@@ -270,6 +271,7 @@ def along(theta: Fraction, values: list[Fraction], rates: list[Fraction]) -> lis
 
 
 def check_interval(changing: Changing, is_first: bool, first: Fraction, last: Fraction, most: Fraction, columns: list[list[Any]]) -> None:
+    "tests an interval of a parametric run: at both ends its plan is best, and its prices are right at both"
     ask(first < last or is_first and first == last)
     ask(last <= most)
     ends = []

@@ -125,6 +125,7 @@ class Deck:
         return Stop(f"STOP 12 DECK FAULT {number} CARD {self.card}{more}")
 
     def read(self) -> None:
+        "takes card after card up to ENDATA; Stop where one has a fault"
         for place, card in enumerate(self.cards):
             self.card = self.first + place
             if is_skipped(card):
@@ -143,6 +144,7 @@ class Deck:
         return False
 
     def begin_section(self, card: str) -> None:
+        "a section card"
         word = word_of(card)
         if not self.section and word != "NAME":
             raise self.fault(1)
@@ -245,6 +247,7 @@ class DataDeck(Deck):
         return len(self.problem.rows)
 
     def row(self, card: str) -> None:
+        "a card of ROWS"
         fields, rows = self.row_fields(card), self.problem.rows
         kind, name = fields[1], fields[2]
         if kind not in ROW_TYPES + COMBINATIONS:
@@ -285,6 +288,7 @@ class DataDeck(Deck):
             parts[name] = self.number(fields, k + 1)
 
     def column(self, card: str) -> None:
+        "a card of COLUMNS"
         fields = self.column_fields(card)
         name, columns = fields[2], self.problem.columns
         if name != self.before and name in columns:
@@ -337,6 +341,7 @@ class DataDeck(Deck):
         self.pairs(fields, self.sets().setdefault(fields[2], {}), may_replace)
 
     def bound(self, card: str, may_replace: bool = False) -> None:
+        "a card of BOUNDS; a revision may replace what another one says"
         fields = self.bound_fields(card)
         kind, group, column = fields[1], fields[2], fields[3]
         if kind not in BOUND_KINDS:
@@ -393,6 +398,7 @@ class RevisionDeck(DataDeck):
         self.problem.drop_empty_sets()
 
     def begin_action(self, word: str, name: str) -> None:
+        "an action card of a revision: what is done from here on, and for BEFORE and AFTER where"
         listed = [*self.problem.rows] if self.section == "ROWS" else [*self.problem.columns] if self.section == "COLUMNS" else []
         if word not in ACTIONS or word in ("BEFORE", "AFTER") and self.section not in ("ROWS", "COLUMNS"):
             raise self.fault(21)
@@ -422,6 +428,7 @@ class RevisionDeck(DataDeck):
         self.insert(self.problem.columns, name, dict[str, Fraction]())
 
     def modify(self, card: str) -> None:
+        "a card after MODIFY"
         if self.section == "ROWS":
             self.modify_row(card)
         elif self.section == "COLUMNS":
@@ -435,6 +442,7 @@ class RevisionDeck(DataDeck):
             self.set_items(card, may_replace=True)
 
     def modify_row(self, card: str) -> None:
+        "another type of a row, or other parts of a combination"
         fields = self.row_fields(card)
         kind, name, rows = fields[1], fields[2], self.problem.rows
         if not name:
@@ -459,6 +467,7 @@ class RevisionDeck(DataDeck):
         {"ROWS": self.delete_row, "COLUMNS": self.delete_column, "BOUNDS": self.delete_bound}.get(self.section, self.delete_item)(fields)
 
     def delete_row(self, fields: Fields) -> None:
+        "takes away a row, with all numbers on it"
         name, problem = fields[2], self.problem
         if not name:
             raise self.fault(15)
@@ -471,6 +480,7 @@ class RevisionDeck(DataDeck):
             items.pop(name, None)
 
     def delete_column(self, fields: Fields) -> None:
+        "takes away a column with its bounds, or its number on one row"
         name, row, problem = fields[2], fields[3], self.problem
         if not name:
             raise self.fault(15)

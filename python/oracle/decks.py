@@ -38,9 +38,9 @@ class Fields(NamedTuple):
 class DeckFault(Exception):
     """a deck that has a fault: its number, the place of its card in the deck, from 0, what follows on the line, and for an unknown row the names
     of those that are known there"""
-    def __init__(self, number: int, place: int | None = None, more: str = "", known: list[str] | None = None) -> None:
-        super().__init__(number)
-        self.number, self.place, self.more, self.known = number, place, more, known
+    def __init__(self, fault: int, place: int | None = None, more: str = "", known: list[str] | None = None) -> None:
+        super().__init__(fault)
+        self.number, self.place, self.more, self.known = fault, place, more, known
 
 
 def number(text: str) -> Fraction:
@@ -54,7 +54,7 @@ class Written(Fraction):
     "a number as a card has it: its value, and its text"
     text: str
 
-    def __new__(cls, text: str) -> Written:
+    def __new__(cls, text: str) -> Written:  # pylint: disable=signature-differs
         self = super().__new__(cls, number(text))
         self.text = text.strip()
         return self
@@ -100,9 +100,9 @@ def words_of(card: str) -> list[tuple[int, str]]:
     return [(found.start() + 1, found[0]) for found in re.finditer("[^ ]+", card)]
 
 
-def action_on(card: str, is_free: bool) -> tuple[str, str] | None:
+def action_on(card: str, has_words: bool) -> tuple[str, str] | None:
     "the word and the name on an action card of a revision; None on another card"
-    if not is_free:
+    if not has_words:
         return (card[1:].split(" ")[0], card[14:22].rstrip()) if re.match(r" [^ ]{3}", card) else None
     words = [word for _, word in words_of(card)]
     return (words[0], "".join(words[1:])) if words[0] in ACTIONS and len(words) <= 2 else None
@@ -132,6 +132,7 @@ def word_fields(section: str, deletes: bool, first: str) -> list[tuple[int, ...]
 
 
 def free_fields(card: str, section: str, deletes: bool) -> Fields:
+    "the fields of a card of a free deck, by the words that it has"
     words = words_of(card)
     first = words[0][1]
     if section == "ROWS" and not deletes and first not in KINDS + COMBINATIONS:
@@ -241,6 +242,7 @@ class Deck:
         raise NotImplementedError
 
     def read(self) -> None:
+        "takes card after card up to ENDATA; DeckFault where one has a fault"
         for place, card in enumerate(self.cards):
             if is_skipped(card):
                 continue
@@ -253,6 +255,7 @@ class Deck:
         raise DeckFault(13, len(self.cards) - 1)
 
     def take(self, card: str) -> None:
+        "a card that isn't skipped"
         word = card.split(" ")[0]
         if not self.section and word != "NAME" or not word and self.section == "NAME":
             raise DeckFault(1)
@@ -340,6 +343,7 @@ class Deck:
             raise DeckFault(17)
 
     def take_bound(self, field: Fields, replaces: bool = False) -> None:
+        "a card of BOUNDS; a revision may replace what another one says"
         kind, name, column = (field.text[number] for number in (1, 2, 3))
         if kind not in BOUNDS:
             raise DeckFault(10)
@@ -471,6 +475,7 @@ class Revision(Deck):
         self.take_pairs(field, columns[name], replaces=self.action == "MODIFY")
 
     def delete_row(self, field: Fields) -> None:
+        "takes away a row, with all numbers on it"
         name = field.text[2]
         if not name:
             raise DeckFault(15)
@@ -484,6 +489,7 @@ class Revision(Deck):
             items.pop(name, None)
 
     def delete_column(self, field: Fields) -> None:
+        "takes away a column with its bounds, or its number on one row"
         needs_blank(field, 1)
         if not field.text[2]:
             raise DeckFault(15)

@@ -206,12 +206,11 @@ class Watched(Run):
         if end[0] == "OPTIMAL" and is_small(lp):
             self.looked += 1
             if verb == "PARAOBJ":
-                row = lp.names.index(self.cells["XCHROW"])
-                program = lambda theta: lp.with_change(row, theta)
+                program = functools.partial(lp.with_change, lp.names.index(self.cells["XCHROW"]))
             else:
                 items = self.problem_set_up().sets["RHS"][self.cells["XCHCOL"]]
                 shift = [items.get(name, Fraction(0)) for name in lp.names[:lp.m]] + [Fraction(0)] * lp.n
-                program = lambda theta: lp.with_limits(shift, theta)
+                program = functools.partial(lp.with_limits, shift)
             self.check_intervals(told, program, start)
         return end
 
@@ -287,6 +286,7 @@ class Watched(Run):
         return keeps and bool(columns) and vector[max(columns)] == 1
 
     def check_intervals(self, told: Sequence[str], program: Callable[[Fraction], LinearProgram], start: Fraction) -> None:
+        "looks at a parametric run: its intervals join, each of its points is best, and past its end it is as it says"
         at = start
         for place, line in enumerate(told):
             words = line.split()

@@ -64,6 +64,7 @@ class Run:
         self.mark = None
 
     def compile(self) -> None:
+        "takes the statements with their labels, up to PEND"
         for place, card in enumerate(self.cards, 1):
             if is_skipped(card):
                 continue
@@ -81,6 +82,7 @@ class Run:
         raise Fault("no PEND")
 
     def deck(self) -> list[str]:
+        "the cards of the next deck; where XDATA was moved, of the next one of that name"
         while True:
             while self.place < len(self.cards) and is_skipped(self.cards[self.place]):
                 self.place += 1
@@ -188,8 +190,8 @@ class Run:
         if end[0] == "LIMIT":
             return end
         self.lines.append(f"{verb} FROM {cells['XPARAM']} CHANGE {change}")
-        for number, (first, last, table) in enumerate(parts, 1):
-            self.lines.append(f"INTERVAL {number} FROM {first} TO {last}")
+        for count, (first, last, table) in enumerate(parts, 1):
+            self.lines.append(f"INTERVAL {count} FROM {first} TO {last}")
             self.lines += [self.table_line(k, line) for k, line in enumerate(table)]
         cells["XPARAM"] = parts[-1][1]
         self.lines.append(f"{verb} {end[0]} {cells['XPARAM']}")
@@ -229,8 +231,7 @@ class Run:
         problem = self.read_deck(old.revised if old else Problem, self.deck())
         problem.name = self.cells.get("XPBNAME", problem.name)
         self.problems[problem.name], self.last, self.setup, self.mark = problem, problem.name, None, None
-        counts = len(problem.rows), len(problem.columns), problem.entries()
-        self.lines.append("{:<7} {:<8} ROWS {} COLUMNS {} ENTRIES {}".format(verb, problem.name, *counts))
+        self.lines.append(f"{verb:<7} {problem.name:<8} ROWS {len(problem.rows)} COLUMNS {len(problem.columns)} ENTRIES {problem.entries()}")
 
     def set_up(self, words: list[str]) -> None:
         options: dict[str, str | None] = {"bound": None, "range": None, "sense": "MAX" if "MAX" in words else "MIN"}
@@ -278,6 +279,7 @@ class Run:
         self.inserted(cards, at)
 
     def run(self) -> int:
+        "executes the statements; the status"
         at = executed = 0
         while at < len(self.statements):
             if executed == 100_000:
@@ -361,6 +363,7 @@ def made_job(n: int) -> str:
 
 
 def main(words: list[str]) -> int:
+    "the command; its status"
     if words and words[0] in ("-h", "--help"):
         print(__doc__)
         return 0

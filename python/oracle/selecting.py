@@ -12,6 +12,8 @@ from oracle.rules import Refused, add, multiply, subtract
 # ---- the linear program of a selection: variables count from 0, rows before columns
 
 class LinearProgram:
+    "the linear program of a selection: limits of all variables, right-hand sides, and of each column its numbers by the numbers of rows"
+
     def __init__(self, problem: Problem, objective: str | None, rhs: str | None, options: tuple[str | None, str | None, str]) -> None:
         bound, ranges, self.sense = options
         free = [name for name, row in problem.rows.items() if row.kind == "N"]
@@ -43,6 +45,7 @@ class LinearProgram:
                 self.upper[k] = value
 
     def limit_row(self, k: int, kind: str, over: Fraction | None) -> None:
+        "the limits of a row of this type, with a range or none"
         b = self.rhs[k]
         if kind in ("G", "E"):
             self.lower[k] = b

@@ -40,6 +40,8 @@ def is_refused(operation: Operation, left: Fraction, right: Fraction) -> bool:
 # ---- a linear program: variables are numbered from 0, rows before columns
 
 class LinearProgram:
+    "the linear program that a selection makes of a problem"
+
     def __init__(self, problem: Problem, objective: str | None, rhs: str | None, options: dict[str, str | None]) -> None:
         self.names = [*problem.rows, *problem.columns]
         self.m, self.n = len(problem.rows), len(problem.columns)
@@ -63,8 +65,13 @@ class LinearProgram:
         self.upper: list[Fraction | None] = [None] * (self.m + self.n)
         self.test_ranges(problem, ranges)
         self.test_combinations(problem)
-        for name, kind in problem.rows.items():
-            k, b = place[name], self.rhs[place[name]]
+        self.limit_rows(problem, ranges)
+        self.limit_columns(problem, problem.sets["BOUNDS"][options["bound"]] if options["bound"] is not None else [])
+
+    def limit_rows(self, problem: Problem, ranges: dict[str, Fraction]) -> None:
+        "the limits of the rows, by their types, right-hand sides and ranges"
+        for k, (name, kind) in enumerate(problem.rows.items()):
+            b = self.rhs[k]
             if kind in "GE":
                 self.lower[k] = b
             if kind in "LE":
@@ -75,7 +82,9 @@ class LinearProgram:
                     self.lower[k] = b - abs(r)
                 else:
                     self.upper[k] = b + abs(r)
-        bounds = problem.sets["BOUNDS"][options["bound"]] if options["bound"] is not None else []
+
+    def limit_columns(self, problem: Problem, bounds: list[tuple[str, str, Fraction | None]]) -> None:
+        "the limits of the columns, by the bounds: each has a type, a column and a number"
         number_of = {name: self.m + k for k, name in enumerate(problem.columns)}
         for kind, name, value in bounds:
             k = number_of[name]
@@ -140,6 +149,8 @@ class LinearProgram:
 # ---- a basis, with its table: each basic as a sum of nonbasics
 
 class Table:
+    "a basis: where each variable stands, and each basic one as a sum of nonbasic ones"
+
     def __init__(self, lp: LinearProgram) -> None:
         size = lp.m + lp.n
         self.lp, self.size = lp, size
@@ -223,6 +234,7 @@ class Table:
         return best and best[1:]
 
     def exchange(self, p: int, q: int, to: str) -> None:
+        "p leaves the basis to this limit, and q comes into it; where they are the same it goes to its other limit"
         self.at[p] = to
         if p == q:
             return

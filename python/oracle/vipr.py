@@ -33,6 +33,7 @@ class Wrong(Exception):
 
 @dataclass
 class Constraint:
+    "a constraint, given or derived: a sum of variables, by their numbers, that is equal to, at most or at least its side"
     name: str
     sense: str
     side: Fraction
@@ -119,6 +120,7 @@ class Reader:
 
 
 def parse(text: str) -> Certificate:
+    "the certificate of a text"
     reader, found = Reader(text), Certificate()
     reader.literal("VER")
     reader.literal("1.0", "1.1")
@@ -171,6 +173,7 @@ def constraint(reader: Reader, found: Certificate) -> Constraint:
 
 
 def derived(reader: Reader, found: Certificate) -> Constraint:
+    "a derived constraint with its multipliers"
     one = constraint(reader, found)
     reader.literal("{")
     kind = reader.word()
@@ -284,6 +287,7 @@ def printed(text: str) -> int:
 
 
 def main(words: list[str]) -> int:
+    "the command; its status"
     if words and words[0] in ("-h", "--help"):
         return printed(__doc__ or "")
     if len(words) != 1:

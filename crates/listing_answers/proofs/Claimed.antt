@@ -62,20 +62,7 @@ module _ (C : Checker) (sheet other : Sheet) (m : other.lp.matrix ≡ sheet.lp.m
         sym (stated_is claim verdict check says_so)
         ∙ both_pass (claim_test C other.lp claim) (in_turn (word_test C claim check ∷ [])) passed (both_pass (word_test C claim check) Checked also refl)
 
--- two verdicts before a third, of which the first two are given as one
-first_of : (v w : Verdict) → in_turn (v ∷ w ∷ []) ≡ Checked → v ≡ Checked
-first_of Checked w passed = refl
-first_of (Failed part number) w passed = absurd (cc passed)
-first_of (Unchecked refused) w passed = absurd (cc passed)
-
-second_of : (v w : Verdict) → in_turn (v ∷ w ∷ []) ≡ Checked → w ≡ Checked
-second_of Checked Checked passed = refl
-second_of Checked (Failed part number) passed = absurd (cc passed)
-second_of Checked (Unchecked refused) passed = absurd (cc passed)
-second_of (Failed part number) w passed = absurd (cc passed)
-second_of (Unchecked refused) w passed = absurd (cc passed)
-
--- the first of three stops as it does before the second alone
+-- the first two of three verdicts, given as one
 joined : (u v w : Verdict) → in_turn (u ∷ in_turn (v ∷ w ∷ []) ∷ []) ≡ followed_by (in_turn (u ∷ v ∷ [])) (in_turn (w ∷ []))
 joined Checked Checked Checked = refl
 joined Checked Checked (Failed part number) = refl

@@ -129,7 +129,3 @@ module _ (C : Checker) (sheet : Sheet) (parametric_run : ParametricRun) where
       run_closes later new (Err stops.Wrong) wrong = closing later ∙ ap (λ j. after so_far.intervals (judged_map (λ end. ([], end)) j)) wrong
       run_closes later new (Err stops.Unchecked) refused = closing later ∙ ap (λ j. after so_far.intervals (judged_map (λ end. ([], end)) j)) refused
       run_closes later new (Err stops.NoMemory) none = tt
-
-  -- there is no more room
-  pub run_over : (whole : Judged Run) (room : List ℕ) (number : ℕ) (last : ℚ) (rest : List ℕ) → IsRunSoFar whole room number last rest → room ≡ [] → whole ≡ Fails
-  run_over whole room number last rest so_far none = so_far.decides ∙ ap (λ r. after so_far.intervals (run_in C sheet parametric_run r number last rest)) none

@@ -33,10 +33,6 @@ pub column_is : (shape : Shape) (pick : Numbers → ℚ) (numbers : List Numbers
     values ≡ map (λ line. pick (numbers_of shape line.values)) lines
 column_is shape pick numbers lines values are is = is ∙ ap (map pick) are ∙ map-map pick (λ (line : Line). numbers_of shape line.values) lines
 
--- and how long it is
-pub column_counted : (numbers values : List ℚ) (n : ℕ) → numbers ≡ values → length values ≡ n → length numbers ≡ n
-column_counted numbers values n same e = ap length same ∙ e
-
 pub multipliers_counted : (sheet : Sheet) (lines : List Line) → length (multipliers sheet lines) ≡ size sheet.lp.matrix
 multipliers_counted sheet lines = length-map (variables sheet.lp.matrix) _ ∙ length-numbers_from 1 (size sheet.lp.matrix)
 

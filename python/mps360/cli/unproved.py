@@ -27,7 +27,7 @@ LONG_RUN = 10
 def run(name: str, program: str, words: list[str], job: BinaryIO | None = None) -> int:
     "runs the program; its status"
     begun = time.monotonic()
-    ended = subprocess.run([program, *words], stdin=job)
+    ended = subprocess.run([program, *words], stdin=job, check=False)
     if time.monotonic() - begun > LONG_RUN and os.path.basename(program) != "fast":
         option = "" if name == RUNS else f"--program {name} "
         say(name, f"it ran for {time.monotonic() - begun:.0f} s; scripts/unproved.py {option}--compile makes an optimised program, in about half a minute: some 30 times as fast")
@@ -36,18 +36,18 @@ def run(name: str, program: str, words: list[str], job: BinaryIO | None = None) 
     return ended.returncode
 
 
-def told(answer: Answered) -> int:
+def told(answered: Answered) -> int:
     "the answer of rt try"
     try:
-        sys.stdout.buffer.write(answer.listing)
+        sys.stdout.buffer.write(answered.listing)
         sys.stdout.flush()
     except CantWrite:
         # (as the program ends where its listing can't be written)
         getattr(sys.stdout, "give_up")()
         return 25
-    if re.search(rb"^BCDOUT  ", answer.listing, re.M):
+    if re.search(rb"^BCDOUT  ", answered.listing, re.M):
         say(RUNS, "this unproved run keeps no punched deck; the program that scripts/build.sh builds does")
-    return answer.status
+    return answered.status
 
 
 def own_words(words: list[str]) -> tuple[str, bool, list[str]] | None:
