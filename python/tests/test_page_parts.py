@@ -174,6 +174,19 @@ def test_a_direction_of_another_job(tmp_path):
     assert told.returncode == 65 and b"meets a limit" in told.stderr, told
 
 
+@pytest.mark.parametrize("name, old, new", (
+    ("endless", "    1 PROFIT   200 2\n", ""), ("endless", "UNBOUNDED STEPS 1 OBJECTIVE 200", "OPTIMAL STEPS 1 RAY"),
+    ("conflict", "    2 HOURS    1\n    3 CHAIRS   -2\n    4 TABLES   -5\n", ""), ("paraobj", "    7 BUY      LL 0 0 -15 1\nINTERVAL 2", "INTERVAL 2"),
+    ("paraobj", "    1 PROFIT   -32 -15\n", "")))
+def test_a_listing_that_lacks_a_part(tmp_path, name, old, new):
+    "what no run prints is told, and no page is made of it"
+    listing, text = tmp_path / "part.listing", (EXAMPLES / f"{name}.listing").read_text()
+    assert old in text
+    listing.write_text(text.replace(old, new))
+    told = call(SCRIPTS / "listing2html.py", EXAMPLES / f"{name}.job", listing)
+    assert told.returncode == 65 and b"Traceback" not in told.stderr and not told.stdout, told
+
+
 # ---- numbers and units
 
 def test_numbers_of_many_digits():

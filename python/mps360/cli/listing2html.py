@@ -60,7 +60,7 @@ def main(words: list[str] | None = None) -> int:
     try:
         page = Page(job, listing, names, Origin(now(), options.job, checksum))
         text = page.whole()
-    except (NoListing, OtherJob, ZeroDivisionError, TypeError, ValueError) as cause:
+    except (NoListing, OtherJob, LookupError, ZeroDivisionError, TypeError, ValueError) as cause:
         say(f"no page of this: {cause}")
         return 65
     if not page.has_constant:

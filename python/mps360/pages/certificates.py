@@ -164,6 +164,14 @@ def unlimited(subject: Subject, line: Line) -> str:
     return "it has no limit" if limits == (None, None) else "it has no upper limit" if rises else "it has no lower limit"
 
 
+def step_of(lines: Sequence[Line], row: int) -> str:
+    "the change of a row for each unit of the way; OtherJob where the direction hasn't got it"
+    step = next((line["direction"] for line in lines if line["number"] == row + 1), None)
+    if step is None:
+        raise OtherJob("the direction lacks the objective")
+    return str(step)
+
+
 def change_of(lines: Sequence[Line], subject: Subject, row: int) -> Html:
     "how the change of a row for each unit of the way adds up of those of the columns, each entry times the change; nothing where that are too many"
     m = subject.program.m

@@ -120,7 +120,7 @@ class Page:
     def change(self, subject: Subject, report: Verdict) -> Html:
         "by how much each unit of the way changes the objective"
         row = subject.program.objective
-        step = next(line["direction"] for line in report["direction"] if line["number"] == row + 1)
+        step = certificates.step_of(report["direction"], row)
         name = as_text(subject.objective)
         return paragraph(f"Each unit changes {name} by ", certificates.change_of(report["direction"], subject, row), said(step),
                          unit_span(self.naming.unit(subject.objective)), ". A row or a bound that should stop this is missing, or MIN stands for MAX.")
