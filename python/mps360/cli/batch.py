@@ -48,7 +48,7 @@ import time
 from collections.abc import Callable, Mapping, Sequence
 from concurrent.futures import FIRST_COMPLETED, ThreadPoolExecutor, wait
 from pathlib import Path
-from typing import NoReturn
+from typing import Any, NoReturn
 from mps360.listings.read import NUMBER
 from mps360 import programs, solvers
 from mps360.cli import mps2job
