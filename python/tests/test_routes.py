@@ -2,13 +2,14 @@
 MPS360_PROGRAM or, where none is named, the reading of the rules in Python that stands apart from the product."""
 import os
 import pathlib
+import re
 import sys
 import time
 
 import fakes
 import places
 import pytest
-from mps360 import at_hand, routes, runs, solvers
+from mps360 import at_hand, routes, runs, solver_names, solvers
 from mps360.jobs.write import job_of
 from mps360.mps import Reading, read_text
 from test_solvers import GLASS, HIGHS_SOLUTION
@@ -48,7 +49,7 @@ def run(folder, plan, *, opening="overflow", inserted="answers", checker=None, t
     program = fakes.program(folder, "program", fakes.PROGRAM, opening=opening, inserted=inserted)
     status = 0 if checker and checker.startswith("ATTESTED") else 40
     attests = checker and at_hand.Tool((fakes.program(folder, "checker", fakes.CHECKER, answer=checker, status=status),), "other")
-    way = routes.Routes(job(), at_hand.Tool((program,), "other"), plan, attests, (told or Told()).observer())
+    way = routes.Routes(job(), at_hand.Tool((program,), "other"), plan, lambda: attests, (told or Told()).observer())
     if begin:
         way.begin_at(begin, "model.bas")
     return way.run()
@@ -134,7 +135,7 @@ def test_without_a_solver_it_is_primal(tmp_path):
     with fakes.only_path(tmp_path):
         for solved_by in ((), ("clp",)):
             if solved_by:
-                with pytest.raises(solvers.NoBasis, match=r"clp isn't installed \(apt-get install coinor-clp\)"):
+                with pytest.raises(solver_names.NoBasis, match=r"clp isn't installed \(apt-get install coinor-clp\)"):
                     run(tmp_path, plan(solvers=solved_by))
             else:
                 outcome = run(tmp_path, plan(solvers=solved_by))
@@ -194,7 +195,7 @@ def test_a_run_from_a_basis_that_hangs(tmp_path):
 def test_interrupted(tmp_path):
     "what stands is said, and nothing is left"
     with fakes.only_path(tmp_path) as pids:
-        told = Told(stop=lambda waits: "1 lines" in waits and pids.exists())
+        told = Told(stop=lambda waits: waits.startswith(f"{routes.OPENING} (waits for CONVERT), ") and pids.exists())
         outcome = run(tmp_path, plan(solvers=()), opening="hangs", told=told)
         assert outcome.attempt.interrupted and outcome.status == 130 and outcome.attempt.lines() == ["TITLE FAKE"]
         assert fakes.left_over(pids) == []
@@ -203,7 +204,7 @@ def test_interrupted(tmp_path):
 def test_interrupted_while_a_solver_runs(tmp_path):
     with fakes.only_path(tmp_path) as pids:
         fakes.program(tmp_path, "clp", fakes.HANGS)
-        told = Told(stop=lambda waits: "basis of clp" in waits and pids.exists() and pids.read_text().endswith("\n"))
+        told = Told(stop=lambda waits: re.match(f"waits for a basis of clp, [0-9]+ s of [0-9.]+(; {routes.OPENING} goes on beside it)?$", waits) and pids.exists() and pids.read_text().endswith("\n"))
         outcome = run(tmp_path, plan(solvers=("clp",)), told=told)
         assert outcome.attempt.interrupted and outcome.attempt.lines()[-1].startswith("STOP 20")
         assert fakes.left_over(pids) == []
@@ -241,7 +242,7 @@ def real_program(folder):
     return str(path)
 
 
-@pytest.mark.parametrize("name", solvers.NAMES)
+@pytest.mark.parametrize("name", solver_names.NAMES)
 def test_a_real_basis_takes_no_step(tmp_path, name):
     if solvers.find(name) is None:
         pytest.skip(f"{name} isn't installed")
@@ -262,5 +263,5 @@ def test_highs_goes_before_clp(tmp_path):
 def test_an_only_route_that_comes_to_nothing(tmp_path):
     with fakes.only_path(tmp_path):
         fakes.program(tmp_path, "clp", fakes.SILENT)
-        with pytest.raises(solvers.NoBasis, match="no basis of clp: it wrote no basis"):
+        with pytest.raises(solver_names.NoBasis, match="no basis of clp: it wrote no basis"):
             run(tmp_path, plan(solvers=("clp",), only="basis"))

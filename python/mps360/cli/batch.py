@@ -24,15 +24,15 @@ NAME.listing.part).
 A disk that is full, and a device that gives no more, end the batch: what met it has no answer and no line, and --resume runs it. Without
 --resume an earlier summary of OUT is kept, as summary-1.csv and so on.
 
-The proved program is used where it is built; else all run UNPROVED, compiled once, in a minute or two (MPS360_PROVED=1 refuses that).
+The proved program is used where it is built; else all run UNPROVED, compiled once, in about a minute (MPS360_PROVED=1 refuses that).
 
 Ends with 0 where each ended with an END line; 3 where one didn't; 64 for wrong use; 66 where there is no such folder or file, or
 nothing to run in it; 70 where no program or no solver can be had; 73 where OUT or standard output can't be written; 130 where it was interrupted."""
+from __future__ import annotations
+
 import argparse
 import collections
-import csv
 import hashlib
-import itertools
 import json
 import os
 import pathlib
@@ -45,25 +45,29 @@ import sys
 import tempfile
 import threading
 import time
+from collections.abc import Callable, Mapping, Sequence
 from concurrent.futures import FIRST_COMPLETED, ThreadPoolExecutor, wait
+from pathlib import Path
+from typing import Any, NoReturn
 from mps360.listings.read import NUMBER
 from mps360 import programs, solvers
 from mps360.cli import mps2job
-from mps360.cli.options import solvers_of
-from mps360.text import as_text, guard
+from mps360.cli.route_options import solvers_of
+from mps360.life import Life, keep_above
+from mps360.cli.words import taken
+from mps360.text import guard
 from mps360.commands import here
 from mps360.output import CantWrite, command
+from mps360.solver_names import not_installed
+from mps360.summary import NO_ROUTE, Record, Summary, as_record, for_a_sheet
 from mps360 import unproved
 
+Process = subprocess.Popen[bytes]
 ENDINGS = (".job", ".mps", ".mps.gz", ".lp", ".lp.gz")
-OLD_COLUMNS = ("name", "file", "state", "status", "objective", "seconds", "proved", "end", "sum")
-COLUMNS = (*OLD_COLUMNS, "route", "proved_by", "notes")
-TEXT_COLUMNS = ("name", "file", "end", "route", "notes")
-NO_ROUTE = {"route": "", "proved_by": "", "notes": ""}
 # seconds that a child has to end by itself: after its own limit, and after a signal
 LATE, GRACE = 10.0, 5.0
 NO_END, REFUSED, CANT_READ, CANT_WRITE, INTERRUPTED, OPEN, OLD_OPEN = 124, 65, 66, 73, 130, 3, 1
-LINE_EACH, PATIENCE, MOST_SAID = 10, 0.2, 5
+LINE_EACH, PATIENCE, MOST_SAID = 10.0, 0.2, 5
 DONE = ("ended", "stopped", "refused")
 # statuses of a run whose job couldn't be read, or whose listing or punched deck couldn't be written: no answer, but the want of a device
 DEVICE_FAULTS = {24: "the job couldn't be read", 25: "the listing couldn't be written", 26: "the deck couldn't be punched"}
@@ -72,7 +76,7 @@ USAGE = "usage: mps360-batch [-j N] [--seconds S] [--with SOLVERS] [--resume] [-
 
 class Wrong(Exception):
     "what ends the whole, with its exit status"
-    def __init__(self, status, cause):
+    def __init__(self, status: int, cause: object) -> None:
         super().__init__(cause)
         self.status = status
 
@@ -83,12 +87,14 @@ class Interrupted(Exception):
 
 class Signals:
     "what Ctrl-C does: while jobs run it is noted, and met between two results, so that no lock is left held; else it is raised at once"
-    def __init__(self):
-        self.number, self.is_noted = None, False
+    def __init__(self) -> None:
+        self.number: int | None = None
+        self.is_noted = False
         for number in (signal.SIGINT, signal.SIGTERM):
             signal.signal(number, self.meet)
 
-    def meet(self, number, _):
+    def meet(self, number: int, _: object) -> None:
+        "notes the signal, or raises Interrupted"
         self.number = number
         if not self.is_noted:
             raise Interrupted(number)
@@ -102,7 +108,8 @@ class TimeOver(Exception):
     "a job has met the time limit"
 
 
-def say(text):
+def say(text: object) -> None:
+    "a line on standard error"
     # (in one piece, for several files may speak at once)
     sys.stderr.write(f"mps360-batch: {text}\n")
     sys.stderr.flush()
@@ -110,11 +117,12 @@ def say(text):
 
 # ---- what is to be run
 
-def stem(path):
+def stem(path: Path) -> str:
+    "a file's name without its ending"
     return next((path.name[:-len(ending)] for ending in sorted(ENDINGS, key=len, reverse=True) if path.name.lower().endswith(ending)), path.name)
 
 
-def named(paths):
+def named(paths: Sequence[Path]) -> dict[str, Path]:
     "from names to files; two of one name, as a.job and a.mps, have their whole names"
     count = collections.Counter(stem(path) for path in paths)
     names = [(stem(path) if count[stem(path)] == 1 else path.name, path) for path in paths]
@@ -124,7 +132,7 @@ def named(paths):
     return dict(sorted(names))
 
 
-def files_of(options):
+def files_of(options: argparse.Namespace) -> tuple[dict[str, Path], Path]:
     "the files and the folder that the words name"
     words = [pathlib.Path(word) for word in options.words]
     if options.out is not None:
@@ -146,102 +154,34 @@ def files_of(options):
     return named(paths), words[1] if len(words) == 2 else folder / "listings"
 
 
-# ---- the summary
-
-def for_a_sheet(text):
-    "text that no spreadsheet takes for a formula"
-    text = as_text(str(text))
-    return "'" + text if text[:1] in tuple("=+-@") else text
-
-
-class Summary:
-    "a line of summary.csv for each result as soon as it is there"
-    def __init__(self, out):
-        self.path, self.json, self.records = out / "summary.csv", out / "summary.json", {}
-
-    def before(self):
-        "the records of an earlier batch; a line that isn't whole counts for nothing"
-        try:
-            with open(self.path, encoding="utf-8", newline="") as file:
-                return {line["name"]: NO_ROUTE | line for line in csv.DictReader(file) if all(line.get(key) is not None for key in OLD_COLUMNS)}
-        except FileNotFoundError:
-            return {}
-
-    def line(self, record):
-        return {key: for_a_sheet(record[key]) if key in TEXT_COLUMNS else record[key] for key in COLUMNS}
-
-    def keep_earlier(self):
-        "the summary of an earlier batch gets the next free number; the place where it is, None where there is none"
-        if not self.before():
-            return None
-        number = next(number for number in itertools.count(1) if not any(self.numbered(path, number).exists() for path in (self.path, self.json)))
-        for path in (self.path, self.json):
-            if path.exists():
-                os.replace(path, self.numbered(path, number))
-        return self.numbered(self.path, number)
-
-    @staticmethod
-    def numbered(path, number):
-        return path.with_name(f"{path.stem}-{number}{path.suffix}")
-
-    def begin(self, kept):
-        self.records = dict(kept)
-        self.write_csv()
-
-    def write_csv(self):
-        self.replace(self.path, lambda file: self.write_lines(file, [self.records[name] for name in sorted(self.records)], head=True))
-
-    def write_lines(self, file, records, head=False):
-        out = csv.DictWriter(file, COLUMNS, lineterminator="\n")
-        if head:
-            out.writeheader()
-        out.writerows(map(self.line, records))
-
-    def add(self, record):
-        self.records[record["name"]] = record
-        with open(self.path, "a", encoding="utf-8", newline="") as file:
-            self.write_lines(file, [record])
-
-    def end(self, files):
-        "both files whole, in the order of the names; summary.json says too what isn't done"
-        self.write_csv()
-        states = collections.Counter(record["state"] for record in self.records.values())
-        jobs = [{key: as_text(value) if isinstance(value, str) else value for key, value in record.items()}
-                for _, record in sorted(self.records.items())]
-        whole = {"files": len(files), "states": dict(sorted(states.items())), "not done": len(files) - len(self.records), "jobs": jobs}
-        self.replace(self.json, lambda file: file.write(json.dumps(whole, indent=1) + "\n"))
-
-    @staticmethod
-    def replace(path, write):
-        part = path.with_name(path.name + ".part")
-        with open(part, "w", encoding="utf-8", newline="") as file:
-            write(file)
-        os.replace(part, path)
-
-
-def as_record(line, name, path):
-    "a record again of a line of summary.csv, for the file that it is of"
-    texts = {key: line[key][1:] if line[key][:1] == "'" else line[key] for key in ("end", "route", "notes")}
-    return {**line, "name": name, "file": str(path), **texts, "status": int(line["status"]) if line["status"] else None, "seconds": float(line["seconds"])}
-
-
 # ---- a run
+
+def copy(source: Path, target: Path) -> None:
+    "copies a file; OSError names the copy, which is what can't be written"
+    try:
+        shutil.copyfile(source, target)
+    except OSError as cause:
+        raise OSError(cause.errno, cause.strerror, str(target)) from None
+
 
 class Runs:
     "runs a file, and ends what is running where all is to end"
-    def __init__(self, program, is_proved, out, options):
+    def __init__(self, program: str, is_proved: bool, out: Path, options: argparse.Namespace) -> None:
         self.program, self.proved, self.out = program, "yes" if is_proved else "no", out
         self.limit = min((limit for limit in (options.time_limit, options.seconds) if limit), default=None)
         self.words, self.solvers = shlex.split(options.mps2job), options.solvers
         self.processors = max(1, (os.cpu_count() or 1) // options.at_once)
-        self.lock, self.processes, self.running, self.is_over = threading.Lock(), {}, {}, False
+        self.lock, self.is_over = threading.Lock(), False
+        self.processes: dict[int, Process] = {}
+        self.running: dict[str, float] = {}
+        self.saying: dict[str, Path] = {}
 
-    def sum_of(self, path):
+    def sum_of(self, path: Path) -> str:
         "a checksum of a file, and of the words for MPS files where it is one"
         words = [] if path.name.lower().endswith(".job") else [*self.words, *([] if self.solvers is None else ["--with", *self.solvers])]
         return hashlib.sha256(path.read_bytes() + b"\0" + "\0".join(words).encode()).hexdigest()[:16]
 
-    def call(self, words, until, **more):
+    def call(self, words: Sequence[str], until: float | None, **more: Any) -> int:
         "the status of a command, which is ended at the time limit"
         with self.lock:
             if self.is_over:
@@ -258,14 +198,15 @@ class Runs:
                 del self.processes[process.pid]
 
     @staticmethod
-    def ask_to_end(process):
+    def ask_to_end(process: Process) -> None:
         "a child that solves ends what it has begun, and then itself"
         try:
             os.killpg(process.pid, signal.SIGTERM)
         except ProcessLookupError:
             pass
 
-    def kill(self, process):
+    def kill(self, process: Process) -> None:
+        "ends a child, at once where it doesn't end when it is asked to"
         if process.poll() is not None:
             return
         self.ask_to_end(process)
@@ -278,18 +219,19 @@ class Runs:
                 pass
             process.wait()
 
-    def end(self):
+    def end(self) -> None:
+        "asks all that runs to end, and lets nothing begin"
         with self.lock:
             self.is_over = True
             for process in self.processes.values():
                 self.ask_to_end(process)
 
-    def run(self, name, path):
+    def run(self, name: str, path: Path) -> Record:
         "the record of a file's run; what it leaves stands in OUT before"
         begun = time.monotonic()
         until = None if self.limit is None else begun + self.limit
         self.running[name] = begun
-        record = {"name": name, "file": str(path), "state": "no answer", "status": None, "objective": "", "proved": self.proved, **NO_ROUTE}
+        record: Record = {"name": name, "file": str(path), "state": "no answer", "status": None, "objective": "", "proved": self.proved, **NO_ROUTE}
         part = self.out / f"{name}.listing.part"
         for ending in ("listing", "listing.part", "punch", "names"):
             (self.out / f"{name}.{ending}").unlink(missing_ok=True)
@@ -305,18 +247,28 @@ class Runs:
             record |= {"state": "time limit", "end": f"stopped after {self.limit:g} s" if self.limit else "interrupted"}
         finally:
             del self.running[name]
+            self.saying.pop(name, None)
         if part.exists() and not part.stat().st_size:
             part.unlink()
         return {**record, "seconds": round(time.monotonic() - begun, 3)}
 
+    def waits_for(self, now: float) -> str:
+        "what the file does that runs the longest, as far as it tells; now is the time of time.monotonic"
+        begun, name = min(((begun, name) for name, begun in list(self.running.items())), default=(now, ""))
+        if not name:
+            return ""
+        told = last_line(self.saying.get(name)).removeprefix("solve: ")
+        return f", the longest since {now - begun:.0f} s: {name}{f' ({told})' if told else ''}"
+
     # ---- a job
 
-    def run_job(self, name, path, record, folder, until):
+    def run_job(self, name: str, path: Path, record: Record, folder: Path, until: float | None) -> None:
+        "runs a job by the program"
         part, punch = self.out / f"{name}.listing.part", folder / "PUNCH"
         with open(path, "rb") as given, open(part, "wb") as printed:
             status = self.call([self.program], until, stdin=given, stdout=printed, stderr=subprocess.DEVNULL, cwd=folder)
         if punch.is_file():
-            shutil.copyfile(punch, self.out / f"{name}.punch")
+            copy(punch, self.out / f"{name}.punch")
         if status < 0:
             record["end"] = f"ended by signal {-status}"
             return
@@ -331,13 +283,14 @@ class Runs:
 
     # ---- an MPS file
 
-    def solve_file(self, name, path, record, folder, until):
+    def solve_file(self, name: str, path: Path, record: Record, folder: Path, until: float | None) -> None:
         "by a child of its own, so that several read and write at once"
         words = [sys.executable, str(programs.COMMANDS / "solve"), "--json", "--life", "0", "--keep", str(folder / "kept"), "--processors", str(self.processors), *self.words]
         if self.solvers is not None:
             words += ["--with", ",".join(self.solvers) or "none"]
         if until is not None:
             words += ["--seconds", f"{max(0.001, until - time.monotonic()):.3f}"]
+        self.saying[name] = folder / "said"
         with open(folder / "answer", "wb") as answer, open(folder / "said", "wb") as said:
             status = self.call([*words, str(path.resolve())], None if until is None else until + LATE, stdin=subprocess.DEVNULL, stdout=answer, stderr=said)
         told = (folder / "said").read_text(encoding="utf-8", errors="replace").strip()
@@ -350,14 +303,14 @@ class Runs:
         else:
             self.take(name, record, status, (folder / "answer").read_bytes(), told)
 
-    def keep(self, name, kept, status):
+    def keep(self, name: str, kept: Path, status: int) -> None:
         "what the child kept goes to OUT"
         for path in kept.iterdir() if kept.is_dir() else ():
             is_cut = path.suffix == ".listing" and status in (NO_END, INTERRUPTED)
             if path.suffix in (".job", ".names", ".listing"):
-                shutil.copyfile(path, self.out / f"{name}{path.suffix}{'.part' if is_cut else ''}")
+                copy(path, self.out / f"{name}{path.suffix}{'.part' if is_cut else ''}")
 
-    def take(self, name, record, status, answer, told):
+    def take(self, name: str, record: Record, status: int, answer: bytes, told: str) -> None:
         "the record of a child's JSON"
         try:
             whole = json.loads(answer)
@@ -381,12 +334,22 @@ class Runs:
             say(f"{name}: {len(run['notes']) - MOST_SAID} notes more, which {name}.names has")
 
 
-def how_it_ended(listing):
+def last_line(path: Path | None) -> str:
+    "the last whole line that a child has said so far; none where it has said nothing, or has ended"
+    try:
+        lines = path.read_bytes().decode("utf-8", "replace").split("\n")[:-1] if path else []
+    except OSError:
+        return ""
+    return lines[-1] if lines else ""
+
+
+def how_it_ended(listing: str) -> str:
+    "the last line of a listing that says how its run ended"
     lines = listing.rstrip("\n").split("\n")
     return next((line for line in reversed(lines) if re.match("END |STOP ", line)), lines[-1])
 
 
-def a_program():
+def a_program() -> tuple[str, bool]:
     "the path of the program, and whether it is proved"
     program = programs.proved_program()
     if program:
@@ -402,7 +365,7 @@ def a_program():
         raise Wrong(70, cause) from None
 
 
-def done_before(summary, runs, files):
+def done_before(summary: Summary, runs: Runs, files: Mapping[str, Path]) -> dict[str, Record]:
     "the records that --resume keeps"
     kept, before = {}, summary.before()
     for name, path in files.items():
@@ -421,10 +384,10 @@ def done_before(summary, runs, files):
 
 class Lines:
     "the line of each result on standard output; the results are kept also where it can't be written, which is told in the end"
-    def __init__(self):
-        self.fault = None
+    def __init__(self) -> None:
+        self.fault: CantWrite | None = None
 
-    def tell(self, record):
+    def tell(self, record: Record) -> None:
         status = "none" if record["status"] is None else record["status"]
         try:
             if self.fault is None:
@@ -434,9 +397,9 @@ class Lines:
             self.fault = cause
 
 
-def work_off(files, runs, summary, at_once, signals, lines):
+def work_off(files: Mapping[str, Path], runs: Runs, summary: Summary, at_once: int, signals: Signals, lines: Lines, life: Life) -> None:
     "runs what isn't done, and takes each result as it comes, until all are done or a signal came"
-    told = begun = time.monotonic()
+    begun = time.monotonic()
     total = len(files) + len(summary.records)
     with ThreadPoolExecutor(at_once) as pool:
         waiting = {pool.submit(runs.run, name, path) for name, path in files.items()}
@@ -448,21 +411,18 @@ def work_off(files, runs, summary, at_once, signals, lines):
                     summary.add(record)
                     lines.tell(record)
                 now = time.monotonic()
-                if now - told >= LINE_EACH:
-                    told = now
-                    longest = min(list(runs.running.items()), key=lambda item: item[1], default=None)
-                    waits = f", the longest since {now - longest[1]:.0f} s: {longest[0]}" if longest else ""
-                    say(f"{now - begun:.0f} s: {len(summary.records)} of {total} done, {len(runs.running)} running{waits}")
+                life.tick(now - begun, lambda: f"{len(summary.records)} of {total} done, {len(runs.running)} running{runs.waits_for(now)}")
         finally:
             for future in waiting:
                 future.cancel()
             if waiting:
                 runs.end()
+            life.clear()
 
 
-def check_words(options):
+def check_words(options: argparse.Namespace) -> None:
     "words that would be wrong for each file are wrong at once"
-    def refuse(message):
+    def refuse(message: object) -> NoReturn:
         raise Wrong(64, f"--mps2job: {message}")
     try:
         mps2job.reading_of(mps2job.parsed_options([*shlex.split(options.mps2job), "--", "MODEL.mps"], refuse), refuse)
@@ -470,10 +430,11 @@ def check_words(options):
         refuse(cause)
     missing = next((name for name in options.solvers or () if not solvers.find(name)), None)
     if missing:
-        raise Wrong(70, f"{solvers.TITLES.get(missing, missing)} isn't installed (apt-get install {solvers.PACKAGES[missing]})")
+        raise Wrong(70, not_installed(missing))
 
 
-def batch(options, signals):
+def batch(options: argparse.Namespace, signals: Signals, life: Life) -> int:
+    "runs all, and gives the exit status"
     files, out = files_of(options)
     check_words(options)
     try:
@@ -489,7 +450,7 @@ def batch(options, signals):
         if options.resume:
             say(f"{len(kept)} of {len(files)} are done already")
         signals.is_noted, lines = True, Lines()
-        work_off({name: path for name, path in files.items() if name not in kept}, runs, summary, options.at_once, signals, lines)
+        work_off({name: path for name, path in files.items() if name not in kept}, runs, summary, options.at_once, signals, lines, life)
         summary.end(files)
     except OSError as cause:
         raise Wrong(CANT_WRITE, f"can't write {cause.filename or out}: {cause.strerror}") from None
@@ -503,34 +464,49 @@ def batch(options, signals):
     return 0 if all(record["state"] == "ended" for record in summary.records.values()) else OLD_OPEN if options.old_codes else OPEN
 
 
-def positive(kind):
-    def read(word):
+def positive(kind: Callable[[str], float]) -> Callable[[str], float]:
+    "reads a number above 0"
+    def read(word: str) -> float:
         if not kind(word) > 0:
             raise ValueError
         return kind(word)
     return read
 
 
+class Words(argparse.ArgumentParser):
+    "words that end the command where they are wrong"
+    def error(self, message: str) -> NoReturn:
+        print(f"{USAGE}: {message}", file=sys.stderr)
+        sys.exit(64)
+
+
 @command("mps360-batch")
-def main(words=None):
+def main(words: list[str] | None = None) -> int:
+    "the command; its status"
     words = sys.argv[1:] if words is None else words
+    errors = sys.stderr
     guard()
     if any(word in ("-h", "--help") for word in words):
-        print(here(__doc__))
+        print(here(__doc__ or ""))
         return 0
-    parser = argparse.ArgumentParser(add_help=False, allow_abbrev=False)
-    parser.error = lambda message: (print(f"{USAGE}: {message}", file=sys.stderr), sys.exit(64))
+    parser = Words(add_help=False, allow_abbrev=False)
     parser.add_argument("-j", dest="at_once", type=positive(int), default=1)
     parser.add_argument("--time-limit", type=positive(float))
     parser.add_argument("--seconds", type=positive(float))
     parser.add_argument("--with", dest="solvers", type=solvers_of)
     parser.add_argument("--old-codes", action="store_true")
     parser.add_argument("--resume", action="store_true")
-    parser.add_argument("--mps2job", default="")
     parser.add_argument("--out")
     parser.add_argument("words", nargs="+")
+    life = Life("mps360-batch", LINE_EACH, errors, most=LINE_EACH)
+    keep_above(life)
     try:
-        return batch(parser.parse_args(words), Signals())
+        # (its value begins with --, which argparse takes for a word of its own)
+        words, converting = taken(words, "--mps2job")
+    except ValueError as cause:
+        parser.error(str(cause))
+    try:
+        return batch(parser.parse_args(words, argparse.Namespace(mps2job=converting or "")), Signals(), life)
     except Wrong as cause:
         say(cause)
         return cause.status
