@@ -9,10 +9,10 @@ use thiserror::Error;
 #[derive(Clone, Copy, Debug, Error)]
 pub enum Stop {
     /// It isn't of its form, or it fails a test.
-    #[error("the answer isn't of its form, or it fails a test")]
+    #[error("the answer isn't of its form, or its numbers don't prove it")]
     Wrong,
     /// An operation of a test is refused, or a number is too long.
-    #[error("an operation of a test is refused, or a number is too long")]
+    #[error("an operation is refused, or a number is too long")]
     Unchecked,
     /// There is no memory.
     #[error("no memory")]

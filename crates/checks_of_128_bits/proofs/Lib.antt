@@ -1,0 +1,6 @@
+mod Passing
+mod Carried
+mod Limits
+mod Ends
+mod ClosingSums
+mod PastFacts

@@ -1,0 +1,4 @@
+pub mod Making
+pub mod Fractions
+pub mod Intervals
+pub mod Closings

@@ -1,0 +1,85 @@
+// The checker in fractions of 128 bits.
+ghost use Rattle.std.specs.Prelude.{◌≡◌, IfOk};
+
+use crate::claim_tests::{check_claim, check_opening};
+use crate::closing_tests::check_closing;
+use crate::interval_tests::check_part;
+use crate::solution_tests::check_printed;
+use listing_claims::{Checks, Claim, Closing, Part, Printed, Stop};
+use listing_definitions::Mark;
+use listing_tables::Sheet;
+use listing_words::{Number, fraction_in};
+use lp_model::{Lp, NoMemory};
+use parametric_request::ParametricRequest;
+use std::alloc::Global;
+
+/// The checker that reads and tests numbers as a run makes them. A verdict has to be printed with the word CHECKED.
+pub struct Of128Bits;
+
+impl Checks for Of128Bits {
+    ghost use Rattle.walk_definitions.specs.Checkers.{checker_of_128_bits};
+
+    ghost checker = { checker_of_128_bits };
+
+    fn read<'a>(_alloc: Global, word: &'a [u8]) -> Result<Option<Number<'a>>, NoMemory> {
+        match fraction_in(word) {
+            Some(_) => Ok(Some(Number::new(word))),
+            None => Ok(None),
+        }
+    }
+
+    fn has_limit() -> bool {
+        false
+    }
+
+    fn is_long(_word: &[u8]) -> bool {
+        false
+    }
+
+    fn takes(is_checked: bool) -> bool {
+        is_checked
+    }
+
+    fn test_claim(alloc: Global, lp: &Lp, claim: &Claim<'_>) -> Result<(), Stop> {
+        check_claim(alloc, lp, claim)
+    }
+
+    fn test_opening(
+        alloc: Global,
+        sheet: Sheet<'_>,
+        request: &ParametricRequest,
+        claim: &Claim<'_>,
+    ) -> Result<(), Stop> {
+        check_opening(alloc, sheet, request, claim)
+    }
+
+    fn test_solution(
+        alloc: Global,
+        sheet: Sheet<'_>,
+        mark: Mark,
+        printed: &Printed<'_>,
+    ) -> Result<(), Stop> {
+        check_printed(alloc, sheet, mark, printed)
+    }
+
+    fn test_interval(
+        alloc: Global,
+        sheet: Sheet<'_>,
+        request: &ParametricRequest,
+        is_first: bool,
+        from: &Number<'_>,
+        part: &Part<'_>,
+    ) -> Result<(), Stop> {
+        check_part(alloc, sheet, request, is_first, from, part)
+    }
+
+    fn test_close(
+        alloc: Global,
+        sheet: Sheet<'_>,
+        request: &ParametricRequest,
+        last: &Number<'_>,
+        closing: &Closing<'_>,
+    ) -> Result<(), Stop> {
+        check_closing(alloc, sheet, request, last, closing)
+    }
+}

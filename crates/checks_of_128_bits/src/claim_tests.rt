@@ -1,0 +1,83 @@
+// The tests of what a verdict claims.
+ghost use Rattle.std.specs.Prelude.{◌≡◌, length};
+ghost use Rattle.lp_definitions.specs.LinearProgram.{size, value_at};
+ghost use Rattle.check_definitions.specs.Checks.{infeasible_check};
+ghost use Rattle.parametric_request.specs.Asking.{changing_of};
+ghost use Rattle.walk_definitions.specs.Checkers.{checker_of_128_bits};
+ghost use Rattle.listing_words.specs.Read.{sheet_view};
+ghost use Rattle.listing_claims.specs.Asked.{IsAskedOf};
+ghost use Rattle.listing_claims.specs.Claims.{IsPairOf, Fits, pair_test, claim_test, opening_test};
+ghost use Rattle.listing_claims.specs.Passing.{Judges};
+ghost use Rattle.checks_of_128_bits.specs.Fractions.{HasPair, pair_verdict};
+
+use crate::families::program_at;
+use crate::fractions::{FractionPair, fraction, fractions, pair_of};
+use crate::judging::{asked, both, judge};
+use certificate_check::{Verdict, check_crossed, check_infeasible, check_unbounded, is_equal};
+use frac128::Frac;
+use listing_claims::{Claim, Pair, Stop};
+use listing_tables::{Sheet, objective_of};
+use listing_words::Number;
+use lp_model::Lp;
+use parametric_request::ParametricRequest;
+use std::alloc::Global;
+
+// A point with this objective, and a direction, in fractions.
+fn test_pair(lp: &Lp, objective: Frac, pair: &FractionPair) -> Verdict
+    requires { HasPair lp.now pair.now }
+    ensures { result ≡ pair_verdict lp.now objective pair.now }
+{
+    let proof = check_unbounded(lp, &pair.point, &pair.direction);
+    both(
+        proof,
+        asked(is_equal(objective, objective_of(lp, &pair.point))),
+    )
+}
+
+// A point with this objective, and a direction.
+fn check_pair(alloc: Global, lp: &Lp, objective: &Number<'_>, pair: &Pair<'_>) -> Result<(), Stop>
+    requires { IsPairOf lp.now pair.now }
+    ensures { Judges (pair_test checker_of_128_bits lp.now objective.now pair.now) result }
+{
+    let objective = fraction(objective)?;
+    let made = pair_of(alloc, pair)?;
+    judge(test_pair(lp, objective, &made))
+}
+
+// The multipliers of a ray.
+fn check_ray(alloc: Global, lp: &Lp, ray: &[Number<'_>]) -> Result<(), Stop>
+    requires { length ray.now ≡ size lp.now.matrix }
+    ensures { Judges (infeasible_check lp.now (value_at ray.now)) result }
+{
+    let made = fractions(alloc, ray)?;
+    judge(check_infeasible(lp, &made))
+}
+
+/// A claim of a linear program. An optimal one is tested where SOLUTION shows it.
+pub fn check_claim(alloc: Global, lp: &Lp, claim: &Claim<'_>) -> Result<(), Stop>
+    requires { Fits lp.now claim.now }
+    ensures { Judges (claim_test checker_of_128_bits lp.now claim.now) result }
+{
+    match claim {
+        Claim::Optimal(_) => Ok(()),
+        Claim::Crossed(k) => judge(check_crossed(lp, *k)),
+        Claim::Infeasible(ray) => check_ray(alloc, lp, ray),
+        Claim::Unbounded(objective, pair) => check_pair(alloc, lp, objective, pair),
+    }
+}
+
+/// A claim of the linear program at the first value, which is made for it.
+pub fn check_opening(
+    alloc: Global,
+    sheet: Sheet<'_>,
+    request: &ParametricRequest,
+    claim: &Claim<'_>,
+) -> Result<(), Stop>
+    requires asked { IsAskedOf sheet request.now }
+    requires fits { Fits sheet.lp.now claim.now }
+    ensures { Judges (opening_test checker_of_128_bits (sheet_view sheet.entry) (changing_of request.now.name request.now.change)
+        request.now.from claim.now) result }
+{
+    let program = program_at(alloc, sheet, request, request.from)?;
+    check_claim(alloc, &program, claim)
+}
