@@ -1,0 +1,11 @@
+//! Linear programs at a value of the parameter, and numbers compared with their limits and costs. Numbers are whole numbers of any length
+//! over one denominator, over which the parameter is a whole number too, so no program is made.
+#![tactic(auto)]
+
+mod programs;
+mod spreads;
+
+pub use programs::{
+    ChangeAt, ProgramAt, change_of, compare_to_lower, compare_to_upper, number_on, subtract_cost,
+};
+pub use spreads::{Spread, spread_alone, spread_by, top_of};

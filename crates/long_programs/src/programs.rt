@@ -1,0 +1,173 @@
+// A linear program at a value of the parameter.
+ghost use Rattle.std.specs.Prelude.{◌≡◌, ℕ, None, IfOk, OnOk};
+ghost use Rattle.exact_values.specs.Rational.{ℚ, whole, zero_ℚ, compare_ℚ, ◌+ℚ◌, ◌-ℚ◌, ◌*ℚ◌};
+ghost use Rattle.lp_definitions.specs.LinearProgram.{LinearProgram, IsColumn, IsVariable, lower_of, upper_of, on_row, entry, cost};
+ghost use Rattle.problem_definitions.specs.Problem.{Problem};
+ghost use Rattle.question_definitions.specs.Answers.{Sheet as Views};
+ghost use Rattle.answer_definitions.specs.ParametricRuns.{family_of};
+ghost use Rattle.parametric_request.specs.Asking.{ServesChange, changing_of};
+ghost use Rattle.long_programs.specs.Programs.{program_of, IsChangeIn, shift_at, rate_at, order_to};
+ghost use Rattle.long_programs.specs.Places.{IsPlace};
+
+use frac128::Frac;
+use integers::Integer;
+use long_vectors::Sum;
+use lp_definitions::Entry;
+use lp_model::Lp;
+use parametric_request::{Change, ParametricRequest};
+use std::alloc::{AllocError, Global};
+use std::cmp::Ordering;
+
+/// What changes in a linear program along a parametric run.
+#[derive(Clone, Copy)]
+pub enum ChangeAt<'a> {
+    /// Nothing.
+    Unchanged,
+    /// Theta times the row of this number is added to the objective.
+    Row(u32),
+    /// Theta times its shift is added to the limits of each row.
+    Set(&'a [Frac]),
+}
+
+/// The linear programs of a parametric run, without a value of theta yet.
+#[derive(Clone, Copy)]
+pub struct ProgramAt<'a> {
+    pub lp: &'a Lp,
+    pub change: ChangeAt<'a>,
+}
+
+/// What changes by a request.
+pub fn change_of<'a>(request: &'a ParametricRequest) -> ChangeAt<'a>
+    ensures family { (sheet : Views) → ServesChange sheet.problem sheet.lp request.now.name request.now.change →
+        (theta : ℚ) → family_of sheet (changing_of request.now.name request.now.change) theta ≡ program_of sheet.lp result theta }
+    ensures change { (problem : Problem ℕ) → (p : LinearProgram) → ServesChange problem p request.now.name request.now.change → IsChangeIn p result }
+{
+    match &request.change {
+        Change::Row(row) => ChangeAt::Row(*row),
+        Change::Set(shift) => ChangeAt::Set(shift),
+    }
+}
+
+// How a number compares with a limit to which theta times its shift is added.
+fn compare_with(
+    alloc: Global,
+    limit: Frac,
+    shift: Frac,
+    top: &Integer,
+    bottom: &Integer,
+    moved: &Integer,
+) -> Result<Ordering, AllocError>
+    ensures { IfOk result (λ order. (x theta : ℚ) → IsPlace x theta top.now bottom.now moved.now → order ≡ compare_ℚ x (limit +ℚ theta *ℚ shift)) }
+{
+    let mut sum = Sum::zero(alloc)?;
+    sum.add(alloc, Frac::whole(1), top)?;
+    sum.add(alloc, limit.neg(), bottom)?;
+    sum.add(alloc, shift.neg(), moved)?;
+    Ok(sum.sign())
+}
+
+// What is added to the limits of variable `k` for each unit of theta.
+fn shift_at(at: &ProgramAt<'_>, k: u32) -> Frac
+    requires variable { IsVariable at.now.lp.now.matrix k }
+    requires change { IsChangeIn at.now.lp.now at.now.change }
+    ensures { result ≡ shift_at at.now.lp.now at.now.change k }
+{
+    let lp = at.lp;
+    match at.change {
+        ChangeAt::Set(shift) if k <= lp.rows => shift[k as usize - 1],
+        _ => Frac::whole(0),
+    }
+}
+
+/// How a number compares with the lower limit of variable `k` at theta, if there is one.
+pub fn compare_to_lower(
+    alloc: Global,
+    at: &ProgramAt<'_>,
+    k: u32,
+    top: &Integer,
+    bottom: &Integer,
+    moved: &Integer,
+) -> Result<Option<Ordering>, AllocError>
+    requires variable { IsVariable at.now.lp.now.matrix k }
+    requires change { IsChangeIn at.now.lp.now at.now.change }
+    ensures { IfOk result (λ order. (x theta : ℚ) → IsPlace x theta top.now bottom.now moved.now →
+        order ≡ order_to (lower_of (program_of at.now.lp.now at.now.change theta) k) x) }
+{
+    let lp = at.lp;
+    match lp.lower_limit(k) {
+        Some(limit) => {
+            let order = compare_with(alloc, limit, shift_at(at, k), top, bottom, moved)?;
+            Ok(Some(order))
+        }
+        None => Ok(None),
+    }
+}
+
+/// How a number compares with the upper limit of variable `k` at theta, if there is one.
+pub fn compare_to_upper(
+    alloc: Global,
+    at: &ProgramAt<'_>,
+    k: u32,
+    top: &Integer,
+    bottom: &Integer,
+    moved: &Integer,
+) -> Result<Option<Ordering>, AllocError>
+    requires variable { IsVariable at.now.lp.now.matrix k }
+    requires change { IsChangeIn at.now.lp.now at.now.change }
+    ensures { IfOk result (λ order. (x theta : ℚ) → IsPlace x theta top.now bottom.now moved.now →
+        order ≡ order_to (upper_of (program_of at.now.lp.now at.now.change theta) k) x) }
+{
+    let lp = at.lp;
+    match lp.upper_limit(k) {
+        Some(limit) => {
+            let order = compare_with(alloc, limit, shift_at(at, k), top, bottom, moved)?;
+            Ok(Some(order))
+        }
+        None => Ok(None),
+    }
+}
+
+/// The number on the row, and 0 where there is none.
+pub fn number_on(column: &[Entry], row: u32) -> Frac
+    ensures { result ≡ on_row column.now row }
+{
+    for entry in column {
+        if entry.row == row {
+            return entry.value;
+        }
+    }
+    Frac::whole(0)
+}
+
+// What is added to the cost of column `j` for each unit of theta.
+fn rate_at(at: &ProgramAt<'_>, j: u32) -> Frac
+    requires column { IsColumn at.now.lp.now.matrix j }
+    ensures { result ≡ rate_at at.now.lp.now at.now.change j }
+{
+    let lp = at.lp;
+    match at.change {
+        ChangeAt::Row(row) => number_on(lp.column(j), row),
+        _ => Frac::whole(0),
+    }
+}
+
+/// Takes the cost of column `j` at theta from a sum, times the denominator.
+pub fn subtract_cost(
+    alloc: Global,
+    sum: &mut Sum,
+    at: &ProgramAt<'_>,
+    j: u32,
+    bottom: &Integer,
+    moved: &Integer,
+) -> Result<(), AllocError>
+    requires column { IsColumn at.now.lp.now.matrix j }
+    requires no_change { at.now.lp.now.change ≡ None }
+    ensures { OnOk result ((theta : ℚ) → whole moved.now ≡ theta *ℚ whole bottom.now →
+        sum.new ≡ sum.old -ℚ cost (program_of at.now.lp.now at.now.change theta) j *ℚ whole bottom.now) }
+{
+    let lp = at.lp;
+    let cost = number_on(lp.column(j), lp.objective);
+    sum.add(alloc, cost.neg(), bottom)?;
+    sum.add(alloc, rate_at(at, j).neg(), moved)?;
+    Ok(())
+}
