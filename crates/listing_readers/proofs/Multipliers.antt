@@ -11,8 +11,7 @@ use Rattle.exact_values.specs.Tests.{eq_ℚ}
 use Rattle.lp_definitions.specs.LinearProgram.{numbers_from, variables, size}
 use Rattle.listing_definitions.specs.Report.{Line}
 use Rattle.question_definitions.specs.Answers.{Sheet}
-use Rattle.walk_definitions.specs.Checkers.{checker_of_128_bits}
-use Rattle.walk_definitions.specs.Words.{Parsed, left_after, fraction_in}
+use Rattle.walk_definitions.specs.Words.{Parsed, left_after}
 use Rattle.walk_definitions.specs.Tables.{AnyNumber, line_head, line_in, number_at, numbered, multiplier_in, then_more, ray_in, begins_table_line}
 use Rattle.walk_definitions.proofs.Lines.{prefixed, prefixed_none, prefixed_twice, next_number}
 use Rattle.listing_readers.specs.Tables.{IsMultiplier, of_line, without_line, IsMultiplierRead, IsRayRead}
@@ -88,30 +87,30 @@ all_numbers f k =
     let next : 1 + k ≡ k + 1 = omega arith in
     sym (ap (map f) (one_number_more 1 k ∙ ap (λ m. numbers_from 1 k ++ m ∷ []) next) ∙ map_push f (numbers_from 1 k) (k + 1))
 
-module _ (sheet : Sheet) where
+module _ (of : List ℕ → Option ℚ) (sheet : Sheet) where
   -- the multipliers of the first k variables were read
   pub record IsRaySoFar (old : List ℕ) (k left : ℕ) (rest : List ℕ) (ray : List ℚ) : Type 0 where
     pub lines : List Line
     pub below : list_all (λ line. nat_le line.number k) lines ≡ true
-    pub whole : ray_in (fraction_in checker_of_128_bits) sheet (variables sheet.lp.matrix) old ≡ prefixed lines (ray_in (fraction_in checker_of_128_bits) sheet (numbers_from (k + 1) left) rest)
+    pub whole : ray_in of sheet (variables sheet.lp.matrix) old ≡ prefixed lines (ray_in of sheet (numbers_from (k + 1) left) rest)
     pub are : ray ≡ map (λ j. numbered j lines) (numbers_from 1 k)
 
   pub ray_begins : (old : List ℕ) → IsRaySoFar old 0 (size sheet.lp.matrix) old []
-  ray_begins old = record { lines = []; below = refl; whole = sym (prefixed_none (ray_in (fraction_in checker_of_128_bits) sheet (variables sheet.lp.matrix) old)); are = refl }
+  ray_begins old = record { lines = []; below = refl; whole = sym (prefixed_none (ray_in of sheet (variables sheet.lp.matrix) old)); are = refl }
 
   -- a ray by what stands at the head of the next line
   abbrev next_by : ℕ → List ℕ → List ℕ → Option (List ℕ) → Parsed (List Line)
   next_by k ks rest o = elim o [
-    | None ↦ ray_in (fraction_in checker_of_128_bits) sheet ks rest
-    | Some values ↦ then_more (multiplier_in (fraction_in checker_of_128_bits) sheet k rest) (ray_in (fraction_in checker_of_128_bits) sheet ks)
+    | None ↦ ray_in of sheet ks rest
+    | Some values ↦ then_more (multiplier_in of sheet k rest) (ray_in of sheet ks)
   ]
 
-  here : (old : List ℕ) (k left : ℕ) (rest : List ℕ) (lines : List Line) → ray_in (fraction_in checker_of_128_bits) sheet (variables sheet.lp.matrix) old ≡ prefixed lines (ray_in (fraction_in checker_of_128_bits) sheet (numbers_from (k + 1) left) rest) → 0 < left → (o : Option (List ℕ)) →
-      left_after (line_head sheet (k + 1)) rest ≡ o → ray_in (fraction_in checker_of_128_bits) sheet (variables sheet.lp.matrix) old ≡ prefixed lines (next_by (k + 1) (numbers_from (k + 1 + 1) (left - 1)) rest o)
+  here : (old : List ℕ) (k left : ℕ) (rest : List ℕ) (lines : List Line) → ray_in of sheet (variables sheet.lp.matrix) old ≡ prefixed lines (ray_in of sheet (numbers_from (k + 1) left) rest) → 0 < left → (o : Option (List ℕ)) →
+      left_after (line_head sheet (k + 1)) rest ≡ o → ray_in of sheet (variables sheet.lp.matrix) old ≡ prefixed lines (next_by (k + 1) (numbers_from (k + 1 + 1) (left - 1)) rest o)
   here old k left rest lines whole some o head =
-      whole ∙ ap (λ ks. prefixed lines (ray_in (fraction_in checker_of_128_bits) sheet ks rest)) (next_number (k + 1) left some) ∙ ap (λ o. prefixed lines (next_by (k + 1) (numbers_from (k + 1 + 1) (left - 1)) rest o)) head
+      whole ∙ ap (λ ks. prefixed lines (ray_in of sheet ks rest)) (next_number (k + 1) left some) ∙ ap (λ o. prefixed lines (next_by (k + 1) (numbers_from (k + 1 + 1) (left - 1)) rest o)) head
 
-  pub ray_goes_on : (old : List ℕ) (k left : ℕ) (rest new : List ℕ) (ray : List ℚ) (x : ℚ) → IsRaySoFar old k left rest ray → 0 < left → IsMultiplier sheet (k + 1) rest new x → IsRaySoFar old (k + 1) (left - 1) new (ray ++ x ∷ [])
+  pub ray_goes_on : (old : List ℕ) (k left : ℕ) (rest new : List ℕ) (ray : List ℚ) (x : ℚ) → IsRaySoFar old k left rest ray → 0 < left → IsMultiplier of sheet (k + 1) rest new x → IsRaySoFar old (k + 1) (left - 1) new (ray ++ x ∷ [])
   ray_goes_on old k left rest new ray x so_far some (of_line line after head is number value) = record {
     lines = so_far.lines ++ line ∷ [];
     below =
@@ -119,8 +118,8 @@ module _ (sheet : Sheet) where
         ∙ ap₂ (λ a b. a && (b && true)) (weaker_below k so_far.lines so_far.below) (own_number line.number (k + 1) number);
     whole =
         here old k left rest so_far.lines so_far.whole some (Some after) head
-        ∙ ap (λ o. prefixed so_far.lines (then_more o (ray_in (fraction_in checker_of_128_bits) sheet (numbers_from (k + 1 + 1) (left - 1))))) is
-        ∙ prefixed_twice so_far.lines (line ∷ []) (ray_in (fraction_in checker_of_128_bits) sheet (numbers_from (k + 1 + 1) (left - 1)) new);
+        ∙ ap (λ o. prefixed so_far.lines (then_more o (ray_in of sheet (numbers_from (k + 1 + 1) (left - 1))))) is
+        ∙ prefixed_twice so_far.lines (line ∷ []) (ray_in of sheet (numbers_from (k + 1 + 1) (left - 1)) new);
     are =
         ap₂ (λ xs y. xs ++ y ∷ [])
         (so_far.are ∙ same_on (λ j. numbered j so_far.lines) (λ j. numbered j (so_far.lines ++ line ∷ [])) 1 k
@@ -131,30 +130,30 @@ module _ (sheet : Sheet) where
   ray_goes_on old k left rest new ray x so_far some (without_line head same value) = record {
     lines = so_far.lines;
     below = weaker_below k so_far.lines so_far.below;
-    whole = here old k left rest so_far.lines so_far.whole some None head ∙ ap (λ r. prefixed so_far.lines (ray_in (fraction_in checker_of_128_bits) sheet (numbers_from (k + 1 + 1) (left - 1)) r)) (sym same);
+    whole = here old k left rest so_far.lines so_far.whole some None head ∙ ap (λ r. prefixed so_far.lines (ray_in of sheet (numbers_from (k + 1 + 1) (left - 1)) r)) (sym same);
     are =
         ap₂ (λ xs y. xs ++ y ∷ []) so_far.are (value ∙ ap number_found (sym (none_found k (k + 1) so_far.lines so_far.below (omega arith))))
         ∙ all_numbers (λ j. numbered j so_far.lines) k;
   }
 
-  pub ray_fails : (old : List ℕ) (k left : ℕ) (rest new : List ℕ) (ray : List ℚ) → IsRaySoFar old k left rest ray → 0 < left → IsMultiplierRead sheet (k + 1) rest new None → ray_in (fraction_in checker_of_128_bits) sheet (variables sheet.lp.matrix) old ≡ None
+  pub ray_fails : (old : List ℕ) (k left : ℕ) (rest new : List ℕ) (ray : List ℚ) → IsRaySoFar old k left rest ray → 0 < left → IsMultiplierRead of sheet (k + 1) rest new None → ray_in of sheet (variables sheet.lp.matrix) old ≡ None
   ray_fails old k left rest new ray so_far some none =
       here old k left rest so_far.lines so_far.whole some (Some none.0) none.1
-      ∙ ap (λ o. prefixed so_far.lines (then_more o (ray_in (fraction_in checker_of_128_bits) sheet (numbers_from (k + 1 + 1) (left - 1))))) none.2
+      ∙ ap (λ o. prefixed so_far.lines (then_more o (ray_in of sheet (numbers_from (k + 1 + 1) (left - 1))))) none.2
 
   -- no further table line follows, or one does
-  pub ray_ends : (old : List ℕ) (k left : ℕ) (rest : List ℕ) (ray : List ℚ) → IsRaySoFar old k left rest ray → k ≡ size sheet.lp.matrix → left ≡ 0 → begins_table_line rest ≡ false → IsRayRead sheet old rest (Some ray)
+  pub ray_ends : (old : List ℕ) (k left : ℕ) (rest : List ℕ) (ray : List ℚ) → IsRaySoFar old k left rest ray → k ≡ size sheet.lp.matrix → left ≡ 0 → begins_table_line rest ≡ false → IsRayRead of sheet old rest (Some ray)
   ray_ends old k left rest ray so_far all over clear = (
     so_far.lines,
-    so_far.whole ∙ ap (λ n. prefixed so_far.lines (ray_in (fraction_in checker_of_128_bits) sheet (numbers_from (k + 1) n) rest)) over
+    so_far.whole ∙ ap (λ n. prefixed so_far.lines (ray_in of sheet (numbers_from (k + 1) n) rest)) over
         ∙ ap (λ b. prefixed so_far.lines (if b then None else Some ([], rest))) clear
         ∙ ap (λ ls. Some (ls, rest)) (append-nil so_far.lines),
     so_far.are ∙ ap (λ n. map (λ j. numbered j so_far.lines) (numbers_from 1 n)) all,
   )
 
-  pub line_follows : (old : List ℕ) (k left : ℕ) (rest : List ℕ) (ray : List ℚ) → IsRaySoFar old k left rest ray → left ≡ 0 → begins_table_line rest ≡ true → ray_in (fraction_in checker_of_128_bits) sheet (variables sheet.lp.matrix) old ≡ None
+  pub line_follows : (old : List ℕ) (k left : ℕ) (rest : List ℕ) (ray : List ℚ) → IsRaySoFar old k left rest ray → left ≡ 0 → begins_table_line rest ≡ true → ray_in of sheet (variables sheet.lp.matrix) old ≡ None
   line_follows old k left rest ray so_far over begins =
-      so_far.whole ∙ ap (λ n. prefixed so_far.lines (ray_in (fraction_in checker_of_128_bits) sheet (numbers_from (k + 1) n) rest)) over
+      so_far.whole ∙ ap (λ n. prefixed so_far.lines (ray_in of sheet (numbers_from (k + 1) n) rest)) over
       ∙ ap (λ b. prefixed so_far.lines (if b then None else Some ([], rest))) begins
 
   -- ---- one multiplier
@@ -162,11 +161,11 @@ module _ (sheet : Sheet) where
   abbrev unless_zero : Line × List ℕ → Parsed Line
   unless_zero got = if eq_ℚ (number_at 0 got.0) zero_ℚ then None else Some got
 
-  pub no_line : (k : ℕ) (old : List ℕ) → line_in (fraction_in checker_of_128_bits) sheet (AnyNumber ∷ []) k old ≡ None → multiplier_in (fraction_in checker_of_128_bits) sheet k old ≡ None
+  pub no_line : (k : ℕ) (old : List ℕ) → line_in of sheet (AnyNumber ∷ []) k old ≡ None → multiplier_in of sheet k old ≡ None
   no_line k old none = ap (option_and_then unless_zero) none
 
-  pub zero_line : (k : ℕ) (old new : List ℕ) (line : Line) → line_in (fraction_in checker_of_128_bits) sheet (AnyNumber ∷ []) k old ≡ Some (line, new) → eq_ℚ (number_at 0 line) zero_ℚ ≡ true → multiplier_in (fraction_in checker_of_128_bits) sheet k old ≡ None
+  pub zero_line : (k : ℕ) (old new : List ℕ) (line : Line) → line_in of sheet (AnyNumber ∷ []) k old ≡ Some (line, new) → eq_ℚ (number_at 0 line) zero_ℚ ≡ true → multiplier_in of sheet k old ≡ None
   zero_line k old new line is none = ap (option_and_then unless_zero) is ∙ ap (λ b. if b then None else Some (line, new)) none
 
-  pub some_line : (k : ℕ) (old new : List ℕ) (line : Line) → line_in (fraction_in checker_of_128_bits) sheet (AnyNumber ∷ []) k old ≡ Some (line, new) → eq_ℚ (number_at 0 line) zero_ℚ ≡ false → multiplier_in (fraction_in checker_of_128_bits) sheet k old ≡ Some (line, new)
+  pub some_line : (k : ℕ) (old new : List ℕ) (line : Line) → line_in of sheet (AnyNumber ∷ []) k old ≡ Some (line, new) → eq_ℚ (number_at 0 line) zero_ℚ ≡ false → multiplier_in of sheet k old ≡ Some (line, new)
   some_line k old new line is some = ap (option_and_then unless_zero) is ∙ ap (λ b. if b then None else Some (line, new)) some

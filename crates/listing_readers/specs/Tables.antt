@@ -10,9 +10,8 @@ use Rattle.listing_definitions.specs.Report.{Value, Line}
 use Rattle.question_definitions.specs.Answers as questions
 use Rattle.listing_tables.specs.declared.sheet.Sheet.{Sheet}
 use Rattle.listing_tables.specs.Sheets.{IsSheet}
-use Rattle.walk_definitions.specs.Checkers.{checker_of_128_bits}
 use Rattle.walk_definitions.specs.Tables.{Slot, AnyNumber, pair_slots, part_slots, number_of, number_at, values_in, line_head, line_in, table_in, multiplier_in, ray_in, multipliers}
-use Rattle.walk_definitions.specs.Words.{left_after, fraction_in}
+use Rattle.walk_definitions.specs.Words.{left_after}
 use Rattle.walk_definitions.specs.Reading.{row_slots, column_slots}
 use Rattle.listing_readers.specs.declared.tables.Numbers.{Numbers}
 use Rattle.listing_readers.specs.declared.tables.Shape.{Shape}
@@ -47,31 +46,33 @@ pub record MayRead (sheet : Sheet) (shape : Shape) (k : ℕ) : Type 0 where
   pub is_variable : IsVariable sheet.lp.now.matrix k
   pub lined : IsLinedAt shape sheet k
 
-abbrev pub AreRead : Shape → List Slot → List ℕ → List ℕ → Option Numbers → Type 0
-AreRead shape slots old new None = values_in (fraction_in checker_of_128_bits) slots old ≡ None
-AreRead shape slots old new (Some numbers) = (values : List Value) × (values_in (fraction_in checker_of_128_bits) slots old ≡ Some (values, new)) × (numbers ≡ numbers_of shape values)
+-- by how the word of a number is read
+module _ (of : List ℕ → Option ℚ) where
+  abbrev pub AreRead : Shape → List Slot → List ℕ → List ℕ → Option Numbers → Type 0
+  AreRead shape slots old new None = values_in of slots old ≡ None
+  AreRead shape slots old new (Some numbers) = (values : List Value) × (values_in of slots old ≡ Some (values, new)) × (numbers ≡ numbers_of shape values)
 
-module _ (sheet : questions.Sheet) where
-  abbrev pub IsLineRead : Shape → ℕ → List ℕ → List ℕ → Option Numbers → Type 0
-  IsLineRead shape k old new None = line_in (fraction_in checker_of_128_bits) sheet (slots_of shape sheet k) k old ≡ None
-  IsLineRead shape k old new (Some numbers) = (line : Line) × (line_in (fraction_in checker_of_128_bits) sheet (slots_of shape sheet k) k old ≡ Some (line, new)) × (line.number ≡ k) × (numbers ≡ numbers_of shape line.values)
+  module _ (sheet : questions.Sheet) where
+    abbrev pub IsLineRead : Shape → ℕ → List ℕ → List ℕ → Option Numbers → Type 0
+    IsLineRead shape k old new None = line_in of sheet (slots_of shape sheet k) k old ≡ None
+    IsLineRead shape k old new (Some numbers) = (line : Line) × (line_in of sheet (slots_of shape sheet k) k old ≡ Some (line, new)) × (line.number ≡ k) × (numbers ≡ numbers_of shape line.values)
 
-  abbrev pub IsTableRead : Shape → List ℕ → List ℕ → List ℕ → Option (List Numbers) → Type 0
-  IsTableRead shape ks old new None = table_in (fraction_in checker_of_128_bits) sheet (slots_of shape sheet) ks old ≡ None
-  IsTableRead shape ks old new (Some numbers) =
-      (lines : List Line) × (table_in (fraction_in checker_of_128_bits) sheet (slots_of shape sheet) ks old ≡ Some (lines, new)) × (numbers ≡ map (λ line. numbers_of shape line.values) lines)
+    abbrev pub IsTableRead : Shape → List ℕ → List ℕ → List ℕ → Option (List Numbers) → Type 0
+    IsTableRead shape ks old new None = table_in of sheet (slots_of shape sheet) ks old ≡ None
+    IsTableRead shape ks old new (Some numbers) =
+        (lines : List Line) × (table_in of sheet (slots_of shape sheet) ks old ≡ Some (lines, new)) × (numbers ≡ map (λ line. numbers_of shape line.values) lines)
 
-  abbrev pub IsRayRead : List ℕ → List ℕ → Option (List ℚ) → Type 0
-  IsRayRead old new None = ray_in (fraction_in checker_of_128_bits) sheet (variables sheet.lp.matrix) old ≡ None
-  IsRayRead old new (Some ray) = (lines : List Line) × (ray_in (fraction_in checker_of_128_bits) sheet (variables sheet.lp.matrix) old ≡ Some (lines, new)) × (ray ≡ multipliers sheet lines)
+    abbrev pub IsRayRead : List ℕ → List ℕ → Option (List ℚ) → Type 0
+    IsRayRead old new None = ray_in of sheet (variables sheet.lp.matrix) old ≡ None
+    IsRayRead old new (Some ray) = (lines : List Line) × (ray_in of sheet (variables sheet.lp.matrix) old ≡ Some (lines, new)) × (ray ≡ multipliers sheet lines)
 
--- the multiplier of variable k was read of its line, or it is 0 where it has none here
-pub data IsMultiplier (sheet : questions.Sheet) (k : ℕ) (old new : List ℕ) (x : ℚ) : Type 0 where
-  of_line : (line : Line) (left : List ℕ) → left_after (line_head sheet k) old ≡ Some left → multiplier_in (fraction_in checker_of_128_bits) sheet k old ≡ Some (line, new) → line.number ≡ k → x ≡ number_at 0 line →
-      IsMultiplier sheet k old new x
-  without_line : left_after (line_head sheet k) old ≡ None → new ≡ old → x ≡ zero_ℚ → IsMultiplier sheet k old new x
+  -- the multiplier of variable k was read of its line, or it is 0 where it has none here
+  pub data IsMultiplier (sheet : questions.Sheet) (k : ℕ) (old new : List ℕ) (x : ℚ) : Type 0 where
+    of_line : (line : Line) (left : List ℕ) → left_after (line_head sheet k) old ≡ Some left → multiplier_in of sheet k old ≡ Some (line, new) → line.number ≡ k → x ≡ number_at 0 line →
+        IsMultiplier sheet k old new x
+    without_line : left_after (line_head sheet k) old ≡ None → new ≡ old → x ≡ zero_ℚ → IsMultiplier sheet k old new x
 
--- or its line isn't of the form
-abbrev pub IsMultiplierRead : questions.Sheet → ℕ → List ℕ → List ℕ → Option ℚ → Type 0
-IsMultiplierRead sheet k old new None = (left : List ℕ) × (left_after (line_head sheet k) old ≡ Some left) × (multiplier_in (fraction_in checker_of_128_bits) sheet k old ≡ None)
-IsMultiplierRead sheet k old new (Some x) = IsMultiplier sheet k old new x
+  -- or its line isn't of the form
+  abbrev pub IsMultiplierRead : questions.Sheet → ℕ → List ℕ → List ℕ → Option ℚ → Type 0
+  IsMultiplierRead sheet k old new None = (left : List ℕ) × (left_after (line_head sheet k) old ≡ Some left) × (multiplier_in of sheet k old ≡ None)
+  IsMultiplierRead sheet k old new (Some x) = IsMultiplier sheet k old new x

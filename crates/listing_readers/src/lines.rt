@@ -2,22 +2,27 @@
 ghost use Rattle.std.specs.Prelude.{◌≡◌, ◌++◌, codes, Some, None, option_map, bytes_eq, if◌then◌else◌};
 ghost use Rattle.lp_definitions.specs.LinearProgram.{IsVariable};
 ghost use Rattle.card_definitions.specs.Words.{named};
-ghost use Rattle.listing_definitions.specs.Report.{limit_value, Number, Code};
+ghost use Rattle.listing_definitions.specs.Report.{limit_value, Code};
+ghost use Rattle.listing_definitions.specs.Report as reports;
 ghost use Rattle.listing_definitions.specs.Text.{number5, name8};
 ghost use Rattle.listing_tables.specs.Sheets.{IsSheet};
-ghost use Rattle.walk_definitions.specs.Checkers.{checker_of_128_bits};
-ghost use Rattle.walk_definitions.specs.Words.{left_after, fraction_in};
+ghost use Rattle.walk_definitions.specs.Words.{left_after};
 ghost use Rattle.walk_definitions.specs.Forms.{all_operations};
-ghost use Rattle.walk_definitions.specs.Tables.{all_codes, AnyCode, AnyNumber, Known, slot_in, line_head};
+ghost use Rattle.walk_definitions.specs.Tables.{all_codes, AnyNumber, slot_in, line_head};
 ghost use Rattle.listing_words.specs.Read.{taken, sheet_view};
+ghost use Rattle.listing_claims.specs.Numbers.{number_in};
+ghost use Rattle.listing_readers.specs.Results.{IfRead};
+ghost use Rattle.listing_readers.specs.Lines.{code_in, known_in};
 
-use crate::cursor::Cursor;
-use crate::numbers::fraction_in;
+use crate::unread::Unread;
 use frac128::{Frac, Op};
 use itoa::Buffer;
+use listing_claims::{By, Checks, number_by};
 use listing_definitions::At;
 use listing_tables::{NAME_PLACES, NUMBER_PLACES, Sheet, blanks, decimal, fraction, name_of};
+use listing_words::{Cursor, Number};
 use name_table::Name;
+use std::alloc::Global;
 
 // Takes two texts, one after the other.
 #[tactic(auto, using(walk_definitions::proofs::Texts::left_after_both))]
@@ -108,29 +113,33 @@ pub fn operation_of(word: &[u8]) -> Option<Op>
 }
 
 /// Where a variable stands, after a blank.
-pub fn code(cursor: &mut Cursor<'_>) -> Option<At>
-    ensures { slot_in (fraction_in checker_of_128_bits) AnyCode cursor.old ≡ option_map (λ at. (Code at, cursor.new)) result }
+pub fn code(cursor: &mut Cursor<'_>) -> Result<At, Unread>
+    ensures { IfRead result (λ at. code_in cursor.old ≡ option_map (λ at. (Code at, cursor.new)) at) }
 {
     if !cursor.take(b" ") {
-        return None;
+        return Err(Unread::Absent);
     }
-    code_of(cursor.word())
+    code_of(cursor.word()).ok_or(Unread::Absent)
 }
 
 /// A number after a blank.
-pub fn number(cursor: &mut Cursor<'_>) -> Option<Frac>
-    ensures { slot_in (fraction_in checker_of_128_bits) AnyNumber cursor.old ≡ option_map (λ x. (Number x, cursor.new)) result }
+pub fn number<'a, T: Checks>(
+    alloc: Global,
+    cursor: &mut Cursor<'a>,
+    by: By,
+) -> Result<Number<'a>, Unread>
+    ensures { IfRead result (λ x. slot_in (number_in T.checker by) AnyNumber cursor.old ≡ option_map (λ x. (reports.Number x, cursor.new)) x) }
 {
     if !cursor.take(b" ") {
-        return None;
+        return Err(Unread::Absent);
     }
-    fraction_in(cursor.word())
+    number_by::<T>(alloc, by, cursor.word())?.ok_or(Unread::Absent)
 }
 
 /// This number after a blank.
 pub fn known_number(cursor: &mut Cursor<'_>, value: Frac) -> bool
-    ensures { slot_in (fraction_in checker_of_128_bits) (Known (Number value)) cursor.old
-        ≡ (if result then Some (Number value, cursor.new) else None) }
+    ensures { known_in (reports.Number value) cursor.old
+        ≡ (if result then Some (reports.Number value, cursor.new) else None) }
 {
     let text = fraction(value);
     cursor.take(b" ") && is_word(text.as_str().as_bytes(), cursor.word())
@@ -138,7 +147,7 @@ pub fn known_number(cursor: &mut Cursor<'_>, value: Frac) -> bool
 
 /// This limit after a blank.
 pub fn known_limit(cursor: &mut Cursor<'_>, limit: Option<Frac>) -> bool
-    ensures { slot_in (fraction_in checker_of_128_bits) (Known (limit_value limit)) cursor.old
+    ensures { known_in (limit_value limit) cursor.old
         ≡ (if result then Some (limit_value limit, cursor.new) else None) }
 {
     match limit {

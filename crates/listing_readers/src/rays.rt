@@ -1,8 +1,6 @@
 // The lines of a ray.
 ghost use Rattle.std.specs.Prelude.{◌≡◌, ◌≤◌, ℕ, List, length, option_map, IfOk};
 ghost use Rattle.std.specs.List.{prefix_len};
-ghost use Rattle.exact_values.specs.Rational.{zero_ℚ};
-ghost use Rattle.exact_values.specs.Tests.{eq_ℚ};
 ghost use Rattle.lp_definitions.specs.LinearProgram.{IsVariable};
 ghost use Rattle.card_definitions.specs.Cards.{is_blank};
 ghost use Rattle.card_definitions.specs.Numbers.{is_digit};
@@ -11,13 +9,16 @@ ghost use Rattle.listing_tables.specs.Sheets.{IsSheet};
 ghost use Rattle.walk_definitions.specs.Words.{left_after};
 ghost use Rattle.walk_definitions.specs.Tables.{begins, begins_table_line, line_head};
 ghost use Rattle.listing_words.specs.Read.{taken, sheet_view};
+ghost use Rattle.listing_claims.specs.Numbers.{number_in};
+ghost use Rattle.listing_readers.specs.Results.{IfRead};
 ghost use Rattle.listing_readers.specs.Tables.{IsMultiplierRead, IsRayRead};
 
-use crate::cursor::Cursor;
 use crate::lines::take_head;
 use crate::tables::{Shape, line};
-use frac128::Frac;
+use crate::unread::Unread;
+use listing_claims::{By, Checks};
 use listing_tables::Sheet;
+use listing_words::{Cursor, Number};
 use lp_model::NoMemory;
 use std::alloc::Global;
 
@@ -82,13 +83,6 @@ pub fn begins_table_line(bytes: &[u8]) -> bool
     begins_with_digit(rest) && begins_with_blank(after_digits(rest))
 }
 
-// Whether a number is 0.
-fn is_zero(value: Frac) -> bool
-    ensures { result ≡ eq_ℚ value zero_ℚ }
-{
-    value.compare(Frac::whole(0)).is_eq()
-}
-
 // Whether the line of variable `k` begins here.
 fn begins_line(cursor: &Cursor<'_>, sheet: Sheet<'_>, k: u32) -> bool
     requires sheet { IsSheet sheet }
@@ -100,38 +94,46 @@ fn begins_line(cursor: &Cursor<'_>, sheet: Sheet<'_>, k: u32) -> bool
 }
 
 // The multiplier of variable `k`, and 0 where it has no line here.
-fn multiplier(cursor: &mut Cursor<'_>, sheet: Sheet<'_>, k: u32) -> Option<Frac>
+fn multiplier<'a, T: Checks>(
+    alloc: Global,
+    cursor: &mut Cursor<'a>,
+    by: By,
+    sheet: Sheet<'_>,
+    k: u32,
+) -> Result<Number<'a>, Unread>
     requires sheet { IsSheet sheet }
     requires variable { IsVariable sheet.lp.now.matrix k }
-    ensures { IsMultiplierRead (sheet_view sheet.entry) k cursor.old cursor.new result }
+    ensures { IfRead result (IsMultiplierRead (number_in T.checker by) (sheet_view sheet.entry) k cursor.old cursor.new) }
 {
     if !begins_line(cursor, sheet, k) {
-        return Some(Frac::whole(0));
+        return Ok(Number::zero());
     }
-    let numbers = line(cursor, sheet, Shape::Multiplier, k)?;
-    if is_zero(numbers.first) {
-        return None;
+    let numbers = line::<T>(alloc, cursor, by, sheet, Shape::Multiplier, k)?;
+    if numbers.first.is_zero() {
+        return Err(Unread::Absent);
     }
-    Some(numbers.first)
+    Ok(numbers.first)
 }
 
 /// The multipliers of a ray, of which those that aren't 0 have lines.
-pub fn ray(
+pub fn ray<'a, T: Checks>(
     alloc: Global,
-    cursor: &mut Cursor<'_>,
+    cursor: &mut Cursor<'a>,
+    by: By,
     sheet: Sheet<'_>,
-) -> Result<Option<Vec<Frac>>, NoMemory>
+) -> Result<Option<Vec<Number<'a>>>, NoMemory>
     requires { IsSheet sheet }
-    ensures { IfOk result (λ found. IsRayRead (sheet_view sheet.entry) cursor.old cursor.new
+    ensures { IfOk result (λ found. IsRayRead (number_in T.checker by) (sheet_view sheet.entry) cursor.old cursor.new
         (option_map (λ ray. ray.items) found)) }
 {
     let count = sheet.lp.number_of_variables();
     let mut ray = Vec::new(alloc);
     for k in 0..count {
-        let Some(value) = multiplier(cursor, sheet, k + 1) else {
-            return Ok(None);
-        };
-        ray.push(value).map_err(|_| NoMemory)?;
+        match multiplier::<T>(alloc, cursor, by, sheet, k + 1) {
+            Ok(value) => ray.push(value).map_err(|_| NoMemory)?,
+            Err(Unread::Absent) => return Ok(None),
+            Err(Unread::NoMemory) => return Err(NoMemory),
+        }
     }
     if begins_table_line(cursor.rest()) {
         return Ok(None);

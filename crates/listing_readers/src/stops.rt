@@ -5,9 +5,8 @@ ghost use Rattle.walk_definitions.specs.Words.{left_after, max_count};
 ghost use Rattle.walk_definitions.specs.Forms.{Text, Count, Fraction, Operation, left_by_piece, left_by, has_form, limit_stop, read_fault, punch_fault, memory_stop, singular_stop, price_stop, overflow_operation, overflow_numbers, overflow_end, overflow_stop, counted_line, is_open_stop, is_ranges, is_punched, is_inserted};
 ghost use Rattle.listing_words.specs.Read.{taken};
 
-use crate::cursor::Cursor;
 use crate::lines::{operation_of, take_name};
-use crate::numbers::{count_in, fraction_in};
+use listing_words::{Cursor, count_in, fraction_in};
 use name_table::Name;
 
 /// A printed count has 32 bits.

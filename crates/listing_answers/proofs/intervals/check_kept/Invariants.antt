@@ -1,8 +1,0 @@
-use Rattle.lp_definitions.specs.LinearProgram.{size}
-use Rattle.certificate_check.proofs.Each.{EachLeft}
-use Rattle.listing_answers.specs.Intervals.{kept_steps}
-use Rattle.listing_answers.proofs.intervals.check_kept.Given as goal
-
--- the prices so far ask for one limit
-abbrev pub invariant-loop-i : goal.invariant-loop-i
-invariant-loop-i l = EachLeft (kept_steps l.start l.end) (size l.start.program.matrix) l.i
