@@ -53,7 +53,7 @@ def files_of(crate, folder=""):
 def cited_by(crate, names):
     "which of the names the files of a crate cite: as Rattle.NAME, as NAME:: or by use NAME"
     text = "\n".join(map(code_of, files_of(crate)))
-    words = set(re.findall(r"\bRattle\.(\w+)", text)) | set(re.findall(r"(?<![\w.:])(\w+)::|(?<=\buse )(\w+)\b", text))
+    words = set(re.findall(r"\bRattle\.(\w+)", text)) | set(re.findall(r"(?<![\w.:])(\w+)::(?!<)|(?<=\buse )(\w+)\b", text))
     return {word for found in words for word in (found if isinstance(found, tuple) else (found,))} & names - {crate}
 
 

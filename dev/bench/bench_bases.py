@@ -29,7 +29,7 @@ import time
 from fractions import Fraction
 sys.path.insert(0, str(pathlib.Path(__file__).resolve().parents[2] / "python"))
 from mps360.bases import BASIC, with_insert
-from mps360 import solvers
+from mps360 import solver_names, solvers
 from mps360.plain import Plain
 from mps360.processes import Processes
 from mps360.jobs.write import job_of
@@ -106,7 +106,7 @@ def asked(options, model):
             return None
         try:
             return request.basis()[0]
-        except solvers.NoBasis:
+        except solver_names.NoBasis:
             return None
 
 

@@ -15,6 +15,7 @@ import resource
 import subprocess
 import sys
 import tempfile
+from fractions import Fraction
 
 HERE = pathlib.Path(__file__).resolve().parent
 TOP = HERE.parents[1]
@@ -46,8 +47,8 @@ def made(folder: pathlib.Path, name: str, text: str, solution: dict[str, object]
     answer.write_text(json.dumps(solution), encoding="ascii")
     read = mps.read_text(text)
     job = job_of(read, False, read.name)
-    columns = {key: mps.Fraction(str(value)) for key, value in dict(solution["columns"]).items()}  # type: ignore[call-overload]
-    prices = {key: mps.Fraction(str(value)) for key, value in dict(solution["prices"]).items()}  # type: ignore[call-overload]
+    columns = {key: Fraction(str(value)) for key, value in dict(solution["columns"]).items()}  # type: ignore[call-overload]
+    prices = {key: Fraction(str(value)) for key, value in dict(solution["prices"]).items()}  # type: ignore[call-overload]
     (folder / f"{name}.listing").write_text(listing_of(job, Answer("optimal", columns, prices)), encoding="ascii")
     return str(model), str(answer), stand_in(folder / f"{name}.program", f"exec cat {folder}/{name}.listing")
 

@@ -1,7 +1,7 @@
 """What a run came to, by the names of the model, in exact fractions.
 
-    answer = answer_of(job, outcome, program, checker)      of a job of a model and what the routes came to; NoListing where what was printed
-                                                            isn't the listing of this job"""
+    answer = answer_of(job, outcome)      of a job of a model and what the routes came to; NoListing where what was printed isn't the listing of this
+                                          job"""
 from __future__ import annotations
 
 from collections.abc import Iterable, Mapping
@@ -9,7 +9,6 @@ from dataclasses import dataclass, field
 from fractions import Fraction
 from typing import Any, Literal
 
-from mps360.at_hand import Tool
 from mps360.bases import BASIC, FREE, LOWER, UPPER, Basis
 from mps360.errors import Error
 from mps360.jobs.write import Job
@@ -173,12 +172,12 @@ def status_of(verdict: Verdict | None, code: int) -> Status:
     return "optimal" if verdict["verdict"] == "optimal" else "infeasible" if verdict["verdict"] == "infeasible" else "unbounded"
 
 
-def answer_of(job: Job, outcome: Outcome, program: Tool, checker: Tool | None, ranging: bool = False) -> Answer:
+def answer_of(job: Job, outcome: Outcome, ranging: bool = False) -> Answer:
     "what the routes came to, as an answer"
     attempt = outcome.attempt
     text = attempt.listing.decode("latin-1")
     listing, notes = read(job, text, attempt.basis is not None and not attempt.by_checker, ranging and not attempt.by_checker)
-    provenance = Provenance.of(outcome, program, checker, None)
+    provenance = Provenance.of(outcome, None)
     verdict, solution, ranges = (last(listing["reports"], kind) for kind in ("verdict", "solution", "ranges"))
     near = {line["number"]: line for _, line in each_line(ranges or Ranges(report="ranges"))}
     end, is_optimal = listing["end"], bool(verdict) and verdict["verdict"] == "optimal"

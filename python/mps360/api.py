@@ -10,17 +10,17 @@ from dataclasses import dataclass, field
 from fractions import Fraction
 from typing import BinaryIO, Literal, NamedTuple
 
-from mps360 import at_hand, bases, long_answers, mps, runs, solutions, solvers
+from mps360 import at_hand, bases, long_answers, mps, runs, solutions
 from mps360.answer import Answer, Ray, answer_of
 from mps360.at_hand import Tool
 from mps360.bases import Basis
 from mps360.errors import CantRun, Error, NoProgram, Refused
-from mps360.jobs.write import Job
+from mps360.jobs.write import Job, exact_job
 from mps360.listings import write
-from mps360.long_numbers import exact_job
 from mps360.model import Model, Number, exact
 from mps360.processes import Processes
 from mps360.routes import Plan, Routes
+from mps360.solver_names import NoBasis
 
 Source = str | os.PathLike[str] | BinaryIO
 Form = Literal["either", "free", "fixed"]
@@ -131,12 +131,12 @@ def proved(file: str | None) -> Tool:
     return tool
 
 
-def checker_for(file: str | None) -> Tool | None:
-    "the checker that is named, or the proved one; None where there is none"
+def checker_for(file: str | None) -> Callable[[], Tool | None]:
+    "finds the checker that is named, or the proved one; None where there is none. NoProgram where the one that is named can't be run"
+    find = at_hand.checker_finder(file)
     if file is not None:
-        return at_hand.listing_checker(file)
-    tool = at_hand.listing_checker()
-    return tool if tool and tool.kind == "proved" else None
+        return find
+    return lambda: tool if (tool := find()) and tool.kind == "proved" else None
 
 
 def job_for(model: Model, ranging: bool) -> Job:
@@ -157,11 +157,11 @@ def check_basis(basis: Basis, model: Model) -> None:
         raise Refused(f"{basic} rows and columns are basic, and these are to be {len(model.rows)}, as many as there are rows")
 
 
-def ended(model: Model, plan: Plan, basis: Basis | None, ranging: bool, tools: tuple[Tool, Tool | None], on_life: Callable[[Life], None] | None) -> Answer:
+def ended(model: Model, plan: Plan, basis: Basis | None, ranging: bool, tools: tuple[Tool, Callable[[], Tool | None]], on_life: Callable[[Life], None] | None) -> Answer:
     "goes through the routes"
-    job, (program, checker) = job_for(model, ranging), tools
+    job, (program, find_checker) = job_for(model, ranging), tools
     observer = runs.Observer(tick=lambda seconds, waits: on_life(Life(seconds, waits())) if on_life else None)
-    routes = Routes(job, program, plan, checker, observer)
+    routes = Routes(job, program, plan, find_checker, observer)
     if basis is not None:
         check_basis(basis, model)
         routes.begin_at(basis, "the basis")
@@ -169,13 +169,13 @@ def ended(model: Model, plan: Plan, basis: Basis | None, ranging: bool, tools: t
         outcome = routes.run()
     except runs.NoAnswer as cause:
         raise CantRun(f"{program.command[0]}: {cause}") from None
-    except solvers.NoBasis as cause:
+    except NoBasis as cause:
         raise NoProgram(str(cause)) from None
     except OSError as cause:
         raise CantRun(f"can't run {cause.filename or program.command[0]}: {cause.strerror}") from None
     if outcome.attempt.interrupted:
         raise KeyboardInterrupt
-    return answer_of(job, outcome, program, checker, ranging)
+    return answer_of(job, outcome, ranging)
 
 
 def solve(model: Model, *, ranging: bool = False, basis: Basis | None = None, with_: Sequence[str] | None = None, seconds: float | None = None,
@@ -191,7 +191,7 @@ def solve(model: Model, *, ranging: bool = False, basis: Basis | None = None, wi
 
 def prove(model: Model, basis: Basis, *, ranging: bool = False, seconds: float | None = None, program: str | None = None) -> Answer:
     "INSERT of this basis and PRIMAL, and no other route: status stopped, with its STOP line, where these come to no verdict. Refused where the basis isn't of this model"
-    return ended(model, Plan(solvers=(), only="basis", seconds=seconds), basis, ranging, (proved(program), None), None)
+    return ended(model, Plan(solvers=(), only="basis", seconds=seconds), basis, ranging, (proved(program), lambda: None), None)
 
 
 # ---- attesting
@@ -214,7 +214,7 @@ def solution_of(answer: Answer | Solution) -> write.Answer:
 def attest(model: Model, answer: Answer | Solution, *, seconds: float | None = None, checker: str | None = None) -> Attestation:
     """what the proved checker of listings says of an exact answer, or the checker that is named: nothing is solved, and nothing of the answer is changed.
     NoProgram where there is no checker; Refused where the answer isn't of this model's names, or a number of it doesn't fit."""
-    tool = checker_for(checker)
+    tool = checker_for(checker)()
     if tool is None:
         raise NoProgram(f"no proved checker of listings is there; {at_hand.PROVES}. Another one is named by checker=FILE")
     job, found = job_for(model, False), solution_of(answer)

@@ -2,16 +2,20 @@
 
     program = solver_program()        NoProgram where there is none
     checker = listing_checker()       None where none is at hand
+    find = checker_finder(FILE)       the same, where it is called
 
 Nothing is compiled here: of the unproved ones those count that were compiled before of the same sources, by scripts/mps360 or scripts/mps360check."""
 from __future__ import annotations
 
+import functools
 import hashlib
 import os
+import sys
+from collections.abc import Callable
 from dataclasses import dataclass
 from typing import Literal
 
-from mps360 import programs, unproved
+from mps360 import programs
 from mps360.errors import NoProgram
 
 Kind = Literal["proved", "unproved", "other"]
@@ -32,6 +36,7 @@ class Tool:
         "the program itself; None where it isn't known, since it is compiled on the way"
         if not self.prepare:
             return self.command[0]
+        from mps360 import unproved
         return unproved.kept(self.name)
 
     @property
@@ -60,6 +65,11 @@ def named(file: str, name: str) -> Tool:
     return Tool((os.path.abspath(file),), "other", name=name)
 
 
+def say_unproved(name: str) -> None:
+    "a line on standard error"
+    print(f"{name}: running UNPROVED, by the program that was compiled of these sources before; {PROVES}", file=sys.stderr, flush=True)
+
+
 def solver_program(file: str | None = None) -> Tool:
     "the program that is named, or the proved one, or the unproved one"
     if file:
@@ -69,6 +79,7 @@ def solver_program(file: str | None = None) -> Tool:
         return Tool((proved,), "proved")
     if os.environ.get("MPS360_PROVED"):
         raise NoProgram(f"no proved program is there; {PROVES}")
+    from mps360 import unproved
     kept = unproved.kept(PROGRAM) if unproved.crate_of(PROGRAM).is_dir() else None
     if kept:
         return Tool((kept,), "unproved")
@@ -76,13 +87,18 @@ def solver_program(file: str | None = None) -> Tool:
     return Tool((command,), "unproved", (command, "--make", "2"))
 
 
-def listing_checker(file: str | None = None) -> Tool | None:
-    "the checker of listings that is named, or the proved one, or an unproved one that is compiled already; the one place where a checker is asked for"
-    if file:
-        return named(file, CHECKER)
+def checker_finder(file: str | None = None) -> Callable[[], Tool | None]:
+    "finds the checker of listings that is named, or else listing_checker, where it is called and once; NoProgram at once where the named one can't be run"
+    tool = named(file, CHECKER) if file else None
+    return functools.lru_cache(maxsize=1)(lambda: tool or listing_checker())
+
+
+def listing_checker() -> Tool | None:
+    "the proved checker of listings, or an unproved one that is compiled already; None where there is neither"
     proved = None if os.environ.get("MPS360_UNPROVED") else programs.proved_program(CHECKER)
     if proved:
         return Tool((proved,), "proved", name=CHECKER)
+    from mps360 import unproved
     kept = unproved.kept(CHECKER) if not os.environ.get("MPS360_PROVED") and unproved.crate_of(CHECKER).is_dir() else None
     return Tool((kept,), "unproved", name=CHECKER) if kept else None
 

@@ -4,11 +4,14 @@ Standard input is JSON, numbers in double precision: {"cost": [n], "rows": [[m l
 [column], [value]], "seconds": s or null}; a limit that isn't there is null; the cost is to be least. Standard output is {"status": 0, "rows": [[m values],
 [m marginals]], "columns": [[n values], [n marginals]]}, or another status of scipy.optimize.linprog with its "message". It ends with 0, or with 1
 where scipy refuses the problem or isn't there."""
+from __future__ import annotations
+
 import json
 import sys
+from typing import Any
 
 
-def constraints(problem, sparse, matrix):
+def constraints(problem: dict[str, Any], sparse: Any, matrix: Any) -> tuple[dict[str, Any], list[int], list[int]]:
     "the rows as scipy wants them: those that are at most a number, and those that are equal to one; and which row each is of"
     lower, upper = problem["rows"]
     same = [k for k, (low, high) in enumerate(zip(lower, upper)) if low is not None and low == high]
@@ -20,7 +23,7 @@ def constraints(problem, sparse, matrix):
             "A_eq": matrix[same] if same else None, "b_eq": [lower[k] for k in same] if same else None}, most + least, same
 
 
-def solved(problem):
+def solved(problem: dict[str, Any]) -> dict[str, Any]:
     "the answer of HiGHS"
     import numpy
     from scipy import optimize, sparse
@@ -41,7 +44,7 @@ def solved(problem):
             "columns": [found.x.tolist(), (found.lower.marginals + found.upper.marginals).tolist()]}
 
 
-def main():
+def main() -> int:
     "reads a problem, and prints its answer"
     try:
         answer = solved(json.load(sys.stdin))

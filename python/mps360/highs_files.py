@@ -5,6 +5,7 @@ from __future__ import annotations
 
 import re
 from collections.abc import Sequence
+from fractions import Fraction
 
 from mps360.bases import BASIC, FREE, LOWER, UPPER, Basis, opening, opening_of
 from mps360.errors import Refused
@@ -79,7 +80,7 @@ def read_basis(text: str, model: Model) -> Basis:
     return basis
 
 
-def standing(word: str, limits: tuple[object | None, object | None]) -> str:
+def standing(word: str, limits: tuple[Fraction | None, Fraction | None]) -> str:
     "where a variable stands with this status: at the limit that it has, where it is said to stand at one that it hasn't"
     status = STATUS.get(word)
     if status == BASIC:

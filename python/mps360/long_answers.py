@@ -10,14 +10,16 @@ from __future__ import annotations
 
 from dataclasses import replace
 from fractions import Fraction
-from typing import Any, Callable
+from typing import TYPE_CHECKING, Any, Callable
 
 from mps360.bases import BASIC, FREE, LOWER, UPPER, Basis
 from mps360.jobs.write import Job
 from mps360.listings import write
 from mps360.listings.write import Answer
-from mps360.long_numbers import Entries, Split
 from mps360.model import Sums
+
+if TYPE_CHECKING:
+    from mps360.long_numbers import Entries, Split
 
 ZERO, UNIT = Fraction(0), Fraction(1)
 # of which names the tables of an answer are

@@ -1,8 +1,9 @@
 """Numbers that 12 columns don't hold, kept exactly: a model with such numbers becomes one of short numbers that says the same.
 
     split = split_model(MODEL)      a Split: the model of short numbers, and how answers of the one become answers of the other. Refused where
-                                    a number has too many digits, with its line
-    job = exact_job(MODEL, ..)      a Job of jobs.write; job.split is the Split, or None where no number was long
+                                    a number has too many digits, with its line, or a job can't hold what is added
+
+jobs.write.exact_job makes the job.
 
 The activity of a sum of rows is the sum of their activities, exactly. So
 
@@ -18,19 +19,22 @@ from __future__ import annotations
 
 from dataclasses import dataclass, field, replace
 from fractions import Fraction
-from typing import Any, Iterator
+from typing import TYPE_CHECKING, Any, Callable, Iterator, TypeVar
 
 from mps360.errors import Refused
-from mps360.jobs.write import Job, TooLong, job_of
-from mps360.model import MOST, Limits, Model
+from mps360.model import MOST, Limits, Model, of_set
 from mps360.numbers import MOST_POWER, decimal_parts, text_of
 from mps360.text import counted, some_of
+
+if TYPE_CHECKING:
+    from mps360.jobs.write import Job
 
 # digits of an entry on a part: with a sign they fill 12 columns, and beside an exponent of two digits with its sign
 DIGITS, DIGITS_BESIDE_POWER = 11, 7
 MOST_DIGITS, LEAST_POWER = 38, -36
 ZERO, UNIT = Fraction(0), Fraction(1)
 Entries = dict[str, Fraction]
+Item = TypeVar("Item")
 End = str  # "lower", "upper" or "both"
 
 
@@ -78,7 +82,7 @@ class Split:
     def place(self, of: str, name: str) -> dict[str, str | None]:
         "the limits that a row or a column has in the file, and what its activity lacks in the job"
         lower, upper = self.file.row_limits(name) if of == "row" else self.file.column_limits(name)
-        rhs = {"rhs": str(self.file.rhs.get(self.file.rhs_set, {}).get(name, 0))} if of == "row" else {}
+        rhs = {"rhs": str(of_set(self.file.rhs, self.file.rhs_set).get(name, 0))} if of == "row" else {}
         return {"of": of, "lower": None if lower is None else str(lower), "upper": None if upper is None else str(upper),
                 "shift": str(self.shifts.get(name, ZERO) if of == "row" else ZERO), **rhs}
 
@@ -185,14 +189,14 @@ class Splitter:
         self.new.rows, self.new.parts, self.new.columns = {}, {}, {}
         self.split = Split(model, self.new)
         self.taken, self.count = {*model.rows, *model.columns}, 0
-        self.rhs, self.ranges = self.new.rhs.get(model.rhs_set, {}), self.new.ranges.get(model.range_set, {})
+        self.rhs, self.ranges = of_set(self.new.rhs, model.rhs_set), of_set(self.new.ranges, model.range_set)
         self.entries = self.rows_to_cut()
         self.long_multipliers: list[str] = []
 
     def run(self) -> Split:
         for row, kind in self.file.rows.items():
             self.take_row(row, kind)
-        for column, limits in self.file.bounds.get(self.file.bound_set, {}).items():
+        for column, limits in of_set(self.file.bounds, self.file.bound_set).items():
             self.take_limits(column, limits)
         self.leave_out_sets()
         self.tell()
@@ -201,7 +205,7 @@ class Splitter:
     def rows_to_cut(self) -> dict[str, Entries]:
         "the entries of the rows that have a long one, or are to have one; all others go to the new columns as they are"
         cut: dict[str, Entries] = {row: {} for entries in self.file.columns.values() for row, value in entries.items() if is_long(value)}
-        for row, right in self.file.rhs.get(self.file.rhs_set, {}).items():
+        for row, right in of_set(self.file.rhs, self.file.rhs_set).items():
             if self.is_shifted(row) and row not in self.file.parts and is_long(halves(right, self.file)[1]):
                 cut[row] = {}
         for column, entries in self.file.columns.items():
@@ -212,11 +216,11 @@ class Splitter:
         return cut
 
     def has_long_range(self, row: str) -> bool:
-        return is_long(self.file.ranges.get(self.file.range_set, {}).get(row))
+        return is_long(of_set(self.file.ranges, self.file.range_set).get(row))
 
     def is_shifted(self, row: str) -> bool:
         "whether the row keeps the leading digits of its right-hand side alone"
-        right = self.file.rhs.get(self.file.rhs_set, {}).get(row)
+        right = of_set(self.file.rhs, self.file.rhs_set).get(row)
         return self.file.rows[row] != "N" and is_long(right) and not self.has_long_range(row)
 
     # ---- names
@@ -314,20 +318,25 @@ class Splitter:
     def take_range(self, row: str) -> None:
         "a row with a long range: it becomes an N row, and its limits rows of which it is a part"
         lower, upper = self.file.row_limits(row)
+        assert lower is not None and upper is not None
         self.put(row, "N", {})
         for section in (self.rhs, self.ranges):
             section.pop(row, None)
-        for end, kind, limit in (("lower", "G", lower), ("upper", "L", upper)):
-            name, shift = self.add_row("B"), ZERO
-            self.new.parts[name] = {row: UNIT}
-            if is_long(limit):
-                limit, shift = halves(limit, self.file)
-                part = self.add_row("P")
-                self.put_new(part, "N", {self.one(): -shift})
-                self.new.parts[name][part] = UNIT
-            self.new.rows[name] = kind
-            self.set_right(name, limit)
-            self.split.moved[name] = Moved("row", row, end, shift)
+        self.take_row_limit(row, "lower", "G", lower)
+        self.take_row_limit(row, "upper", "L", upper)
+
+    def take_row_limit(self, row: str, end: End, kind: str, limit: Fraction) -> None:
+        "a limit of a row becomes a row of this kind, of which it is the part"
+        name, shift = self.add_row("B"), ZERO
+        self.new.parts[name] = {row: UNIT}
+        if is_long(limit):
+            limit, shift = halves(limit, self.file)
+            part = self.add_row("P")
+            self.put_new(part, "N", {self.one(): -shift})
+            self.new.parts[name][part] = UNIT
+        self.new.rows[name] = kind
+        self.set_right(name, limit)
+        self.split.moved[name] = Moved("row", row, end, shift)
 
     def set_right(self, row: str, value: Fraction) -> None:
         if value:
@@ -349,26 +358,25 @@ class Splitter:
                 self.put_new(name, kind, {column: UNIT, self.one(): -shift})
                 self.set_right(name, head)
                 self.split.moved[name] = Moved("column", column, end, shift)
-        self.new.bounds[self.file.bound_set][column] = replace(limits, lower=None if is_long(lower) else lower, upper=None if is_long(upper) else upper)
+        of_set(self.new.bounds, self.file.bound_set)[column] = replace(limits, lower=None if is_long(lower) else lower, upper=None if is_long(upper) else upper)
 
     # ---- sets, and what is told
 
     def leave_out_sets(self) -> None:
         "sets that aren't taken stay only where they say the same beside the new rows and columns"
-        for what, sets, taken in (("RHS", self.new.rhs, self.new.rhs_set), ("RANGES", self.new.ranges, self.new.range_set),
-                                  ("BOUNDS", self.new.bounds, self.new.bound_set)):
-            for name in [name for name in sets if name != taken]:
-                if self.split.one or self.split.moved or any(map(is_long, self.numbers_in(what, sets[name]))):
-                    del sets[name]
-                    self.new.said.append(f"the set {name[:30] or 'without a name'} of {what}, which isn't taken, is left out of the job: it has long numbers, "
-                                         "or says another thing beside those that are taken")
+        new = self.new
+        self.leave_out("RHS", new.rhs, new.rhs_set, lambda row, value: [value] if self.file.rows[row] != "N" else [])
+        self.leave_out("RANGES", new.ranges, new.range_set, lambda row, value: [value])
+        self.leave_out("BOUNDS", new.bounds, new.bound_set, lambda column, limits: [limits.lower, limits.upper])
 
-    def numbers_in(self, what: str, items: dict[str, object]) -> Iterator[Fraction | None]:
-        for name, value in items.items():
-            if isinstance(value, Limits):
-                yield from (value.lower, value.upper)
-            elif isinstance(value, Fraction) and (what != "RHS" or self.file.rows[name] != "N"):
-                yield value
+    def leave_out(self, what: str, sets: dict[str, dict[str, Item]], taken: str | None, numbers: Callable[[str, Item], list[Fraction | None]]) -> None:
+        "leaves out those sets of a section; numbers has those of an item, a limit that isn't there as None"
+        changed = self.split.one is not None or bool(self.split.moved)
+        for name in [name for name in sets if name != taken]:
+            if changed or any(is_long(value) for row, item in sets[name].items() for value in numbers(row, item)):
+                del sets[name]
+                self.new.said.append(f"the set {name[:30] or 'without a name'} of {what}, which isn't taken, is left out of the job: it has long numbers, "
+                                     "or says another thing beside those that are taken")
 
     def tell(self) -> None:
         more = [counted(len(self.split.added), "row")] + (["a column fixed at 1"] if self.split.one else [])
@@ -377,27 +385,9 @@ class Splitter:
                              "more, which no answer shows")
 
 
-def copied(sets: dict[str, dict[str, object]]) -> dict[str, dict[str, object]]:
+def copied(sets: dict[str, dict[str, Item]]) -> dict[str, dict[str, Item]]:
+    "the sets of a section, which may be changed apart from those of the file"
     return {name: dict(items) for name, items in sets.items()}
-
-
-def split_model(model: Model) -> Split:
-    return Splitter(model).run()
-
-
-# ---- a job
-
-def exact_job(model: Model, ranging: bool = False, title: str = "") -> Job:
-    "the job of a model, whose long numbers are kept exactly"
-    try:
-        return job_of(model, ranging, title)
-    except TooLong:
-        pass
-    split = split_model(model)
-    check_sizes(split)
-    job = job_of(split.model, ranging, title)
-    job.split = split
-    return job
 
 
 def check_sizes(split: Split) -> None:
@@ -408,3 +398,10 @@ def check_sizes(split: Split) -> None:
         if after > MOST[what] >= before:
             raise Refused(f"the job would have {after:,} {what}, and {MOST[what]:,} are the most: {after - before:,} of them hold the digits of numbers "
                           "of more than 12 columns; --round rounds these, --doubles takes the shortest decimals that are the same doubles")
+
+
+def split_model(model: Model) -> Split:
+    "the model of short numbers that says the same as this one"
+    split = Splitter(model).run()
+    check_sizes(split)
+    return split

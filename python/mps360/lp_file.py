@@ -21,7 +21,7 @@ from mps360.errors import Refused
 from mps360.model import MOST, Limits, Model, Place
 from mps360.model_checks import Choices, warnings
 from mps360.mps import Reading, numbers_told
-from mps360.numbers import decimal_text, has_text, nearest, number, shortest_double, text_of
+from mps360.numbers import decimal_text, finite_number, has_text, nearest, shortest_double, text_of
 from mps360.text import counted, lines_text, some_of
 
 LETTERS = r"[^\W\d]|[!\"#$%&(),;?@_`'{}|~/\u0080-\U0010ffff]"
@@ -185,12 +185,12 @@ class Reader:
         if after in ("e", "E"):
             raise self.refused(f"{token.text[:30]}{after} is a number without its exponent, or a name too close to it", token)
         try:
-            exact, word = number(token.text), token.text
+            exact, word = finite_number(token.text), token.text
         except Refused as cause:
             raise self.refused(cause.cause, token) from None
         if self.reading.doubles and (short := shortest_double(word)) is not None:
             self.model.doubles.append((token.line, word, short))
-            exact, word = number(short), short
+            exact, word = finite_number(short), short
         if is_constant or has_text(word):
             return sign * exact
         if self.reading.numbers == "exact":
@@ -230,7 +230,7 @@ class Reader:
 
     def is_below_infinity(self, token: Token) -> bool:
         try:
-            return bool(number(token.text) < self.reading.infinity)
+            return finite_number(token.text) < self.reading.infinity
         except Refused as cause:
             raise self.refused(cause.cause, token) from None
 

@@ -20,6 +20,7 @@ from mps360.model import MOST, Limits, Model, Place
 from mps360.model_checks import Choices, warnings
 from mps360.numbers import NUMBER, decimal_text, has_text, nearest, number, shortest_double, text_of
 from mps360.text import counted, lines_text, some_of
+from mps360.units import units_of
 
 MOST_TEXT = 300_000_000
 INFINITY = Fraction(10) ** 20
@@ -578,8 +579,11 @@ def read_text(text: str, reading: Reading = Reading(), name: str = "") -> Model:
     "the model of a text; Refused names the line"
     if is_lp(text, name):
         from mps360 import lp_file  # pylint: disable=import-outside-toplevel
-        return lp_file.read_text(text, reading)
-    return Reader(reading).read(text)
+        model = lp_file.read_text(text, reading)
+    else:
+        model = Reader(reading).read(text)
+    model.units = units_of(text)
+    return model
 
 
 def refuse_other_forms(data: bytes, name: str) -> None:

@@ -69,8 +69,8 @@ class Plain:
         model.rows = {"COST": "N", **{name: source.rows[row] for row, name in short.items()}}
         for k, column in enumerate(self.columns, 1):
             entries = sums.of(column)
-            model.columns[f"C{k}"] = {"COST": self.sign * entries.get(source.objective, ZERO), **{short[row]: value for row, value in entries.items() if row in short}}
-        for name, ours, theirs in (("RHS", model.rhs, source.rhs.get(source.rhs_set)), ("RNG", model.ranges, source.ranges.get(source.range_set))):
+            model.columns[f"C{k}"] = {"COST": self.sign * entries.get(source.objective or "", ZERO), **{short[row]: value for row, value in entries.items() if row in short}}
+        for name, ours, theirs in (("RHS", model.rhs, source.rhs.get(source.rhs_set or "")), ("RNG", model.ranges, source.ranges.get(source.range_set or ""))):
             ours[name] = {short[row]: value for row, value in (theirs or {}).items() if row in short}
         model.bounds["BND"] = {f"C{k}": Limits(*source.column_limits(column)) for k, column in enumerate(self.columns, 1)}
         return model
@@ -91,11 +91,11 @@ class Plain:
         "the model as mps360.highs reads it; Refused where a number is past double precision"
         model = self.model
         place = {row: k for k, row in enumerate(row for row in model.rows if row != "COST")}
-        limits = [[(end_of(low), end_of(high)) for low, high in map(limits_of, names)]
-                  for limits_of, names in ((model.row_limits, place), (model.column_limits, model.columns))]
+        rows, columns = ([(end_of(low), end_of(high)) for low, high in pairs]
+                         for pairs in (map(model.row_limits, place), map(model.column_limits, model.columns)))
         entries = [(place[row], j, as_float(value)) for j, column in enumerate(model.columns.values()) for row, value in column.items() if row in place]
-        whole = {"cost": [as_float(column["COST"]) for column in model.columns.values()], "rows": list(zip(*limits[0])) or [[], []],
-                 "columns": list(zip(*limits[1])) or [[], []], "entries": list(zip(*entries)) or [[], [], []], "seconds": seconds}
+        whole = {"cost": [as_float(column["COST"]) for column in model.columns.values()], "rows": turned(rows, 2), "columns": turned(columns, 2),
+                 "entries": turned(entries, 3), "seconds": seconds}
         return json.dumps(whole).encode("ascii")
 
     # ---- back
@@ -121,6 +121,11 @@ class Plain:
         "a basis of the source as a basis file of the plain model, as esolver reads one"
         rows = [(f"R{k}", basis.rows[row], has_two(self.source.row_limits(row))) for k, row in enumerate(self.rows, 1)]
         return basis_cards("PLAIN", rows, [(f"C{k}", basis.columns[column]) for k, column in enumerate(self.columns, 1)])
+
+
+def turned(lines: Sequence[Sequence[object]], count: int) -> list[list[object]]:
+    "lines of so many numbers as that many lists"
+    return [[line[k] for line in lines] for k in range(count)]
 
 
 def has_two(limits: tuple[Fraction | None, Fraction | None]) -> bool:

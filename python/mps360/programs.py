@@ -6,7 +6,6 @@ import re
 import shutil
 import subprocess
 import tempfile
-from mps360 import unproved
 from mps360.errors import NoProgram
 
 # the repository, or the folder where the commands are installed
@@ -30,6 +29,7 @@ def checker_program(is_unproved: bool = False) -> str:
         return program
     if not is_unproved:
         raise NoProgram("no proved program mps360check is there (scripts/build.sh builds it)")
+    from mps360 import unproved
     try:
         return unproved.make("mps360check", optimised=True)
     except unproved.NoAnswer as cause:

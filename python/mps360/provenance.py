@@ -3,10 +3,11 @@ from __future__ import annotations
 
 from collections.abc import Sequence
 from dataclasses import dataclass
-from typing import Literal
+from typing import TYPE_CHECKING, Literal
 
-from mps360.at_hand import Kind, Tool
-from mps360.routes import Outcome, Tried
+if TYPE_CHECKING:
+    from mps360.at_hand import Kind
+    from mps360.routes import Outcome, Tried
 
 ProvedBy = Literal["program", "checker", "none"]
 # the columns of CSV, on each line of a table
@@ -27,10 +28,9 @@ class Provenance:
     has_verdict: bool = True
 
     @classmethod
-    def of(cls, outcome: Outcome, program: Tool, checker: Tool | None, file_sha256: str | None) -> Provenance:
+    def of(cls, outcome: Outcome, file_sha256: str | None) -> Provenance:
         "of what the routes came to"
-        attempt = outcome.attempt
-        tool = checker if attempt.by_checker and checker else program
+        attempt, tool = outcome.attempt, outcome.tool
         solver = attempt.solver.title if attempt.solver else ""
         return cls(tool.kind, attempt.by_checker, attempt.words, tuple(outcome.routes), solver, outcome.version, file_sha256, tool.checksum,
                    attempt.verdict is not None)

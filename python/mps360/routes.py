@@ -1,6 +1,6 @@
 """The ways to a proof of what a linear program's answer is, tried one after the other until one proves a verdict.
 
-    outcome = Routes(job, program, Plan(..), checker).run()
+    outcome = Routes(job, program, Plan(..), find_checker).run()
 
 1. a basis that is handed in: INSERT and PRIMAL
 2. PRIMAL from the opening basis, for a few seconds; where there are two processors it goes on beside all that follows
@@ -16,24 +16,25 @@ import os
 import time
 from collections.abc import Callable, Sequence
 from dataclasses import dataclass, field
+from typing import TYPE_CHECKING
 
-from mps360 import bases, solutions, solvers
-from mps360.at_hand import Tool
-from mps360.bases import Basis
 from mps360.errors import Refused
-from mps360.jobs.write import Job
-from mps360.listings import write
-from mps360.long_answers import listing_of
-from mps360.plain import Plain
 from mps360.processes import Process, Processes
 from mps360.runs import NO_END, Attempt, NoAnswer, Observer, shown, waits_for
-from mps360.solvers import NoBasis, Request, Solver
+from mps360.solver_names import EXACT_SOLVER, NAMES, NoBasis, not_installed
+
+# what only a basis or another solver needs is loaded where one is asked: most runs end before
+if TYPE_CHECKING:
+    from mps360.at_hand import Tool
+    from mps360.bases import Basis
+    from mps360.jobs.write import Job
+    from mps360.plain import Plain
+    from mps360.solvers import Request, Solver
 
 OPENING_SECONDS, SOLVER_SECONDS, RUN_SECONDS = 5.0, 20.0, 20.0
 INTERRUPTED = 130
 OPENING = "PRIMAL from the opening basis"
 ROUTES = ("primal", "basis", "exact")
-EXACT_SOLVER = "esolver"
 
 
 def processors_here() -> int:
@@ -79,6 +80,7 @@ class Outcome:
     "what the routes came to: the attempt whose listing it is, and all that were tried, in their order"
     attempt: Attempt
     routes: list[Tried]
+    tool: Tool                                  # the program whose listing it is, or the checker that attests it
     version: str = ""                           # of the solver whose basis or answer it is
 
     @property
@@ -98,8 +100,9 @@ class Decided(Exception):
 class Routes:
     "the routes of one job, which mps360.jobs.write made of a model"
 
-    def __init__(self, job: Job, program: Tool, plan: Plan, checker: Tool | None = None, observer: Observer | None = None) -> None:
-        self.job, self.program, self.plan, self.checker, self.observer = job, program, plan, checker, observer or Observer()
+    def __init__(self, job: Job, program: Tool, plan: Plan, find_checker: Callable[[], Tool | None] = lambda: None, observer: Observer | None = None) -> None:
+        "find_checker finds the checker of listings, once a route needs it"
+        self.job, self.program, self.plan, self.find_checker, self.observer = job, program, plan, find_checker, observer or Observer()
         self.given: tuple[Basis, str] | None = None
         self.tried: list[tuple[float, Tried]] = []   # each with the time when it began
         self.opening: Attempt | None = None     # PRIMAL from the opening basis, while it runs
@@ -109,12 +112,17 @@ class Routes:
         self.begun = time.monotonic()
         self.plain: Plain | None = None
 
+    @functools.cached_property
+    def checker(self) -> Tool | None:
+        "the checker of listings; None where there is none"
+        return self.find_checker()
+
     def begin_at(self, basis: Basis, words: str) -> None:
         "hands in a basis of the model, which comes first; words are what it is called, as a file's name"
         self.given = basis, words
 
     def run(self) -> Outcome:
-        """tries the routes. NoAnswer where a program ends as none of a job ends; OSError where one can't be run; solvers.NoBasis where a route that
+        """tries the routes. NoAnswer where a program ends as none of a job ends; OSError where one can't be run; NoBasis where a route that
         was asked for has no solver. KeyboardInterrupt ends what runs, and what stands is the outcome."""
         self.begun = time.monotonic() if self.plan.begun is None else self.plan.begun
         with Processes() as processes:
@@ -134,7 +142,8 @@ class Routes:
     def outcome(self, attempt: Attempt) -> Outcome:
         "what the routes came to; those that were tried stand in the order in which they began"
         routes = [tried for _, tried in sorted(self.tried, key=lambda pair: pair[0])]
-        return Outcome(attempt, routes, attempt.solver.version if attempt.solver and not attempt.interrupted else "")
+        tool = self.checker if attempt.by_checker and self.checker else self.program
+        return Outcome(attempt, routes, tool, attempt.solver.version if attempt.solver and not attempt.interrupted else "")
 
     def stopped(self) -> Outcome:
         "what stands at an interruption"
@@ -228,9 +237,9 @@ class Routes:
         wanted = [*(self.plan.solvers or ()), *((EXACT_SOLVER,) if self.plan.only == "exact" else ())]
         missing = next((name for name in wanted if name not in there), None)
         if missing:
-            raise NoBasis(f"{solvers.TITLES.get(missing, missing)} isn't installed (apt-get install {solvers.PACKAGES[missing]})")
+            raise NoBasis(not_installed(missing))
         if not there:
-            raise NoBasis(f"none of {', '.join(solvers.NAMES)} is installed")
+            raise NoBasis(f"none of {', '.join(NAMES)} is installed")
 
     def may_ask(self) -> bool:
         "whether any solver may be asked"
@@ -239,8 +248,10 @@ class Routes:
     @functools.cached_property
     def those_asked(self) -> list[Solver]:
         "the solvers that may be asked, and are installed"
-        names = solvers.NAMES if self.plan.solvers is None else self.plan.solvers
-        return solvers.installed(names) if self.may_ask() else []
+        if not self.may_ask():
+            return []
+        from mps360 import solvers
+        return solvers.installed(NAMES if self.plan.solvers is None else self.plan.solvers)
 
     def start(self, attempt: Attempt) -> Attempt:
         "begins to run the attempt's job"
@@ -261,7 +272,7 @@ class Routes:
         "whether PRIMAL from the opening basis has ended within these seconds, without a verdict"
         opening = self.opening
         assert opening is not None and opening.process is not None
-        if not self.wait(opening.process, seconds, lambda: waits_for(opening)):
+        if not self.wait(opening.process, seconds, functools.partial(waits_for, opening)):
             return False
         self.end_opening(None)
         return True
@@ -296,7 +307,9 @@ class Routes:
 
     def plain_form(self) -> Plain:
         "the plain form of the file's model, made once"
-        self.plain = self.plain or Plain(self.job.file)
+        if self.plain is None:
+            from mps360.plain import Plain
+            self.plain = Plain(self.job.file)
         return self.plain
 
     def asked(self, ask: Callable[[], Request], solver: Solver) -> Request:
@@ -312,6 +325,7 @@ class Routes:
 
     def try_basis(self, attempt: Attempt, seconds: float | None) -> None:
         "INSERT of the attempt's basis, and PRIMAL"
+        from mps360 import bases
         assert attempt.basis is not None
         for sentence in attempt.basis.said:
             self.observer.say(sentence)
@@ -331,6 +345,8 @@ class Routes:
 
     def try_exact(self) -> None:
         "esolver's exact answer, attested by the checker"
+        from mps360 import solutions
+        from mps360.listings import write
         solver = next((one for one in self.those_asked if one.name == EXACT_SOLVER), None)
         if solver is None:
             return
@@ -340,7 +356,7 @@ class Routes:
             if self.checker is None:
                 raise NoBasis("no checker of listings is at hand (scripts/build.sh builds it)")
             self.observer.going(f"asking {solver.title} for an exact answer")
-            request = self.asked(lambda: solver.ask_exactly(self.plain_form(), self.processes, self.first_basis), solver)
+            request = self.asked(functools.partial(solver.ask_exactly, self.plain_form(), self.processes, self.first_basis), solver)
             attempt.written = request.written()
             attempt.listing = self.listing_of(attempt.written).encode("latin-1")
             attempt.basis = request.exact_basis()
@@ -354,6 +370,8 @@ class Routes:
 
     def listing_of(self, text: str) -> str:
         "the listing of a solution that esolver wrote of the plain model"
+        from mps360 import solutions
+        from mps360.long_answers import listing_of
         plain = self.plain_form()
         return listing_of(self.job, plain.answer_back(solutions.read_bytes(text.encode("latin-1"), plain.model)))
 

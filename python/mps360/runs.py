@@ -10,13 +10,16 @@ import re
 import time
 from collections.abc import Callable, Sequence
 from dataclasses import dataclass, field
+from typing import TYPE_CHECKING
 
-from mps360.at_hand import Tool
-from mps360.bases import Basis
 from mps360.life import awaited
 from mps360.output import CANT_WRITE
 from mps360.processes import Process, Processes
-from mps360.solvers import Solver
+
+if TYPE_CHECKING:
+    from mps360.at_hand import Tool
+    from mps360.bases import Basis
+    from mps360.solvers import Solver
 
 NO_END, NO_ANSWER, WRONG_USE = 124, 70, 64
 # what a program couldn't write that ended with this status
@@ -124,12 +127,12 @@ def waits_for(attempt: Attempt) -> str:
 def run_alone(job: bytes, program: Tool, *, seconds: float | None = None, begun: float | None = None, observer: Observer | None = None) -> Attempt:
     """runs a job that others wrote, in the present folder, for so many seconds at most since `begun` of time.monotonic, or since now. NoAnswer where
     the program gives none; OSError where it can't be run."""
-    observer, attempt = observer or Observer(), Attempt(ITSELF, job.decode("latin-1"))
+    told, attempt = observer or Observer(), Attempt(ITSELF, job.decode("latin-1"))
     with Processes() as processes:
-        process = attempt.process = processes.start(program.command, job, tell=observer.heard, place=pathlib.Path.cwd())
+        process = attempt.process = processes.start(program.command, job, tell=told.heard, place=pathlib.Path.cwd())
         until = None if seconds is None else (attempt.begun if begun is None else begun) + seconds
         try:
-            processes.wait([process], until, lambda: observer.tick(time.monotonic() - attempt.begun, lambda: waits_for(attempt)))
+            processes.wait([process], until, lambda: told.tick(time.monotonic() - attempt.begun, lambda: waits_for(attempt)))
         except KeyboardInterrupt:
             attempt.interrupted = True
         process.end()

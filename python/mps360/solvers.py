@@ -27,10 +27,8 @@ from mps360.bases import Basis
 from mps360.errors import Refused
 from mps360.plain import Plain
 from mps360.processes import Process, Processes
+from mps360.solver_names import NAMES, TITLES, NoBasis
 
-PACKAGES = {"highs": "python3-scipy", "clp": "coinor-clp", "esolver": "qsopt-ex", "glpsol": "glpk-utils", "lp_solve": "lp-solve"}
-NAMES = tuple(PACKAGES)   # the order in which they are asked
-TITLES = {"highs": "HiGHS"}
 LEAST_SCIPY = (1, 9)
 DEBIAN_PYTHON = "/usr/bin/python3"
 VERSION_SECONDS = 15.0
@@ -41,10 +39,6 @@ VERSIONS = {"clp": (("-stop",), r"Coin LP version (\S+?),? build|Coin LP version
 # (the package stands last on the path, so that none of its modules hides one of Python's)
 RUNS_HIGHS = "import sys; sys.path.append(sys.argv[1]); from mps360.highs import main; sys.exit(main())"
 ASKS_VERSION = "import importlib.metadata as m; print(m.version('scipy'))"
-
-
-class NoBasis(Exception):
-    "why a solver has given no basis, or no exact answer"
 
 
 @dataclass(frozen=True)

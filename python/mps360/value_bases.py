@@ -87,7 +87,7 @@ def of_values(model: Model, rows: Mapping[str, Pair], columns: Mapping[str, Pair
     sums = Sums(model)
     matrix = {column: entries_of(sums.of(column), place) for column in model.columns}
     order = []
-    for is_column, names, pairs, limits_of in ((0, place, rows, model.row_limits), (1, matrix, columns, model.column_limits)):
+    for is_column, names, pairs, limits_of in ((0, list(place), rows, model.row_limits), (1, list(matrix), columns, model.column_limits)):
         for k, name in enumerate(names):
             value, marginal = pairs[name]
             order.append((distance(limits_of(name), value) <= NEAR, abs(marginal) > NEAR, is_column, k, name))

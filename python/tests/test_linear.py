@@ -1,4 +1,5 @@
-"Work is linear in the file and in the listing: calls are counted, not time, of two generated models of which the second has twice the columns."
+"""Work is linear in the file and in the listing: calls are counted, not time, of two generated models of which the second has twice the columns. And a start
+is light: the modules that an ordinary run of a command loads are counted, and those of the package are written down."""
 import json
 import pathlib
 import subprocess
@@ -22,6 +23,26 @@ status = main({words!r})
 sys.setprofile(None)
 print(status, calls, file=sys.stderr)
 """
+# the modules of the package that a run loads on the ordinary path, a model of short numbers whose optimum the program prints, each with what it is there for
+READING = {"mps": "reads the model", "fields": "cuts its lines", "files": "unpacks it", "model": "holds it", "model_checks": "says what may be meant otherwise",
+           "numbers": "its numbers", "units": "units in its remarks", "jobs": "", "jobs.write": "its job", "cli.mps2job": "the words of how it is read", "cli.options": "their parser",
+           "cli.words": "words with their values", "commands": "what commands are called here", "errors": "faults", "output": "writing, and its faults",
+           "text": "names and numbers as text", "notes": "what was changed or chosen", "at_hand": "which program there is", "programs": "where it is", "cli": ""}
+ORDINARY = {"solve": {**READING, "cli.solve": "the command", "cli.route_options": "the words of the routes", "routes": "the routes to a verdict",
+                      "runs": "a run of the program", "processes": "its process", "life": "lines of life", "solver_names": "whom a word may name",
+                      "listings": "", "listings.read": "reads the listing", "listings.made": "compares it with the job", "listings.tables": "its tables",
+                      "provenance": "where the answer comes from"},
+            "attest": {**READING, "cli.attest": "the command", "cli.solution2listing": "its listing", "listings": "", "listings.write": "writes the listing",
+                       "solutions": "reads the answer", "long_answers": "an answer of long numbers", "bases": "what stands where"}}
+# with all that Python loads for it, of which it begins with some 30: 154 for solve and 147 for attest, by Python 3.11
+MOST_MODULES = 165
+LOADED = """
+import sys
+sys.path.insert(0, {python!r})
+from mps360.cli.{command} import main
+status = main({words!r})
+print(status, *sys.modules, file=sys.stderr)
+"""
 LISTS = """#!/bin/sh
 exec cat {listing}
 """
@@ -43,26 +64,40 @@ def made_model(folder: pathlib.Path, columns: int) -> tuple[pathlib.Path, pathli
     return path, listing
 
 
-def calls_of(command: str, words: list[str]) -> int:
-    "how many calls a command makes"
-    program = COUNTER.format(python=str(places.PYTHON), command=command, words=words)
-    ended = subprocess.run([sys.executable, "-c", program], capture_output=True, text=True, check=True, timeout=300)
-    status, calls = ended.stderr.splitlines()[-1].split()
+def counted(template: str, command: str, words: list[str]) -> list[str]:
+    "what the last line on standard error has after the status, which is to be 0"
+    program = template.format(python=str(places.PYTHON), command=command, words=words)
+    ended = subprocess.run([sys.executable, "-I", "-S", "-c", program], capture_output=True, text=True, check=True, timeout=300)
+    status, *found = ended.stderr.splitlines()[-1].split()
     assert status == "0", ended.stderr
-    return int(calls)
+    return found
+
+
+def command_words(folder: pathlib.Path, command: str, columns: int) -> list[str]:
+    "the words with which a command answers a generated model by a stand-in for the program or the checker"
+    path, listing = made_model(folder, columns)
+    program = folder / f"{columns}.program"
+    program.write_text(LISTS.format(listing=listing) if command == "solve" else "#!/bin/sh\necho ATTESTED 5 REPORTS\n", encoding="ascii")
+    program.chmod(0o755)
+    more = [] if command == "solve" else [str(folder / f"{columns}.json")]
+    return ["--program", str(program), str(path), *more]
 
 
 @pytest.mark.parametrize("command,words", [("solve", ["--json", "--only", "primal"]), ("solve", ["--only", "primal"]), ("solve", ["--html", "{page}", "--only", "primal"]), ("attest", [])])
-def test_calls_are_linear(tmp_path, command, words):
+def test_calls_are_linear(tmp_path: pathlib.Path, command: str, words: list[str]) -> None:
     "twice the columns make at most 2.3 times the calls"
     counts = []
     for columns in (500, 1000):
-        path, listing = made_model(tmp_path, columns)
-        program = tmp_path / f"{columns}.program"
-        program.write_text(LISTS.format(listing=listing) if command == "solve" else "#!/bin/sh\necho ATTESTED 5 REPORTS\n", encoding="ascii")
-        program.chmod(0o755)
         given = [word.format(page=tmp_path / "page.html") for word in words]
-        more = [str(path)] if command == "solve" else [str(path), str(tmp_path / f"{columns}.json")]
-        counts.append(calls_of(command, [*given, "--program", str(program), *more]))
+        counts.append(int(counted(COUNTER, command, [*given, *command_words(tmp_path, command, columns)])[0]))
     assert counts[0] > 5000
     assert counts[1] <= MOST * counts[0], counts
+
+
+@pytest.mark.parametrize("command", ORDINARY)
+def test_an_ordinary_run_loads_what_is_written_down(tmp_path: pathlib.Path, command: str) -> None:
+    "what a basis, another solver, long numbers, JSON or a page need isn't loaded where none of them is asked for"
+    loaded = counted(LOADED, command, command_words(tmp_path, command, 50))
+    own = {name.removeprefix("mps360.") for name in loaded if name.startswith("mps360.")}
+    assert own == set(ORDINARY[command])
+    assert len(loaded) <= MOST_MODULES, sorted(loaded)

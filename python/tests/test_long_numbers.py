@@ -16,7 +16,8 @@ import pytest
 import places
 import exact_answers
 from long_models import random_text
-from mps360 import bases, long_answers, long_numbers, mps, programs, solutions
+from mps360 import bases, long_answers, mps, programs, solutions
+from mps360.jobs.write import exact_job
 from mps360.errors import Refused
 from mps360.listings import read as listing_read, restore
 from mps360.listings.write import Answer
@@ -50,7 +51,7 @@ def restored(job, listing):
 
 
 def run_model(model, ranging=False):
-    job = long_numbers.exact_job(model, ranging)
+    job = exact_job(model, ranging)
     return job, restored(job, listing_by_program(job.text))
 
 
@@ -170,7 +171,7 @@ def test_crossed_by_a_last_digit():
     _, reports = run_model(model)
     verdict = report_of(reports, "verdict")
     assert verdict["verdict"] == "infeasible" and "ray" not in verdict
-    assert verdict["crossed"] == list(long_numbers.exact_job(model).columns).index("X") + len(long_numbers.exact_job(model).rows) + 1
+    assert verdict["crossed"] == list(exact_job(model).columns).index("X") + len(exact_job(model).rows) + 1
 
 
 def test_unbounded():
@@ -192,7 +193,7 @@ def test_constant_of_the_objective():
 
 def test_short_numbers_change_nothing():
     model = model_of(["N COST", "G NEED"], ["X COST 1", "X NEED 1"], ["B NEED 2"])
-    job = long_numbers.exact_job(model)
+    job = exact_job(model)
     assert job.split is None and job.model is model and "long" not in job.name_map()
 
 
@@ -207,9 +208,9 @@ def test_made_up_names_are_no_names_of_the_file():
 def test_sets_that_are_not_taken():
     "another set of right-hand sides says another thing beside the column that is fixed at 1: it is left out, and that is said"
     rows, columns = ["N COST", "G NEED"], ["X COST 1", "X NEED 1"]
-    job = long_numbers.exact_job(model_of(rows, columns, ["A NEED 2.00000000000000001", "B NEED 5"], rhs_set="A"))
+    job = exact_job(model_of(rows, columns, ["A NEED 2.00000000000000001", "B NEED 5"], rhs_set="A"))
     assert list(job.model.rhs) == ["A"] and any(said.startswith("the set B of RHS, which isn't taken, is left out") for said in job.said)
-    job = long_numbers.exact_job(model_of(rows, ["X COST 1.00000000000000001", "X NEED 1"], ["A NEED 2", "B NEED 5"], rhs_set="A"))
+    job = exact_job(model_of(rows, ["X COST 1.00000000000000001", "X NEED 1"], ["A NEED 2", "B NEED 5"], rhs_set="A"))
     assert list(job.model.rhs) == ["A", "B"]
 
 
@@ -219,7 +220,7 @@ def test_sets_that_are_not_taken():
 def test_too_many_digits(word, cause):
     text = f"NAME T\nROWS\n N COST\n G NEED\nCOLUMNS\n X COST 1\n X NEED {word}\nRHS\n B NEED 1\nENDATA\n"
     with pytest.raises(Refused) as refused:
-        long_numbers.exact_job(mps.read_text(text, reading()))
+        exact_job(mps.read_text(text, reading()))
     lines = str(refused.value).split("\n")
     assert lines[0].startswith("line 7: ") and cause in lines[0]
     assert lines[1] == f"     X NEED {word}" and lines[2] == " " * 12 + "^" * len(word)
@@ -230,11 +231,11 @@ def test_a_number_without_a_decimal_form():
     model = model_of(["N COST", "G NEED"], ["X COST 1", "X NEED 1"], ["B NEED 1"])
     model.columns["X"]["NEED"] = Fraction(1, 3)
     with pytest.raises(Refused) as refused:
-        long_numbers.exact_job(model)
+        exact_job(model)
     assert str(refused.value) == "1/3 has no decimal form, however many digits it had: multiply its row or its limit"
     model.columns["X"]["NEED"] = Fraction(1, 2 ** 40)
     with pytest.raises(Refused) as refused:
-        long_numbers.exact_job(model)
+        exact_job(model)
     assert "digits below 1E-36" in str(refused.value)
     model.columns["X"]["NEED"] = Fraction(1, 2 ** 30)
     _, reports = run_model(model)
@@ -246,7 +247,7 @@ def test_too_many_rows():
     rows = ["N COST", *(f"L R{k}" for k in range(998))]
     columns = [line for k in range(998) for line in (f"X{k} COST 1.0000000000{k + 1:07}", f"X{k} R{k} 1")]
     with pytest.raises(Refused) as refused:
-        long_numbers.exact_job(model_of(rows, columns, ["B R1 1"]))
+        exact_job(model_of(rows, columns, ["B R1 1"]))
     assert str(refused.value).startswith("the job would have 1,001 rows, and 1,000 are the most: 2 of them hold the digits of numbers")
 
 
@@ -293,14 +294,14 @@ def check_against_esolver(model, text, verdict):
 
 def check_attested(model, solution):
     "esolver's answer of the file is one of the job, and is attested"
-    job = long_numbers.exact_job(model)
+    job = exact_job(model)
     status, said = attesting.attest(job.text.encode(), long_answers.listing_of(job, solutions.read_esolver(solution, model)).encode())
     assert status in (0, 42), said
 
 
 def check_basis(model, text, objective):
     "esolver's basis of the file is one of the job, and PRIMAL makes no step from there"
-    job = long_numbers.exact_job(model)
+    job = exact_job(model)
     listing = listing_by_program(bases.with_insert(job, bases.read_text(text, model, "esolver")))
     assert f"PRIMAL OPTIMAL STEPS 0 OBJECTIVE {objective} CHECKED" in listing or "STOP 20" in listing, listing
 
@@ -312,7 +313,7 @@ def test_random_models_are_as_esolver_says():
         for where, rows in KINDS:
             text = random_text(seed, where, rows)
             model = mps.read_text(text, reading(negative_up="free"))
-            job = long_numbers.exact_job(model, True)
+            job = exact_job(model, True)
             listing = listing_by_program(job.text)
             if "\nSTOP 20 " in listing:
                 stopped += 1
@@ -336,7 +337,7 @@ def test_random_models_are_as_esolver_says():
 def test_prices_of_limits_that_are_rows():
     "the price of a column's long limit is the reduced cost that the answer says, and what it doesn't say is worked out"
     model = model_of(["N COST", "G NEED"], ["X COST 1", "X NEED 1", "Y COST 2", "Y NEED 1"], ["B NEED 3"], (), ["UP BND X 2.00000000000000001"])
-    job, x = long_numbers.exact_job(model), Fraction("2.00000000000000001")
+    job, x = exact_job(model), Fraction("2.00000000000000001")
     answer = Answer("optimal", columns={"X": x, "Y": 3 - x}, prices={"NEED": Fraction(2)})
     for reduced in (None, {"X": Fraction(-1), "Y": Fraction(0)}):
         answer.reduced = reduced
@@ -352,7 +353,7 @@ def test_costs_that_are_sums():
     "the objective is a combination, 2 P, so X of at most 2.00000000000000001 costs 2: its reduced cost is worked out from that"
     model = model_of(["N P", "DN COST P 2", "G NEED"], ["X P 1", "X NEED 1", "Y P 1.5", "Y NEED 1"], ["B NEED 3"], (), ["UP BND X 2.00000000000000001"],
                      objective="COST")
-    job, x = long_numbers.exact_job(model), Fraction("2.00000000000000001")
+    job, x = exact_job(model), Fraction("2.00000000000000001")
     answer = Answer("optimal", columns={"X": x, "Y": 3 - x}, prices={"NEED": Fraction(3)})
     listing = long_answers.listing_of(job, answer)
     assert attesting.attest(job.text.encode(), listing.encode())[1].startswith("ATTESTED"), listing
@@ -361,18 +362,18 @@ def test_costs_that_are_sums():
 
 def test_ray_of_limits_that_are_rows():
     model = model_of(["N COST", "G NEED"], ["X COST 1", "X NEED 1"], ["B NEED 3.00000000000000001"], (), ["UP BND X 3"])
-    job = long_numbers.exact_job(model)
+    job = exact_job(model)
     for ray, answer in (({"NEED": Fraction(-1)}, "ATTESTED"), ({"NEED": Fraction(1)}, "WRONG")):
         listing = long_answers.listing_of(job, Answer("infeasible", ray=ray))
         assert attesting.attest(job.text.encode(), listing.encode())[1].startswith(answer), listing
     model = model_of(["N COST", "L R"], ["X COST 1", "X R 1"], ["B R 9"], (), ["LO BND X 1.00000000000000002", "UP BND X 1.00000000000000001"])
-    job = long_numbers.exact_job(model)
+    job = exact_job(model)
     listing = long_answers.listing_of(job, Answer("infeasible", crossed=("column", "X")))
     assert attesting.attest(job.text.encode(), listing.encode())[1].startswith("ATTESTED"), listing
 
 
 def test_a_spoilt_table_is_refused():
-    entry = long_numbers.exact_job(model_of(["N COST", "G NEED"], ["X COST 1", "X NEED 1"], ["B NEED 2.00000000000000001"])).name_map()["long"]
+    entry = exact_job(model_of(["N COST", "G NEED"], ["X COST 1", "X NEED 1"], ["B NEED 2.00000000000000001"])).name_map()["long"]
     restore.Table(entry)
     for key, value in (("rows", 3), ("places", [{}]), ("moved", {"B1": {"of": "row", "name": "NO", "end": "lower", "shift": "0"}}), ("columns", None)):
         with pytest.raises(restore.BadTable):

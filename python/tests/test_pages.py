@@ -23,16 +23,20 @@ HOSTILE = ("<script>alert(1)</script>", "\"'><img/src=x>", "&lt;", "=1+1", "+SUM
            "</title><script>x</script>", "Zürich")
 # What the pages of the examples say, as docs/LISTING.md works it out by hand.
 SAID = {
-    "first": ("The greatest value of PROFIT is 1511.75 (exactly 6047/4)", "SHELF 8 at its upper limit 36 0 8 8.5 17/2",
-              "BOARDS 240 at its upper limit 0 240 4.0625 65/16"),
-    "ranging": ("BREAD 238.4 1192/5 in the basis 3 0 0 2 to ≈5.333333 16/3", "FLOUR 300 at its upper limit 0 300 1.6 8/5 151 to 376",
-                "PIES 0 at its lower limit 4 0 -0.4 -2/5 −∞ to 4.4 22/5 −∞ to 76"),
-    "conflict": ("the limits of HOURS, CHAIRS and TABLES conflict", "CHAIRS -2 at least 20 -40", "the sum is at most -10, and 0 isn't"),
-    "endless": ("PROFIT grows without end", "BUY 0 1", "Each unit changes PROFIT by 2."),
+    "first": ("The greatest value of PROFIT is 1511.75 (exactly 6047/4)", "SHELF 8 8.5 17/2 at its upper limit 36 0 8",
+              "BOARDS 240 4.0625 65/16 at its upper limit 0 240"),
+    "ranging": ("BREAD 238.4 1192/5 0 basic 3 0 2 to ≈5.333333 16/3", "FLOUR 300 1.6 8/5 at its upper limit 0 300 151 to 376",
+                "PIES 0 -0.4 -2/5 at its lower limit 4 0 −∞ to 4.4 22/5 −∞ to 76", "5 rows, 4 columns, 17 entries"),
+    "conflict": ("the limits of HOURS, CHAIRS and TABLES conflict", "HOURS 1 at most 100 100 2 CHAIR + 5 TABLE 10", "CHAIRS -2 at least 20 -40 −2 CHAIR 5",
+                 "TABLES -5 at least 14 -70 −5 TABLE 2", "Sum -10 0, whatever the plan", "the sum is at most -10, and 0 isn't",
+                 "CHAIR 2 (HOURS) − 2 (CHAIRS) 0", "TABLE 5 (HOURS) − 5 (TABLES) 0"),
+    "endless": ("PROFIT grows without end", "BUY 1 0 it has no upper limit", "SELL 1 40 it has no upper limit", "After 1 step of",
+                "Each unit changes PROFIT by −3 · 1 (BUY) + 5 · 1 (SELL) = 2."),
     "pararhs": ("0 to 10 90 + 3 θ 90 120", "10 to 15 70 + 5 θ 120 145", "the sum is at most 18 − θ, which is less than 0 for every theta past 18",
+                "NEED -1 at least 30 + θ -30 − θ −FARM − COOP", "FARM 0.5 1/2 at most 40 20 0.5 1/2 FARM",
                 "10: 120", "18: 160"),
     "paraobj": ("2 to 15 -32 + 16 θ 0 208", "Each unit changes PROFIT + θ SOLD by -15 + θ, which is more than 0 for every theta past 15"),
-    "wide": ("700000029600000359100001323/100000003700000039900000132300000000",),
+    "wide": ("700000029600000359100001323/100000003700000039900000132300000000", "700000029600000359100001323 / 100000003700… (36 digits)"),
 }
 
 

@@ -8,7 +8,7 @@ import time
 import fakes
 import places
 import pytest
-from mps360 import at_hand, routes, runs, solvers
+from mps360 import at_hand, routes, runs, solver_names, solvers
 from mps360.jobs.write import job_of
 from mps360.mps import Reading, read_text
 from test_solvers import GLASS, HIGHS_SOLUTION
@@ -48,7 +48,7 @@ def run(folder, plan, *, opening="overflow", inserted="answers", checker=None, t
     program = fakes.program(folder, "program", fakes.PROGRAM, opening=opening, inserted=inserted)
     status = 0 if checker and checker.startswith("ATTESTED") else 40
     attests = checker and at_hand.Tool((fakes.program(folder, "checker", fakes.CHECKER, answer=checker, status=status),), "other")
-    way = routes.Routes(job(), at_hand.Tool((program,), "other"), plan, attests, (told or Told()).observer())
+    way = routes.Routes(job(), at_hand.Tool((program,), "other"), plan, lambda: attests, (told or Told()).observer())
     if begin:
         way.begin_at(begin, "model.bas")
     return way.run()
@@ -134,7 +134,7 @@ def test_without_a_solver_it_is_primal(tmp_path):
     with fakes.only_path(tmp_path):
         for solved_by in ((), ("clp",)):
             if solved_by:
-                with pytest.raises(solvers.NoBasis, match=r"clp isn't installed \(apt-get install coinor-clp\)"):
+                with pytest.raises(solver_names.NoBasis, match=r"clp isn't installed \(apt-get install coinor-clp\)"):
                     run(tmp_path, plan(solvers=solved_by))
             else:
                 outcome = run(tmp_path, plan(solvers=solved_by))
@@ -241,7 +241,7 @@ def real_program(folder):
     return str(path)
 
 
-@pytest.mark.parametrize("name", solvers.NAMES)
+@pytest.mark.parametrize("name", solver_names.NAMES)
 def test_a_real_basis_takes_no_step(tmp_path, name):
     if solvers.find(name) is None:
         pytest.skip(f"{name} isn't installed")
@@ -262,5 +262,5 @@ def test_highs_goes_before_clp(tmp_path):
 def test_an_only_route_that_comes_to_nothing(tmp_path):
     with fakes.only_path(tmp_path):
         fakes.program(tmp_path, "clp", fakes.SILENT)
-        with pytest.raises(solvers.NoBasis, match="no basis of clp: it wrote no basis"):
+        with pytest.raises(solver_names.NoBasis, match="no basis of clp: it wrote no basis"):
             run(tmp_path, plan(solvers=("clp",), only="basis"))

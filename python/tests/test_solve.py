@@ -14,7 +14,7 @@ import time
 import fakes
 import places
 import pytest
-from mps360 import solvers
+from mps360 import solver_names, solvers
 from test_routes import ESOLVER, GOOD_DECK, SOLUTION, real_program
 from test_solvers import GLASS
 
@@ -22,7 +22,7 @@ INFEASIBLE = GLASS.replace(" B P1 4\n", " B P1 -4\n")
 WORDS = {"primal": ("--only", "primal"), "clp": ("--only", "basis", "--with", "clp"), "esolver": ("--only", "basis", "--with", "esolver"),
          "glpsol": ("--only", "basis", "--with", "glpsol"), "lp_solve": ("--only", "basis", "--with", "lp_solve"), "highs": ("--only", "basis", "--with", "highs"),
          "exact": ("--only", "exact")}
-NEEDS = {**{name: name for name in solvers.NAMES}, "exact": "esolver"}
+NEEDS = {**{name: name for name in solver_names.NAMES}, "exact": "esolver"}
 
 
 def solve(folder, *words, model=GLASS, program=None, path=None, given=None):
@@ -59,7 +59,7 @@ def test_the_same_by_every_route(tmp_path, route):
     if route == "primal":
         assert run["solver"] is None and run["route"] == "PRIMAL from the opening basis"
     else:
-        assert run["solver"]["name"] == solvers.TITLES.get(NEEDS[route], NEEDS[route]) and any(map(str.isdigit, run["solver"]["version"]))
+        assert run["solver"]["name"] == solver_names.TITLES.get(NEEDS[route], NEEDS[route]) and any(map(str.isdigit, run["solver"]["version"]))
         assert run["route"] in said and run["solver"]["version"] in said
 
 

@@ -9,7 +9,7 @@ from fractions import Fraction
 import fakes
 import places
 import pytest
-from mps360 import highs_files, solvers
+from mps360 import highs_files, solver_names, solvers
 from mps360.bases import BASIC, UPPER
 from mps360.errors import Refused
 from mps360.mps import Reading, read_text
@@ -82,13 +82,13 @@ def asked(name, seconds=120):
     with Processes() as processes:
         request = solvers.find(name).ask(Plain(model()), processes)
         if processes.wait([request.process], time.monotonic() + seconds) is None:
-            raise solvers.NoBasis("no end")
+            raise solver_names.NoBasis("no end")
         return request.basis()[0]
 
 
 # ---- real solvers
 
-@pytest.mark.parametrize("name", solvers.NAMES)
+@pytest.mark.parametrize("name", solver_names.NAMES)
 def test_a_real_solver(name):
     solver = solvers.find(name)
     if solver is None:
@@ -149,7 +149,7 @@ RECORDED = {
 RECORDED_BY_SCIPY = {"status": 0, "rows": [[2.0, 12.0, 18.0], [0.0, -1.5, -1.0]], "columns": [[2.0, 6.0], [0.0, 0.0]]}
 
 
-@pytest.mark.parametrize("name", solvers.NAMES)
+@pytest.mark.parametrize("name", solver_names.NAMES)
 def test_a_recorded_file(tmp_path, name):
     with fakes.only_path(tmp_path):
         fakes.program(tmp_path, name, fakes.WRITES, content=RECORDED[name].encode())
@@ -201,7 +201,7 @@ def test_what_scipy_may_say(tmp_path, answer, words):
     with Processes() as processes:
         request = solvers.Solver("highs", (says,), by_scipy=True).ask(Plain(model()), processes)
         assert processes.wait([request.process], time.monotonic() + 120)
-        with pytest.raises(solvers.NoBasis, match=words):
+        with pytest.raises(solver_names.NoBasis, match=words):
             request.basis()
 
 
@@ -219,7 +219,7 @@ def test_a_fault_comes_to_no_basis(tmp_path, name, fault):
     text, words = FAULTS[fault]
     with fakes.only_path(tmp_path):
         fakes.program(tmp_path, name, text)
-        with pytest.raises(solvers.NoBasis) as none:
+        with pytest.raises(solver_names.NoBasis) as none:
             asked(name)
     assert words in str(none.value), none.value
 
@@ -233,7 +233,7 @@ def test_a_solver_that_hangs(tmp_path):
                 time.sleep(0.01)
             assert processes.wait([request.process], time.monotonic() + 0.2) is None
             request.process.end()
-            with pytest.raises(solvers.NoBasis, match="it wrote no basis; signal 15 ended it"):
+            with pytest.raises(solver_names.NoBasis, match="it wrote no basis; signal 15 ended it"):
                 request.basis()
         assert fakes.left_over(pids) == []
 

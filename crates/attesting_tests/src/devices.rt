@@ -3,6 +3,7 @@
 use crate::full::Full;
 use crate::listings::{Answer, answer_from};
 use crate::plans::STORE;
+use checks_of_128_bits::Of128Bits;
 use job_devices::{MemorySink, MemorySource};
 use listing_check::check_listing;
 use std::alloc::Global;
@@ -70,7 +71,13 @@ fn words_are_refused(rt: HostRuntime) -> Result<(), Fail> {
         let mut job = MemorySource::new(alloc, b"", &[1])?;
         let mut listing = MemorySource::new(alloc, b"", &[1])?;
         let mut print = MemorySink::new(alloc, &[])?;
-        let status = check_listing(alloc, &words, &mut job, &mut listing, &mut print).code();
+        let status = check_listing::<Of128Bits, _, _, _>(
+            alloc,
+            &words,
+            &mut job,
+            &mut listing,
+            &mut print,
+        ).code();
         assert_eq!(rt; status, 4);
         assert!(rt; print.bytes() == WORDS);
     }
@@ -84,7 +91,7 @@ fn a_print_may_want_memory(rt: HostRuntime) -> Result<(), Fail> {
     let mut listing = MemorySource::new(alloc, b"", &[])?;
     let mut print = Full::new();
     assert_eq!(rt;
-        check_listing(alloc, &[], &mut job, &mut listing, &mut print).code(),
+        check_listing::<Of128Bits, _, _, _>(alloc, &[], &mut job, &mut listing, &mut print).code(),
         28
     );
     Ok(())

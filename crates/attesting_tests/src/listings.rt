@@ -1,6 +1,7 @@
 // Listings that are changed, and what each is found to be.
 ghost use Rattle.std.specs.Prelude.{◌≤◌, length, IfSome};
 
+use checks_of_128_bits::Of128Bits;
 use job_devices::{MemorySink, MemorySource};
 use listing_check::check_listing;
 use std::alloc::Global;
@@ -96,7 +97,13 @@ pub fn answer_from(
     failing_writes: &[u64],
 ) -> Result<Answer, Fail> {
     let mut print = MemorySink::new(alloc, failing_writes)?;
-    let status = check_listing(alloc, &[], &mut job, &mut listing, &mut print).code();
+    let status = check_listing::<Of128Bits, _, _, _>(
+        alloc,
+        &[],
+        &mut job,
+        &mut listing,
+        &mut print,
+    ).code();
     Ok(Answer { status, print })
 }
 

@@ -7,19 +7,25 @@ use card_reader::{CardStop, ReadingFault};
 use command_line::WordsStop;
 use control_compiler::ControlFault;
 use report_text::Ending;
+use thiserror::Error;
 
 /// Why the program of a job isn't run.
-#[derive(Clone, Copy, Debug)]
+#[derive(Clone, Copy, Debug, Error)]
 pub enum EarlyStop {
     /// The words of the command line are refused.
+    #[error("the words are refused")]
     Words,
     /// A read of the job failed.
+    #[error("a read failed")]
     ReadFault,
     /// The cards of the job are refused.
+    #[error("{0}")]
     Card(CardFault),
     /// A control card is refused.
+    #[error("{0}")]
     Control(ControlFault),
     /// There is no memory.
+    #[error("out of memory")]
     Memory,
 }
 

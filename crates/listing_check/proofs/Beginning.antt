@@ -4,7 +4,7 @@ use Rattle.card_definitions.specs.declared.CardFault.{CardFault}
 use Rattle.control_definitions.specs.declared.ControlFault.{ControlFault}
 use Rattle.job_devices.specs.declared.device.NoMemory.{NoMemory}
 use Rattle.listing_definitions.specs.Ending.{CardStop, ControlStop}
-use Rattle.walk_definitions.specs.Checkers.{checker_of_128_bits}
+use Rattle.walk_definitions.specs.Checkers.{Checker}
 use Rattle.walk_definitions.specs.Walker as walks
 use Rattle.walk_definitions.specs.Found.{first_walker, Reaches, Comes, of_cards, of_control, of_walk}
 use Rattle.job_program.specs.declared.reading.Prepared.{Prepared}
@@ -17,14 +17,14 @@ use Rattle.listing_check.specs.declared.start.Start.{Start}
 use Rattle.listing_check.specs.declared.start.Start.TheVariants.{Program, Card, Control}
 use Rattle.listing_check.specs.Starting.{IsStartOf, IsWhole}
 
-module _ (listing : List ℕ) (start : Start) where
+module _ (C : Checker) (listing : List ℕ) (start : Start) where
   abbrev pub Finds : Result Found NoMemory → Type 0
-  Finds result = IfOk result (λ found. (bytes : List ℕ) → IsStartOf bytes start → Comes checker_of_128_bits bytes listing (found_view found))
+  Finds result = IfOk result (λ found. (bytes : List ℕ) → IsStartOf bytes start → Comes C bytes listing (found_view found))
 
-  pub by_walk : (prepared : Prepared) → start ≡ Program prepared → (result : Result Found NoMemory) → IfOk result (IsFoundBy prepared.program prepared.cards listing) → Finds result
+  pub by_walk : (prepared : Prepared) → start ≡ Program prepared → (result : Result Found NoMemory) → IfOk result (IsFoundBy C prepared.program prepared.cards listing) → Finds result
   by_walk prepared e (Ok found) f = λ bytes is.
       let are = subst (IsStartOf bytes) e is in
-      of_walk prepared.program f.walker are.1 (subst (λ (cards : List (List ℕ)). Reaches checker_of_128_bits prepared.program (decks_after prepared.program cards) listing f.walker) are.0 f.reaches) f.finds
+      of_walk prepared.program f.walker are.1 (subst (λ (cards : List (List ℕ)). Reaches C prepared.program (decks_after prepared.program cards) listing f.walker) are.0 f.reaches) f.finds
   by_walk prepared e (Err none) f = tt
 
   pub by_card : (fault : CardFault) → start ≡ Card fault → (result : Result Found NoMemory) → IfOk result (λ found. walks.closes (first_walker [] listing) (CardStop fault) ≡ walks.Finds (found_view found)) → Finds result

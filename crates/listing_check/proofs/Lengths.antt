@@ -3,7 +3,7 @@ use Rattle.std.proofs.Common.{◌≡◌, ℕ, ◌<◌, ◌≤◌, List, ◌++◌
 use Rattle.std.specs.Prelude.{codes}
 use Rattle.std.proofs.lemmas.List.{take-append-drop, length-take, append-nil}
 use Rattle.std.proofs.Math.ListN.{drop_of_length-le}
-use Rattle.walk_definitions.specs.Checkers.{checker_of_128_bits}
+use Rattle.walk_definitions.specs.Checkers.{Checker}
 use Rattle.walk_definitions.specs.Walker.{Found}
 use Rattle.walk_definitions.specs.Found.{Comes, Answers, too_long, is_found, answer_text}
 
@@ -17,14 +17,14 @@ length_read listing lines e within = omega (arith, within, ap length e, length-t
 pub same_bytes : (listing lines : List ℕ) → listing ≡ take 64000001 lines → length listing ≤ 64000000 → listing ≡ lines
 same_bytes listing lines e within = e ∙ whole 64000001 lines (omega (arith, length_read listing lines e within))
 
-pub long_answer : (bytes listing lines : List ℕ) → listing ≡ take 64000001 lines → 64000000 < length listing → Answers checker_of_128_bits bytes lines None × (codes "LONG LISTING\n" ≡ answer_text lines None)
-long_answer bytes listing lines e more = (too_long (omega (arith, more, ap length e, length-take 64000001 lines)), refl)
+pub long_answer : (C : Checker) (bytes listing lines : List ℕ) → listing ≡ take 64000001 lines → 64000000 < length listing → Answers C bytes lines None × (codes "LONG LISTING\n" ≡ answer_text lines None)
+long_answer C bytes listing lines e more = (too_long (omega (arith, more, ap length e, length-take 64000001 lines)), refl)
 
-pub found_answer : (bytes listing lines : List ℕ) (found : Found) → listing ≡ take 64000001 lines → length listing ≤ 64000000 → Comes checker_of_128_bits bytes listing found →
-    Answers checker_of_128_bits bytes lines (Some found) × (answer_text listing (Some found) ≡ answer_text lines (Some found))
-found_answer bytes listing lines found e within comes =
+pub found_answer : (C : Checker) (bytes listing lines : List ℕ) (found : Found) → listing ≡ take 64000001 lines → length listing ≤ 64000000 → Comes C bytes listing found →
+    Answers C bytes lines (Some found) × (answer_text listing (Some found) ≡ answer_text lines (Some found))
+found_answer C bytes listing lines found e within comes =
     let same = same_bytes listing lines e within in
-    (is_found (length_read listing lines e within) (subst (λ (l : List ℕ). Comes checker_of_128_bits bytes l found) same comes), ap (λ (l : List ℕ). answer_text l (Some found)) same)
+    (is_found (length_read listing lines e within) (subst (λ (l : List ℕ). Comes C bytes l found) same comes), ap (λ (l : List ℕ). answer_text l (Some found)) same)
 
 -- what holds of what is there
 pub some_of : {X : Type 0} (P : X → Type 0) (known : Option X) (x : X) → known ≡ Some x → IfSome known P → P x

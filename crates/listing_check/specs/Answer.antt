@@ -1,11 +1,11 @@
--- What a check may answer to a job and a listing: the promise that the checker keeps.
+-- What a check may answer to a job and a listing: the promise that each checker keeps.
 --     words_text, ..               the lines that speak of no listing
---     MayPrint bytes lines ..      what is printed, and the status with it
---     IsPrintCut bytes lines ..    a prefix of it stands
---     IsCheckAnswer bytes lines .. what a call answers to a job and a listing, so far as its print tells what it gains
+--     MayPrint C bytes lines ..    what is printed, and the status with it
+--     IsPrintCut C bytes lines ..  a prefix of it stands
+--     IsCheckAnswer C bytes ..     what a call answers to a job and a listing, so far as its print tells what it gains
 use Rattle.std.specs.Prelude.{◌≡◌, ℕ, List, [], Option, codes}
 use Rattle.card_definitions.specs.Prefixes.{IsPrefix}
-use Rattle.walk_definitions.specs.Checkers.{checker_of_128_bits}
+use Rattle.walk_definitions.specs.Checkers.{Checker}
 use Rattle.walk_definitions.specs.Walker.{Found}
 use Rattle.walk_definitions.specs.Found.{Answers, answer_text, answer_status}
 
@@ -25,12 +25,12 @@ pub record CheckFailures : Type 1 where
   pub print : Type 0
   pub memory : Type 0
 
-module _ (bytes lines : List ℕ) (failures : CheckFailures) where
+module _ (C : Checker) (bytes lines : List ℕ) (failures : CheckFailures) where
   -- what is printed where the print takes it: that a read has failed, or what the listing is found to be
   pub data MayPrint : ℕ → List ℕ → Type 0 where
     job_fails : failures.job → MayPrint 24 read_fault_text
     listing_fails : failures.listing → MayPrint 27 listing_fault_text
-    answers : (answer : Option Found) → Answers checker_of_128_bits bytes lines answer → MayPrint (answer_status answer) (answer_text lines answer)
+    answers : (answer : Option Found) → Answers C bytes lines answer → MayPrint (answer_status answer) (answer_text lines answer)
 
   -- a prefix of such a text stands
   pub record IsPrintCut (Prints : List ℕ → Type 0) : Type 0 where

@@ -1,5 +1,4 @@
 // The top call.
-ghost use Rattle.walk_definitions.specs.Checkers.{checker_of_128_bits};
 ghost use Rattle.std.specs.Prelude.{◌≡◌, ◌≢◌, ◌<◌, List, ℕ, Some, length, take};
 ghost use Rattle.std.specs.Io.KnownBytes.{Appends};
 ghost use Rattle.job_devices.specs.Causes.{Rose};
@@ -19,6 +18,7 @@ use crate::start::{Start, find};
 use crate::status::CheckStatus;
 use job_devices::{NoMemory, Sink, Source, SourceStop, read_up_to};
 use job_program::{EarlyStop, prepare};
+use listing_claims::Checks;
 use std::alloc::Global;
 use walk_laws::attested_law;
 
@@ -26,8 +26,13 @@ use walk_laws::attested_law;
 const MAX_LISTING: usize = 64_000_000;
 
 // Prints what a listing is found to be that is read up to one byte more than it may have.
-fn check_bytes<P: Sink>(alloc: Global, start: &Start, listing: &[u8], print: &mut P) -> CheckStatus
-    ensures { Tells (record {
+fn check_bytes<T: Checks, P: Sink>(
+    alloc: Global,
+    start: &Start,
+    listing: &[u8],
+    print: &mut P,
+) -> CheckStatus
+    ensures { Tells T.checker (record {
       job_fails = ⊥;
       job_quiet = Unit {0};
       job_read = Unit {0};
@@ -42,20 +47,20 @@ fn check_bytes<P: Sink>(alloc: Global, start: &Start, listing: &[u8], print: &mu
     if listing.len() > MAX_LISTING {
         return end_with(print, b"LONG LISTING\n", CheckStatus::Long);
     }
-    match find(alloc, start, listing) {
+    match find::<T>(alloc, start, listing) {
         Ok(found) => end_found(print, listing, &found),
         Err(NoMemory) => CheckStatus::Memory,
     }
 }
 
 // Reads the listing, and prints what it is found to be.
-fn check_read<L: Source, P: Sink>(
+fn check_read<T: Checks, L: Source, P: Sink>(
     alloc: Global,
     start: &Start,
     listing: &mut L,
     print: &mut P,
 ) -> CheckStatus
-    ensures tells { Tells (record {
+    ensures tells { Tells T.checker (record {
       job_fails = ⊥;
       job_quiet = Unit {0};
       job_read = Unit {0};
@@ -69,7 +74,7 @@ fn check_read<L: Source, P: Sink>(
     ensures no_further { ReadsUpTo 64000001 (L.given listing.old).left (L.given listing.new).left }
 {
     match read_up_to(alloc, listing, MAX_LISTING + 1) {
-        Ok(bytes) => check_bytes(alloc, start, &bytes, print),
+        Ok(bytes) => check_bytes::<T, P>(alloc, start, &bytes, print),
         Err(SourceStop::Failed) => end_with(
             print,
             b"STOP 27 LISTING FAULT\n",
@@ -80,14 +85,14 @@ fn check_read<L: Source, P: Sink>(
 }
 
 // Goes on where the program of a job isn't to be run: the listing of a job that is refused has its one end.
-fn check_stopped<L: Source, P: Sink>(
+fn check_stopped<T: Checks, L: Source, P: Sink>(
     alloc: Global,
     stop: EarlyStop,
     listing: &mut L,
     print: &mut P,
 ) -> CheckStatus
     requires { stop ≢ EarlyStop.Words }
-    ensures tells { Tells (record {
+    ensures tells { Tells T.checker (record {
       job_fails = stop ≡ EarlyStop.ReadFault;
       job_quiet = stop ≢ EarlyStop.ReadFault;
       job_read = IsWhole stop;
@@ -102,20 +107,24 @@ fn check_stopped<L: Source, P: Sink>(
 {
     match stop {
         EarlyStop::ReadFault => end_with(print, b"STOP 24 READ FAULT\n", CheckStatus::ReadFault),
-        EarlyStop::Card(fault) => check_read(alloc, &Start::Card(fault), listing, print),
-        EarlyStop::Control(fault) => check_read(alloc, &Start::Control(fault), listing, print),
+        EarlyStop::Card(fault) => {
+            check_read::<T, L, P>(alloc, &Start::Card(fault), listing, print)
+        }
+        EarlyStop::Control(fault) => {
+            check_read::<T, L, P>(alloc, &Start::Control(fault), listing, print)
+        }
         EarlyStop::Words | EarlyStop::Memory => CheckStatus::Memory,
     }
 }
 
 // Reads the job and the listing, and prints what the listing is found to be.
-fn check_job<S: Source, L: Source, P: Sink>(
+fn check_job<T: Checks, S: Source, L: Source, P: Sink>(
     alloc: Global,
     job: &mut S,
     listing: &mut L,
     print: &mut P,
 ) -> CheckStatus
-    ensures tells { Tells (record {
+    ensures tells { Tells T.checker (record {
       job_fails = Rose (S.given job.old).faults (S.given job.new).faults;
       job_quiet = (S.given job.new).faults ≡ (S.given job.old).faults;
       job_read = ReadsJob (S.given job.old).left (S.given job.new).left;
@@ -130,18 +139,18 @@ fn check_job<S: Source, L: Source, P: Sink>(
     ensures listing { ReadsUpTo 64000001 (L.given listing.old).left (L.given listing.new).left }
 {
     match prepare(alloc, job) {
-        Ok(prepared) => check_read(alloc, &Start::Program(prepared), listing, print),
-        Err(stop) => check_stopped(alloc, stop, listing, print),
+        Ok(prepared) => { check_read::<T, L, P>(alloc, &Start::Program(prepared), listing, print) }
+        Err(stop) => check_stopped::<T, L, P>(alloc, stop, listing, print),
     }
 }
 
-/// Attests the listing of a job, or says at which line it can't.
+/// Attests the listing of a job by the tests of a checker, or says at which line it can't.
 ///
 /// The words are those after the program's name, and there may be none: nothing is read then. Else the job is read to its end, or as far
 /// as byte 16,400,001, and then the listing, as far as byte 64,000,001. One line is printed, which says what the listing is found to be
 /// where the walk along the job's program ends; and the status says it too. After a fault of the print, or where the print runs out of
 /// memory, nothing more is printed. Memory may run out at any time, which ends a check.
-pub fn check_listing<S: Source, L: Source, P: Sink>(
+pub fn check_listing<T: Checks, S: Source, L: Source, P: Sink>(
     alloc: Global,
     words: &[String],
     job: &mut S,
@@ -154,13 +163,13 @@ pub fn check_listing<S: Source, L: Source, P: Sink>(
     // every value of the parameter.
     ensures truth { result ≡ CheckStatus.Attested → (bytes lines : List ℕ) →
         (S.given job.old).left ≡ Some bytes → (L.given listing.old).left ≡ Some lines →
-        IsTrueListing checker_of_128_bits bytes lines }
+        IsTrueListing T.checker bytes lines }
 
     // Which status, and what stands. Without words, and unless a read or the print fails or memory runs out, the line and the status are
     // those of what the listing is found to be, and of each job and each listing one thing is found.
     ensures answer { (bytes lines : List ℕ) → length words.now ≡ 0 →
         (S.given job.old).left ≡ Some bytes → (L.given listing.old).left ≡ Some lines →
-        IsCheckAnswer bytes lines
+        IsCheckAnswer T.checker bytes lines
         (record {
           job = Rose (S.given job.old).faults (S.given job.new).faults;
           listing = Rose (L.given listing.old).faults (L.given listing.new).faults;
@@ -214,7 +223,7 @@ pub fn check_listing<S: Source, L: Source, P: Sink>(
 {
     attested_law();
     if words.is_empty() {
-        return check_job(alloc, job, listing, print);
+        return check_job::<T, S, L, P>(alloc, job, listing, print);
     }
     end_with(print, b"STOP 4 WORDS\n", CheckStatus::Words)
 }

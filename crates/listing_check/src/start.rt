@@ -1,6 +1,5 @@
 // What a check begins with: the program of a job, or why there is none.
 ghost use Rattle.std.specs.Prelude.{List, ℕ, IfOk};
-ghost use Rattle.walk_definitions.specs.Checkers.{checker_of_128_bits};
 ghost use Rattle.walk_definitions.specs.Found.{Comes};
 ghost use Rattle.listing_walk.specs.Ended.{found_view};
 ghost use Rattle.listing_check.specs.Starting.{IsStartOf};
@@ -9,6 +8,7 @@ use card_definitions::CardFault;
 use control_compiler::ControlFault;
 use job_devices::NoMemory;
 use job_program::Prepared;
+use listing_claims::Checks;
 use listing_walk::{Found, closes, walk};
 use report_text::Ending;
 use std::alloc::Global;
@@ -25,11 +25,17 @@ pub enum Start {
 }
 
 /// What a listing is found to be: the program is walked along, or the one end is compared.
-pub fn find<'a>(alloc: Global, start: &Start, listing: &'a [u8]) -> Result<Found<'a>, NoMemory>
-    ensures { IfOk result (λ found. (bytes : List ℕ) → IsStartOf bytes start.now → Comes checker_of_128_bits bytes listing.now (found_view found)) }
+pub fn find<'a, T: Checks>(
+    alloc: Global,
+    start: &Start,
+    listing: &'a [u8],
+) -> Result<Found<'a>, NoMemory>
+    ensures { IfOk result (λ found. (bytes : List ℕ) → IsStartOf bytes start.now → Comes T.checker bytes listing.now (found_view found)) }
 {
     match start {
-        Start::Program(prepared) => walk(alloc, &prepared.program, &prepared.cards, listing),
+        Start::Program(prepared) => {
+            walk::<T>(alloc, &prepared.program, &prepared.cards, listing)
+        }
         Start::Card(fault) => closes(alloc, listing, &Ending::Card(*fault)),
         Start::Control(fault) => closes(
             alloc,

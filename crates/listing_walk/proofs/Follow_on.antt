@@ -15,7 +15,7 @@ use Rattle.run_machine.specs.declared.machine.Machine.{Machine}
 use Rattle.run_machine.specs.Ends.{end_view}
 use Rattle.run_machine.specs.Standing as machines
 use Rattle.run_machine.specs.Statements.{Follows}
-use Rattle.walk_definitions.specs.Checkers.{checker_of_128_bits}
+use Rattle.walk_definitions.specs.Checkers.{Checker}
 use Rattle.walk_definitions.specs.Words.{left_after}
 use Rattle.walk_definitions.specs.Walker as walks
 use Rattle.listing_walk.specs.declared.chosen.Chosen.{Chosen}
@@ -118,17 +118,17 @@ module _ (machine : Machine Chosen) (old new : ListingPlace) (act : Act) (text :
   -- what is open is found
   pub passes_open : (found : Found) → ((w : walks.Walker) → Faces old w → option_map found_view (Some found) ≡ open_by (ends_run act || is_loud text) (ends_run act || is_none machine.mark) w) →
       Passes machine old new act text (went.Finds found)
-  passes_open found there_is = λ w card move cards position executed gain f plain follows same.
+  passes_open found there_is = λ C w card move cards position executed gain f plain follows same.
       let o = outcome_of machine act text w card move cards position executed gain follows same in
-      settled w card move o.outcome o.settles plain ∙
+      settled C w card move o.outcome o.settles plain ∙
       ap (λ (x : Option walks.Found). walks.unless_found x (walks.taken w o.outcome (left_after (gain_text (gain_of o.outcome)) w.rest))) (o.opens ∙ sym (there_is w f))
 
   module _ (none : (w : walks.Walker) → Faces old w → None ≡ open_by (ends_run act || is_loud text) (ends_run act || is_none machine.mark) w) where
     -- nothing is open
-    turn_taken : (w : walks.Walker) (card : ℕ) (move : StatementMove) (cards : List (List ℕ)) (position executed : ℕ) (gain : Gain) → Faces old w → walks.refuses_selection move ≡ false → (o : IsOf machine act text w card move cards position executed gain) →
-        gain_text gain ≡ text → walks.walk_move checker_of_128_bits w move ≡ walks.taken w o.outcome (left_after text old.cursor)
-    turn_taken w card move cards position executed gain f plain o same =
-        settled w card move o.outcome o.settles plain ∙
+    turn_taken : (C : Checker) (w : walks.Walker) (card : ℕ) (move : StatementMove) (cards : List (List ℕ)) (position executed : ℕ) (gain : Gain) → Faces old w → walks.refuses_selection move ≡ false → (o : IsOf machine act text w card move cards position executed gain) →
+        gain_text gain ≡ text → walks.walk_move C w move ≡ walks.taken w o.outcome (left_after text old.cursor)
+    turn_taken C w card move cards position executed gain f plain o same =
+        settled C w card move o.outcome o.settles plain ∙
         ap (λ (x : Option walks.Found). walks.unless_found x (walks.taken w o.outcome (left_after (gain_text (gain_of o.outcome)) w.rest))) (o.opens ∙ sym (none w f)) ∙
         ap (λ (g : Gain). walks.taken w o.outcome (left_after (gain_text g) w.rest)) o.is_gain ∙
         ap (λ (t : List ℕ). walks.taken w o.outcome (left_after t w.rest)) same ∙
@@ -136,15 +136,15 @@ module _ (machine : Machine Chosen) (old new : ListingPlace) (act : Act) (text :
 
     -- the text doesn't stand here
     pub passes_wrong : (found : Found) → left_after text old.cursor ≡ None → found_view found ≡ walks.Wrong old.cursor → Passes machine old new act text (went.Finds found)
-    passes_wrong found gone wrong = λ w card move cards position executed gain f plain follows same.
+    passes_wrong found gone wrong = λ C w card move cards position executed gain f plain follows same.
         let o = outcome_of machine act text w card move cards position executed gain follows same in
-        turn_taken w card move cards position executed gain f plain o same ∙ ap (walks.taken w o.outcome) gone ∙
+        turn_taken C w card move cards position executed gain f plain o same ∙ ap (walks.taken w o.outcome) gone ∙
         ap (λ (rest : List ℕ). walks.Finds (walks.Wrong rest)) f.rest ∙ ap (λ (x : walks.Found). walks.Finds x) (sym wrong)
 
     -- it does
     pub passes_on : (mid : ListingPlace) (w' : Went) → left_after text old.cursor ≡ Some mid.cursor → mid.pending ≡ old.pending → mid.reports ≡ old.reports + one_if (is_loud text) → Finishes mid new act w' →
         Passes machine old new act text w'
-    passes_on mid w' there kept counted finishes = λ w card move cards position executed gain f plain follows same.
+    passes_on mid w' there kept counted finishes = λ C w card move cards position executed gain f plain follows same.
         let o = outcome_of machine act text w card move cards position executed gain follows same in
         let count : length (printed_by (gain_of o.outcome)) ≡ one_if (is_loud text) = ap (λ (g : Gain). length (printed_by g)) o.is_gain ∙ one_report gain ∙ ap (λ (t : List ℕ). one_if (is_loud t)) same in
         let v : walks.Walker = walks.passed mid.cursor (length (printed_by (gain_of o.outcome))) w in
@@ -153,7 +153,7 @@ module _ (machine : Machine Chosen) (old new : ListingPlace) (act : Act) (text :
           pending = subst (λ (p : Option Pending). ShowsPending p w.pending) (sym kept) f.pending;
           reports = ap (λ n. w.reports + n) count ∙ ap (λ n. n + one_if (is_loud text)) f.reports ∙ sym counted;
         } in
-        subst (λ (t : walks.WalkTurn). Comes t cards machine position executed new w') (sym (turn_taken w card move cards position executed gain f plain o same ∙ ap (walks.taken w o.outcome) there))
+        subst (λ (t : walks.WalkTurn). Comes t cards machine position executed new w') (sym (turn_taken C w card move cards position executed gain f plain o same ∙ ap (walks.taken w o.outcome) there))
         (finishes v o.outcome cards machine position executed gain faces o.is_outcome)
 
 -- ---- with the tests by their results

@@ -22,7 +22,7 @@ use Rattle.run_machine.specs.declared.act.Act.TheVariants as acts
 use Rattle.run_machine.specs.declared.end.End.TheVariants as ends
 use Rattle.run_machine.specs.declared.machine.Machine.{Machine}
 use Rattle.run_machine.specs.Standing as machines
-use Rattle.walk_definitions.specs.Checkers.{checker_of_128_bits}
+use Rattle.walk_definitions.specs.Checkers.{Checker}
 use Rattle.walk_definitions.specs.Forms.{is_inserted}
 use Rattle.walk_definitions.specs.Walker as walks
 use Rattle.listing_walk.specs.declared.chosen.Chosen.{Chosen}
@@ -54,11 +54,11 @@ unfolding verb_move
 inserting_move card state = refl
 
 -- the end by a fault of a deck
-deck_faulted : (cards : List (List ℕ)) (machine : Machine Chosen) (old new : ListingPlace) (fault : DeckFault) (card : ℕ) (w' : Went) → Passes machine old new (acts.Ends (ends.Deck fault)) [] w' →
-    (w : walks.Walker) (move : StatementMove) (position executed : ℕ) → Faces old w → move ≡ Does (stops (deck_stop fault)) → Comes (walks.walk_move checker_of_128_bits w move) cards machine position executed new w'
-deck_faulted cards machine old new fault card w' passes w move position executed f is =
-    subst (λ (m : StatementMove). Comes (walks.walk_move checker_of_128_bits w m) cards machine position executed new w') (sym is)
-    (passes w card (Does (stops (deck_stop fault))) cards position executed Nothing f refl refl refl)
+deck_faulted : (C : Checker) (cards : List (List ℕ)) (machine : Machine Chosen) (old new : ListingPlace) (fault : DeckFault) (card : ℕ) (w' : Went) → Passes machine old new (acts.Ends (ends.Deck fault)) [] w' →
+    (w : walks.Walker) (move : StatementMove) (position executed : ℕ) → Faces old w → move ≡ Does (stops (deck_stop fault)) → Comes (walks.walk_move C w move) cards machine position executed new w'
+deck_faulted C cards machine old new fault card w' passes w move position executed f is =
+    subst (λ (m : StatementMove). Comes (walks.walk_move C w m) cards machine position executed new w') (sym is)
+    (passes C w card (Does (stops (deck_stop fault))) cards position executed Nothing f refl refl refl)
 
 module _ (card : ℕ) (state : State) (present : Present) (lp : LinearProgram) (w : walks.Walker) where
   -- where the line doesn't stand, a stop and what is pending are what is open
@@ -82,9 +82,9 @@ taken_by cards machine wanted same deck is = ap (λ (n : Option Name). deck_take
 pub line_by : (cards : List (List ℕ)) (place : ListingPlace) (deck : Option Deck) (rest : List ℕ) → rest ≡ place.cursor → (stands : Bool) → stands ≡ is_line_of cards deck rest → stands ≡ is_line_of cards deck place.cursor
 line_by cards place deck rest same stands is = is ∙ ap (is_line_of cards deck) same
 
-module _ (card : ℕ) (cards : List (List ℕ)) (machine : Machine Chosen) (old new : ListingPlace) where
-  pub insert_no_setup : machine.setup ≡ None → (result : Result Went NoMemory) → IfOk result (Passes machine old new (acts.Ends (ends.Verb NoSetup card)) []) → IfOk result (Walks Insert card cards machine machine old new)
-  insert_no_setup = no_setup_walks Insert card (insert_move card) (inserting_move card) cards machine old new
+module _ (C : Checker) (card : ℕ) (cards : List (List ℕ)) (machine : Machine Chosen) (old new : ListingPlace) where
+  pub insert_no_setup : machine.setup ≡ None → (result : Result Went NoMemory) → IfOk result (Passes machine old new (acts.Ends (ends.Verb NoSetup card)) []) → IfOk result (Walks C Insert card cards machine machine old new)
+  insert_no_setup = no_setup_walks C Insert card (insert_move card) (inserting_move card) cards machine old new
 
   module _ (chosen : Chosen) (is_setup : machine.setup ≡ Some chosen) (problem : Problem ℕ) (on_file : filed_under chosen.name machine.file ≡ Some problem) (deck : Option Deck)
       (is_taken : deck_taken machine.cells.xdata (decks_of (drop (machine.decks_from - 1) (numbered_cards cards))) ≡ taken_of cards deck) where
@@ -94,18 +94,18 @@ module _ (card : ℕ) (cards : List (List ℕ)) (machine : Machine Chosen) (old 
 
     -- ---- a selection is refused
 
-    unmade_walks : IsRefused problem (choice_of machine.cells chosen.options) → is_line_of cards deck old.cursor ≡ false → (found : Found) → IsUnchecked old found → Walks Insert card cards machine machine old new (went.Finds found)
+    unmade_walks : IsRefused problem (choice_of machine.cells chosen.options) → is_line_of cards deck old.cursor ≡ false → (found : Found) → IsUnchecked old found → Walks C Insert card cards machine machine old new (went.Finds found)
     unmade_walks refused none found u = λ position executed state w s f.
         let p = present_at s chosen is_setup problem on_file in
         let present = present_with problem chosen.options p.opening p.steps in
-        let q = unmade_here card cards machine s (insert_move card state) chosen problem p w refused in
-        ap (walks.walk_move checker_of_128_bits w) (inserting_move card state) ∙ q.1 ∙
+        let q = unmade_here C card cards machine s (insert_move card state) chosen problem p w refused in
+        ap (walks.walk_move C w) (inserting_move card state) ∙ q.1 ∙
         ap (λ (o : Option (List Card × List (List Card))). walks.unless_found (walks.opened w (insert_by card state present q.0 o)) (walks.Finds (walks.Unchecked w.rest))) (deck_at s) ∙
         ap (λ (o : Option walks.Found). walks.unless_found o (walks.Finds (walks.Unchecked w.rest))) (opened_so card state present q.0 w cards deck (ap (is_line_of cards deck) f.rest ∙ none)) ∙ u w f
 
     pub insert_refused : (stands : Bool) → stands ≡ is_line_of cards deck old.cursor → (refusal : Unselected) → IsNotMade problem (choice_of machine.cells chosen.options) refusal → (result : Result Went NoMemory) →
-        IfOk result (RefusesInstall machine old new card stands refusal) → IfOk result (Walks Insert card cards machine machine old new)
-    insert_refused stands is (unselected.Fault fault) h result passes = unselected_walks Insert card (insert_move card) (inserting_move card) cards machine old new chosen is_setup problem on_file fault h result passes
+        IfOk result (RefusesInstall machine old new card stands refusal) → IfOk result (Walks C Insert card cards machine machine old new)
+    insert_refused stands is (unselected.Fault fault) h result passes = unselected_walks C Insert card (insert_move card) (inserting_move card) cards machine old new chosen is_setup problem on_file fault h result passes
     insert_refused stands is unselected.Unchecked h (Ok (went.Finds found)) u = unmade_walks h (sym is ∙ u.0) found u.1
     insert_refused stands is unselected.Unchecked h (Ok went.Next) u = absurd u.1
     insert_refused stands is unselected.Unchecked h (Ok (went.Jump to)) u = absurd u.1
@@ -116,11 +116,11 @@ module _ (card : ℕ) (cards : List (List ℕ)) (machine : Machine Chosen) (old 
     -- ---- with a linear program
 
     module _ (lp : LinearProgram) (made : IsMade problem (choice_of machine.cells chosen.options) lp) where
-      pub insert_no_deck : deck ≡ None → (result : Result Went NoMemory) → IfOk result (Passes machine old new (acts.Ends (ends.Verb DeckNotFound card)) []) → IfOk result (Walks Insert card cards machine machine old new)
+      pub insert_no_deck : deck ≡ None → (result : Result Went NoMemory) → IfOk result (Passes machine old new (acts.Ends (ends.Verb DeckNotFound card)) []) → IfOk result (Walks C Insert card cards machine machine old new)
       insert_no_deck none (Ok w') passes =
-          made_walks Insert card (insert_move card) (inserting_move card) cards machine old new chosen is_setup problem on_file lp made machine w' (λ position executed state w opening steps s f is_viewed.
+          made_walks C Insert card (insert_move card) (inserting_move card) cards machine old new chosen is_setup problem on_file lp made machine w' (λ position executed state w opening steps s f is_viewed.
           let present = present_with problem chosen.options opening steps in
-          faulted cards machine old new DeckNotFound card w' passes w (insert_move card state present lp) position executed f
+          faulted C cards machine old new DeckNotFound card w' passes w (insert_move card state present lp) position executed f
           (ap (insert_by card state present lp) (deck_at s ∙ ap (taken_of cards) none)))
       insert_no_deck none (Err stop) passes = tt
 
@@ -139,16 +139,16 @@ module _ (card : ℕ) (cards : List (List ℕ)) (machine : Machine Chosen) (old 
             ap (insert_by card state present lp) (deck_at s ∙ ap (taken_of cards) is_one) ∙ ap (λ (r : Result Basis DeckFault). or_deck_fault r (asks_install card state present lp taken)) is
 
         pub insert_bad_deck : (fault : DeckFault) → basis_reading problem lp deck_fields ≡ Err fault → (result : Result Went NoMemory) → IfOk result (Passes machine old new (acts.Ends (ends.Deck fault)) []) →
-            IfOk result (Walks Insert card cards machine machine old new)
+            IfOk result (Walks C Insert card cards machine machine old new)
         insert_bad_deck fault is (Ok w') passes =
-            made_walks Insert card (insert_move card) (inserting_move card) cards machine old new chosen is_setup problem on_file lp made machine w' (λ position executed state w opening steps s f is_viewed.
-            deck_faulted cards machine old new fault card w' passes w (insert_move card state (present_with problem chosen.options opening steps) lp) position executed f (read_move (Err fault) is s opening steps))
+            made_walks C Insert card (insert_move card) (inserting_move card) cards machine old new chosen is_setup problem on_file lp made machine w' (λ position executed state w opening steps s f is_viewed.
+            deck_faulted C cards machine old new fault card w' passes w (insert_move card state (present_with problem chosen.options opening steps) lp) position executed f (read_move (Err fault) is s opening steps))
         insert_bad_deck fault is (Err stop) passes = tt
 
         pub insert_due : (stands : Bool) → stands ≡ is_line_of cards deck old.cursor → (basis : Basis) → basis_reading problem lp deck_fields ≡ Ok basis → (found : Found) → IsInstallDue old stands found →
-            Walks Insert card cards machine machine old new (went.Finds found)
+            Walks C Insert card cards machine machine old new (went.Finds found)
         insert_due stands stands_is basis is found due =
-            made_walks Insert card (insert_move card) (inserting_move card) cards machine old new chosen is_setup problem on_file lp made machine (went.Finds found) (λ position executed state w opening steps s f is_viewed.
-            ap (walks.walk_move checker_of_128_bits w) (read_move (Ok basis) is s opening steps) ∙
+            made_walks C Insert card (insert_move card) (inserting_move card) cards machine old new chosen is_setup problem on_file lp made machine (went.Finds found) (λ position executed state w opening steps s f is_viewed.
+            ap (walks.walk_move C w) (read_move (Ok basis) is s opening steps) ∙
             ap (λ (b : Bool). walks.unless_found (open_install b w) (walks.Finds (walks.Wrong w.rest))) (ap (is_inserted (deck_name (live deck_fields))) f.rest ∙ ap (λ (o : Option Deck). is_line_of cards o old.cursor) (sym is_one) ∙ sym stands_is) ∙
             due w f)

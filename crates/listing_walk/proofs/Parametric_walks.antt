@@ -25,12 +25,13 @@ use Rattle.run_definitions.specs.Verbs.{asks, after_parametric_run, mark_of, las
 use Rattle.run_machine.specs.declared.act.Act.{Act}
 use Rattle.run_machine.specs.declared.act.Act.TheVariants as acts
 use Rattle.run_machine.specs.declared.end.End.TheVariants as ends
-use Rattle.run_machine.specs.declared.finding.Finding.TheVariants.{Ended}
+use Rattle.run_machine.specs.declared.finding.Finding.{Finding}
+use Rattle.run_machine.specs.declared.finding.Finding.TheVariants.{Ended, RanThrough as Reached}
 use Rattle.run_machine.specs.declared.machine.Machine.{Machine}
 use Rattle.run_machine.specs.Findings.{act_of}
 use Rattle.run_machine.specs.Standing.{AreDemands}
 use Rattle.run_machine.specs.Standing as machines
-use Rattle.walk_definitions.specs.Checkers.{checker_of_128_bits}
+use Rattle.walk_definitions.specs.Checkers.{Checker}
 use Rattle.walk_definitions.specs.Walker as walks
 use Rattle.parametric_request.specs.declared.request.Change.{Change}
 use Rattle.parametric_request.specs.declared.request.Change.TheVariants as changes
@@ -132,28 +133,28 @@ parametric_move Pararhs card state = refl
 
 -- ---- the verb in the walk
 
-module _ (verb : ParametricVerb) (card : ℕ) (cards : List (List ℕ)) (machine : Machine Chosen) (old new : ListingPlace) where
-  pub parametric_no_setup : machine.setup ≡ None → (result : Result Went NoMemory) → IfOk result (Passes machine old new (acts.Ends (ends.Verb NoSetup card)) []) → IfOk result (Walks (verb_of verb) card cards machine machine old new)
-  parametric_no_setup = no_setup_walks (verb_of verb) card (tested_move verb card) (parametric_move verb card) cards machine old new
+module _ (C : Checker) (verb : ParametricVerb) (card : ℕ) (cards : List (List ℕ)) (machine : Machine Chosen) (old new : ListingPlace) where
+  pub parametric_no_setup : machine.setup ≡ None → (result : Result Went NoMemory) → IfOk result (Passes machine old new (acts.Ends (ends.Verb NoSetup card)) []) → IfOk result (Walks C (verb_of verb) card cards machine machine old new)
+  parametric_no_setup = no_setup_walks C (verb_of verb) card (tested_move verb card) (parametric_move verb card) cards machine old new
 
   module _ (chosen : Chosen) (is_setup : machine.setup ≡ Some chosen) (problem : Problem ℕ) (on_file : filed_under chosen.name machine.file ≡ Some problem) where
     pub parametric_refused : (refusal : Unselected) → IsNotMade problem (choice_of machine.cells chosen.options) refusal → (result : Result Went NoMemory) → IfOk result (Refuses machine old new card refusal) →
-        IfOk result (Walks (verb_of verb) card cards machine machine old new)
-    parametric_refused = refusal_walks (verb_of verb) card (tested_move verb card) (parametric_move verb card) cards machine old new chosen is_setup problem on_file (λ state present w lp. opens_tested verb card state present w lp)
+        IfOk result (Walks C (verb_of verb) card cards machine machine old new)
+    parametric_refused = refusal_walks C (verb_of verb) card (tested_move verb card) (parametric_move verb card) cards machine old new chosen is_setup problem on_file (λ state present w lp. opens_tested verb card state present w lp)
 
     module _ (lp : LinearProgram) (made : IsMade problem (choice_of machine.cells chosen.options) lp) where
       abbrev through : (after : Machine Chosen) (w' : Went) →
           ((position executed : ℕ) (state : State) (w : walks.Walker) (opening : Basis) (steps : List Basis) → machines.Represents IsView cards machine position executed state → Faces old w → state.setup ≡ Some (present_with problem chosen.options opening steps) →
-          Comes (walks.walk_move checker_of_128_bits w (tested_move verb card state (present_with problem chosen.options opening steps) lp)) cards after position executed new w') → Walks (verb_of verb) card cards machine after old new w'
-      through = made_walks (verb_of verb) card (tested_move verb card) (parametric_move verb card) cards machine old new chosen is_setup problem on_file lp made
+          Comes (walks.walk_move C w (tested_move verb card state (present_with problem chosen.options opening steps) lp)) cards after position executed new w') → Walks C (verb_of verb) card cards machine after old new w'
+      through = made_walks C (verb_of verb) card (tested_move verb card) (parametric_move verb card) cards machine old new chosen is_setup problem on_file lp made
 
-      unasked_by : (fault : VerbFault) → IsAskFault verb problem machine.cells fault → (w' : Went) → Passes machine old new (acts.Ends (ends.Verb fault card)) [] w' → Walks (verb_of verb) card cards machine machine old new w'
+      unasked_by : (fault : VerbFault) → IsAskFault verb problem machine.cells fault → (w' : Went) → Passes machine old new (acts.Ends (ends.Verb fault card)) [] w' → Walks C (verb_of verb) card cards machine machine old new w'
       unasked_by fault h w' passes =
           through machine w' (λ position executed state w opening steps s f is_viewed.
-          faulted cards machine old new fault card w' passes w (tested_move verb card state (present_with problem chosen.options opening steps) lp) position executed f
+          faulted C cards machine old new fault card w' passes w (tested_move verb card state (present_with problem chosen.options opening steps) lp) position executed f
           (refused_move verb card state (present_with problem chosen.options opening steps) lp fault (subst (λ (c : Cells). IsAskFault verb problem c fault) (sym s.cells) h)))
 
-      pub parametric_unasked : (stop : RequestStop) → IsNotAsked verb problem machine.cells stop → (result : Result Went NoMemory) → IfOk result (IsUnasked machine old new card stop) → IfOk result (Walks (verb_of verb) card cards machine machine old new)
+      pub parametric_unasked : (stop : RequestStop) → IsNotAsked verb problem machine.cells stop → (result : Result Went NoMemory) → IfOk result (IsUnasked machine old new card stop) → IfOk result (Walks C (verb_of verb) card cards machine machine old new)
       parametric_unasked (request_stops.Fault fault) h (Ok w') passes = unasked_by fault h w' passes
       parametric_unasked (request_stops.Fault fault) h (Err stop) passes = tt
       parametric_unasked request_stops.NoMemory h (Ok w') passes = absurd passes
@@ -165,21 +166,21 @@ module _ (verb : ParametricVerb) (card : ℕ) (cards : List (List ℕ)) (machine
 
         -- the turn is that of the question
         turn_asked : {position executed : ℕ} {state : State} (w : walks.Walker) (opening : Basis) (steps : List Basis) → machines.Represents IsView cards machine position executed state →
-            walks.walk_move checker_of_128_bits w (tested_move verb card state (present_with problem chosen.options opening steps) lp) ≡
-            asked_turn w (OfParametricRun parametric_run) (record { problem = problem; lp = lp }) (after_parametric_run card parametric_run (present_with problem chosen.options opening steps) state)
+            walks.walk_move C w (tested_move verb card state (present_with problem chosen.options opening steps) lp) ≡
+            asked_turn C w (OfParametricRun parametric_run) (record { problem = problem; lp = lp }) (after_parametric_run card parametric_run (present_with problem chosen.options opening steps) state)
         turn_asked {state = state} w opening steps s =
-            ap (walks.walk_move checker_of_128_bits w)
+            ap (walks.walk_move C w)
             (asked_move verb card state (present_with problem chosen.options opening steps) lp parametric_run (subst (λ (c : Cells). IsAsked verb problem c parametric_run) (sym s.cells) asked))
 
-        found_walks : (after : Machine Chosen) (found : Found) → ((limit : ℕ) → Answered {X = ParametricRunAnswer} (OfParametricRun (parametric_run_of limit request)) (record { problem = problem; lp = lp }) old new IsParametricRunAnswer (Err (stops.Finds found))) →
-            Walks (verb_of verb) card cards machine after old new (went.Finds found)
+        found_walks : (after : Machine Chosen) (found : Found) → ((limit : ℕ) → Answered C {X = ParametricRunAnswer} (OfParametricRun (parametric_run_of limit request)) (record { problem = problem; lp = lp }) old new IsParametricRunAnswer (Err (stops.Finds found))) →
+            Walks C (verb_of verb) card cards machine after old new (went.Finds found)
         found_walks after found answered =
             through after (went.Finds found) (λ position executed state w opening steps s f is_viewed.
             turn_asked w opening steps s ∙ answered (steps_allowed machine.cells) w (after_parametric_run card parametric_run (present_with problem chosen.options opening steps) state) f)
 
-        pub parametric_stopped : (after : Machine Chosen) (stopped : Stopped) → ((limit : ℕ) → Answered {X = ParametricRunAnswer} (OfParametricRun (parametric_run_of limit request)) (record { problem = problem; lp = lp }) old new IsParametricRunAnswer (Err stopped)) →
-            (result : Result Went NoMemory) → IfOk result (WentBy stopped) → IfOk result (Walks (verb_of verb) card cards machine after old new)
-        parametric_stopped after (stops.Finds found) answered (Ok w') is = subst (λ (x : Went). Walks (verb_of verb) card cards machine after old new x) (sym is) (found_walks after found answered)
+        pub parametric_stopped : (after : Machine Chosen) (stopped : Stopped) → ((limit : ℕ) → Answered C {X = ParametricRunAnswer} (OfParametricRun (parametric_run_of limit request)) (record { problem = problem; lp = lp }) old new IsParametricRunAnswer (Err stopped)) →
+            (result : Result Went NoMemory) → IfOk result (WentBy stopped) → IfOk result (Walks C (verb_of verb) card cards machine after old new)
+        parametric_stopped after (stops.Finds found) answered (Ok w') is = subst (λ (x : Went). Walks C (verb_of verb) card cards machine after old new x) (sym is) (found_walks after found answered)
         parametric_stopped after (stops.Finds found) answered (Err stop) is = tt
         parametric_stopped after stops.NoMemory answered (Ok w') is = absurd is
         parametric_stopped after stops.NoMemory answered (Err stop) is = tt
@@ -192,7 +193,7 @@ module _ (verb : ParametricVerb) (card : ℕ) (cards : List (List ℕ)) (machine
           then_run_through state present bases last = record state { setup = Some (gone_through bases present); mark = None; cells = record (state.cells) { xparam = last } }
 
           stands_open : (mark : Mark) {position executed : ℕ} {state : State} → machines.Represents IsView cards machine position executed state → (opening : Basis) (steps bases : List Basis) →
-              machines.Represents IsView cards (left_by (Opened mark) machine) position executed (then_open state (present_with problem chosen.options opening steps) bases)
+              machines.Represents IsView cards (left_by (Ended mark) machine) position executed (then_open state (present_with problem chosen.options opening steps) bases)
           stands_open mark s opening steps bases = record {
             is_position = s.is_position;
             is_executed = s.is_executed;
@@ -205,7 +206,7 @@ module _ (verb : ParametricVerb) (card : ℕ) (cards : List (List ℕ)) (machine
           }
 
           stands_run_through : (last : ℚ) {position executed : ℕ} {state : State} → machines.Represents IsView cards machine position executed state → (opening : Basis) (steps bases : List Basis) →
-              machines.Represents IsView cards (left_by (RanThrough last) machine) position executed (then_run_through state (present_with problem chosen.options opening steps) bases last)
+              machines.Represents IsView cards (left_by (Reached last) machine) position executed (then_run_through state (present_with problem chosen.options opening steps) bases last)
           stands_run_through last s opening steps bases = record {
             is_position = s.is_position;
             is_executed = s.is_executed;
@@ -218,16 +219,16 @@ module _ (verb : ParametricVerb) (card : ℕ) (cards : List (List ℕ)) (machine
           }
 
           -- by the answer
-          ends_by : (x : ParametricRunAnswer) (act : Act) → act ≡ act_of (left_by x machine).cells card (finding_of x) → (w' : Went) → Finishes mid new act w' → (position executed : ℕ) (state : State) (opening : Basis) (steps : List Basis) →
+          ends_by : (x : ParametricRunAnswer) (act : Act) → act ≡ act_of (left_by (finding_of x) machine).cells card (finding_of x) → (w' : Went) → Finishes mid new act w' → (position executed : ℕ) (state : State) (opening : Basis) (steps : List Basis) →
               machines.Represents IsView cards machine position executed state → (turn : walks.WalkTurn) (v : walks.Walker) (answer : ParametricRunEnd) →
-              turn ≡ walks.follows v (after_parametric_run card parametric_run (present_with problem chosen.options opening steps) state answer) → Faces mid v → IsParametricRunAnswer x answer → Comes turn cards (left_by x machine) position executed new w'
+              turn ≡ walks.follows v (after_parametric_run card parametric_run (present_with problem chosen.options opening steps) state answer) → Faces mid v → IsParametricRunAnswer x answer → Comes turn cards (left_by (finding_of x) machine) position executed new w'
           ends_by (Opened mark) act is_act w' finishes position executed state opening steps s turn v (Opening bases verdict check) is faces e =
               let present = present_with problem chosen.options opening steps in
               let outcome : StatementOutcome = after_parametric_run card parametric_run present state (Opening bases verdict check) in
-              let comes = verdict_comes card cards (left_by (Opened mark) machine) position executed (Solved (parametric_solver parametric_run.changing) verdict check) (then_open state present bases) (stands_open mark s opening steps bases) machine.cells demands s.cells (mark_of verdict) in
-              subst (λ (t : walks.WalkTurn). Comes t cards (left_by (Opened mark) machine) position executed new w') (sym is)
-              (finishes v outcome cards (left_by (Opened mark) machine) position executed (Prints (Solved (parametric_solver parametric_run.changing) verdict check)) faces
-              (subst (λ (a : Act). IsOutcome outcome cards (left_by (Opened mark) machine) position executed (Prints (Solved (parametric_solver parametric_run.changing) verdict check)) a)
+              let comes = verdict_comes card cards (left_by (Ended mark) machine) position executed (Solved (parametric_solver parametric_run.changing) verdict check) (then_open state present bases) (stands_open mark s opening steps bases) machine.cells demands s.cells (mark_of verdict) in
+              subst (λ (t : walks.WalkTurn). Comes t cards (left_by (Ended mark) machine) position executed new w') (sym is)
+              (finishes v outcome cards (left_by (Ended mark) machine) position executed (Prints (Solved (parametric_solver parametric_run.changing) verdict check)) faces
+              (subst (λ (a : Act). IsOutcome outcome cards (left_by (Ended mark) machine) position executed (Prints (Solved (parametric_solver parametric_run.changing) verdict check)) a)
               (ap (λ (m : Mark). act_of machine.cells card (Ended m)) (sym e) ∙ sym is_act) comes))
           ends_by (Opened mark) act is_act w' finishes position executed state opening steps s turn v (Chained bases intervals end) is faces e = absurd e
           ends_by (Opened mark) act is_act w' finishes position executed state opening steps s turn v ParametricRunLimit is faces e = absurd e
@@ -235,25 +236,29 @@ module _ (verb : ParametricVerb) (card : ℕ) (cards : List (List ℕ)) (machine
               let present = present_with problem chosen.options opening steps in
               let report = Parametric (parametric_solver parametric_run.changing) (record { from = parametric_run.from; change = changing_name parametric_run.changing; intervals = intervals; end = end }) in
               let outcome : StatementOutcome = after_parametric_run card parametric_run present state (Chained bases intervals end) in
-              let stands = subst (λ (x : ℚ). machines.Represents IsView cards (left_by (RanThrough last) machine) position executed (then_run_through state present bases x)) e (stands_run_through last s opening steps bases) in
-              subst (λ (t : walks.WalkTurn). Comes t cards (left_by (RanThrough last) machine) position executed new w') (sym is)
-              (finishes v outcome cards (left_by (RanThrough last) machine) position executed (Prints report) faces
-              (subst (λ (a : Act). IsOutcome outcome cards (left_by (RanThrough last) machine) position executed (Prints report) a) (sym is_act) (then_run_through state present bases (last_value end), refl, stands)))
+              let stands = subst (λ (x : ℚ). machines.Represents IsView cards (left_by (Reached last) machine) position executed (then_run_through state present bases x)) e (stands_run_through last s opening steps bases) in
+              subst (λ (t : walks.WalkTurn). Comes t cards (left_by (Reached last) machine) position executed new w') (sym is)
+              (finishes v outcome cards (left_by (Reached last) machine) position executed (Prints report) faces
+              (subst (λ (a : Act). IsOutcome outcome cards (left_by (Reached last) machine) position executed (Prints report) a) (sym is_act) (then_run_through state present bases (last_value end), refl, stands)))
           ends_by (RanThrough last) act is_act w' finishes position executed state opening steps s turn v (Opening bases verdict check) is faces e = absurd e
           ends_by (RanThrough last) act is_act w' finishes position executed state opening steps s turn v ParametricRunLimit is faces e = absurd e
 
-          pub parametric_ended : (x : ParametricRunAnswer) → ((limit : ℕ) → Answered (OfParametricRun (parametric_run_of limit request)) (record { problem = problem; lp = lp }) old mid IsParametricRunAnswer (Ok x)) → (after : Machine Chosen) → after ≡ left_by x machine →
-              (act : Act) → act ≡ act_of after.cells card (finding_of x) → (result : Result Went NoMemory) → IfOk result (Finishes mid new act) → IfOk result (Walks (verb_of verb) card cards machine after old new)
+          pub parametric_ended : (x : ParametricRunAnswer) → ((limit : ℕ) → Answered C (OfParametricRun (parametric_run_of limit request)) (record { problem = problem; lp = lp }) old mid IsParametricRunAnswer (Ok x)) → (after : Machine Chosen) → after ≡ left_by (finding_of x) machine →
+              (act : Act) → act ≡ act_of after.cells card (finding_of x) → (result : Result Went NoMemory) → IfOk result (Finishes mid new act) → IfOk result (Walks C (verb_of verb) card cards machine after old new)
           parametric_ended x answered after is act is_act (Ok w') finishes =
-              subst (λ (m : Machine Chosen). Walks (verb_of verb) card cards machine m old new w') (sym is)
-              (through (left_by x machine) w' (λ position executed state w opening steps s f is_viewed.
+              subst (λ (m : Machine Chosen). Walks C (verb_of verb) card cards machine m old new w') (sym is)
+              (through (left_by (finding_of x) machine) w' (λ position executed state w opening steps s f is_viewed.
               let a = answered (steps_allowed machine.cells) w (after_parametric_run card parametric_run (present_with problem chosen.options opening steps) state) f in
               ends_by x act (is_act ∙ ap (λ (m : Machine Chosen). act_of m.cells card (finding_of x)) is) w' finishes position executed state opening steps s
-              (walks.walk_move checker_of_128_bits w (tested_move verb card state (present_with problem chosen.options opening steps) lp)) a.walker a.answer (turn_asked w opening steps s ∙ a.is_turn) a.faces a.holds))
+              (walks.walk_move C w (tested_move verb card state (present_with problem chosen.options opening steps) lp)) a.walker a.answer (turn_asked w opening steps s ∙ a.is_turn) a.faces a.holds))
           parametric_ended x answered after is act is_act (Err stop) finishes = tt
 
+-- the machine after what was found, by the answer
+pub left_so : (machine : Machine Chosen) (finding found : Finding) → finding ≡ found → (after : Machine Chosen) → after ≡ left_by finding machine → after ≡ left_by found machine
+left_so machine finding found same after is = is ∙ ap (λ (f : Finding). left_by f machine) same
+
 -- and stays sound
-sound_by : (cards : List (List ℕ)) (machine : Machine Chosen) (x : ParametricRunAnswer) → IsSound cards machine → IsSound cards (left_by x machine)
+sound_by : (cards : List (List ℕ)) (machine : Machine Chosen) (x : ParametricRunAnswer) → IsSound cards machine → IsSound cards (left_by (finding_of x) machine)
 sound_by cards machine (Opened mark) sound = record { first = sound.first; last = sound.last; demands = sound.demands; ready = sound.ready; solved = tt }
 sound_by cards machine (RanThrough last) sound = record {
   first = sound.first;
@@ -263,5 +268,5 @@ sound_by cards machine (RanThrough last) sound = record {
   solved = tt;
 }
 
-pub parametric_sound : (cards : List (List ℕ)) (machine : Machine Chosen) (x : ParametricRunAnswer) (after : Machine Chosen) → after ≡ left_by x machine → IsSound cards machine → IsSound cards after
+pub parametric_sound : (cards : List (List ℕ)) (machine : Machine Chosen) (x : ParametricRunAnswer) (after : Machine Chosen) → after ≡ left_by (finding_of x) machine → IsSound cards machine → IsSound cards after
 parametric_sound cards machine x after is sound = subst (IsSound cards) (sym is) (sound_by cards machine x sound)

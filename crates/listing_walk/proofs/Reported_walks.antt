@@ -20,7 +20,7 @@ use Rattle.run_definitions.specs.Verbs.{max_counted, asks, shows_present, if_opt
 use Rattle.run_machine.specs.declared.act.Act.TheVariants as acts
 use Rattle.run_machine.specs.declared.end.End.TheVariants as ends
 use Rattle.run_machine.specs.declared.machine.Machine.{Machine}
-use Rattle.walk_definitions.specs.Checkers.{checker_of_128_bits}
+use Rattle.walk_definitions.specs.Checkers.{Checker}
 use Rattle.walk_definitions.specs.Forms.{is_ranges, is_punched}
 use Rattle.walk_definitions.specs.Walker as walks
 use Rattle.listing_walk.specs.declared.chosen.Chosen.{Chosen}
@@ -64,32 +64,32 @@ optimal_so marks.Optimal is = refl
 optimal_so marks.Infeasible is = absurd (cc is)
 optimal_so marks.Unbounded is = absurd (cc is)
 
-module _ (card : ℕ) (cards : List (List ℕ)) (machine : Machine Chosen) (old new : ListingPlace) where
-  pub ranges_no_setup : machine.setup ≡ None → (result : Result Went NoMemory) → IfOk result (Passes machine old new (acts.Ends (ends.Verb NoSetup card)) []) → IfOk result (Walks Ranging card cards machine machine old new)
-  ranges_no_setup none = fault_walks Ranging card cards machine old new NoSetup (λ position executed state s. ranging_move card state ∙ showing_none card cards machine s (range_move card state) none)
+module _ (C : Checker) (card : ℕ) (cards : List (List ℕ)) (machine : Machine Chosen) (old new : ListingPlace) where
+  pub ranges_no_setup : machine.setup ≡ None → (result : Result Went NoMemory) → IfOk result (Passes machine old new (acts.Ends (ends.Verb NoSetup card)) []) → IfOk result (Walks C Ranging card cards machine machine old new)
+  ranges_no_setup none = fault_walks C Ranging card cards machine old new NoSetup (λ position executed state s. ranging_move card state ∙ showing_none card cards machine s (range_move card state) none)
 
   module _ (chosen : Chosen) (is_setup : machine.setup ≡ Some chosen) where
-    pub ranges_not_solved : machine.mark ≡ None → (result : Result Went NoMemory) → IfOk result (Passes machine old new (acts.Ends (ends.Verb NotSolved card)) []) → IfOk result (Walks Ranging card cards machine machine old new)
+    pub ranges_not_solved : machine.mark ≡ None → (result : Result Went NoMemory) → IfOk result (Passes machine old new (acts.Ends (ends.Verb NotSolved card)) []) → IfOk result (Walks C Ranging card cards machine machine old new)
     ranges_not_solved none =
-        fault_walks Ranging card cards machine old new NotSolved (λ position executed state s. ranging_move card state ∙ showing_unsolved card cards machine s (range_move card state) chosen is_setup none)
+        fault_walks C Ranging card cards machine old new NotSolved (λ position executed state s. ranging_move card state ∙ showing_unsolved card cards machine s (range_move card state) chosen is_setup none)
 
     module _ (mark : Mark) (is_mark : machine.mark ≡ Some mark) where
-      pub ranges_not_optimal : is_optimal mark ≡ false → (result : Result Went NoMemory) → IfOk result (Passes machine old new (acts.Ends (ends.Verb NotOptimal card)) []) → IfOk result (Walks Ranging card cards machine machine old new)
+      pub ranges_not_optimal : is_optimal mark ≡ false → (result : Result Went NoMemory) → IfOk result (Passes machine old new (acts.Ends (ends.Verb NotOptimal card)) []) → IfOk result (Walks C Ranging card cards machine machine old new)
       ranges_not_optimal other =
-          fault_walks Ranging card cards machine old new NotOptimal (λ position executed state s.
+          fault_walks C Ranging card cards machine old new NotOptimal (λ position executed state s.
           let p = some_at s chosen is_setup in
           ranging_move card state ∙ showing_mark card cards machine s (range_move card state) p.0 p.1 mark is_mark ∙
           fault_move card NotOptimal (if_optimal mark) (λ (optimal : Mark). shows_present card state p.0 OfRanges Ranges) (not_optimal mark other))
 
       pub ranges_found : is_optimal mark ≡ true → IfSome machine.setup (IsReady machine.file) → IfSome machine.mark (λ mark. IfSome machine.setup (IsSolved mark machine.cells.xobj machine.cells.xrhs machine.file)) →
-          (stands : Bool) → stands ≡ is_ranges old.cursor → (found : Found) → IsReported old stands true found → Walks Ranging card cards machine machine old new (went.Finds found)
+          (stands : Bool) → stands ≡ is_ranges old.cursor → (found : Found) → IsReported old stands true found → Walks C Ranging card cards machine machine old new (went.Finds found)
       ranges_found is ready solved stands stands_is found h = λ position executed state w s f.
           let r = ready_of machine.file machine.setup chosen is_setup ready in
           let p = present_at s chosen is_setup r.problem r.on_file in
           let present = present_with r.problem chosen.options p.opening p.steps in
           let ok : selected r.problem (choice_of state.cells chosen.options) ≡ Ok chosen.lp =
           ap (λ (c : Cells). selected r.problem (choice_of c chosen.options)) s.cells ∙ selected_now machine chosen is_setup mark is_mark r.problem r.on_file solved in
-          ap (walks.walk_move checker_of_128_bits w)
+          ap (walks.walk_move C w)
           (ranging_move card state ∙ showing_mark card cards machine s (range_move card state) present p.is_viewed mark is_mark ∙
           found_move card NotOptimal (if_optimal mark) (λ (optimal : Mark). shows_present card state present OfRanges Ranges) marks.Optimal (optimal_so mark is) ∙
           selected_move card (selected r.problem (choice_of state.cells chosen.options))
@@ -106,24 +106,24 @@ punching_move : (card : ℕ) (state : State) → verb_move Punch card state ≡ 
 unfolding verb_move
 punching_move card state = refl
 
-module _ (card : ℕ) (cards : List (List ℕ)) (machine : Machine Chosen) (old new : ListingPlace) where
-  pub punch_no_setup : machine.setup ≡ None → (result : Result Went NoMemory) → IfOk result (Passes machine old new (acts.Ends (ends.Verb NoSetup card)) []) → IfOk result (Walks Punch card cards machine machine old new)
-  punch_no_setup = no_setup_walks Punch card (punch_move card) (punching_move card) cards machine old new
+module _ (C : Checker) (card : ℕ) (cards : List (List ℕ)) (machine : Machine Chosen) (old new : ListingPlace) where
+  pub punch_no_setup : machine.setup ≡ None → (result : Result Went NoMemory) → IfOk result (Passes machine old new (acts.Ends (ends.Verb NoSetup card)) []) → IfOk result (Walks C Punch card cards machine machine old new)
+  punch_no_setup = no_setup_walks C Punch card (punch_move card) (punching_move card) cards machine old new
 
   module _ (chosen : Chosen) (is_setup : machine.setup ≡ Some chosen) (problem : Problem ℕ) (on_file : filed_under chosen.name machine.file ≡ Some problem) (stands : Bool) (stands_is : stands ≡ is_punched problem.name old.cursor) where
-    pub punch_found : (lp : LinearProgram) → IsMade problem (choice_of machine.cells chosen.options) lp → (found : Found) → IsReported old stands true found → Walks Punch card cards machine machine old new (went.Finds found)
+    pub punch_found : (lp : LinearProgram) → IsMade problem (choice_of machine.cells chosen.options) lp → (found : Found) → IsReported old stands true found → Walks C Punch card cards machine machine old new (went.Finds found)
     punch_found lp made found h =
-        made_walks Punch card (punch_move card) (punching_move card) cards machine old new chosen is_setup problem on_file lp made machine (went.Finds found)
+        made_walks C Punch card (punch_move card) (punching_move card) cards machine old new chosen is_setup problem on_file lp made machine (went.Finds found)
         (λ position executed state w opening steps s f is_viewed. at_line old stands true found h (is_punched problem.name) stands_is w f)
 
-    unmade_walks : IsRefused problem (choice_of machine.cells chosen.options) → (found : Found) → IsReported old stands false found → Walks Punch card cards machine machine old new (went.Finds found)
+    unmade_walks : IsRefused problem (choice_of machine.cells chosen.options) → (found : Found) → IsReported old stands false found → Walks C Punch card cards machine machine old new (went.Finds found)
     unmade_walks refused found h = λ position executed state w s f.
         let p = present_at s chosen is_setup problem on_file in
-        ap (walks.walk_move checker_of_128_bits w) (punching_move card state) ∙ (unmade_here card cards machine s (punch_move card state) chosen problem p w refused).1 ∙ at_line old stands false found h (is_punched problem.name) stands_is w f
+        ap (walks.walk_move C w) (punching_move card state) ∙ (unmade_here C card cards machine s (punch_move card state) chosen problem p w refused).1 ∙ at_line old stands false found h (is_punched problem.name) stands_is w f
 
     pub punch_refused : (refusal : Unselected) → IsNotMade problem (choice_of machine.cells chosen.options) refusal → (result : Result Went NoMemory) → IfOk result (RefusesReport machine old new card stands refusal) →
-        IfOk result (Walks Punch card cards machine machine old new)
-    punch_refused (unselected.Fault fault) h result passes = unselected_walks Punch card (punch_move card) (punching_move card) cards machine old new chosen is_setup problem on_file fault h result passes
+        IfOk result (Walks C Punch card cards machine machine old new)
+    punch_refused (unselected.Fault fault) h result passes = unselected_walks C Punch card (punch_move card) (punching_move card) cards machine old new chosen is_setup problem on_file fault h result passes
     punch_refused unselected.Unchecked h (Ok (went.Finds found)) reported = unmade_walks h found reported
     punch_refused unselected.Unchecked h (Ok went.Next) reported = absurd reported
     punch_refused unselected.Unchecked h (Ok (went.Jump to)) reported = absurd reported

@@ -18,7 +18,7 @@ use Rattle.listing_definitions.specs.declared.VerbFault.{VerbFault}
 use Rattle.listing_definitions.specs.Ending.{VerbStop}
 use Rattle.run_definitions.specs.Moves.{stops as stopped, InSelection, StatementMove, Does, MayStop, or_fault}
 use Rattle.run_definitions.specs.Verbs.{selection_verb_fault, or_selection_fault}
-use Rattle.walk_definitions.specs.Checkers.{checker_of_128_bits}
+use Rattle.walk_definitions.specs.Checkers.{Checker}
 use Rattle.walk_definitions.specs.Walker as walks
 use Rattle.listing_walk.specs.declared.selecting.Unselected.{Unselected}
 use Rattle.listing_walk.specs.Choosing.{unselected_by, IsMade, IsNotMade}
@@ -76,16 +76,16 @@ unselected_move card found go why fault err is =
 pub selected_move : (card : ℕ) (found : Result LinearProgram SelectionFault) (go : LinearProgram → StatementMove) (lp : LinearProgram) → found ≡ Ok lp → or_selection_fault card found go ≡ go lp
 selected_move card found go lp ok = ap (λ r. or_selection_fault card r go) ok
 
-module _ (w : walks.Walker) (problem : Problem ℕ) (choice : Choice) (move : StatementMove) where
+module _ (C : Checker) (w : walks.Walker) (problem : Problem ℕ) (choice : Choice) (move : StatementMove) where
   abbrev by_made : Bool → walks.WalkTurn
-  by_made made = walks.unless_found (walks.opened w move) (if not made || walks.refuses_selection move then walks.Finds (walks.Unchecked w.rest) else walks.due checker_of_128_bits w move)
+  by_made made = walks.unless_found (walks.opened w move) (if not made || walks.refuses_selection move then walks.Finds (walks.Unchecked w.rest) else walks.due C w move)
 
   -- no operation of a selection is refused
-  pub made_turn : is_made problem choice ≡ true → walks.walk_move checker_of_128_bits w (MayStop (InSelection problem choice) move) ≡ walks.walk_move checker_of_128_bits w move
+  pub made_turn : is_made problem choice ≡ true → walks.walk_move C w (MayStop (InSelection problem choice) move) ≡ walks.walk_move C w move
   made_turn made = ap by_made made
 
   -- one is
-  pub refused_turn : is_made problem choice ≡ false → walks.walk_move checker_of_128_bits w (MayStop (InSelection problem choice) move) ≡ walks.unless_found (walks.opened w move) (walks.Finds (walks.Unchecked w.rest))
+  pub refused_turn : is_made problem choice ≡ false → walks.walk_move C w (MayStop (InSelection problem choice) move) ≡ walks.unless_found (walks.opened w move) (walks.Finds (walks.Unchecked w.rest))
   refused_turn made = ap by_made made
 
 -- ---- what is selected is the program of the choice

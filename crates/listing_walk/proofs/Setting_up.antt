@@ -23,7 +23,7 @@ use Rattle.run_machine.specs.Choosing.{HasSelectionFault}
 use Rattle.run_machine.specs.Standing.{named, filed}
 use Rattle.run_machine.specs.Standing as machines
 use Rattle.run_machine.proofs.Giving.{problem_view}
-use Rattle.walk_definitions.specs.Checkers.{checker_of_128_bits}
+use Rattle.walk_definitions.specs.Checkers.{Checker}
 use Rattle.walk_definitions.specs.Walker as walks
 use Rattle.listing_walk.specs.declared.chosen.Chosen.{Chosen}
 use Rattle.listing_walk.specs.declared.chosen.Named.{Named}
@@ -51,11 +51,11 @@ filed_none wanted file none = rw none refl
 -- ---- a fault
 
 -- a move that is a verb fault
-pub faulted : (cards : List (List ℕ)) (machine : Machine Chosen) (old new : ListingPlace) (fault : VerbFault) (card : ℕ) (went : Went) → Passes machine old new (acts.Ends (ends.Verb fault card)) [] went →
-    (w : walks.Walker) (move : StatementMove) (position executed : ℕ) → Faces old w → move ≡ Does (stops (VerbStop (record { fault = fault; card = card }))) → Comes (walks.walk_move checker_of_128_bits w move) cards machine position executed new went
-faulted cards machine old new fault card went passes w move position executed f is =
-    subst (λ (m : StatementMove). Comes (walks.walk_move checker_of_128_bits w m) cards machine position executed new went) (sym is)
-    (passes w card (Does (stops (VerbStop (record { fault = fault; card = card })))) cards position executed Nothing f refl refl refl)
+pub faulted : (C : Checker) (cards : List (List ℕ)) (machine : Machine Chosen) (old new : ListingPlace) (fault : VerbFault) (card : ℕ) (went : Went) → Passes machine old new (acts.Ends (ends.Verb fault card)) [] went →
+    (w : walks.Walker) (move : StatementMove) (position executed : ℕ) → Faces old w → move ≡ Does (stops (VerbStop (record { fault = fault; card = card }))) → Comes (walks.walk_move C w move) cards machine position executed new went
+faulted C cards machine old new fault card went passes w move position executed f is =
+    subst (λ (m : StatementMove). Comes (walks.walk_move C w m) cards machine position executed new went) (sym is)
+    (passes C w card (Does (stops (VerbStop (record { fault = fault; card = card })))) cards position executed Nothing f refl refl refl)
 
 -- ---- what SETUP comes to
 
@@ -93,7 +93,7 @@ module _ (card : ℕ) (options : SetupOptions) (state : State) where
       found_move card NoProblem (problem_of state.cells.xpbname state.file) go_found problem is ∙
       selected_move card (selected problem (choice_of state.cells options)) (go_selected problem) lp ok
 
-module _ (card : ℕ) (cards : List (List ℕ)) (machine : Machine Chosen) (options : SetupOptions) where
+module _ (C : Checker) (card : ℕ) (cards : List (List ℕ)) (machine : Machine Chosen) (options : SetupOptions) where
   fault_by : (fault : VerbFault) (refusal : Unselected) → refusal ≡ Fault fault → IsNotOpened machine.cells machine.file options refusal → {position executed : ℕ} {state : State} → machines.Represents IsView cards machine position executed state →
       verb_move (SetupVerb options) card state ≡ Does (stops (VerbStop (record { fault = fault; card = card })))
   fault_by fault (Fault other) is (no_problem none) {state = state} s =
@@ -104,21 +104,21 @@ module _ (card : ℕ) (cards : List (List ℕ)) (machine : Machine Chosen) (opti
       (subst (λ (c : Cells). HasSelectionFault problem (choice_of c options) fault) (sym s.cells) (subst (IsNotMade problem (choice_of machine.cells options)) is h))
 
   pub setup_faulted : (old new : ListingPlace) (fault : VerbFault) (went : Went) → IsNotOpened machine.cells machine.file options (Fault fault) → Passes machine old new (acts.Ends (ends.Verb fault card)) [] went →
-      Walks (SetupVerb options) card cards machine machine old new went
+      Walks C (SetupVerb options) card cards machine machine old new went
   setup_faulted old new fault went h passes = λ position executed state w s f.
-      faulted cards machine old new fault card went passes w (verb_move (SetupVerb options) card state) position executed f (fault_by fault (Fault fault) refl h s)
+      faulted C cards machine old new fault card went passes w (verb_move (SetupVerb options) card state) position executed f (fault_by fault (Fault fault) refl h s)
 
   unchecked_by : (refusal : Unselected) → refusal ≡ Unchecked → IsNotOpened machine.cells machine.file options refusal → (found : Found) (place : ListingPlace) → IsUnchecked place found →
       {position executed : ℕ} (state : State) (w : walks.Walker) → machines.Represents IsView cards machine position executed state → Faces place w →
-      walks.walk_move checker_of_128_bits w (verb_move (SetupVerb options) card state) ≡ walks.Finds (found_view found)
+      walks.walk_move C w (verb_move (SetupVerb options) card state) ≡ walks.Finds (found_view found)
   unchecked_by (Fault other) is (no_problem none) found place u state w s f = absurd (cc is)
   unchecked_by refusal is (not_selected problem some h) found place u state w s f =
       let r : IsRefused problem (choice_of state.cells options) = subst (λ (c : Cells). IsRefused problem (choice_of c options)) (sym s.cells) (subst (IsNotMade problem (choice_of machine.cells options)) is h) in
-      ap (walks.walk_move checker_of_128_bits w) (set_up_move card options state problem r.lp (problem_view s (λ (c : Cells). c.xpbname) (Some problem) some) r.is_selected) ∙
-      refused_turn w problem (choice_of state.cells options) (Does (outcome_of problem options r.lp state)) r.is_refused ∙ u w f
+      ap (walks.walk_move C w) (set_up_move card options state problem r.lp (problem_view s (λ (c : Cells). c.xpbname) (Some problem) some) r.is_selected) ∙
+      refused_turn C w problem (choice_of state.cells options) (Does (outcome_of problem options r.lp state)) r.is_refused ∙ u w f
 
   pub setup_unchecked : IsNotOpened machine.cells machine.file options Unchecked → (found : Found) (old new : ListingPlace) → IsUnchecked old found →
-      Walks (SetupVerb options) card cards machine machine old new (went.Finds found)
+      Walks C (SetupVerb options) card cards machine machine old new (went.Finds found)
   setup_unchecked h found old new u = λ position executed state w s f. unchecked_by Unchecked refl h found old u state w s f
 
   module _ (opened : Named) (o : IsOpened machine.cells machine.file options opened) where
@@ -138,35 +138,35 @@ module _ (card : ℕ) (cards : List (List ℕ)) (machine : Machine Chosen) (opti
     }
 
     pub setup_done : (old new : ListingPlace) (text : List ℕ) (went : Went) → text ≡ report_text (SetUp opened.name options.sense) → Passes machine_after old new acts.Next text went →
-        Walks (SetupVerb options) card cards machine machine_after old new went
+        Walks C (SetupVerb options) card cards machine machine_after old new went
     setup_done old new text went is passes = λ position executed state w s f.
         let made : IsMade o.problem (choice_of state.cells options) opened.chosen.lp = subst (λ (c : Cells). IsMade o.problem (choice_of c options) opened.chosen.lp) (sym s.cells) o.made in
         let is_problem : problem_of state.cells.xpbname state.file ≡ Some o.problem =
         problem_view s (λ (c : Cells). c.xpbname) (Some o.problem) (filed_by machine.cells.xpbname machine.file opened.chosen.name (Some o.problem) o.is_named o.is_filed) in
         let outcome : StatementOutcome = outcome_of o.problem options opened.chosen.lp state in
         subst (λ (t : walks.WalkTurn). Comes t cards machine_after position executed new went)
-        (sym (ap (walks.walk_move checker_of_128_bits w) (set_up_move card options state o.problem opened.chosen.lp is_problem made.is_selected) ∙ made_turn w o.problem (choice_of state.cells options) (Does outcome) made.is_made))
-        (passes w card (Does outcome) cards position executed (Prints (SetUp o.problem.name options.sense)) f refl
+        (sym (ap (walks.walk_move C w) (set_up_move card options state o.problem opened.chosen.lp is_problem made.is_selected) ∙ made_turn C w o.problem (choice_of state.cells options) (Does outcome) made.is_made))
+        (passes C w card (Does outcome) cards position executed (Prints (SetUp o.problem.name options.sense)) f refl
         (after_setup o.problem options opened.chosen.lp state, refl, stands_set_up s)
         (ap (λ (n : Name). report_text (SetUp n options.sense)) (sym o.is_own) ∙ sym is))
 
 -- ---- by the result
 
-module _ (card : ℕ) (cards : List (List ℕ)) (machine : Machine Chosen) (options : SetupOptions) (old new : ListingPlace) (result : Result Went NoMemory) where
+module _ (C : Checker) (card : ℕ) (cards : List (List ℕ)) (machine : Machine Chosen) (options : SetupOptions) (old new : ListingPlace) (result : Result Went NoMemory) where
   pub setup_done_by : (opened : Named) (o : IsOpened machine.cells machine.file options opened) (text : List ℕ) → text ≡ report_text (SetUp opened.name options.sense) →
       IfOk result (Passes (record machine { setup = Some opened.chosen; mark = None }) old new acts.Next text) →
-      IfOk result (Walks (SetupVerb options) card cards machine (record machine { setup = Some opened.chosen; mark = None }) old new)
+      IfOk result (Walks C (SetupVerb options) card cards machine (record machine { setup = Some opened.chosen; mark = None }) old new)
   setup_done_by opened o text is passes = done result passes
     where
       done : (r : Result Went NoMemory) → IfOk r (Passes (record machine { setup = Some opened.chosen; mark = None }) old new acts.Next text) →
-          IfOk r (Walks (SetupVerb options) card cards machine (record machine { setup = Some opened.chosen; mark = None }) old new)
-      done (Ok went) h = setup_done card cards machine options opened o old new text went is h
+          IfOk r (Walks C (SetupVerb options) card cards machine (record machine { setup = Some opened.chosen; mark = None }) old new)
+      done (Ok went) h = setup_done C card cards machine options opened o old new text went is h
       done (Err stop) h = tt
 
   pub setup_faulted_by : (fault : VerbFault) → IsNotOpened machine.cells machine.file options (Fault fault) → IfOk result (Passes machine old new (acts.Ends (ends.Verb fault card)) []) →
-      IfOk result (Walks (SetupVerb options) card cards machine machine old new)
+      IfOk result (Walks C (SetupVerb options) card cards machine machine old new)
   setup_faulted_by fault not passes = faults result passes
     where
-      faults : (r : Result Went NoMemory) → IfOk r (Passes machine old new (acts.Ends (ends.Verb fault card)) []) → IfOk r (Walks (SetupVerb options) card cards machine machine old new)
-      faults (Ok went) h = setup_faulted card cards machine options old new fault went not h
+      faults : (r : Result Went NoMemory) → IfOk r (Passes machine old new (acts.Ends (ends.Verb fault card)) []) → IfOk r (Walks C (SetupVerb options) card cards machine machine old new)
+      faults (Ok went) h = setup_faulted C card cards machine options old new fault went not h
       faults (Err stop) h = tt

@@ -11,7 +11,7 @@ use Rattle.deck_definitions.specs.declared.DeckFault.{DeckFault}
 use Rattle.run_definitions.specs.State.{State}
 use Rattle.run_definitions.specs.Moves.{Gain, Nothing, Prints, Punches, printed_by, gain_text, StatementOutcome, Goes, gain_of, StatementMove, Does, MayStop, Asks, Settles, or_fault}
 use Rattle.run_definitions.specs.Verbs.{or_deck_fault}
-use Rattle.walk_definitions.specs.Checkers.{checker_of_128_bits}
+use Rattle.walk_definitions.specs.Checkers.{Checker}
 use Rattle.walk_definitions.specs.Words.{left_after}
 use Rattle.listing_walk.specs.Walking.{open_by, is_loud, one_if}
 use Rattle.walk_definitions.specs.Walker.{Walker, Found, Unchecked, WalkTurn, Finds, open_stop, open_pending, open_outcome, opened, refuses_selection, unless_found, taken, due, walk_move}
@@ -23,10 +23,10 @@ settled_open w card (Does given) outcome e = ap (open_outcome w) (sym e)
 settled_open w card (MayStop refusals move) outcome e = settled_open w card move outcome e
 settled_open w card (Asks question sheet s go) outcome e = absurd e
 
-settled_due : (w : Walker) (card : ℕ) (move : StatementMove) (outcome : StatementOutcome) → Settles card move outcome → due checker_of_128_bits w move ≡ taken w outcome (left_after (gain_text (gain_of outcome)) w.rest)
-settled_due w card (Does given) outcome e = ap (λ (o : StatementOutcome). taken w o (left_after (gain_text (gain_of o)) w.rest)) (sym e)
-settled_due w card (MayStop refusals move) outcome e = settled_due w card move outcome e
-settled_due w card (Asks question sheet s go) outcome e = absurd e
+settled_due : (C : Checker) (w : Walker) (card : ℕ) (move : StatementMove) (outcome : StatementOutcome) → Settles card move outcome → due C w move ≡ taken w outcome (left_after (gain_text (gain_of outcome)) w.rest)
+settled_due C w card (Does given) outcome e = ap (λ (o : StatementOutcome). taken w o (left_after (gain_text (gain_of o)) w.rest)) (sym e)
+settled_due C w card (MayStop refusals move) outcome e = settled_due C w card move outcome e
+settled_due C w card (Asks question sheet s go) outcome e = absurd e
 
 -- what such a move comes to
 abbrev pub settled_turn : Walker → StatementOutcome → WalkTurn
@@ -35,15 +35,15 @@ settled_turn w outcome = unless_found (open_outcome w outcome) (taken w outcome 
 abbrev choose : Walker → StatementMove → Option Found → Bool → WalkTurn → WalkTurn
 choose w move found refused turn = unless_found found (if refused then Finds (Unchecked w.rest) else turn)
 
-pub settled : (w : Walker) (card : ℕ) (move : StatementMove) (outcome : StatementOutcome) → Settles card move outcome → refuses_selection move ≡ false → walk_move checker_of_128_bits w move ≡ settled_turn w outcome
-settled w card move outcome e plain =
-    ap (λ (b : Bool). choose w move (opened w move) b (due checker_of_128_bits w move)) plain ∙ ap (λ (found : Option Found). unless_found found (due checker_of_128_bits w move)) (settled_open w card move outcome e) ∙
-    ap (λ (turn : WalkTurn). unless_found (open_outcome w outcome) turn) (settled_due w card move outcome e)
+pub settled : (C : Checker) (w : Walker) (card : ℕ) (move : StatementMove) (outcome : StatementOutcome) → Settles card move outcome → refuses_selection move ≡ false → walk_move C w move ≡ settled_turn w outcome
+settled C w card move outcome e plain =
+    ap (λ (b : Bool). choose w move (opened w move) b (due C w move)) plain ∙ ap (λ (found : Option Found). unless_found found (due C w move)) (settled_open w card move outcome e) ∙
+    ap (λ (turn : WalkTurn). unless_found (open_outcome w outcome) turn) (settled_due C w card move outcome e)
 
 -- where a selection is refused
-pub settled_refused : (w : Walker) (card : ℕ) (move : StatementMove) (outcome : StatementOutcome) → Settles card move outcome → refuses_selection move ≡ true → walk_move checker_of_128_bits w move ≡ unless_found (open_outcome w outcome) (Finds (Unchecked w.rest))
-settled_refused w card move outcome e refused =
-    ap (λ (b : Bool). choose w move (opened w move) b (due checker_of_128_bits w move)) refused ∙ ap (λ (found : Option Found). unless_found found (Finds (Unchecked w.rest))) (settled_open w card move outcome e)
+pub settled_refused : (C : Checker) (w : Walker) (card : ℕ) (move : StatementMove) (outcome : StatementOutcome) → Settles card move outcome → refuses_selection move ≡ true → walk_move C w move ≡ unless_found (open_outcome w outcome) (Finds (Unchecked w.rest))
+settled_refused C w card move outcome e refused =
+    ap (λ (b : Bool). choose w move (opened w move) b (due C w move)) refused ∙ ap (λ (found : Option Found). unless_found found (Finds (Unchecked w.rest))) (settled_open w card move outcome e)
 
 -- ---- a move without a selection
 

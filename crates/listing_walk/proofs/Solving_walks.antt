@@ -29,7 +29,7 @@ use Rattle.run_machine.specs.Ends.{end_view}
 use Rattle.run_machine.specs.Findings.{demanded_act, act_of}
 use Rattle.run_machine.specs.Standing.{AreDemands}
 use Rattle.run_machine.specs.Standing as machines
-use Rattle.walk_definitions.specs.Checkers.{checker_of_128_bits}
+use Rattle.walk_definitions.specs.Checkers.{Checker}
 use Rattle.walk_definitions.specs.Walker as walks
 use Rattle.listing_walk.specs.declared.chosen.Chosen.{Chosen}
 use Rattle.listing_walk.specs.declared.found.Found.{Found}
@@ -86,7 +86,7 @@ selecting card state go = or_fault card NoSetup state.setup (λ present. selects
 abbrev pub fault_stop : VerbFault → ℕ → StatementMove
 fault_stop fault card = Does (stops (endings.VerbStop (record { fault = fault; card = card })))
 
-module _ (card : ℕ) (cards : List (List ℕ)) (machine : Machine Chosen) {position executed : ℕ} {state : State} (s : machines.Represents IsView cards machine position executed state) (go : Present → LinearProgram → StatementMove) where
+module _ (C : Checker) (card : ℕ) (cards : List (List ℕ)) (machine : Machine Chosen) {position executed : ℕ} {state : State} (s : machines.Represents IsView cards machine position executed state) (go : Present → LinearProgram → StatementMove) where
   pub no_setup_move : machine.setup ≡ None → selecting card state go ≡ fault_stop NoSetup card
   no_setup_move none = fault_move card NoSetup state.setup (λ (present : Present). selects_present card state present (go present)) (none_at s none)
 
@@ -108,23 +108,23 @@ module _ (card : ℕ) (cards : List (List ℕ)) (machine : Machine Chosen) {posi
     selected_here : (lp : LinearProgram) → selected problem (choice state.cells) ≡ Ok lp → selecting card state go ≡ MayStop (InSelection problem (choice state.cells)) (go present lp)
     selected_here lp ok = setup_move ∙ selected_move card (selected problem (choice state.cells)) (λ (q : LinearProgram). MayStop (InSelection problem (choice state.cells)) (go present q)) lp ok
 
-    pub made_here : (w : walks.Walker) (lp : LinearProgram) → IsMade problem (choice machine.cells) lp → walks.walk_move checker_of_128_bits w (selecting card state go) ≡ walks.walk_move checker_of_128_bits w (go present lp)
+    pub made_here : (w : walks.Walker) (lp : LinearProgram) → IsMade problem (choice machine.cells) lp → walks.walk_move C w (selecting card state go) ≡ walks.walk_move C w (go present lp)
     made_here w lp made =
         let k : IsMade problem (choice state.cells) lp = subst (λ (c : Cells). IsMade problem (choice c) lp) (sym s.cells) made in
-        ap (walks.walk_move checker_of_128_bits w) (selected_here lp k.is_selected) ∙ made_turn w problem (choice state.cells) (go present lp) k.is_made
+        ap (walks.walk_move C w) (selected_here lp k.is_selected) ∙ made_turn C w problem (choice state.cells) (go present lp) k.is_made
 
     -- an operation of the selection is refused, at whatever comes of it
-    pub unmade_here : (w : walks.Walker) → IsRefused problem (choice machine.cells) → (lp : LinearProgram) × (walks.walk_move checker_of_128_bits w (selecting card state go) ≡ walks.unless_found (walks.opened w (go present lp)) (walks.Finds (walks.Unchecked w.rest)))
+    pub unmade_here : (w : walks.Walker) → IsRefused problem (choice machine.cells) → (lp : LinearProgram) × (walks.walk_move C w (selecting card state go) ≡ walks.unless_found (walks.opened w (go present lp)) (walks.Finds (walks.Unchecked w.rest)))
     unmade_here w refused =
         let k : IsRefused problem (choice state.cells) = subst (λ (c : Cells). IsRefused problem (choice c)) (sym s.cells) refused in
-        (k.lp, ap (walks.walk_move checker_of_128_bits w) (selected_here k.lp k.is_selected) ∙ refused_turn w problem (choice state.cells) (go present k.lp) k.is_refused)
+        (k.lp, ap (walks.walk_move C w) (selected_here k.lp k.is_selected) ∙ refused_turn C w problem (choice state.cells) (go present k.lp) k.is_refused)
 
     -- an operation of the selection is refused
     pub refused_here : (opens : (w : walks.Walker) (lp : LinearProgram) → walks.opened w (go present lp) ≡ open_by true true w) → IsRefused problem (choice machine.cells) → (found : Found) (place : ListingPlace) → IsUnchecked place found →
-        (w : walks.Walker) → Faces place w → walks.walk_move checker_of_128_bits w (selecting card state go) ≡ walks.Finds (found_view found)
+        (w : walks.Walker) → Faces place w → walks.walk_move C w (selecting card state go) ≡ walks.Finds (found_view found)
     refused_here opens refused found place u w f =
         let k : IsRefused problem (choice state.cells) = subst (λ (c : Cells). IsRefused problem (choice c)) (sym s.cells) refused in
-        ap (walks.walk_move checker_of_128_bits w) (selected_here k.lp k.is_selected) ∙ refused_turn w problem (choice state.cells) (go present k.lp) k.is_refused ∙
+        ap (walks.walk_move C w) (selected_here k.lp k.is_selected) ∙ refused_turn C w problem (choice state.cells) (go present k.lp) k.is_refused ∙
         ap (λ (x : Option walks.Found). walks.unless_found x (walks.Finds (walks.Unchecked w.rest))) (opens w k.lp) ∙ u w f
 
 -- ---- by the verdict
@@ -143,30 +143,30 @@ module _ (card : ℕ) (cards : List (List ℕ)) (machine : Machine Chosen) (posi
 
 -- ---- a verb that selects again, in the walk
 
-module _ (verb : Verb ℕ) (card : ℕ) (go : State → Present → LinearProgram → StatementMove) (is_move : (state : State) → verb_move verb card state ≡ selecting card state (go state)) (cards : List (List ℕ)) (machine : Machine Chosen) (old new : ListingPlace) where
+module _ (C : Checker) (verb : Verb ℕ) (card : ℕ) (go : State → Present → LinearProgram → StatementMove) (is_move : (state : State) → verb_move verb card state ≡ selecting card state (go state)) (cards : List (List ℕ)) (machine : Machine Chosen) (old new : ListingPlace) where
   fault_walks : (fault : VerbFault) → ((position executed : ℕ) (state : State) → machines.Represents IsView cards machine position executed state → verb_move verb card state ≡ fault_stop fault card) → (result : Result Went NoMemory) →
-      IfOk result (Passes machine old new (acts.Ends (ends.Verb fault card)) []) → IfOk result (Walks verb card cards machine machine old new)
-  fault_walks fault is (Ok w') passes = λ position executed state w s f. faulted cards machine old new fault card w' passes w (verb_move verb card state) position executed f (is position executed state s)
+      IfOk result (Passes machine old new (acts.Ends (ends.Verb fault card)) []) → IfOk result (Walks C verb card cards machine machine old new)
+  fault_walks fault is (Ok w') passes = λ position executed state w s f. faulted C cards machine old new fault card w' passes w (verb_move verb card state) position executed f (is position executed state s)
   fault_walks fault is (Err stop) passes = tt
 
-  pub no_setup_walks : machine.setup ≡ None → (result : Result Went NoMemory) → IfOk result (Passes machine old new (acts.Ends (ends.Verb NoSetup card)) []) → IfOk result (Walks verb card cards machine machine old new)
-  no_setup_walks none = fault_walks NoSetup (λ position executed state s. is_move state ∙ no_setup_move card cards machine s (go state) none)
+  pub no_setup_walks : machine.setup ≡ None → (result : Result Went NoMemory) → IfOk result (Passes machine old new (acts.Ends (ends.Verb NoSetup card)) []) → IfOk result (Walks C verb card cards machine machine old new)
+  no_setup_walks none = fault_walks NoSetup (λ position executed state s. is_move state ∙ no_setup_move C card cards machine s (go state) none)
 
   module _ (chosen : Chosen) (is_setup : machine.setup ≡ Some chosen) (problem : Problem ℕ) (on_file : filed_under chosen.name machine.file ≡ Some problem) where
     pub unselected_walks : (fault : VerbFault) → HasSelectionFault problem (choice_of machine.cells chosen.options) fault → (result : Result Went NoMemory) → IfOk result (Passes machine old new (acts.Ends (ends.Verb fault card)) []) →
-        IfOk result (Walks verb card cards machine machine old new)
-    unselected_walks fault h = fault_walks fault (λ position executed state s. is_move state ∙ fault_here card cards machine s (go state) chosen problem (present_at s chosen is_setup problem on_file) fault h)
+        IfOk result (Walks C verb card cards machine machine old new)
+    unselected_walks fault h = fault_walks fault (λ position executed state s. is_move state ∙ fault_here C card cards machine s (go state) chosen problem (present_at s chosen is_setup problem on_file) fault h)
 
     pub refused_walks : ((state : State) (present : Present) (w : walks.Walker) (lp : LinearProgram) → walks.opened w (go state present lp) ≡ open_by true true w) → IsRefused problem (choice_of machine.cells chosen.options) →
-        (found : Found) → IsUnchecked old found → Walks verb card cards machine machine old new (went.Finds found)
+        (found : Found) → IsUnchecked old found → Walks C verb card cards machine machine old new (went.Finds found)
     refused_walks opens refused found u = λ position executed state w s f.
         let p = present_at s chosen is_setup problem on_file in
-        ap (walks.walk_move checker_of_128_bits w) (is_move state) ∙
-        refused_here card cards machine s (go state) chosen problem p (opens state (present_with problem chosen.options p.opening p.steps)) refused found old u w f
+        ap (walks.walk_move C w) (is_move state) ∙
+        refused_here C card cards machine s (go state) chosen problem p (opens state (present_with problem chosen.options p.opening p.steps)) refused found old u w f
 
     -- nothing is selected
     pub refusal_walks : ((state : State) (present : Present) (w : walks.Walker) (lp : LinearProgram) → walks.opened w (go state present lp) ≡ open_by true true w) → (refusal : Unselected) →
-        IsNotMade problem (choice_of machine.cells chosen.options) refusal → (result : Result Went NoMemory) → IfOk result (Refuses machine old new card refusal) → IfOk result (Walks verb card cards machine machine old new)
+        IsNotMade problem (choice_of machine.cells chosen.options) refusal → (result : Result Went NoMemory) → IfOk result (Refuses machine old new card refusal) → IfOk result (Walks C verb card cards machine machine old new)
     refusal_walks opens (unselected.Fault fault) h result refuses = unselected_walks fault h result refuses
     refusal_walks opens unselected.Unchecked h (Ok (went.Finds found)) refuses = refused_walks opens h found refuses
     refusal_walks opens unselected.Unchecked h (Ok went.Next) refuses = absurd refuses
@@ -178,8 +178,8 @@ module _ (verb : Verb ℕ) (card : ℕ) (go : State → Present → LinearProgra
     -- with a linear program
     pub made_walks : (lp : LinearProgram) → IsMade problem (choice_of machine.cells chosen.options) lp → (after : Machine Chosen) (w' : Went) →
         ((position executed : ℕ) (state : State) (w : walks.Walker) (opening : Basis) (steps : List Basis) → machines.Represents IsView cards machine position executed state → Faces old w → state.setup ≡ Some (present_with problem chosen.options opening steps) →
-        Comes (walks.walk_move checker_of_128_bits w (go state (present_with problem chosen.options opening steps) lp)) cards after position executed new w') → Walks verb card cards machine after old new w'
+        Comes (walks.walk_move C w (go state (present_with problem chosen.options opening steps) lp)) cards after position executed new w') → Walks C verb card cards machine after old new w'
     made_walks lp made after w' comes = λ position executed state w s f.
         let p = present_at s chosen is_setup problem on_file in
-        subst (λ (t : walks.WalkTurn). Comes t cards after position executed new w') (sym (ap (walks.walk_move checker_of_128_bits w) (is_move state) ∙ made_here card cards machine s (go state) chosen problem p w lp made))
+        subst (λ (t : walks.WalkTurn). Comes t cards after position executed new w') (sym (ap (walks.walk_move C w) (is_move state) ∙ made_here C card cards machine s (go state) chosen problem p w lp made))
         (comes position executed state w p.opening p.steps s f p.is_viewed)

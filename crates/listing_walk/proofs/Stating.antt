@@ -23,6 +23,7 @@ use Rattle.run_machine.specs.Statements.{Decides, Executes}
 use Rattle.run_machine.specs.Statements as statements
 use Rattle.run_machine.specs.Punching.{Performs}
 use Rattle.run_machine.specs.Standing as machines
+use Rattle.walk_definitions.specs.Checkers.{Checker}
 use Rattle.walk_definitions.specs.Walker.{refuses_selection}
 use Rattle.listing_walk.specs.declared.chosen.Chosen.{Chosen}
 use Rattle.listing_walk.specs.declared.place.ListingPlace.{ListingPlace}
@@ -90,7 +91,7 @@ appended : (old new : Option (List ℕ)) (bytes text : List ℕ) → Appends old
 appended old new bytes text h none all =
     sym (subst (λ (n : Option (List ℕ)). Appends (Some []) n bytes) all (subst (λ (o : Option (List ℕ)). Appends o new bytes) none h))
 
-module _ (verb : Verb ℕ) (card : ℕ) (cards : List (List ℕ)) (old new : Machine Chosen) (place_old place_new : ListingPlace) (act : Act) (text : List ℕ) (plain : IsPlain verb card) where
+module _ (C : Checker) (verb : Verb ℕ) (card : ℕ) (cards : List (List ℕ)) (old new : Machine Chosen) (place_old place_new : ListingPlace) (act : Act) (text : List ℕ) (plain : IsPlain verb card) where
   -- with some gain that has this text, the statement comes to this act
   record Gains (position executed : ℕ) (state : State) : Type 0 where
     gain : Gain
@@ -98,44 +99,44 @@ module _ (verb : Verb ℕ) (card : ℕ) (cards : List (List ℕ)) (old new : Mac
     is_text : gain_text gain ≡ text
 
   walks_by : ((position executed : ℕ) (state : State) → machines.Represents IsView cards old position executed state → Gains position executed state) → (result : Result Went NoMemory) →
-      IfOk result (Passes new place_old place_new act text) → IfOk result (Walks verb card cards old new place_old place_new)
+      IfOk result (Passes new place_old place_new act text) → IfOk result (Walks C verb card cards old new place_old place_new)
   walks_by gains (Ok went) passes = λ position executed state w s f.
       let g = gains position executed state s in
-      passes w card (verb_move verb card state) cards position executed g.gain f (plain state) g.comes g.is_text
+      passes C w card (verb_move verb card state) cards position executed g.gain f (plain state) g.comes g.is_text
   walks_by gains (Err stop) passes = tt
 
   module _ (print_old print_new : SinkState) (none : print_old.written ≡ Some []) (all : print_new.written ≡ Some text) where
     pub walks_printed : Executes IsView Settles verb card print_old print_new cards old new (Ok act) → (result : Result Went NoMemory) →
-        IfOk result (Passes new place_old place_new act text) → IfOk result (Walks verb card cards old new place_old place_new)
+        IfOk result (Passes new place_old place_new act text) → IfOk result (Walks C verb card cards old new place_old place_new)
     walks_printed executes = walks_by (λ position executed state s.
         let a = executes position executed state s in
         record { gain = a.gain; comes = a.comes; is_text = appended print_old.written print_new.written (gain_text a.gain) text a.writes.bytes none all })
 
     pub walks_punched : (punch_old punch_new : SinkState) →
         Performs IsView Settles verb card print_old print_new punch_old punch_new cards old new (Ok act) → (result : Result Went NoMemory) →
-        IfOk result (Passes new place_old place_new act text) → IfOk result (Walks verb card cards old new place_old place_new)
+        IfOk result (Passes new place_old place_new act text) → IfOk result (Walks C verb card cards old new place_old place_new)
     walks_punched punch_old punch_new performs = walks_by (λ position executed state s.
         let a = performs position executed state s in
         record { gain = a.gain; comes = a.comes; is_text = appended print_old.written print_new.written (gain_text a.gain) text a.prints.bytes none all })
 
 -- a statement that prints nothing
-pub walks_quietly : (verb : Verb ℕ) (card : ℕ) (cards : List (List ℕ)) (old new : Machine Chosen) (place_old place_new : ListingPlace) (act : Act) → IsPlain verb card → Decides IsView Settles verb card old new act →
-    (result : Result Went NoMemory) → IfOk result (Passes new place_old place_new act []) → IfOk result (Walks verb card cards old new place_old place_new)
-walks_quietly verb card cards old new place_old place_new act plain decides =
-    walks_by verb card cards old new place_old place_new act [] plain (λ position executed state s. record { gain = Nothing; comes = decides cards position executed state s; is_text = refl })
+pub walks_quietly : (C : Checker) (verb : Verb ℕ) (card : ℕ) (cards : List (List ℕ)) (old new : Machine Chosen) (place_old place_new : ListingPlace) (act : Act) → IsPlain verb card → Decides IsView Settles verb card old new act →
+    (result : Result Went NoMemory) → IfOk result (Passes new place_old place_new act []) → IfOk result (Walks C verb card cards old new place_old place_new)
+walks_quietly C verb card cards old new place_old place_new act plain decides =
+    walks_by C verb card cards old new place_old place_new act [] plain (λ position executed state s. record { gain = Nothing; comes = decides cards position executed state s; is_text = refl })
 
 -- ---- with a sink in memory
 
-module _ (verb : Verb ℕ) (card : ℕ) (cards : List (List ℕ)) (old new : Machine Chosen) (place_old place_new : ListingPlace) (act : Act) (text : List ℕ) (plain : IsPlain verb card) (from to : SureSink) (none : sure_bytes from ≡ []) (all : text ≡ sure_bytes to)
+module _ (C : Checker) (verb : Verb ℕ) (card : ℕ) (cards : List (List ℕ)) (old new : Machine Chosen) (place_old place_new : ListingPlace) (act : Act) (text : List ℕ) (plain : IsPlain verb card) (from to : SureSink) (none : sure_bytes from ≡ []) (all : text ≡ sure_bytes to)
     (result : Result Went NoMemory) (passes : IfOk result (Passes new place_old place_new act text)) where
   pub walks_loudly : Executes IsView Settles verb card (sure_sink_state from) (sure_sink_state to) cards old new (Ok act) →
-      IfOk result (Walks verb card cards old new place_old place_new)
+      IfOk result (Walks C verb card cards old new place_old place_new)
   walks_loudly executes =
-      walks_printed verb card cards old new place_old place_new act text plain (sure_sink_state from) (sure_sink_state to)
+      walks_printed C verb card cards old new place_old place_new act text plain (sure_sink_state from) (sure_sink_state to)
       (ap Some none) (ap Some (sym all)) executes result passes
 
   pub walks_punching : (punch_old punch_new : SinkState) →
-      Performs IsView Settles verb card (sure_sink_state from) (sure_sink_state to) punch_old punch_new cards old new (Ok act) → IfOk result (Walks verb card cards old new place_old place_new)
+      Performs IsView Settles verb card (sure_sink_state from) (sure_sink_state to) punch_old punch_new cards old new (Ok act) → IfOk result (Walks C verb card cards old new place_old place_new)
   walks_punching punch_old punch_new performs =
-      walks_punched verb card cards old new place_old place_new act text plain (sure_sink_state from) (sure_sink_state to)
+      walks_punched C verb card cards old new place_old place_new act text plain (sure_sink_state from) (sure_sink_state to)
       (ap Some none) (ap Some (sym all)) punch_old punch_new performs result passes

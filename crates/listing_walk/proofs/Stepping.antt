@@ -10,7 +10,7 @@ use Rattle.run_definitions.specs.State.{State, start}
 use Rattle.run_definitions.specs.Run.{counted, max_executed}
 use Rattle.run_machine.specs.declared.machine.Machine.{Machine}
 use Rattle.run_machine.specs.Standing as machines
-use Rattle.walk_definitions.specs.Checkers.{checker_of_128_bits}
+use Rattle.walk_definitions.specs.Checkers.{Checker}
 use Rattle.walk_definitions.specs.Walker as walks
 use Rattle.walk_definitions.specs.Found.{first_walker, Reaches, begun, walked}
 use Rattle.listing_walk.specs.declared.chosen.Chosen.{Chosen}
@@ -37,61 +37,61 @@ counted_stands s = record {
 
 -- ---- the turn
 
-abbrev turn_by : Program → walks.Walker → Bool → Bool → walks.WalkTurn
-turn_by program w over more =
-    if over then walks.closes w (Ended 0) else if more then walks.walk_statement checker_of_128_bits w (slice_get program.statements (w.state.position - 1)) else walks.closes w StatementLimit
+abbrev turn_by : Checker → Program → walks.Walker → Bool → Bool → walks.WalkTurn
+turn_by C program w over more =
+    if over then walks.closes w (Ended 0) else if more then walks.walk_statement C w (slice_get program.statements (w.state.position - 1)) else walks.closes w StatementLimit
 
-is_turn : (program : Program) (w : walks.Walker) → walks.turn checker_of_128_bits program w ≡ turn_by program w (nat_lt (length program.statements) w.state.position) (nat_lt w.state.executed max_executed)
+is_turn : (C : Checker) (program : Program) (w : walks.Walker) → walks.turn C program w ≡ turn_by C program w (nat_lt (length program.statements) w.state.position) (nat_lt w.state.executed max_executed)
 unfolding walks.turn
-is_turn program w = refl
+is_turn C program w = refl
 
 -- the program's end
-turn_over : (program : Program) (w : walks.Walker) → length program.statements < w.state.position → walks.turn checker_of_128_bits program w ≡ walks.closes w (Ended 0)
-turn_over program w over =
+turn_over : (C : Checker) (program : Program) (w : walks.Walker) → length program.statements < w.state.position → walks.turn C program w ≡ walks.closes w (Ended 0)
+turn_over C program w over =
     let e : nat_lt (length program.statements) w.state.position ≡ true = search rules in
-    is_turn program w ∙ ap (λ (b : Bool). turn_by program w b (nat_lt w.state.executed max_executed)) e
+    is_turn C program w ∙ ap (λ (b : Bool). turn_by C program w b (nat_lt w.state.executed max_executed)) e
 
 -- the statement limit
-turn_at_limit : (program : Program) (w : walks.Walker) → w.state.position ≤ length program.statements → 100000 ≤ w.state.executed → walks.turn checker_of_128_bits program w ≡ walks.closes w StatementLimit
-turn_at_limit program w within most =
+turn_at_limit : (C : Checker) (program : Program) (w : walks.Walker) → w.state.position ≤ length program.statements → 100000 ≤ w.state.executed → walks.turn C program w ≡ walks.closes w StatementLimit
+turn_at_limit C program w within most =
     let e : nat_lt (length program.statements) w.state.position ≡ false = search rules in
     let f : nat_lt w.state.executed max_executed ≡ false = search rules in
-    is_turn program w ∙ ap (λ (b : Bool). turn_by program w b (nat_lt w.state.executed max_executed)) e ∙ ap (λ (b : Bool). turn_by program w false b) f
+    is_turn C program w ∙ ap (λ (b : Bool). turn_by C program w b (nat_lt w.state.executed max_executed)) e ∙ ap (λ (b : Bool). turn_by C program w false b) f
 
 -- a statement
-turn_at : (program : Program) (w : walks.Walker) (statement : Statement ℕ) → w.state.position ≤ length program.statements → w.state.executed < 100000 →
-    slice_get program.statements (w.state.position - 1) ≡ Some statement → walks.turn checker_of_128_bits program w ≡ walks.walk_statement checker_of_128_bits w (Some statement)
-turn_at program w statement within more there =
+turn_at : (C : Checker) (program : Program) (w : walks.Walker) (statement : Statement ℕ) → w.state.position ≤ length program.statements → w.state.executed < 100000 →
+    slice_get program.statements (w.state.position - 1) ≡ Some statement → walks.turn C program w ≡ walks.walk_statement C w (Some statement)
+turn_at C program w statement within more there =
     let e : nat_lt (length program.statements) w.state.position ≡ false = search rules in
     let f : nat_lt w.state.executed max_executed ≡ true = search rules in
-    is_turn program w ∙ ap (λ (b : Bool). turn_by program w b (nat_lt w.state.executed max_executed)) e ∙ ap (λ (b : Bool). turn_by program w false b) f ∙
-    ap (walks.walk_statement checker_of_128_bits w) there
+    is_turn C program w ∙ ap (λ (b : Bool). turn_by C program w b (nat_lt w.state.executed max_executed)) e ∙ ap (λ (b : Bool). turn_by C program w false b) f ∙
+    ap (walks.walk_statement C w) there
 
 -- ---- a statement
 
-module _ (program : Program) (cards : List (List ℕ)) (position : ℕ) (statement : Statement ℕ) (there : slice_get program.statements (position - 1) ≡ Some statement) (within : position ≤ length program.statements)
+module _ (C : Checker) (program : Program) (cards : List (List ℕ)) (position : ℕ) (statement : Statement ℕ) (there : slice_get program.statements (position - 1) ≡ Some statement) (within : position ≤ length program.statements)
     (old new : Machine Chosen) (place_old place_new : ListingPlace) where
-  turn_here : (executed : ℕ) (w : walks.Walker) → executed < 100000 → Represents cards old position executed place_old w → walks.turn checker_of_128_bits program w ≡ walks.walk_statement checker_of_128_bits w (Some statement)
+  turn_here : (executed : ℕ) (w : walks.Walker) → executed < 100000 → Represents cards old position executed place_old w → walks.turn C program w ≡ walks.walk_statement C w (Some statement)
   turn_here executed w more s =
-      turn_at program w statement (rw s.state.is_position within) (rw s.state.is_executed more) (rw s.state.is_position there)
+      turn_at C program w statement (rw s.state.is_position within) (rw s.state.is_executed more) (rw s.state.is_position there)
 
-  pub steps_next : Walks statement.verb statement.card cards old new place_old place_new went.Next → Steps program cards position old new place_old place_new (onward.Goes (position + 1))
+  pub steps_next : Walks C statement.verb statement.card cards old new place_old place_new went.Next → Steps C program cards position old new place_old place_new (onward.Goes (position + 1))
   steps_next h = λ executed w more s.
       let c = h position (executed + 1) (counted w.state) w (counted_stands s.state) s.faces in
       (c.0, turn_here executed w more s ∙ c.1, c.2, omega arith)
 
-  pub steps_jump : (to : ℕ) → Walks statement.verb statement.card cards old new place_old place_new (went.Jump to) → Steps program cards position old new place_old place_new (onward.Goes to)
+  pub steps_jump : (to : ℕ) → Walks C statement.verb statement.card cards old new place_old place_new (went.Jump to) → Steps C program cards position old new place_old place_new (onward.Goes to)
   steps_jump to h = λ executed w more s.
       let c = h position (executed + 1) (counted w.state) w (counted_stands s.state) s.faces in
       (c.0, turn_here executed w more s ∙ c.1, c.2, c.3)
 
-  pub steps_found : (found : Found) → Walks statement.verb statement.card cards old new place_old place_new (went.Finds found) → Steps program cards position old new place_old place_new (onward.Finds found)
+  pub steps_found : (found : Found) → Walks C statement.verb statement.card cards old new place_old place_new (went.Finds found) → Steps C program cards position old new place_old place_new (onward.Finds found)
   steps_found found h = λ executed w more s.
       turn_here executed w more s ∙ h position (executed + 1) (counted w.state) w (counted_stands s.state) s.faces
 
 -- ---- the walk
 
-module _ (program : Program) (cards : List (List ℕ)) (listing : List ℕ) where
+module _ (C : Checker) (program : Program) (cards : List (List ℕ)) (listing : List ℕ) where
   -- a walker is reached that stands here
   pub record IsUnderway (machine : Machine Chosen) (place : ListingPlace) (position executed : ℕ) : Type 0 where
     pub sound : IsSound cards machine
@@ -99,7 +99,7 @@ module _ (program : Program) (cards : List (List ℕ)) (listing : List ℕ) wher
     pub within : executed ≤ 100000
     pub few : place.reports ≤ executed
     pub walker : walks.Walker
-    pub reaches : Reaches checker_of_128_bits program (decks_after program cards) listing walker
+    pub reaches : Reaches C program (decks_after program cards) listing walker
     pub stands : Represents cards machine position executed place walker
 
   pub underway_first : (machine : Machine Chosen) (place : ListingPlace) (decks_from : ℕ) → drop (decks_from - 1) (numbered_cards cards) ≡ drop (program.decks_from - 1) (numbered_cards cards) →
@@ -120,7 +120,7 @@ module _ (program : Program) (cards : List (List ℕ)) (listing : List ℕ) wher
 
   module _ {machine : Machine Chosen} {place : ListingPlace} {position executed : ℕ} (u : IsUnderway machine place position executed) where
     pub underway_more : (new : Machine Chosen) (later : ListingPlace) (to : ℕ) → executed < 100000 → IsSound cards new → later.reports ≤ place.reports + 1 →
-        Steps program cards position machine new place later (onward.Goes to) → IsUnderway new later to (executed + 1)
+        Steps C program cards position machine new place later (onward.Goes to) → IsUnderway new later to (executed + 1)
     underway_more new later to more sound few steps =
         let c = steps executed u.walker more u.stands in
         let before : place.reports ≤ executed = u.few in
@@ -134,39 +134,39 @@ module _ (program : Program) (cards : List (List ℕ)) (listing : List ℕ) wher
           stands = c.2;
         }
 
-    pub underway_found : (new : Machine Chosen) (later : ListingPlace) (found : Found) → executed < 100000 → Steps program cards position machine new place later (onward.Finds found) → IsFoundBy program cards listing found
+    pub underway_found : (new : Machine Chosen) (later : ListingPlace) (found : Found) → executed < 100000 → Steps C program cards position machine new place later (onward.Finds found) → IsFoundBy C program cards listing found
     underway_found new later found more steps = record { walker = u.walker; reaches = u.reaches; finds = steps executed u.walker more u.stands }
 
-    pub underway_over : (found : Found) → length program.statements < position → ((w : walks.Walker) → Faces place w → walks.closes w (Ended 0) ≡ walks.Finds (found_view found)) → IsFoundBy program cards listing found
+    pub underway_over : (found : Found) → length program.statements < position → ((w : walks.Walker) → Faces place w → walks.closes w (Ended 0) ≡ walks.Finds (found_view found)) → IsFoundBy C program cards listing found
     underway_over found over closes = record {
       walker = u.walker;
       reaches = u.reaches;
-      finds = turn_over program u.walker (rw u.stands.state.is_position over) ∙ closes u.walker u.stands.faces;
+      finds = turn_over C program u.walker (rw u.stands.state.is_position over) ∙ closes u.walker u.stands.faces;
     }
 
     pub underway_at_limit : (found : Found) → position ≤ length program.statements → 100000 ≤ executed → ((w : walks.Walker) → Faces place w → walks.closes w StatementLimit ≡ walks.Finds (found_view found)) →
-        IsFoundBy program cards listing found
+        IsFoundBy C program cards listing found
     underway_at_limit found within most closes = record {
       walker = u.walker;
       reaches = u.reaches;
-      finds = turn_at_limit program u.walker (rw u.stands.state.is_position within) (rw u.stands.state.is_executed most) ∙ closes u.walker u.stands.faces;
+      finds = turn_at_limit C program u.walker (rw u.stands.state.is_position within) (rw u.stands.state.is_executed most) ∙ closes u.walker u.stands.faces;
     }
 
   -- ---- by the result of a comparison with an end
 
   module _ {machine : Machine Chosen} {place : ListingPlace} {position executed : ℕ} (u : IsUnderway machine place position executed) (result : Result Found NoMemory) where
-    pub over_by : length program.statements < position → IfOk result (λ found. (w : walks.Walker) → Faces place w → walks.closes w (Ended 0) ≡ walks.Finds (found_view found)) → IfOk result (IsFoundBy program cards listing)
+    pub over_by : length program.statements < position → IfOk result (λ found. (w : walks.Walker) → Faces place w → walks.closes w (Ended 0) ≡ walks.Finds (found_view found)) → IfOk result (IsFoundBy C program cards listing)
     over_by over closes = by result closes
       where
-        by : (r : Result Found NoMemory) → IfOk r (λ found. (w : walks.Walker) → Faces place w → walks.closes w (Ended 0) ≡ walks.Finds (found_view found)) → IfOk r (IsFoundBy program cards listing)
+        by : (r : Result Found NoMemory) → IfOk r (λ found. (w : walks.Walker) → Faces place w → walks.closes w (Ended 0) ≡ walks.Finds (found_view found)) → IfOk r (IsFoundBy C program cards listing)
         by (Ok found) h = underway_over u found over h
         by (Err stop) h = tt
 
     pub at_limit_by : position ≤ length program.statements → 100000 ≤ executed → IfOk result (λ found. (w : walks.Walker) → Faces place w → walks.closes w StatementLimit ≡ walks.Finds (found_view found)) →
-        IfOk result (IsFoundBy program cards listing)
+        IfOk result (IsFoundBy C program cards listing)
     at_limit_by within most closes = by result closes
       where
-        by : (r : Result Found NoMemory) → IfOk r (λ found. (w : walks.Walker) → Faces place w → walks.closes w StatementLimit ≡ walks.Finds (found_view found)) → IfOk r (IsFoundBy program cards listing)
+        by : (r : Result Found NoMemory) → IfOk r (λ found. (w : walks.Walker) → Faces place w → walks.closes w StatementLimit ≡ walks.Finds (found_view found)) → IfOk r (IsFoundBy C program cards listing)
         by (Ok found) h = underway_at_limit u found within most h
         by (Err stop) h = tt
 

@@ -23,7 +23,7 @@ use Rattle.run_machine.specs.declared.machine.Machine.{Machine}
 use Rattle.run_machine.specs.Findings.{act_of}
 use Rattle.run_machine.specs.Standing.{AreDemands}
 use Rattle.run_machine.specs.Standing as machines
-use Rattle.walk_definitions.specs.Checkers.{checker_of_128_bits}
+use Rattle.walk_definitions.specs.Checkers.{Checker}
 use Rattle.walk_definitions.specs.Walker as walks
 use Rattle.listing_walk.specs.declared.chosen.Chosen.{Chosen}
 use Rattle.listing_walk.specs.declared.answering.Stopped.{Stopped}
@@ -59,40 +59,40 @@ unfolding verb_move
 solving_move Primal card state = refl
 solving_move Dual card state = refl
 
-module _ (verb : SolvingVerb) (card : ℕ) (cards : List (List ℕ)) (machine : Machine Chosen) (old new : ListingPlace) where
-  pub solving_no_setup : machine.setup ≡ None → (result : Result Went NoMemory) → IfOk result (Passes machine old new (acts.Ends (ends.Verb NoSetup card)) []) → IfOk result (Walks (verb_of verb) card cards machine machine old new)
-  solving_no_setup = no_setup_walks (verb_of verb) card (path_move verb card) (solving_move verb card) cards machine old new
+module _ (C : Checker) (verb : SolvingVerb) (card : ℕ) (cards : List (List ℕ)) (machine : Machine Chosen) (old new : ListingPlace) where
+  pub solving_no_setup : machine.setup ≡ None → (result : Result Went NoMemory) → IfOk result (Passes machine old new (acts.Ends (ends.Verb NoSetup card)) []) → IfOk result (Walks C (verb_of verb) card cards machine machine old new)
+  solving_no_setup = no_setup_walks C (verb_of verb) card (path_move verb card) (solving_move verb card) cards machine old new
 
   module _ (chosen : Chosen) (is_setup : machine.setup ≡ Some chosen) (problem : Problem ℕ) (on_file : filed_under chosen.name machine.file ≡ Some problem) where
     pub solving_refused : (refusal : Unselected) → IsNotMade problem (choice_of machine.cells chosen.options) refusal → (result : Result Went NoMemory) → IfOk result (Refuses machine old new card refusal) →
-        IfOk result (Walks (verb_of verb) card cards machine machine old new)
-    solving_refused = refusal_walks (verb_of verb) card (path_move verb card) (solving_move verb card) cards machine old new chosen is_setup problem on_file (λ state present w lp. refl)
+        IfOk result (Walks C (verb_of verb) card cards machine machine old new)
+    solving_refused = refusal_walks C (verb_of verb) card (path_move verb card) (solving_move verb card) cards machine old new chosen is_setup problem on_file (λ state present w lp. refl)
 
     module _ (lp : LinearProgram) (made : IsMade problem (choice_of machine.cells chosen.options) lp) where
-      found_walks : (after : Machine Chosen) (found : Found) → ((limit : Option ℕ) → Answered {X = Mark} (OfPath (solver_of verb) limit) (record { problem = problem; lp = lp }) old new IsMarked (Err (Finds found))) →
-          Walks (verb_of verb) card cards machine after old new (went.Finds found)
+      found_walks : (after : Machine Chosen) (found : Found) → ((limit : Option ℕ) → Answered C {X = Mark} (OfPath (solver_of verb) limit) (record { problem = problem; lp = lp }) old new IsMarked (Err (Finds found))) →
+          Walks C (verb_of verb) card cards machine after old new (went.Finds found)
       found_walks after found answered =
-          made_walks (verb_of verb) card (path_move verb card) (solving_move verb card) cards machine old new chosen is_setup problem on_file lp made after (went.Finds found)
+          made_walks C (verb_of verb) card (path_move verb card) (solving_move verb card) cards machine old new chosen is_setup problem on_file lp made after (went.Finds found)
           (λ position executed state w opening steps s f is_viewed. answered (limit_of verb state.cells) w (after_path (solver_of verb) card (present_with problem chosen.options opening steps) state) f)
 
       -- the walk ends
-      pub solving_stopped : (after : Machine Chosen) (stopped : Stopped) → ((limit : Option ℕ) → Answered {X = Mark} (OfPath (solver_of verb) limit) (record { problem = problem; lp = lp }) old new IsMarked (Err stopped)) →
-          (result : Result Went NoMemory) → IfOk result (WentBy stopped) → IfOk result (Walks (verb_of verb) card cards machine after old new)
-      solving_stopped after (Finds found) answered (Ok w') is = subst (λ (x : Went). Walks (verb_of verb) card cards machine after old new x) (sym is) (found_walks after found answered)
+      pub solving_stopped : (after : Machine Chosen) (stopped : Stopped) → ((limit : Option ℕ) → Answered C {X = Mark} (OfPath (solver_of verb) limit) (record { problem = problem; lp = lp }) old new IsMarked (Err stopped)) →
+          (result : Result Went NoMemory) → IfOk result (WentBy stopped) → IfOk result (Walks C (verb_of verb) card cards machine after old new)
+      solving_stopped after (Finds found) answered (Ok w') is = subst (λ (x : Went). Walks C (verb_of verb) card cards machine after old new x) (sym is) (found_walks after found answered)
       solving_stopped after (Finds found) answered (Err stop) is = tt
       solving_stopped after stops.NoMemory answered (Ok w') is = absurd is
       solving_stopped after stops.NoMemory answered (Err stop) is = tt
 
-      pub solving_stopped_by : (by : Solver) → by ≡ solver_of verb → (after : Machine Chosen) (stopped : Stopped) → ((limit : Option ℕ) → Answered {X = Mark} (OfPath by limit) (record { problem = problem; lp = lp }) old new IsMarked (Err stopped)) →
-          (result : Result Went NoMemory) → IfOk result (WentBy stopped) → IfOk result (Walks (verb_of verb) card cards machine after old new)
+      pub solving_stopped_by : (by : Solver) → by ≡ solver_of verb → (after : Machine Chosen) (stopped : Stopped) → ((limit : Option ℕ) → Answered C {X = Mark} (OfPath by limit) (record { problem = problem; lp = lp }) old new IsMarked (Err stopped)) →
+          (result : Result Went NoMemory) → IfOk result (WentBy stopped) → IfOk result (Walks C (verb_of verb) card cards machine after old new)
       solving_stopped_by by is after stopped answered =
-          solving_stopped after stopped (λ limit. subst (λ (s : Solver). Answered {X = Mark} (OfPath s limit) (record { problem = problem; lp = lp }) old new IsMarked (Err stopped)) is (answered limit))
+          solving_stopped after stopped (λ limit. subst (λ (s : Solver). Answered C {X = Mark} (OfPath s limit) (record { problem = problem; lp = lp }) old new IsMarked (Err stopped)) is (answered limit))
 
       -- the machine once a verdict is taken
       abbrev pub machine_with : Mark → Machine Chosen
       machine_with mark = record machine { setup = Some (record chosen { lp = lp }); mark = Some mark }
 
-      module _ (demands : AreDemands machine.cells) (mark : Mark) (mid : ListingPlace) (answered : (limit : Option ℕ) → Answered (OfPath (solver_of verb) limit) (record { problem = problem; lp = lp }) old mid IsMarked (Ok mark))
+      module _ (demands : AreDemands machine.cells) (mark : Mark) (mid : ListingPlace) (answered : (limit : Option ℕ) → Answered C (OfPath (solver_of verb) limit) (record { problem = problem; lp = lp }) old mid IsMarked (Ok mark))
           (act : Act) (is_act : act ≡ act_of machine.cells card (Ended mark)) where
         after_state : Present → State → Mark → List Basis → State
         after_state present state m bases = record state { setup = Some (gone_through bases present); mark = Some m }
@@ -123,16 +123,16 @@ module _ (verb : SolvingVerb) (card : ℕ) (cards : List (List ℕ)) (machine : 
         ends_by w' finishes position executed state present same options s turn v PathLimit is faces e = absurd e
         ends_by w' finishes position executed state present same options s turn v (PricesWrong j) is faces e = absurd e
 
-        ended_walks : (w' : Went) → Finishes mid new act w' → Walks (verb_of verb) card cards machine (machine_with mark) old new w'
+        ended_walks : (w' : Went) → Finishes mid new act w' → Walks C (verb_of verb) card cards machine (machine_with mark) old new w'
         ended_walks w' finishes =
-            made_walks (verb_of verb) card (path_move verb card) (solving_move verb card) cards machine old new chosen is_setup problem on_file lp made (machine_with mark) w'
+            made_walks C (verb_of verb) card (path_move verb card) (solving_move verb card) cards machine old new chosen is_setup problem on_file lp made (machine_with mark) w'
             (λ position executed state w opening steps s f is_viewed.
             let present = present_with problem chosen.options opening steps in
             let a = answered (limit_of verb state.cells) w (after_path (solver_of verb) card present state) f in
-            ends_by w' finishes position executed state present refl refl s (walks.walk_move checker_of_128_bits w (path_move verb card state present lp)) a.walker a.answer a.is_turn a.faces a.holds)
+            ends_by w' finishes position executed state present refl refl s (walks.walk_move C w (path_move verb card state present lp)) a.walker a.answer a.is_turn a.faces a.holds)
 
-        pub solving_ended : (after : Machine Chosen) → after ≡ machine_with mark → (result : Result Went NoMemory) → IfOk result (Finishes mid new act) → IfOk result (Walks (verb_of verb) card cards machine after old new)
-        solving_ended after is (Ok w') finishes = subst (λ (m : Machine Chosen). Walks (verb_of verb) card cards machine m old new w') (sym is) (ended_walks w' finishes)
+        pub solving_ended : (after : Machine Chosen) → after ≡ machine_with mark → (result : Result Went NoMemory) → IfOk result (Finishes mid new act) → IfOk result (Walks C (verb_of verb) card cards machine after old new)
+        solving_ended after is (Ok w') finishes = subst (λ (m : Machine Chosen). Walks C (verb_of verb) card cards machine m old new w') (sym is) (ended_walks w' finishes)
         solving_ended after is (Err stop) finishes = tt
 
       -- and stays sound

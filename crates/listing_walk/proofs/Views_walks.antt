@@ -19,7 +19,7 @@ use Rattle.run_machine.specs.declared.act.Act.TheVariants as acts
 use Rattle.run_machine.specs.declared.end.End.TheVariants as ends
 use Rattle.run_machine.specs.declared.machine.Machine.{Machine}
 use Rattle.run_machine.specs.Standing as machines
-use Rattle.walk_definitions.specs.Checkers.{checker_of_128_bits}
+use Rattle.walk_definitions.specs.Checkers.{Checker}
 use Rattle.walk_definitions.specs.Walker as walks
 use Rattle.listing_walk.specs.declared.answering.Stopped.{Stopped}
 use Rattle.listing_walk.specs.declared.answering.Stopped.TheVariants as stops
@@ -39,12 +39,12 @@ use Rattle.listing_walk.proofs.Solving_walks.{present_with, present_at, none_at,
 -- ---- faults
 
 -- a statement that is a verb fault
-pub fault_walks : (verb : Verb ℕ) (card : ℕ) (cards : List (List ℕ)) (machine : Machine Chosen) (old new : ListingPlace) (fault : VerbFault) →
+pub fault_walks : (C : Checker) (verb : Verb ℕ) (card : ℕ) (cards : List (List ℕ)) (machine : Machine Chosen) (old new : ListingPlace) (fault : VerbFault) →
     ((position executed : ℕ) (state : State) → machines.Represents IsView cards machine position executed state → verb_move verb card state ≡ fault_stop fault card) → (result : Result Went NoMemory) →
-    IfOk result (Passes machine old new (acts.Ends (ends.Verb fault card)) []) → IfOk result (Walks verb card cards machine machine old new)
-fault_walks verb card cards machine old new fault is (Ok w') passes = λ position executed state w s f.
-    faulted cards machine old new fault card w' passes w (verb_move verb card state) position executed f (is position executed state s)
-fault_walks verb card cards machine old new fault is (Err stop) passes = tt
+    IfOk result (Passes machine old new (acts.Ends (ends.Verb fault card)) []) → IfOk result (Walks C verb card cards machine machine old new)
+fault_walks C verb card cards machine old new fault is (Ok w') passes = λ position executed state w s f.
+    faulted C cards machine old new fault card w' passes w (verb_move verb card state) position executed f (is position executed state s)
+fault_walks C verb card cards machine old new fault is (Err stop) passes = tt
 
 -- the state has a setup where the machine has one
 pub some_at : {cards : List (List ℕ)} {machine : Machine Chosen} {position executed : ℕ} {state : State} → machines.Represents IsView cards machine position executed state → (chosen : Chosen) → machine.setup ≡ Some chosen →
@@ -93,14 +93,14 @@ solution_move : (card : ℕ) (state : State) → verb_move SolutionVerb card sta
 unfolding verb_move
 solution_move card state = refl
 
-module _ (card : ℕ) (cards : List (List ℕ)) (machine : Machine Chosen) (old new : ListingPlace) where
-  pub solution_no_setup : machine.setup ≡ None → (result : Result Went NoMemory) → IfOk result (Passes machine old new (acts.Ends (ends.Verb NoSetup card)) []) → IfOk result (Walks SolutionVerb card cards machine machine old new)
-  solution_no_setup none = fault_walks SolutionVerb card cards machine old new NoSetup (λ position executed state s. solution_move card state ∙ showing_none card cards machine s (lines_move card state) none)
+module _ (C : Checker) (card : ℕ) (cards : List (List ℕ)) (machine : Machine Chosen) (old new : ListingPlace) where
+  pub solution_no_setup : machine.setup ≡ None → (result : Result Went NoMemory) → IfOk result (Passes machine old new (acts.Ends (ends.Verb NoSetup card)) []) → IfOk result (Walks C SolutionVerb card cards machine machine old new)
+  solution_no_setup none = fault_walks C SolutionVerb card cards machine old new NoSetup (λ position executed state s. solution_move card state ∙ showing_none card cards machine s (lines_move card state) none)
 
   module _ (chosen : Chosen) (is_setup : machine.setup ≡ Some chosen) where
-    pub solution_not_solved : machine.mark ≡ None → (result : Result Went NoMemory) → IfOk result (Passes machine old new (acts.Ends (ends.Verb NotSolved card)) []) → IfOk result (Walks SolutionVerb card cards machine machine old new)
+    pub solution_not_solved : machine.mark ≡ None → (result : Result Went NoMemory) → IfOk result (Passes machine old new (acts.Ends (ends.Verb NotSolved card)) []) → IfOk result (Walks C SolutionVerb card cards machine machine old new)
     solution_not_solved none =
-        fault_walks SolutionVerb card cards machine old new NotSolved (λ position executed state s. solution_move card state ∙ showing_unsolved card cards machine s (lines_move card state) chosen is_setup none)
+        fault_walks C SolutionVerb card cards machine old new NotSolved (λ position executed state s. solution_move card state ∙ showing_unsolved card cards machine s (lines_move card state) chosen is_setup none)
 
     module _ (mark : Mark) (is_mark : machine.mark ≡ Some mark) (problem : Problem ℕ) (on_file : filed_under chosen.name machine.file ≡ Some problem)
         (solved : IfSome machine.mark (λ mark. IfSome machine.setup (IsSolved mark machine.cells.xobj machine.cells.xrhs machine.file))) where
@@ -108,15 +108,15 @@ module _ (card : ℕ) (cards : List (List ℕ)) (machine : Machine Chosen) (old 
       go_on state lines = next (Prints (Solution mark lines)) state
 
       turn_view : {position executed : ℕ} {state : State} (w : walks.Walker) → machines.Represents IsView cards machine position executed state →
-          walks.walk_move checker_of_128_bits w (verb_move SolutionVerb card state) ≡ asked_turn w (OfSolution mark) (record { problem = problem; lp = chosen.lp }) (go_on state)
+          walks.walk_move C w (verb_move SolutionVerb card state) ≡ asked_turn C w (OfSolution mark) (record { problem = problem; lp = chosen.lp }) (go_on state)
       turn_view {state = state} w s =
           let p = present_at s chosen is_setup problem on_file in
           let present = present_with problem chosen.options p.opening p.steps in
           let ok : selected problem (choice_of state.cells chosen.options) ≡ Ok chosen.lp = ap (λ (c : Cells). selected problem (choice_of c chosen.options)) s.cells ∙ selected_now machine chosen is_setup mark is_mark problem on_file solved in
-          ap (walks.walk_move checker_of_128_bits w) (solution_move card state ∙ showing_mark card cards machine s (lines_move card state) present p.is_viewed mark is_mark ∙
+          ap (walks.walk_move C w) (solution_move card state ∙ showing_mark card cards machine s (lines_move card state) present p.is_viewed mark is_mark ∙
           selected_move card (selected problem (choice_of state.cells chosen.options)) (λ (lp : LinearProgram). asks (OfSolution mark) (sheet_of present lp) present (go_on state)) chosen.lp ok)
 
-      pub solution_view : Answered (OfSolution mark) (record { problem = problem; lp = chosen.lp }) old new (IsAny (OfSolution mark)) (Ok tt) → Walks SolutionVerb card cards machine machine old new went.Next
+      pub solution_view : Answered C (OfSolution mark) (record { problem = problem; lp = chosen.lp }) old new (IsAny (OfSolution mark)) (Ok tt) → Walks C SolutionVerb card cards machine machine old new went.Next
       solution_view answered = λ position executed state w s f.
           let a = answered w (go_on state) f in (
             record (a.walker) { state = record state { position = state.position + 1 } },
@@ -124,13 +124,13 @@ module _ (card : ℕ) (cards : List (List ℕ)) (machine : Machine Chosen) (old 
             record { state = placed (position + 1) (state.position + 1) s (ap (λ n. n + 1) s.is_position); faces = faces_still (record state { position = state.position + 1 }) a.faces },
           )
 
-      found_walks : (found : Found) → Answered {X = Unit {0}} (OfSolution mark) (record { problem = problem; lp = chosen.lp }) old new (IsAny (OfSolution mark)) (Err (stops.Finds found)) →
-          Walks SolutionVerb card cards machine machine old new (went.Finds found)
+      found_walks : (found : Found) → Answered C {X = Unit {0}} (OfSolution mark) (record { problem = problem; lp = chosen.lp }) old new (IsAny (OfSolution mark)) (Err (stops.Finds found)) →
+          Walks C SolutionVerb card cards machine machine old new (went.Finds found)
       found_walks found answered = λ position executed state w s f. turn_view w s ∙ answered w (go_on state) f
 
-      pub solution_stopped : (stopped : Stopped) → Answered {X = Unit {0}} (OfSolution mark) (record { problem = problem; lp = chosen.lp }) old new (IsAny (OfSolution mark)) (Err stopped) → (result : Result Went NoMemory) →
-          IfOk result (WentBy stopped) → IfOk result (Walks SolutionVerb card cards machine machine old new)
-      solution_stopped (stops.Finds found) answered (Ok w') is = subst (λ (x : Went). Walks SolutionVerb card cards machine machine old new x) (sym is) (found_walks found answered)
+      pub solution_stopped : (stopped : Stopped) → Answered C {X = Unit {0}} (OfSolution mark) (record { problem = problem; lp = chosen.lp }) old new (IsAny (OfSolution mark)) (Err stopped) → (result : Result Went NoMemory) →
+          IfOk result (WentBy stopped) → IfOk result (Walks C SolutionVerb card cards machine machine old new)
+      solution_stopped (stops.Finds found) answered (Ok w') is = subst (λ (x : Went). Walks C SolutionVerb card cards machine machine old new x) (sym is) (found_walks found answered)
       solution_stopped (stops.Finds found) answered (Err stop) is = tt
       solution_stopped stops.NoMemory answered (Ok w') is = absurd is
       solution_stopped stops.NoMemory answered (Err stop) is = tt

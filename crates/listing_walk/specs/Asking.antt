@@ -1,21 +1,21 @@
 -- What a question comes to in the walk.
---     asked_turn w question sheet go   what can't be attested comes first, and then the answer
---     IsTaken                          an answer was taken, and the walk goes on with it from a walker that stands here
---     Answered question .. result      the answer was taken, or the walk ends
-use Rattle.std.specs.Prelude.{◌≡◌, ℕ, Bool, true, false, List, Option, None, Some, Result, Ok, Err, if◌then◌else◌}
+--     asked_turn C w question sheet go   what can't be attested comes first, and then the answer
+--     IsTaken                            an answer was taken, and the walk goes on with it from a walker that stands here
+--     Answered C question .. result      the answer was taken, or the walk ends
+use Rattle.std.specs.Prelude.{◌≡◌, ℕ, Bool, true, false, List, Option, None, Some, Result, Ok, Err}
 use denote.Bor.{Bor}
 use Rattle.exact_values.specs.Rational.{ℚ}
-use Rattle.exact_values.specs.Tests.{eq_ℚ}
+use Rattle.listing_definitions.specs.Report.{Check}
 use Rattle.listing_definitions.specs.declared.Mark.{Mark}
 use Rattle.listing_definitions.specs.declared.Mark.TheVariants.{Optimal, Infeasible, Unbounded}
 use Rattle.question_definitions.specs.Answers.{Sheet, Question, AnswerTo, PathEnd, Reached}
 use Rattle.run_definitions.specs.Moves.{StatementOutcome}
 use Rattle.run_definitions.specs.Verbs.{mark_of}
-use Rattle.walk_definitions.specs.Checkers.{checker_of_128_bits}
+use Rattle.walk_definitions.specs.Checkers.{Checker, says_checked}
 use Rattle.walk_definitions.specs.Reading.{judged}
 use Rattle.walk_definitions.specs.Walker as walks
-use Rattle.listing_answers.specs.declared.answer.Stop.{Stop}
-use Rattle.listing_answers.specs.declared.answer.Stop.TheVariants as stops
+use Rattle.listing_claims.specs.declared.claims.Stop.{Stop}
+use Rattle.listing_claims.specs.declared.claims.Stop.TheVariants as stops
 use Rattle.listing_walk.specs.declared.answering.Stopped.{Stopped}
 use Rattle.listing_walk.specs.declared.answering.Stopped.TheVariants.{Finds, NoMemory}
 use Rattle.listing_walk.specs.declared.found.Found.{Found}
@@ -43,17 +43,22 @@ is_optimal Optimal = true
 is_optimal Infeasible = false
 is_optimal Unbounded = false
 
--- a pending verdict has this objective, and its check was made
-abbrev pub settled_by : Pending → ℚ → Bool
-settled_by pending objective = if eq_ℚ pending.objective objective then pending.is_checked else false
+-- a pending verdict, with a check
+abbrev pub with_check : Pending → Check → walks.Pending
+with_check pending check = record { rest = pending.rest.now; objective = pending.objective; check = check }
+
+-- whether this objective settles a pending verdict, with each check that may stand in the listing
+abbrev pub SettlesBy : Checker → Pending → ℚ → Bool → Type 0
+SettlesBy C pending objective settles = (check : Check) → says_checked check ≡ pending.is_checked → walks.settles C (with_check pending check) objective ≡ settles
 
 -- what is pending is settled by this objective, or found wrong
-abbrev pub IsSettling : Option Pending → ℚ → Option Found → Type 0
-IsSettling None objective found = found ≡ None
-IsSettling (Some pending) objective found = found ≡ (if settled_by pending objective then None else Some (Wrong pending.rest))
+abbrev pub IsSettling : Checker → Option Pending → ℚ → Option Found → Type 0
+IsSettling C None objective found = found ≡ None
+IsSettling C (Some pending) objective None = SettlesBy C pending objective true
+IsSettling C (Some pending) objective (Some found) = SettlesBy C pending objective false × (found ≡ Wrong pending.rest)
 
-abbrev pub asked_turn : walks.Walker → (question : Question) → Sheet → (AnswerTo question → StatementOutcome) → walks.WalkTurn
-asked_turn w question sheet go = walks.unless_found (walks.open_question w question sheet go) (walks.answered checker_of_128_bits w question sheet go (judged checker_of_128_bits question sheet w.rest))
+abbrev pub asked_turn : Checker → walks.Walker → (question : Question) → Sheet → (AnswerTo question → StatementOutcome) → walks.WalkTurn
+asked_turn C w question sheet go = walks.unless_found (walks.open_question w question sheet go) (walks.answered C w question sheet go (judged C question sheet w.rest))
 
 -- an answer of which this holds was taken, and the walk goes on with it from a walker that stands here
 pub record IsTaken (question : Question) (Holds : AnswerTo question → Type 0) (new : ListingPlace) (turn : walks.WalkTurn) (go : AnswerTo question → StatementOutcome) : Type 0 where
@@ -63,10 +68,10 @@ pub record IsTaken (question : Question) (Holds : AnswerTo question → Type 0) 
   pub faces : Faces new walker
   pub holds : Holds answer
 
-abbrev pub Answered : {X : Type 0} → (question : Question) → Sheet → ListingPlace → ListingPlace → (X → AnswerTo question → Type 0) → Result X Stopped → Type 0
-Answered question sheet old new Holds (Ok x) = (w : walks.Walker) (go : AnswerTo question → StatementOutcome) → Faces old w → IsTaken question (Holds x) new (asked_turn w question sheet go) go
-Answered question sheet old new Holds (Err (Finds found)) = (w : walks.Walker) (go : AnswerTo question → StatementOutcome) → Faces old w → asked_turn w question sheet go ≡ walks.Finds (found_view found)
-Answered question sheet old new Holds (Err NoMemory) = Unit {0}
+abbrev pub Answered : Checker → {X : Type 0} → (question : Question) → Sheet → ListingPlace → ListingPlace → (X → AnswerTo question → Type 0) → Result X Stopped → Type 0
+Answered C question sheet old new Holds (Ok x) = (w : walks.Walker) (go : AnswerTo question → StatementOutcome) → Faces old w → IsTaken question (Holds x) new (asked_turn C w question sheet go) go
+Answered C question sheet old new Holds (Err (Finds found)) = (w : walks.Walker) (go : AnswerTo question → StatementOutcome) → Faces old w → asked_turn C w question sheet go ≡ walks.Finds (found_view found)
+Answered C question sheet old new Holds (Err NoMemory) = Unit {0}
 
 -- the mark is that of the verdict
 abbrev pub IsMarked : Mark → PathEnd → Type 0

@@ -1,6 +1,6 @@
 -- The verbs that make a parametric run.
 --     finding_of answer            what was found, in the machine's words
---     left_by answer machine       the machine after it
+--     left_by finding machine      the machine after it
 --     IsUnasked stop went          no run is asked for, and the walk goes so
 use Rattle.std.specs.Prelude.{ℕ, [], None}
 use Rattle.run_machine.specs.declared.act.Act.TheVariants as acts
@@ -21,10 +21,10 @@ abbrev pub finding_of : ParametricRunAnswer → Finding
 finding_of (Opened mark) = Ended mark
 finding_of (RanThrough last) = Reached last
 
--- no mark is left, and the last value stands in XPARAM
-abbrev pub left_by : ParametricRunAnswer → Machine Chosen → Machine Chosen
-left_by (Opened mark) machine = record machine { mark = None }
-left_by (RanThrough last) machine = record machine { cells = record (machine.cells) { xparam = last }; mark = None }
+-- no mark is left, and a last value stands in XPARAM
+abbrev pub left_by : Finding → Machine Chosen → Machine Chosen
+left_by (Reached last) machine = record machine { cells = record (machine.cells) { xparam = last }; mark = None }
+left_by finding machine = record machine { mark = None }
 
 abbrev pub IsUnasked : Machine Chosen → ListingPlace → ListingPlace → ℕ → RequestStop → Went → Type 0
 IsUnasked machine old new card (stops.Fault fault) went = Passes machine old new (acts.Ends (ends.Verb fault card)) [] went

@@ -1,7 +1,7 @@
 -- What a statement comes to in the walk.
 --     looks_by, clears_by          where a stop is looked for, and where what is pending has to be settled
 --     Comes turn .. went           the turn is this: the walk goes on, or it ends
---     Walks verb card ..           from each walker that stands here, the statement comes to this
+--     Walks C verb card ..         from each walker that stands here, the statement comes to this
 use Rattle.std.specs.Prelude.{◌≡◌, ℕ, ◌+◌, ◌≤◌, ◌<◌, Bool, true, false, List, [], ◌∷◌, Option, None, if◌then◌else◌}
 use Rattle.std.specs.Option.{option_or}
 use Rattle.control_definitions.specs.Program.{Verb, Program}
@@ -14,7 +14,7 @@ use Rattle.run_machine.specs.declared.end.End.TheVariants as ends
 use Rattle.run_machine.specs.declared.machine.Machine.{Machine}
 use Rattle.run_machine.specs.Standing as machines
 use Rattle.run_machine.specs.Statements.{Follows}
-use Rattle.walk_definitions.specs.Checkers.{checker_of_128_bits}
+use Rattle.walk_definitions.specs.Checkers.{Checker}
 use Rattle.walk_definitions.specs.Walker as walks
 use Rattle.listing_walk.specs.declared.chosen.Chosen.{Chosen}
 use Rattle.listing_walk.specs.declared.place.ListingPlace.{ListingPlace}
@@ -67,11 +67,11 @@ Finishes old new act went =
     (v : walks.Walker) (outcome : StatementOutcome) (cards : List (List ℕ)) (machine : Machine Chosen) (position executed : ℕ) (gain : Gain) → Faces old v →
     IsOutcome outcome cards machine position executed gain act → Comes (walks.follows v outcome) cards machine position executed new went
 
--- a move that asks nothing, and comes to an act with this text
+-- a move that asks nothing, and comes to an act with this text, whatever the checker is
 abbrev pub Passes : Machine Chosen → ListingPlace → ListingPlace → Act → List ℕ → Went → Type 0
 Passes machine old new act text went =
-    (w : walks.Walker) (card : ℕ) (move : StatementMove) (cards : List (List ℕ)) (position executed : ℕ) (gain : Gain) → Faces old w → walks.refuses_selection move ≡ false →
-    Follows IsView Settles card move cards machine position executed gain act → gain_text gain ≡ text → Comes (walks.walk_move checker_of_128_bits w move) cards machine position executed new went
+    (C : Checker) (w : walks.Walker) (card : ℕ) (move : StatementMove) (cards : List (List ℕ)) (position executed : ℕ) (gain : Gain) → Faces old w → walks.refuses_selection move ≡ false →
+    Follows IsView Settles card move cards machine position executed gain act → gain_text gain ≡ text → Comes (walks.walk_move C w move) cards machine position executed new went
 
 -- an operation is refused here, where a stop and what is pending come first
 abbrev pub IsUnchecked : ListingPlace → Found → Type 0
@@ -104,16 +104,16 @@ RefusesReport machine old new card stands Unchecked went = FindsReported old sta
 RefusesReport machine old new card stands NoMemory went = ⊥
 
 -- the statement of a verb
-abbrev pub Walks : Verb ℕ → ℕ → List (List ℕ) → Machine Chosen → Machine Chosen → ListingPlace → ListingPlace → Went → Type 0
-Walks verb card cards old new place_old place_new went =
+abbrev pub Walks : Checker → Verb ℕ → ℕ → List (List ℕ) → Machine Chosen → Machine Chosen → ListingPlace → ListingPlace → Went → Type 0
+Walks C verb card cards old new place_old place_new went =
     (position executed : ℕ) (state : State) (w : walks.Walker) → machines.Represents IsView cards old position executed state → Faces place_old w →
-    Comes (walks.walk_move checker_of_128_bits w (verb_move verb card state)) cards new position executed place_new went
+    Comes (walks.walk_move C w (verb_move verb card state)) cards new position executed place_new went
 
 -- the statement at a position
 abbrev pub ComesTo : walks.WalkTurn → List (List ℕ) → Machine Chosen → ℕ → ListingPlace → Onward → Type 0
 ComesTo turn cards machine executed place (onward.Goes to) = (v : walks.Walker) × (turn ≡ walks.Walks v) × Represents cards machine to executed place v × (1 ≤ to)
 ComesTo turn cards machine executed place (onward.Finds found) = turn ≡ walks.Finds (found_view found)
 
-abbrev pub Steps : Program → List (List ℕ) → ℕ → Machine Chosen → Machine Chosen → ListingPlace → ListingPlace → Onward → Type 0
-Steps program cards position old new place_old place_new went =
-    (executed : ℕ) (w : walks.Walker) → executed < 100000 → Represents cards old position executed place_old w → ComesTo (walks.turn checker_of_128_bits program w) cards new (executed + 1) place_new went
+abbrev pub Steps : Checker → Program → List (List ℕ) → ℕ → Machine Chosen → Machine Chosen → ListingPlace → ListingPlace → Onward → Type 0
+Steps C program cards position old new place_old place_new went =
+    (executed : ℕ) (w : walks.Walker) → executed < 100000 → Represents cards old position executed place_old w → ComesTo (walks.turn C program w) cards new (executed + 1) place_new went

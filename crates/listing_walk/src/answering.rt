@@ -1,6 +1,5 @@
 // The answers to questions, where the walk stands.
 ghost use Rattle.std.specs.Prelude.{◌≡◌, ◌+◌, ◌≤◌, ◌<◌, ℕ, Option, None, IfOk};
-ghost use Rattle.exact_values.specs.Tests.{eq_ℚ};
 ghost use Rattle.lp_definitions.specs.LinearProgram.{IsLinearProgram};
 ghost use Rattle.listing_definitions.specs.Report.{PathVerdict, Check};
 ghost use Rattle.question_definitions.specs.Answers.{OfPath, OfSolution, OfParametricRun};
@@ -11,28 +10,31 @@ ghost use Rattle.listing_words.specs.Read.{sheet_view};
 ghost use Rattle.parametric_request.specs.Asking.{Serves, parametric_run_of};
 ghost use Rattle.listing_answers.specs.Taken.{conclusion_of, IsParametricRunAnswer};
 ghost use Rattle.listing_walk.specs.Standing.{ShowsPending};
-ghost use Rattle.listing_walk.specs.Asking.{WentBy, stopped_by, is_optimal, settled_by, Answered, IsMarked, IsAny, IsSettling};
+ghost use Rattle.listing_walk.specs.Asking.{WentBy, stopped_by, is_optimal, SettlesBy, Answered, IsMarked, IsAny, IsSettling};
 
 use crate::found::Found;
 use crate::place::{ListingPlace, Pending};
 use crate::went::Went;
-use frac128::Frac;
 use job_devices::NoMemory;
 use listing_answers::{
-    Conclusion, ParametricRunAnswer, Stop, answer_to_parametric_run, answer_to_path,
-    answer_to_solution,
+    Conclusion, ParametricRunAnswer, answer_to_parametric_run, answer_to_path, answer_to_solution,
 };
+use listing_claims::{Checks, Stop};
 use listing_definitions::{Mark, Solver};
 use listing_tables::Sheet;
+use listing_words::Number;
 use parametric_request::ParametricRequest;
 use std::alloc::Global;
+use thiserror::Error;
 
 /// Why the walk doesn't go on with an answer.
-#[derive(Clone, Copy, Debug)]
+#[derive(Clone, Copy, Debug, Error)]
 pub enum Stopped<'a> {
     /// The walk ends.
+    #[error("the walk ends")]
     Finds(Found<'a>),
     /// There is no memory.
+    #[error("there is no memory")]
     NoMemory,
 }
 
@@ -58,7 +60,7 @@ fn stopped_by<'a>(stop: Stop, rest: &'a [u8]) -> Stopped<'a>
 }
 
 // The mark that a conclusion leaves.
-fn mark_of(conclusion: &Conclusion) -> Mark
+fn mark_of(conclusion: &Conclusion<'_>) -> Mark
     ensures { (verdict : PathVerdict) (check : Check) → conclusion.now ≡ conclusion_of verdict check → result ≡ mark_of verdict }
 {
     match conclusion {
@@ -69,7 +71,7 @@ fn mark_of(conclusion: &Conclusion) -> Mark
 }
 
 // What a conclusion leaves pending.
-fn pending_after<'a>(rest: &'a [u8], conclusion: &Conclusion) -> Option<Pending<'a>>
+fn pending_after<'a>(rest: &'a [u8], conclusion: &Conclusion<'a>) -> Option<Pending<'a>>
     ensures { (verdict : PathVerdict) (check : Check) → conclusion.now ≡ conclusion_of verdict check →
         ShowsPending result (walks.pending_after rest.now verdict check) }
 {
@@ -79,7 +81,7 @@ fn pending_after<'a>(rest: &'a [u8], conclusion: &Conclusion) -> Option<Pending<
             is_checked,
         } => Some(Pending {
             rest,
-            objective: *objective,
+            objective: objective.again(),
             is_checked: *is_checked,
         }),
         Conclusion::Infeasible | Conclusion::Unbounded => None,
@@ -87,7 +89,7 @@ fn pending_after<'a>(rest: &'a [u8], conclusion: &Conclusion) -> Option<Pending<
 }
 
 /// Takes the verdict of a solving verb. Gives its mark.
-pub fn answer_path<'a>(
+pub fn answer_path<'a, T: Checks>(
     alloc: Global,
     place: &mut ListingPlace<'a>,
     sheet: Sheet<'_>,
@@ -97,14 +99,14 @@ pub fn answer_path<'a>(
     requires lawful { IsLinearProgram sheet.lp.now }
     requires no_change { sheet.lp.now.change ≡ None }
     requires few { place.old.reports < 4294967295 }
-    ensures answered { (limit : Option ℕ) → Answered (OfPath solver limit) (sheet_view sheet.entry) place.old place.new IsMarked result }
+    ensures answered { (limit : Option ℕ) → Answered T.checker (OfPath solver limit) (sheet_view sheet.entry) place.old place.new IsMarked result }
     ensures few { place.new.reports ≤ place.old.reports + 1 }
 {
     if let Some(found) = place.open_here(true, true) {
         return Err(Stopped::Finds(found));
     }
     let rest = place.cursor.left();
-    match answer_to_path(alloc, &mut place.cursor, sheet, solver) {
+    match answer_to_path::<T>(alloc, &mut place.cursor, sheet, solver) {
         Ok(conclusion) => {
             place.pending = pending_after(rest, &conclusion);
             place.reports += 1;
@@ -114,31 +116,24 @@ pub fn answer_path<'a>(
     }
 }
 
-// Whether two fractions are equal.
-fn is_equal(a: Frac, b: Frac) -> bool
-    ensures { result ≡ eq_ℚ a b }
+// Whether a pending verdict has this objective, and the checker takes the word of its check.
+fn settles<T: Checks>(pending: &Pending<'_>, objective: &Number<'_>) -> bool
+    ensures { SettlesBy T.checker pending.now objective.now result }
 {
-    a.compare(b).is_eq()
-}
-
-// Whether a pending verdict has this objective, and its check was made.
-fn settles(pending: &Pending<'_>, objective: Frac) -> bool
-    ensures { result ≡ settled_by pending.now objective }
-{
-    if is_equal(pending.objective, objective) {
-        pending.is_checked
+    if pending.objective.is_equal(objective) {
+        T::takes(pending.is_checked)
     } else {
         false
     }
 }
 
 // SOLUTION under OPTIMAL settles what is pending, or it is wrong.
-fn settled<'a>(place: &ListingPlace<'a>, objective: Frac) -> Option<Found<'a>>
-    ensures { IsSettling place.now.pending objective result }
+fn settled<'a, T: Checks>(place: &ListingPlace<'a>, objective: &Number<'_>) -> Option<Found<'a>>
+    ensures { IsSettling T.checker place.now.pending objective.now result }
 {
     match &place.pending {
         Some(pending) => {
-            if settles(pending, objective) {
+            if settles::<T>(pending, objective) {
                 None
             } else {
                 Some(Found::Wrong(pending.rest))
@@ -149,7 +144,7 @@ fn settled<'a>(place: &ListingPlace<'a>, objective: Frac) -> Option<Found<'a>>
 }
 
 /// Takes the lines of SOLUTION under a mark. Under OPTIMAL they settle what is pending.
-pub fn answer_solution<'a>(
+pub fn answer_solution<'a, T: Checks>(
     alloc: Global,
     place: &mut ListingPlace<'a>,
     sheet: Sheet<'_>,
@@ -159,20 +154,20 @@ pub fn answer_solution<'a>(
     requires lawful { IsLinearProgram sheet.lp.now }
     requires no_change { sheet.lp.now.change ≡ None }
     requires few { place.old.reports < 4294967295 }
-    ensures answered { Answered (OfSolution mark) (sheet_view sheet.entry) place.old place.new (IsAny (OfSolution mark)) result }
+    ensures answered { Answered T.checker (OfSolution mark) (sheet_view sheet.entry) place.old place.new (IsAny (OfSolution mark)) result }
     ensures few { place.new.reports ≤ place.old.reports + 1 }
 {
     if let Some(found) = place.open_here(true, false) {
         return Err(Stopped::Finds(found));
     }
     let rest = place.cursor.left();
-    match answer_to_solution(alloc, &mut place.cursor, sheet, mark) {
+    match answer_to_solution::<T>(alloc, &mut place.cursor, sheet, mark) {
         Ok(objective) => {
             if !is_optimal(mark) {
                 place.reports += 1;
                 return Ok(());
             }
-            if let Some(found) = settled(place, objective) {
+            if let Some(found) = settled::<T>(place, &objective) {
                 return Err(Stopped::Finds(found));
             }
             place.pending = None;
@@ -194,25 +189,25 @@ pub fn is_optimal(mark: Mark) -> bool
 }
 
 /// Takes what PARAOBJ or PARARHS prints of a run.
-pub fn answer_parametric_run<'a>(
+pub fn answer_parametric_run<'a, T: Checks>(
     alloc: Global,
     place: &mut ListingPlace<'a>,
     sheet: Sheet<'_>,
     request: &ParametricRequest,
-) -> Result<ParametricRunAnswer, Stopped<'a>>
+) -> Result<ParametricRunAnswer<'a>, Stopped<'a>>
     requires sheet { IsSheet sheet }
     requires lawful { IsLinearProgram sheet.lp.now }
     requires no_change { sheet.lp.now.change ≡ None }
     requires serves { Serves sheet.problem.now sheet.lp.now request.now }
     requires few { place.old.reports < 4294967295 }
-    ensures answered { (limit : ℕ) → Answered (OfParametricRun (parametric_run_of limit request.now)) (sheet_view sheet.entry) place.old place.new IsParametricRunAnswer result }
+    ensures answered { (limit : ℕ) → Answered T.checker (OfParametricRun (parametric_run_of limit request.now)) (sheet_view sheet.entry) place.old place.new IsParametricRunAnswer result }
     ensures few { place.new.reports ≤ place.old.reports + 1 }
 {
     if let Some(found) = place.open_here(true, true) {
         return Err(Stopped::Finds(found));
     }
     let rest = place.cursor.left();
-    match answer_to_parametric_run(alloc, &mut place.cursor, sheet, request) {
+    match answer_to_parametric_run::<T>(alloc, &mut place.cursor, sheet, request) {
         Ok(answer) => {
             place.pending = None;
             place.reports += 1;

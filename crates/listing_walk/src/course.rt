@@ -14,6 +14,7 @@ use crate::went::Onward;
 use card_reader::Cards;
 use control_compiler::Program;
 use job_devices::NoMemory;
+use listing_claims::Checks;
 use report_text::Ending;
 use run_machine::Machine;
 use std::alloc::Global;
@@ -31,14 +32,14 @@ fn first_after(program: &Program, cards: &Cards) -> u32
     program.decks_from().max(1).min(cards.count() + 1)
 }
 
-/// Walks along a compiled program over the cards of its job and along a listing.
-pub fn walk<'a>(
+/// Walks along a compiled program over the cards of its job and along a listing, with the tests of a checker.
+pub fn walk<'a, T: Checks>(
     alloc: Global,
     program: &Program,
     cards: &Cards,
     listing: &'a [u8],
 ) -> Result<Found<'a>, NoMemory>
-    ensures { IfOk result (IsFoundBy program.now cards.now listing.now) }
+    ensures { IfOk result (IsFoundBy T.checker program.now cards.now listing.now) }
 {
     let mut machine = Machine::<Chosen>::new(alloc, first_after(program, cards));
     let mut place = ListingPlace::new(listing);
@@ -49,7 +50,7 @@ pub fn walk<'a>(
             return place.close(alloc, &Ending::Statements);
         }
         executed += 1;
-        match step(alloc, &mut machine, program, cards, &mut place, position) {
+        match step::<T>(alloc, &mut machine, program, cards, &mut place, position) {
             Ok(Onward::Goes(to)) => position = to,
             Ok(Onward::Finds(found)) => return Ok(found),
             Err(refused) => return Err(refused),

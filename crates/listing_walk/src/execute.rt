@@ -20,12 +20,13 @@ use crate::went::{Onward, Went};
 use card_reader::Cards;
 use control_compiler::{Program, Verb};
 use job_devices::NoMemory;
+use listing_claims::Checks;
 use parametric_request::ParametricVerb;
 use run_machine::Machine;
 use std::alloc::Global;
 
 // Follows the statement of a verb on a card.
-fn execute<'a>(
+fn execute<'a, T: Checks>(
     alloc: Global,
     machine: &mut Machine<Chosen>,
     cards: &Cards,
@@ -36,7 +37,7 @@ fn execute<'a>(
     requires sound { IsSound cards.now machine.old }
     requires verb { IsSoundVerb (viewed verb.now) }
     requires few { place.old.reports < 4294967295 }
-    ensures walks { IfOk result (Walks (viewed verb.now) card cards.now machine.old machine.new place.old place.new) }
+    ensures walks { IfOk result (Walks T.checker (viewed verb.now) card cards.now machine.old machine.new place.old place.new) }
     ensures sound { IsSound cards.now machine.new }
     ensures few { place.new.reports ≤ place.old.reports + 1 }
 {
@@ -74,11 +75,11 @@ fn execute<'a>(
             let act = machine.exit();
             follow(alloc, machine, place, &act, &[])
         }
-        Verb::Primal => solve(alloc, machine, place, card, SolvingVerb::Primal),
-        Verb::Dual => solve(alloc, machine, place, card, SolvingVerb::Dual),
-        Verb::Solution => show_solution(alloc, machine, place, card),
-        Verb::Paraobj => parametric_run(alloc, machine, place, card, ParametricVerb::Paraobj),
-        Verb::Pararhs => parametric_run(alloc, machine, place, card, ParametricVerb::Pararhs),
+        Verb::Primal => solve::<T>(alloc, machine, place, card, SolvingVerb::Primal),
+        Verb::Dual => solve::<T>(alloc, machine, place, card, SolvingVerb::Dual),
+        Verb::Solution => show_solution::<T>(alloc, machine, place, card),
+        Verb::Paraobj => parametric_run::<T>(alloc, machine, place, card, ParametricVerb::Paraobj),
+        Verb::Pararhs => parametric_run::<T>(alloc, machine, place, card, ParametricVerb::Pararhs),
         Verb::Ranging => show_ranges(alloc, machine, place, card),
         Verb::Punch => punch_basis(alloc, machine, place, card),
         Verb::Insert => insert(alloc, machine, cards, place, card),
@@ -86,7 +87,7 @@ fn execute<'a>(
 }
 
 /// Follows the statement at a position.
-pub fn step<'a>(
+pub fn step<'a, T: Checks>(
     alloc: Global,
     machine: &mut Machine<Chosen>,
     program: &Program,
@@ -99,12 +100,12 @@ pub fn step<'a>(
     requires within { position ≤ length program.now.statements }
     requires sound { IsSound cards.now machine.old }
     requires few { place.old.reports < 4294967295 }
-    ensures steps { IfOk result (Steps program.now cards.now position machine.old machine.new place.old place.new) }
+    ensures steps { IfOk result (Steps T.checker program.now cards.now position machine.old machine.new place.old place.new) }
     ensures sound { IsSound cards.now machine.new }
     ensures few { place.new.reports ≤ place.old.reports + 1 }
 {
     let next = program.statement(position);
-    match execute(alloc, machine, cards, place, next.card, &next.verb) {
+    match execute::<T>(alloc, machine, cards, place, next.card, &next.verb) {
         Ok(Went::Next) => Ok(Onward::Goes(position + 1)),
         Ok(Went::Jump(to)) => Ok(Onward::Goes(to)),
         Ok(Went::Finds(found)) => Ok(Onward::Finds(found)),

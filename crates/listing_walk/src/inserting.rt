@@ -1,6 +1,7 @@
 // INSERT, whose report can't be attested.
 ghost use Rattle.std.specs.Prelude.{◌≡◌, ◌+◌, ◌≤◌, ◌<◌, IfOk, IfSome};
 ghost use Rattle.control_definitions.specs.Program as program;
+ghost use Rattle.walk_definitions.specs.Checkers.{Checker};
 ghost use Rattle.listing_walk.specs.Standing.{IsSound};
 ghost use Rattle.listing_walk.specs.Walking.{Walks};
 ghost use Rattle.listing_walk.specs.Inserting.{is_line_of, LiesWithin, IsInstallDue, RefusesInstall};
@@ -89,7 +90,7 @@ pub fn insert<'a>(
 ) -> Result<Went<'a>, NoMemory>
     requires sound { IsSound cards.now machine.now }
     requires few { place.old.reports < 4294967295 }
-    ensures walks { IfOk result (Walks program.Insert card cards.now machine.now machine.now place.old place.new) }
+    ensures walks { (C : Checker) → IfOk result (Walks C program.Insert card cards.now machine.now machine.now place.old place.new) }
     ensures few { place.new.reports ≤ place.old.reports + 1 }
 {
     let Some(chosen) = &machine.setup else {

@@ -14,6 +14,7 @@ use crate::selecting::select_present;
 use crate::went::Went;
 use job_devices::NoMemory;
 use listing_answers::ParametricRunAnswer;
+use listing_claims::Checks;
 use listing_definitions::VerbFault;
 use listing_tables::Sheet;
 use parametric_request::{ParametricVerb, RequestStop, request_of};
@@ -39,29 +40,30 @@ fn unasked<'a>(
     }
 }
 
-// What was found, in the machine's words.
-fn finding_of(answer: &ParametricRunAnswer) -> Finding
-    ensures { result ≡ finding_of answer.now }
+// What was found, in the machine's words, if a last value has no more than the 128 bits of a cell.
+fn finding_of(answer: &ParametricRunAnswer<'_>) -> Option<Finding>
+    ensures { IfSome result (λ finding. finding ≡ finding_of answer.now) }
 {
     match answer {
-        ParametricRunAnswer::Opened(mark) => Finding::Ended(*mark),
-        ParametricRunAnswer::RanThrough(last) => Finding::RanThrough(*last),
+        ParametricRunAnswer::Opened(mark) => Some(Finding::Ended(*mark)),
+        ParametricRunAnswer::RanThrough(last) => Some(Finding::RanThrough(last.fraction()?)),
     }
 }
 
 // A run leaves no mark, and its last value in XPARAM.
-fn leave(machine: &mut Machine<Chosen>, answer: &ParametricRunAnswer)
-    ensures { machine.new ≡ left_by answer.now machine.old }
+fn leave(machine: &mut Machine<Chosen>, finding: &Finding)
+    ensures { machine.new ≡ left_by finding.now machine.old }
 {
     machine.mark = None;
-    if let ParametricRunAnswer::RanThrough(last) = answer {
+    if let Finding::RanThrough(last) = finding {
         machine.cells.move_number(NumberCell::Xparam, *last);
     }
 }
 
 /// PARAOBJ and PARARHS: selects again by the cells as they stand, and takes the parametric run that is asked for from the listing. Its
-/// last value is left in XPARAM. An opening that isn't optimal goes by the demand of its verdict. Neither leaves a mark.
-pub fn parametric_run<'a>(
+/// last value is left in XPARAM, where one of more than 128 bits, which is more than the cell holds, comes to no memory. An opening that
+/// isn't optimal goes by the demand of its verdict. Neither leaves a mark.
+pub fn parametric_run<'a, T: Checks>(
     alloc: Global,
     machine: &mut Machine<Chosen>,
     place: &mut ListingPlace<'a>,
@@ -71,7 +73,7 @@ pub fn parametric_run<'a>(
     requires demands { AreDemands machine.old.cells }
     requires ready { IfSome machine.old.setup (IsReady machine.old.file) }
     requires few { place.old.reports < 4294967295 }
-    ensures walks { (cards : List (List ℕ)) → IfOk result (Walks (verb_of verb) card cards machine.old machine.new place.old place.new) }
+    ensures walks { (cards : List (List ℕ)) → IfOk result (Walks T.checker (verb_of verb) card cards machine.old machine.new place.old place.new) }
     ensures sound { (cards : List (List ℕ)) → IsSound cards machine.old → IsSound cards machine.new }
     ensures few { place.new.reports ≤ place.old.reports + 1 }
 {
@@ -91,11 +93,14 @@ pub fn parametric_run<'a>(
         Err(stop) => return unasked(alloc, machine, place, stop, card),
     };
     let sheet = Sheet { problem, lp: &lp };
-    let answer = match answer_parametric_run(alloc, place, sheet, &request) {
+    let answer = match answer_parametric_run::<T>(alloc, place, sheet, &request) {
         Ok(answer) => answer,
         Err(stopped) => return stop_walk(stopped),
     };
-    leave(machine, &answer);
-    let act = act_of(&machine.cells, card, finding_of(&answer));
+    let Some(finding) = finding_of(&answer) else {
+        return Err(NoMemory);
+    };
+    leave(machine, &finding);
+    let act = act_of(&machine.cells, card, finding);
     finish(alloc, place, &act)
 }

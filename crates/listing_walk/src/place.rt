@@ -12,18 +12,18 @@ ghost use Rattle.listing_walk.specs.Standing.{Faces};
 ghost use Rattle.listing_walk.specs.Walking.{open_by, is_loud, one_if, IsUnchecked, IsReported};
 
 use crate::found::Found;
-use frac128::Frac;
 use job_devices::{NoMemory, Sink, SureSink, WriteStop};
-use listing_readers::{Cursor, is_open_stop};
+use listing_readers::is_open_stop;
+use listing_words::{Cursor, Number};
 use report_text::{Ending, Report, text_of};
 use std::alloc::Global;
 
 /// An optimal verdict that no SOLUTION has shown yet: what was left of the listing where it stands, its objective, and whether the
 /// listing says that it was checked.
-#[derive(Clone, Copy, Debug)]
+#[derive(Drop)]
 pub struct Pending<'a> {
     pub rest: &'a [u8],
-    pub objective: Frac,
+    pub objective: Number<'a>,
     pub is_checked: bool,
 }
 

@@ -1,6 +1,7 @@
 // RANGE and PUNCH, whose reports can't be attested.
 ghost use Rattle.std.specs.Prelude.{◌≡◌, ◌+◌, ◌≤◌, ◌<◌, ℕ, List, IfOk, IfSome};
 ghost use Rattle.control_definitions.specs.Program as program;
+ghost use Rattle.walk_definitions.specs.Checkers.{Checker};
 ghost use Rattle.listing_walk.specs.Standing.{IsReady, IsSolved};
 ghost use Rattle.listing_walk.specs.Walking.{RefusesReport, Walks};
 
@@ -27,7 +28,7 @@ pub fn show_ranges<'a>(
     requires solved { IfSome machine.now.mark
         (λ mark. IfSome machine.now.setup (IsSolved mark machine.now.cells.xobj machine.now.cells.xrhs machine.now.file)) }
     requires few { place.old.reports < 4294967295 }
-    ensures walks { (cards : List (List ℕ)) → IfOk result (Walks program.Ranging card cards machine.now machine.now place.old place.new) }
+    ensures walks { (C : Checker) (cards : List (List ℕ)) → IfOk result (Walks C program.Ranging card cards machine.now machine.now place.old place.new) }
     ensures few { place.new.reports ≤ place.old.reports + 1 }
 {
     let Some(_chosen) = &machine.setup else {
@@ -72,7 +73,7 @@ pub fn punch_basis<'a>(
 ) -> Result<Went<'a>, NoMemory>
     requires ready { IfSome machine.now.setup (IsReady machine.now.file) }
     requires few { place.old.reports < 4294967295 }
-    ensures walks { (cards : List (List ℕ)) → IfOk result (Walks program.Punch card cards machine.now machine.now place.old place.new) }
+    ensures walks { (C : Checker) (cards : List (List ℕ)) → IfOk result (Walks C program.Punch card cards machine.now machine.now place.old place.new) }
     ensures few { place.new.reports ≤ place.old.reports + 1 }
 {
     let Some(chosen) = &machine.setup else {

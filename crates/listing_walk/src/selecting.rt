@@ -10,15 +10,19 @@ use lp_setup::{Choice, SelectStop, SetupChoice, select};
 use problem_file::Problem;
 use run_cells::{Cells, NameCell};
 use std::alloc::Global;
+use thiserror::Error;
 
 /// Why there is no linear program.
-#[derive(Clone, Copy, Debug)]
+#[derive(Clone, Copy, Debug, Error)]
 pub enum Unselected {
     /// The statement is refused.
+    #[error("the statement is refused")]
     Fault(VerbFault),
     /// An operation of the selection is refused.
+    #[error("an operation of the selection is refused")]
     Unchecked,
     /// There is no memory.
+    #[error("there is no memory")]
     NoMemory,
 }
 

@@ -6,6 +6,7 @@ ghost use Rattle.control_definitions.specs.Program as program;
 ghost use Rattle.listing_definitions.specs.Report.{SetUp};
 ghost use Rattle.listing_definitions.specs.Text.{report_text};
 ghost use Rattle.control_verbs.specs.Views.{options_view};
+ghost use Rattle.walk_definitions.specs.Checkers.{Checker};
 ghost use Rattle.listing_walk.specs.Choosing.{IsOpened, IsNotOpened};
 ghost use Rattle.listing_walk.specs.Standing.{IsSound};
 ghost use Rattle.listing_walk.specs.Walking.{Walks};
@@ -81,8 +82,8 @@ pub fn set_up<'a>(
     options: &SetupOptions,
 ) -> Result<Went<'a>, NoMemory>
     requires { place.old.reports < 4294967295 }
-    ensures walks { (cards : List (List ℕ)) → IfOk result
-        (Walks (program.Setup (options_view options.now)) card cards machine.old machine.new place.old place.new) }
+    ensures walks { (C : Checker) (cards : List (List ℕ)) → IfOk result
+        (Walks C (program.Setup (options_view options.now)) card cards machine.old machine.new place.old place.new) }
     ensures sound { (cards : List (List ℕ)) → IsSound cards machine.old → IsSound cards machine.new }
     ensures few { place.new.reports ≤ place.old.reports + 1 }
 {

@@ -10,6 +10,7 @@ use crate::follow::fault;
 use crate::place::ListingPlace;
 use crate::went::Went;
 use job_devices::NoMemory;
+use listing_claims::Checks;
 use listing_definitions::VerbFault;
 use listing_tables::Sheet;
 use run_machine::Machine;
@@ -17,7 +18,7 @@ use std::alloc::Global;
 
 /// SOLUTION: takes the point and the prices from the listing. It needs a setup and a mark, and speaks of the linear program that PRIMAL
 /// or DUAL selected.
-pub fn show_solution<'a>(
+pub fn show_solution<'a, T: Checks>(
     alloc: Global,
     machine: &Machine<Chosen>,
     place: &mut ListingPlace<'a>,
@@ -27,7 +28,7 @@ pub fn show_solution<'a>(
     requires solved { IfSome machine.now.mark
         (λ mark. IfSome machine.now.setup (IsSolved mark machine.now.cells.xobj machine.now.cells.xrhs machine.now.file)) }
     requires few { place.old.reports < 4294967295 }
-    ensures walks { (cards : List (List ℕ)) → IfOk result (Walks program.Solution card cards machine.now machine.now place.old place.new) }
+    ensures walks { (cards : List (List ℕ)) → IfOk result (Walks T.checker program.Solution card cards machine.now machine.now place.old place.new) }
     ensures few { place.new.reports ≤ place.old.reports + 1 }
 {
     let Some(chosen) = &machine.setup else {
@@ -45,7 +46,7 @@ pub fn show_solution<'a>(
         lp: &chosen.lp,
     };
     let _lawful = chosen.lp.number_of_variables();
-    match answer_solution(alloc, place, sheet, mark) {
+    match answer_solution::<T>(alloc, place, sheet, mark) {
         Ok(()) => Ok(Went::Next),
         Err(stopped) => stop_walk(stopped),
     }

@@ -12,6 +12,7 @@ use crate::place::ListingPlace;
 use crate::selecting::select_present;
 use crate::went::Went;
 use job_devices::NoMemory;
+use listing_claims::Checks;
 use listing_definitions::{Mark, Solver, VerbFault};
 use listing_tables::Sheet;
 use lp_model::Lp;
@@ -48,7 +49,7 @@ fn keep(machine: &mut Machine<Chosen>, lp: Lp, mark: Mark)
 
 /// PRIMAL and DUAL: selects again by the cells as they stand, and takes the verdict from the listing, which leaves its mark. An optimal
 /// verdict is pending until SOLUTION shows it.
-pub fn solve<'a>(
+pub fn solve<'a, T: Checks>(
     alloc: Global,
     machine: &mut Machine<Chosen>,
     place: &mut ListingPlace<'a>,
@@ -58,7 +59,7 @@ pub fn solve<'a>(
     requires demands { AreDemands machine.old.cells }
     requires ready { IfSome machine.old.setup (IsReady machine.old.file) }
     requires few { place.old.reports < 4294967295 }
-    ensures walks { (cards : List (List ℕ)) → IfOk result (Walks (verb_of verb) card cards machine.old machine.new place.old place.new) }
+    ensures walks { (cards : List (List ℕ)) → IfOk result (Walks T.checker (verb_of verb) card cards machine.old machine.new place.old place.new) }
     ensures sound { (cards : List (List ℕ)) → IsSound cards machine.old → IsSound cards machine.new }
     ensures few { place.new.reports ≤ place.old.reports + 1 }
 {
@@ -74,7 +75,7 @@ pub fn solve<'a>(
         Err(refusal) => return refuse(alloc, machine, place, refusal, card),
     };
     let sheet = Sheet { problem, lp: &lp };
-    let mark = match answer_path(alloc, place, sheet, solver_of(verb)) {
+    let mark = match answer_path::<T>(alloc, place, sheet, solver_of(verb)) {
         Ok(mark) => mark,
         Err(stopped) => return stop_walk(stopped),
     };

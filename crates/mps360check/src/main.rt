@@ -2,6 +2,7 @@
 //! what the listing is found to be.
 #![tactic(auto)]
 
+use checks_of_128_bits::Of128Bits;
 use job_devices::{ListingFile, StreamSink, StreamSource};
 use listing_check::{CheckStatus, check_listing};
 use std::alloc::AllocError;
@@ -29,7 +30,7 @@ fn run(rt: &HostRuntime) -> Result<CheckStatus, AllocError> {
     let mut job = StreamSource::new(rt.reader());
     let mut listing = ListingFile::new(rt);
     let mut print = StreamSink::new(io::writer(rt));
-    Ok(check_listing(alloc, &words, &mut job, &mut listing, &mut print))
+    Ok(check_listing::<Of128Bits, _, _, _>(alloc, &words, &mut job, &mut listing, &mut print))
 }
 
 fn main(rt: HostRuntime) -> ExitCode {

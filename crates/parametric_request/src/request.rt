@@ -10,6 +10,7 @@ use name_table::Name;
 use problem_file::Problem;
 use run_cells::{Cells, NameCell};
 use std::alloc::Global;
+use thiserror::Error;
 
 /// A verb that makes a parametric run.
 #[derive(Clone, Copy, Debug)]
@@ -37,11 +38,13 @@ pub struct ParametricRequest {
 }
 
 /// Why no parametric run is asked for.
-#[derive(Clone, Copy, Debug)]
+#[derive(Clone, Copy, Debug, Error)]
 pub enum RequestStop {
     /// The statement is refused.
+    #[error("{0}")]
     Fault(VerbFault),
     /// There is no memory.
+    #[error("out of memory")]
     NoMemory,
 }
 

@@ -2,6 +2,7 @@
 
 use crate::end::End;
 use job_devices::{NoMemory, WriteStop};
+use thiserror::Error;
 
 /// What follows a statement.
 #[derive(Drop)]
@@ -41,13 +42,16 @@ impl Act {
 }
 
 /// Why a statement comes to nothing.
-#[derive(Clone, Copy)]
+#[derive(Clone, Copy, Debug, Error)]
 pub enum Halt {
     /// The print took no more.
+    #[error("print: {0}")]
     Print(WriteStop),
     /// The punch took no more of a deck.
+    #[error("punch: {0}")]
     Punch(WriteStop),
     /// Memory ran out.
+    #[error("out of memory")]
     NoMemory,
 }
 

@@ -16,15 +16,19 @@ use lp_setup::{Choice, SelectStop, SetupChoice, select};
 use problem_file::Problem;
 use run_cells::{Cells, NameCell};
 use std::alloc::Global;
+use thiserror::Error;
 
 /// Why a statement does nothing.
-#[derive(Clone, Copy)]
+#[derive(Clone, Copy, Debug, Error)]
 pub enum Refusal {
     /// It is refused.
+    #[error("{0}")]
     Fault(VerbFault),
     /// An operation of the selection is refused.
+    #[error("formula {}: {}", .0.formula, .0.refused)]
     Overflow(Evidence),
     /// There is no memory.
+    #[error("out of memory")]
     NoMemory,
 }
 

@@ -24,19 +24,21 @@ import tempfile
 from fractions import Fraction
 from mps360.cli import mps2job
 from mps360.cli import solution2listing
-from mps360 import programs
+from mps360 import at_hand, programs
 from mps360.cli.solution2listing import Ended
 from mps360.text import as_lines, as_text
 from mps360.output import command, make_folder, write_file
 from mps360.commands import here
-from mps360 import notes, solution_checks
+from mps360.errors import NoProgram
+from mps360 import notes
 from mps360.listings.write import Answer
 from mps360.cli.words import taken
 from mps360.model import Model
 
 NAME = "attest"
+WRONG = 40
 ANSWER = re.compile(r"(?:ATTESTED \d+ REPORTS|(?:WRONG|OPEN|UNCHECKED) LINE (\d+)|LONG LISTING|STOP .*)\n")
-REFUSED = {40: "its numbers don't prove it", 41: "it can't be attested", 42: "an operation of its test doesn't fit 127 bits", 43: "its listing has more than 64,000,000 bytes"}
+REFUSED = {WRONG: "its numbers don't prove it", 41: "it can't be attested", 42: "an operation of its test doesn't fit 127 bits", 43: "its listing has more than 64,000,000 bytes"}
 BEFORE = {"proved": "attested: ", "unproved": "not proved, since the checker ran unproved; it attests: ", "other": "not proved, since another program ran; it attests: "}
 VERDICT = re.compile(r"^PRIMAL (OPTIMAL|INFEASIBLE|UNBOUNDED) STEPS \d+ (?:OBJECTIVE (\S+))?", re.M)
 MEANS = {"INFEASIBLE": ", no plan keeps all limits", "UNBOUNDED": ", the objective has no bound"}
@@ -47,15 +49,18 @@ def told(message: object) -> None:
     mps2job.say(f"{NAME}: {as_lines(str(message))}")
 
 
-def checker_of(file: str | None) -> tuple[list[str], str]:
-    "what calls the checker in the folder of the files JOB and LISTING, and which one it is"
-    if not file:
-        is_installed = (programs.COMMANDS / "check").exists()
-        is_proved = is_installed or not os.environ.get("MPS360_UNPROVED") and programs.proved_program("mps360check")
-        return [str(programs.COMMANDS / "mps360check"), "JOB", "LISTING"], "proved" if is_proved else "unproved"
-    if not os.access(file, os.X_OK) or os.path.isdir(file):
-        raise Ended(70, f"{file} isn't a program that can be run")
-    return [os.path.abspath(file)], "other"
+def checker_of(file: str | None) -> tuple[list[str], at_hand.Kind]:
+    "what calls the checker in the folder of the files JOB and LISTING, and which one it is; that it runs unproved is said"
+    try:
+        tool = at_hand.checker_finder(file)()
+    except NoProgram as cause:
+        raise Ended(70, str(cause)) from None
+    if tool is None:
+        # (this compiles it, and says so)
+        return [str(programs.COMMANDS / at_hand.CHECKER), "JOB", "LISTING"], "unproved"
+    if tool.kind == "unproved":
+        at_hand.say_unproved(at_hand.CHECKER)
+    return [*tool.command], tool.kind
 
 
 def answer_of(program: list[str], job: bytes, listing: bytes) -> tuple[int, int | None]:
@@ -75,12 +80,18 @@ def answer_of(program: list[str], job: bytes, listing: bytes) -> tuple[int, int 
     return ended.returncode, int(answer[1]) if answer and answer[1] else None
 
 
+def first_fault(model: Model, answer: Answer) -> str | None:
+    "the first test that the answer fails, in the file's names"
+    from mps360 import solution_checks
+    return solution_checks.first_fault(model, answer)
+
+
 def outcome(status: int, number: int | None, listing: str, model: Model, answer: Answer) -> str:
     "what the answer is, or why it isn't attested"
     if status:
         lines = listing.split("\n")
         place = f": line {number} of the listing, {lines[number - 1][:60]}" if number and number <= len(lines) else ""
-        fault = solution_checks.first_fault(model, answer) if status == 40 else None
+        fault = first_fault(model, answer) if status == WRONG else None
         return "not attested: " + REFUSED.get(status, f"the checker ended with {status}") + (f": {fault} ({place[2:]})" if fault else place)
     found = VERDICT.search(listing)
     verdict, objective = (found[1], found[2]) if found else ("", "0")

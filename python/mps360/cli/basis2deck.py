@@ -15,7 +15,7 @@ A column that no line names stands where SETUP puts it: at its lower limit, or e
 shortened for the job are shortened here. What is placed otherwise than the file says, since a limit isn't there, is said on standard error:
 a basis is a place to begin, and none makes another problem. It ends with 0, with 64 for wrong use, 65 where a file is refused, 66 where it
 can't be read, 73 where DECK can't be written."""
-from mps360.jobs.write import Job
+from mps360.jobs.write import Job, exact_job
 from mps360.model import Model
 from mps360.bases import Basis
 import os
@@ -29,7 +29,6 @@ from mps360.cli.options import Parser, ending
 from mps360.output import command, write_file
 from mps360.commands import here
 from mps360.cli.words import joined
-from mps360.long_numbers import exact_job
 
 NAME = "basis2deck.py"
 

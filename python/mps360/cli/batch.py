@@ -28,6 +28,8 @@ The proved program is used where it is built; else all run UNPROVED, compiled on
 
 Ends with 0 where each ended with an END line; 3 where one didn't; 64 for wrong use; 66 where there is no such folder or file, or
 nothing to run in it; 70 where no program or no solver can be had; 73 where OUT or standard output can't be written; 130 where it was interrupted."""
+from __future__ import annotations
+
 import argparse
 import collections
 import csv
@@ -45,16 +47,22 @@ import sys
 import tempfile
 import threading
 import time
+from collections.abc import Callable, Iterable, Mapping, Sequence
 from concurrent.futures import FIRST_COMPLETED, ThreadPoolExecutor, wait
+from pathlib import Path
+from typing import Any, NoReturn, TextIO
 from mps360.listings.read import NUMBER
 from mps360 import programs, solvers
 from mps360.cli import mps2job
-from mps360.cli.options import solvers_of
+from mps360.cli.route_options import solvers_of
 from mps360.text import as_text, guard
 from mps360.commands import here
 from mps360.output import CantWrite, command
+from mps360.solver_names import not_installed
 from mps360 import unproved
 
+Record = dict[str, Any]
+Process = subprocess.Popen[bytes]
 ENDINGS = (".job", ".mps", ".mps.gz", ".lp", ".lp.gz")
 OLD_COLUMNS = ("name", "file", "state", "status", "objective", "seconds", "proved", "end", "sum")
 COLUMNS = (*OLD_COLUMNS, "route", "proved_by", "notes")
@@ -72,7 +80,7 @@ USAGE = "usage: mps360-batch [-j N] [--seconds S] [--with SOLVERS] [--resume] [-
 
 class Wrong(Exception):
     "what ends the whole, with its exit status"
-    def __init__(self, status, cause):
+    def __init__(self, status: int, cause: object) -> None:
         super().__init__(cause)
         self.status = status
 
@@ -83,12 +91,14 @@ class Interrupted(Exception):
 
 class Signals:
     "what Ctrl-C does: while jobs run it is noted, and met between two results, so that no lock is left held; else it is raised at once"
-    def __init__(self):
-        self.number, self.is_noted = None, False
+    def __init__(self) -> None:
+        self.number: int | None = None
+        self.is_noted = False
         for number in (signal.SIGINT, signal.SIGTERM):
             signal.signal(number, self.meet)
 
-    def meet(self, number, _):
+    def meet(self, number: int, _: object) -> None:
+        "notes the signal, or raises Interrupted"
         self.number = number
         if not self.is_noted:
             raise Interrupted(number)
@@ -102,7 +112,8 @@ class TimeOver(Exception):
     "a job has met the time limit"
 
 
-def say(text):
+def say(text: object) -> None:
+    "a line on standard error"
     # (in one piece, for several files may speak at once)
     sys.stderr.write(f"mps360-batch: {text}\n")
     sys.stderr.flush()
@@ -110,11 +121,12 @@ def say(text):
 
 # ---- what is to be run
 
-def stem(path):
+def stem(path: Path) -> str:
+    "a file's name without its ending"
     return next((path.name[:-len(ending)] for ending in sorted(ENDINGS, key=len, reverse=True) if path.name.lower().endswith(ending)), path.name)
 
 
-def named(paths):
+def named(paths: Sequence[Path]) -> dict[str, Path]:
     "from names to files; two of one name, as a.job and a.mps, have their whole names"
     count = collections.Counter(stem(path) for path in paths)
     names = [(stem(path) if count[stem(path)] == 1 else path.name, path) for path in paths]
@@ -124,7 +136,7 @@ def named(paths):
     return dict(sorted(names))
 
 
-def files_of(options):
+def files_of(options: argparse.Namespace) -> tuple[dict[str, Path], Path]:
     "the files and the folder that the words name"
     words = [pathlib.Path(word) for word in options.words]
     if options.out is not None:
@@ -148,7 +160,7 @@ def files_of(options):
 
 # ---- the summary
 
-def for_a_sheet(text):
+def for_a_sheet(text: object) -> str:
     "text that no spreadsheet takes for a formula"
     text = as_text(str(text))
     return "'" + text if text[:1] in tuple("=+-@") else text
@@ -156,10 +168,10 @@ def for_a_sheet(text):
 
 class Summary:
     "a line of summary.csv for each result as soon as it is there"
-    def __init__(self, out):
-        self.path, self.json, self.records = out / "summary.csv", out / "summary.json", {}
+    def __init__(self, out: Path) -> None:
+        self.path, self.json, self.records = out / "summary.csv", out / "summary.json", {}  # type: Path, Path, dict[str, Record]
 
-    def before(self):
+    def before(self) -> dict[str, dict[str, str]]:
         "the records of an earlier batch; a line that isn't whole counts for nothing"
         try:
             with open(self.path, encoding="utf-8", newline="") as file:
@@ -167,10 +179,11 @@ class Summary:
         except FileNotFoundError:
             return {}
 
-    def line(self, record):
+    def line(self, record: Record) -> Record:
+        "a record as a line of the table"
         return {key: for_a_sheet(record[key]) if key in TEXT_COLUMNS else record[key] for key in COLUMNS}
 
-    def keep_earlier(self):
+    def keep_earlier(self) -> Path | None:
         "the summary of an earlier batch gets the next free number; the place where it is, None where there is none"
         if not self.before():
             return None
@@ -181,28 +194,32 @@ class Summary:
         return self.numbered(self.path, number)
 
     @staticmethod
-    def numbered(path, number):
+    def numbered(path: Path, number: int) -> Path:
         return path.with_name(f"{path.stem}-{number}{path.suffix}")
 
-    def begin(self, kept):
+    def begin(self, kept: Mapping[str, Record]) -> None:
+        "writes what is kept of an earlier batch"
         self.records = dict(kept)
         self.write_csv()
 
-    def write_csv(self):
+    def write_csv(self) -> None:
+        "writes all records, in the order of their names"
         self.replace(self.path, lambda file: self.write_lines(file, [self.records[name] for name in sorted(self.records)], head=True))
 
-    def write_lines(self, file, records, head=False):
+    def write_lines(self, file: TextIO, records: Iterable[Record], head: bool = False) -> None:
+        "writes these records, below a head line where it is wanted"
         out = csv.DictWriter(file, COLUMNS, lineterminator="\n")
         if head:
             out.writeheader()
         out.writerows(map(self.line, records))
 
-    def add(self, record):
+    def add(self, record: Record) -> None:
+        "writes a record behind the others"
         self.records[record["name"]] = record
         with open(self.path, "a", encoding="utf-8", newline="") as file:
             self.write_lines(file, [record])
 
-    def end(self, files):
+    def end(self, files: Mapping[str, Path]) -> None:
         "both files whole, in the order of the names; summary.json says too what isn't done"
         self.write_csv()
         states = collections.Counter(record["state"] for record in self.records.values())
@@ -212,14 +229,15 @@ class Summary:
         self.replace(self.json, lambda file: file.write(json.dumps(whole, indent=1) + "\n"))
 
     @staticmethod
-    def replace(path, write):
+    def replace(path: Path, write: Callable[[TextIO], object]) -> None:
+        "writes a file whole, or leaves it as it was"
         part = path.with_name(path.name + ".part")
         with open(part, "w", encoding="utf-8", newline="") as file:
             write(file)
         os.replace(part, path)
 
 
-def as_record(line, name, path):
+def as_record(line: Mapping[str, str], name: str, path: Path) -> Record:
     "a record again of a line of summary.csv, for the file that it is of"
     texts = {key: line[key][1:] if line[key][:1] == "'" else line[key] for key in ("end", "route", "notes")}
     return {**line, "name": name, "file": str(path), **texts, "status": int(line["status"]) if line["status"] else None, "seconds": float(line["seconds"])}
@@ -229,19 +247,21 @@ def as_record(line, name, path):
 
 class Runs:
     "runs a file, and ends what is running where all is to end"
-    def __init__(self, program, is_proved, out, options):
+    def __init__(self, program: str, is_proved: bool, out: Path, options: argparse.Namespace) -> None:
         self.program, self.proved, self.out = program, "yes" if is_proved else "no", out
         self.limit = min((limit for limit in (options.time_limit, options.seconds) if limit), default=None)
         self.words, self.solvers = shlex.split(options.mps2job), options.solvers
         self.processors = max(1, (os.cpu_count() or 1) // options.at_once)
-        self.lock, self.processes, self.running, self.is_over = threading.Lock(), {}, {}, False
+        self.lock, self.is_over = threading.Lock(), False
+        self.processes: dict[int, Process] = {}
+        self.running: dict[str, float] = {}
 
-    def sum_of(self, path):
+    def sum_of(self, path: Path) -> str:
         "a checksum of a file, and of the words for MPS files where it is one"
         words = [] if path.name.lower().endswith(".job") else [*self.words, *([] if self.solvers is None else ["--with", *self.solvers])]
         return hashlib.sha256(path.read_bytes() + b"\0" + "\0".join(words).encode()).hexdigest()[:16]
 
-    def call(self, words, until, **more):
+    def call(self, words: Sequence[str], until: float | None, **more: Any) -> int:
         "the status of a command, which is ended at the time limit"
         with self.lock:
             if self.is_over:
@@ -258,14 +278,15 @@ class Runs:
                 del self.processes[process.pid]
 
     @staticmethod
-    def ask_to_end(process):
+    def ask_to_end(process: Process) -> None:
         "a child that solves ends what it has begun, and then itself"
         try:
             os.killpg(process.pid, signal.SIGTERM)
         except ProcessLookupError:
             pass
 
-    def kill(self, process):
+    def kill(self, process: Process) -> None:
+        "ends a child, at once where it doesn't end when it is asked to"
         if process.poll() is not None:
             return
         self.ask_to_end(process)
@@ -278,18 +299,19 @@ class Runs:
                 pass
             process.wait()
 
-    def end(self):
+    def end(self) -> None:
+        "asks all that runs to end, and lets nothing begin"
         with self.lock:
             self.is_over = True
             for process in self.processes.values():
                 self.ask_to_end(process)
 
-    def run(self, name, path):
+    def run(self, name: str, path: Path) -> Record:
         "the record of a file's run; what it leaves stands in OUT before"
         begun = time.monotonic()
         until = None if self.limit is None else begun + self.limit
         self.running[name] = begun
-        record = {"name": name, "file": str(path), "state": "no answer", "status": None, "objective": "", "proved": self.proved, **NO_ROUTE}
+        record: Record = {"name": name, "file": str(path), "state": "no answer", "status": None, "objective": "", "proved": self.proved, **NO_ROUTE}
         part = self.out / f"{name}.listing.part"
         for ending in ("listing", "listing.part", "punch", "names"):
             (self.out / f"{name}.{ending}").unlink(missing_ok=True)
@@ -311,7 +333,8 @@ class Runs:
 
     # ---- a job
 
-    def run_job(self, name, path, record, folder, until):
+    def run_job(self, name: str, path: Path, record: Record, folder: Path, until: float | None) -> None:
+        "runs a job by the program"
         part, punch = self.out / f"{name}.listing.part", folder / "PUNCH"
         with open(path, "rb") as given, open(part, "wb") as printed:
             status = self.call([self.program], until, stdin=given, stdout=printed, stderr=subprocess.DEVNULL, cwd=folder)
@@ -331,7 +354,7 @@ class Runs:
 
     # ---- an MPS file
 
-    def solve_file(self, name, path, record, folder, until):
+    def solve_file(self, name: str, path: Path, record: Record, folder: Path, until: float | None) -> None:
         "by a child of its own, so that several read and write at once"
         words = [sys.executable, str(programs.COMMANDS / "solve"), "--json", "--life", "0", "--keep", str(folder / "kept"), "--processors", str(self.processors), *self.words]
         if self.solvers is not None:
@@ -350,14 +373,14 @@ class Runs:
         else:
             self.take(name, record, status, (folder / "answer").read_bytes(), told)
 
-    def keep(self, name, kept, status):
+    def keep(self, name: str, kept: Path, status: int) -> None:
         "what the child kept goes to OUT"
         for path in kept.iterdir() if kept.is_dir() else ():
             is_cut = path.suffix == ".listing" and status in (NO_END, INTERRUPTED)
             if path.suffix in (".job", ".names", ".listing"):
                 shutil.copyfile(path, self.out / f"{name}{path.suffix}{'.part' if is_cut else ''}")
 
-    def take(self, name, record, status, answer, told):
+    def take(self, name: str, record: Record, status: int, answer: bytes, told: str) -> None:
         "the record of a child's JSON"
         try:
             whole = json.loads(answer)
@@ -381,12 +404,13 @@ class Runs:
             say(f"{name}: {len(run['notes']) - MOST_SAID} notes more, which {name}.names has")
 
 
-def how_it_ended(listing):
+def how_it_ended(listing: str) -> str:
+    "the last line of a listing that says how its run ended"
     lines = listing.rstrip("\n").split("\n")
     return next((line for line in reversed(lines) if re.match("END |STOP ", line)), lines[-1])
 
 
-def a_program():
+def a_program() -> tuple[str, bool]:
     "the path of the program, and whether it is proved"
     program = programs.proved_program()
     if program:
@@ -402,7 +426,7 @@ def a_program():
         raise Wrong(70, cause) from None
 
 
-def done_before(summary, runs, files):
+def done_before(summary: Summary, runs: Runs, files: Mapping[str, Path]) -> dict[str, Record]:
     "the records that --resume keeps"
     kept, before = {}, summary.before()
     for name, path in files.items():
@@ -421,10 +445,10 @@ def done_before(summary, runs, files):
 
 class Lines:
     "the line of each result on standard output; the results are kept also where it can't be written, which is told in the end"
-    def __init__(self):
-        self.fault = None
+    def __init__(self) -> None:
+        self.fault: CantWrite | None = None
 
-    def tell(self, record):
+    def tell(self, record: Record) -> None:
         status = "none" if record["status"] is None else record["status"]
         try:
             if self.fault is None:
@@ -434,7 +458,7 @@ class Lines:
             self.fault = cause
 
 
-def work_off(files, runs, summary, at_once, signals, lines):
+def work_off(files: Mapping[str, Path], runs: Runs, summary: Summary, at_once: int, signals: Signals, lines: Lines) -> None:
     "runs what isn't done, and takes each result as it comes, until all are done or a signal came"
     told = begun = time.monotonic()
     total = len(files) + len(summary.records)
@@ -450,8 +474,8 @@ def work_off(files, runs, summary, at_once, signals, lines):
                 now = time.monotonic()
                 if now - told >= LINE_EACH:
                     told = now
-                    longest = min(list(runs.running.items()), key=lambda item: item[1], default=None)
-                    waits = f", the longest since {now - longest[1]:.0f} s: {longest[0]}" if longest else ""
+                    longest = min(((begun, name) for name, begun in list(runs.running.items())), default=None)
+                    waits = f", the longest since {now - longest[0]:.0f} s: {longest[1]}" if longest else ""
                     say(f"{now - begun:.0f} s: {len(summary.records)} of {total} done, {len(runs.running)} running{waits}")
         finally:
             for future in waiting:
@@ -460,9 +484,9 @@ def work_off(files, runs, summary, at_once, signals, lines):
                 runs.end()
 
 
-def check_words(options):
+def check_words(options: argparse.Namespace) -> None:
     "words that would be wrong for each file are wrong at once"
-    def refuse(message):
+    def refuse(message: object) -> NoReturn:
         raise Wrong(64, f"--mps2job: {message}")
     try:
         mps2job.reading_of(mps2job.parsed_options([*shlex.split(options.mps2job), "--", "MODEL.mps"], refuse), refuse)
@@ -470,10 +494,11 @@ def check_words(options):
         refuse(cause)
     missing = next((name for name in options.solvers or () if not solvers.find(name)), None)
     if missing:
-        raise Wrong(70, f"{solvers.TITLES.get(missing, missing)} isn't installed (apt-get install {solvers.PACKAGES[missing]})")
+        raise Wrong(70, not_installed(missing))
 
 
-def batch(options, signals):
+def batch(options: argparse.Namespace, signals: Signals) -> int:
+    "runs all, and gives the exit status"
     files, out = files_of(options)
     check_words(options)
     try:
@@ -503,23 +528,31 @@ def batch(options, signals):
     return 0 if all(record["state"] == "ended" for record in summary.records.values()) else OLD_OPEN if options.old_codes else OPEN
 
 
-def positive(kind):
-    def read(word):
+def positive(kind: Callable[[str], float]) -> Callable[[str], float]:
+    "reads a number above 0"
+    def read(word: str) -> float:
         if not kind(word) > 0:
             raise ValueError
         return kind(word)
     return read
 
 
+class Words(argparse.ArgumentParser):
+    "words that end the command where they are wrong"
+    def error(self, message: str) -> NoReturn:
+        print(f"{USAGE}: {message}", file=sys.stderr)
+        sys.exit(64)
+
+
 @command("mps360-batch")
-def main(words=None):
+def main(words: list[str] | None = None) -> int:
+    "the command; its status"
     words = sys.argv[1:] if words is None else words
     guard()
     if any(word in ("-h", "--help") for word in words):
-        print(here(__doc__))
+        print(here(__doc__ or ""))
         return 0
-    parser = argparse.ArgumentParser(add_help=False, allow_abbrev=False)
-    parser.error = lambda message: (print(f"{USAGE}: {message}", file=sys.stderr), sys.exit(64))
+    parser = Words(add_help=False, allow_abbrev=False)
     parser.add_argument("-j", dest="at_once", type=positive(int), default=1)
     parser.add_argument("--time-limit", type=positive(float))
     parser.add_argument("--seconds", type=positive(float))

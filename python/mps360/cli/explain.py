@@ -25,8 +25,8 @@ from mps360.errors import Refused
 from mps360.explain import explain
 from mps360.explain.stops import MOST_SHOWN, more_than
 from mps360.listings.read import NoListing, parse
-from mps360.long_numbers import exact_job
 from mps360.output import command
+from mps360.jobs.write import exact_job
 from mps360.text import guard
 
 LINE_EACH = 10

@@ -9,10 +9,12 @@ The page has each verdict in a sentence, the plan and the rows as tables with de
 RANGE beside them, a ray as the rows that conflict, a direction as what grows, and parametric runs as plots; the listing stands at its end.
 It ends with 0, with 64 for wrong use, 65 where the text isn't a listing, or is one of another job, 66 where a file can't be read, 73
 where the page can't be written."""
+import hashlib
 import sys
 from mps360.listings.made import OtherJob
 from mps360.listings.read import NO_NAMES, NoListing, NoNames, read_names
 from mps360.pages.html import Page
+from mps360.pages.origin import Origin, now
 from mps360.cli.options import Parser, ending
 from mps360.output import command, write_file
 from mps360.commands import here
@@ -23,6 +25,13 @@ NAME = "listing2html.py"
 def say(message: str) -> None:
     "a line on standard error"
     print(f"{NAME}: {message}", file=sys.stderr)
+
+
+def read_text(path: str) -> tuple[str, str]:
+    "a file's lines, their bytes as letters of the same codes, and the file's SHA-256"
+    with open(path, "rb") as file:
+        content = file.read()
+    return content.decode("latin-1").replace("\r\n", "\n").replace("\r", "\n"), hashlib.sha256(content).hexdigest()
 
 
 @command(NAME)
@@ -39,7 +48,7 @@ def main(words: list[str] | None = None) -> int:
     parser.add_argument("listing")
     options = parser.parse_args(words)
     try:
-        job, listing = (open(path, encoding="latin-1").read() for path in (options.job, options.listing))
+        (job, checksum), (listing, _) = (read_text(path) for path in (options.job, options.listing))
         names = read_names(options.names) if options.names else NO_NAMES
     except (OSError, ValueError) as cause:
         say(f"can't read: {cause}")
@@ -48,7 +57,7 @@ def main(words: list[str] | None = None) -> int:
         say(f"{options.names}: {cause}")
         return 65
     try:
-        page = Page(job, listing, names)
+        page = Page(job, listing, names, Origin(now(), options.job, checksum))
         text = page.whole()
     except (NoListing, OtherJob, ZeroDivisionError, TypeError, ValueError) as cause:
         say(f"no page of this: {cause}")

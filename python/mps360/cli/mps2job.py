@@ -38,7 +38,7 @@ from typing import NoReturn
 from mps360 import errors
 from mps360 import mps
 from mps360.cli.options import Parser
-from mps360.long_numbers import exact_job
+from mps360.jobs.write import exact_job
 from mps360.numbers import number
 from mps360.output import command, write_file
 from mps360.commands import here

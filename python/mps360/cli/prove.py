@@ -26,29 +26,36 @@ import os
 import pathlib
 import signal
 import sys
+from collections.abc import Sequence
 from fractions import Fraction
-from mps360 import notes, routes, runs, solvers
+from typing import NoReturn
+from mps360 import notes, routes, runs
+from mps360.at_hand import Tool
 from mps360.bases import WRITERS
 from mps360.cli import basis2deck, solve
-from mps360.cli.options import positive, solvers_of
+from mps360.cli.route_options import positive, solvers_of
 from mps360.cli.words import joined
+from mps360.jobs.write import Job
 from mps360.life import FIRST, Life
+from mps360.model import Model
 from mps360.commands import here
 from mps360.output import command
+from mps360.solver_names import NoBasis
 
 NAME = "prove"
 NO_BASIS = "no basis of "
 Ended = solve.Ended
 
 
-def plan_of(options):
+def plan_of(options: argparse.Namespace) -> routes.Plan:
     "a basis of each solver that is named, then PRIMAL from the opening basis: each for so many seconds, and none beside another"
     seconds = options.seconds
     return routes.Plan(solvers=options.solvers, opening_first=False, exact=False, solver_seconds=seconds, run_seconds=seconds, last_seconds=seconds)
 
 
-def told(attempt, model, words):
+def told(attempt: runs.Attempt, model: Model, words: str) -> str:
     "what the verdict of a run says"
+    assert attempt.verdict is not None
     verdict, steps, objective = attempt.verdict.groups()
     verdict += notes.after_verdict(model)
     if objective:
@@ -58,7 +65,7 @@ def told(attempt, model, words):
     return f"{verdict}, by {attempt.words} in {steps} step{'' if steps == '1' else 's'}{words}"
 
 
-def last_line(outcome, model, kind):
+def last_line(outcome: routes.Outcome, model: Model, kind: str) -> str:
     "what is proved, and by which route"
     attempt = outcome.attempt
     failed = [tried for tried in outcome.routes if tried.why and not tried.why.startswith(NO_BASIS) and tried.words != attempt.words]
@@ -72,7 +79,7 @@ def last_line(outcome, model, kind):
     return before[kind] + told(attempt, model, part + others)
 
 
-def keep(options, attempt, job):
+def keep(options: argparse.Namespace, attempt: runs.Attempt, job: Job) -> None:
     "the job, its listing, the table of names and what the solver wrote stay"
     if not options.keep:
         return
@@ -84,9 +91,9 @@ def keep(options, attempt, job):
         solve.kept(folder, f"{stem}.{attempt.solver.name}", attempt.written.encode("latin-1"))
 
 
-def outcome_of(options, job, program, life):
+def outcome_of(options: argparse.Namespace, job: Job, program: Tool, life: Life) -> routes.Outcome:
     "what the routes came to"
-    way = routes.Routes(job, program, plan_of(options), None, runs.Observer(say=life.say, heard=life.heard, tick=life.tick))
+    way = routes.Routes(job, program, plan_of(options), observer=runs.Observer(say=life.say, heard=life.heard, tick=life.tick))
     if options.basis:
         way.begin_at(basis2deck.read_basis(options.basis, job.file, options.writer), os.path.basename(options.basis))
     try:
@@ -95,13 +102,14 @@ def outcome_of(options, job, program, life):
         raise Ended(70, f"can't run {program.command[0]}: {cause.strerror}")
     except runs.NoAnswer as cause:
         raise Ended(cause.status, *cause.lines, str(cause))
-    except solvers.NoBasis as cause:
+    except NoBasis as cause:
         raise Ended(70, str(cause))
     finally:
         life.clear()
 
 
-def prove(options, passed):
+def prove(options: argparse.Namespace, passed: list[str]) -> int:
+    "the whole; the exit status"
     life = Life(NAME, options.life)
     job = basis2deck.read_job(options.model, passed)
     program = solve.program_of(options)
@@ -115,9 +123,16 @@ def prove(options, passed):
     return outcome.status
 
 
-def options_of(words, life):
-    parser = argparse.ArgumentParser(add_help=False, allow_abbrev=False)
-    parser.error = lambda message: (life.say(message), sys.exit(64))
+class Words(argparse.ArgumentParser):
+    "words that end the command where they are wrong"
+    def error(self, message: str) -> NoReturn:
+        Life(NAME).say(message)
+        sys.exit(64)
+
+
+def options_of(words: Sequence[str]) -> tuple[argparse.Namespace, list[str]]:
+    "the options that these words say, and the words for mps2job.py"
+    parser = Words(add_help=False, allow_abbrev=False)
     begin = parser.add_mutually_exclusive_group()
     begin.add_argument("--basis")
     begin.add_argument("--with", dest="solvers", type=solvers_of, default=())
@@ -136,21 +151,22 @@ def options_of(words, life):
 
 
 @command(NAME)
-def main(words=None):
+def main(words: list[str] | None = None) -> int:
+    "the command; its status"
     words = sys.argv[1:] if words is None else words
     if any(word in ("-h", "--help") for word in words):
-        print(here(__doc__))
+        print(here(__doc__ or ""))
         return 0
     life = Life(NAME)
-    options, passed = options_of(words, life)
+    options, passed = options_of(words)
     signal.signal(signal.SIGTERM, solve.interrupt)
     try:
         return prove(options, passed)
     except (Ended, basis2deck.Ended) as ended:
-        status, *words = ended.args
-        for line in "\n".join(words).split("\n"):
+        status, *told_words = ended.args
+        for line in "\n".join(told_words).split("\n"):
             life.say(line)
-        return status
+        return int(status)
     except KeyboardInterrupt:
         life.say("not proved: interrupted before the program ran")
         return 130

@@ -23,7 +23,7 @@ import pathlib
 from typing import NoReturn
 from collections.abc import Callable
 from fractions import Fraction
-from mps360.jobs.write import Job
+from mps360.jobs.write import Job, exact_job
 from mps360.listings.write import Answer
 import json
 import os
@@ -38,8 +38,6 @@ from mps360.cli.mps2job import say
 from mps360.output import command, write_file
 from mps360.commands import here
 from mps360.cli.words import taken
-from mps360.long_answers import listing_of
-from mps360.long_numbers import exact_job
 
 NAME = "solution2listing.py"
 
@@ -107,6 +105,7 @@ def answered(options: argparse.Namespace, solution: str) -> tuple[Job, Answer, s
     except errors.Refused as cause:
         raise Ended(65, f"{options.file}: {cause}") from None
     answer = answer_of(solution, model)
+    from mps360.long_answers import listing_of
     try:
         return job, answer, listing_of(job, answer)
     except Refused as cause:

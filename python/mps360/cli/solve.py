@@ -32,6 +32,8 @@ that begins with - is handed to mps2job.py as it stands (mps2job.py --help has t
 It ends with the status of the run: 0, 1 no plan, 2 no bound, more in docs/FAULTS.md; or with 64 for wrong use, 65 where MODEL is refused, 66
 where it can't be read, 70 where there is no program or no solver, 73 where a file can't be written, 124 where there is no end in S seconds, 130
 after Ctrl-C or a TERM signal: then what stands is said. A deck that is punched goes to the file PUNCH of this folder."""
+from __future__ import annotations
+
 import argparse
 import hashlib
 import io
@@ -42,22 +44,29 @@ import re
 import shlex
 import signal
 import sys
-from mps360.cli import mps2job
+from collections.abc import Callable, Iterator, Sequence
 from fractions import Fraction
+from typing import TYPE_CHECKING, Any, NoReturn
+from mps360.cli import mps2job
 from mps360.listings import tables
-from mps360.listings.read import NO_NAMES, NoListing, NoNames, each_line, name_back, names_of, parse, read_names
-from mps360 import at_hand, errors, life, mps, notes, routes, runs, solvers
-from mps360.cli.options import add_routes, check_routes, plan_of
+from mps360.listings.read import NO_NAMES, NoListing, NoNames, each_line, long_table, name_back, names_of, parse, read_names
+from mps360 import at_hand, errors, life, mps, notes, routes, runs
+from mps360.cli.route_options import add_routes, check_routes, plan_of
 from mps360.cli.words import joined
 from mps360.provenance import Provenance
 from mps360.commands import called, here
-from mps360.long_numbers import exact_job
-from mps360.listings import restore
+from mps360.jobs.write import Job, exact_job
 from mps360.listings.made import OtherJob, check_made
 from mps360.output import command, make_folder, write_file
-from mps360.text import marked_decimal
-from mps360.text import as_lines, as_text
+from mps360.solver_names import NoBasis
+from mps360.text import as_lines, as_text, marked_decimal
 
+if TYPE_CHECKING:
+    from mps360.bases import Basis
+
+# the kind of a variable, its name, and its limits; and what gives them for its number
+Limited = tuple[str, str, Fraction | None, Fraction | None]
+Variable = Callable[[int], Limited]
 NAME = "solve"
 MOST_LINES = 40
 # the status of a run that met a number which doesn't fit, and what is said then of a file with long numbers
@@ -72,15 +81,17 @@ class Ended(Exception):
     "the work is over, with this status and these words"
 
 
-def say(words):
+def say(words: object) -> None:
+    "a line on standard error"
     print(f"{NAME}: {as_lines(str(words))}", file=sys.stderr, flush=True)
 
 
-def wrong_use(message):
+def wrong_use(message: object) -> NoReturn:
+    "ends the command for wrong use"
     raise Ended(64, message)
 
 
-def is_job(content):
+def is_job(content: bytes) -> bool:
     "whether the first card that means something is PROGRAM"
     first = next((line for line in content.split(b"\n") if line.strip() and not line.startswith(b"*")), b"")
     return re.match(rb"(\S* +)PROGRAM\b", first) is not None
@@ -88,7 +99,7 @@ def is_job(content):
 
 # ---- the job
 
-def explaining(options, passed):
+def explaining(options: argparse.Namespace, passed: list[str]) -> str:
     "the words of the command that explains the listing"
     if options.keep or options.model == "-":
         folder = options.keep or "FOLDER"
@@ -99,8 +110,13 @@ def explaining(options, passed):
 
 class Model:
     "a model, as the job that is run and the table of its names"
-    def __init__(self, options, passed):
-        self.path, self.notes, self.names, self.table, self.converted = options.model, [], NO_NAMES, b"", None
+    def __init__(self, options: argparse.Namespace, passed: list[str]) -> None:
+        self.path, self.table = str(options.model), b""
+        self.notes: list[str] = []
+        self.names: Any = NO_NAMES
+        self.converted: Job | None = None
+        self.ranging = False
+        self.basis: Basis | None
         self.basis, self.has_basis, self.explained = None, False, explaining(options, passed)
         try:
             content = sys.stdin.buffer.read() if options.model == "-" else pathlib.Path(options.model).read_bytes()
@@ -123,10 +139,12 @@ class Model:
         else:
             self.convert(content, options, passed)
 
-    def take_names(self, path):
+    def take_names(self, path: str) -> None:
+        "the table of names of a job"
         self.names, self.table = read_names(path), pathlib.Path(path).read_bytes()
 
-    def convert(self, content, options, passed):
+    def convert(self, content: bytes, options: argparse.Namespace, passed: list[str]) -> None:
+        "the job of a file"
         words = mps2job.parsed_options([*passed, "--", self.path], wrong_use)
         try:
             model = mps.read_bytes(content, mps2job.reading_of(words, wrong_use), "" if self.path == "-" else self.path)
@@ -142,7 +160,8 @@ class Model:
         table = job.name_map()
         self.names, self.table = names_of(table), (json.dumps(table, indent=1) + "\n").encode()
 
-    def take_basis(self, options, job):
+    def take_basis(self, options: argparse.Namespace, job: Job) -> None:
+        "the basis that is handed in"
         from mps360.cli import basis2deck
         try:
             self.basis = basis2deck.read_basis(options.basis, job.file, options.writer)
@@ -151,7 +170,7 @@ class Model:
             raise Ended(status, *words.split("\n"))
         self.notes += self.basis.said
 
-    def ran(self, attempt):
+    def ran(self, attempt: runs.Attempt) -> None:
         "the listing is that of this attempt's job"
         if self.converted:
             self.job, self.has_basis = attempt.job.encode("ascii"), attempt.basis is not None and not attempt.by_checker
@@ -162,7 +181,7 @@ class Model:
 
 class Answer:
     "what a run came to"
-    def __init__(self, model, run, provenance):
+    def __init__(self, model: Model, run: runs.Attempt, provenance: Provenance) -> None:
         self.run, self.provenance, self.model = run, provenance, model
         self.text = run.listing.decode("latin-1")
         try:
@@ -176,30 +195,32 @@ class Answer:
         if self.result["status"] == OVERFLOW and model.converted and model.converted.split:
             model.notes.append(SHORTER)
 
-    def objective_of(self, reports):
+    def objective_of(self, reports: list[Any]) -> str:
         "the name of the objective; the reports are compared with the job"
         job = self.model.converted
-        self.variable = None
+        self.variable: Variable | None = None
         if job:
             check_made(job, reports, self.model.has_basis, self.model.ranging)
             self.variable = variables_of(job)
-            return job.model.objective
+            return job.model.objective or ""
         from mps360.listings.follow import follow
         about, _ = follow(self.model.job.decode("latin-1"), reports)
         programs = [program for program, report in zip(about, reports) if program and report["report"] == "verdict"]
         name = programs[-1].names[programs[-1].objective] if programs else "the objective"
         if programs:
             self.variable = variables_of_job(programs[-1], self.model.names[0])
-        return self.model.names[0].get("rows", {}).get(name, name) if programs else name
+        return str(self.model.names[0].get("rows", {}).get(name, name)) if programs else name
 
-    def last(self, kind):
+    def last(self, kind: str) -> Any:
+        "the last report of a kind, or None"
         return next((report for report in reversed(self.listing["reports"]) if report["report"] == kind), None)
 
-    def point(self):
+    def point(self) -> Any:
         "the best plan for other solvers, None where there is none or its tables aren't whole"
-        solution, model = self.last("solution"), self.model.converted.file
-        if self.result["verdict"] != "optimal" or not solution:
+        solution, job = self.last("solution"), self.model.converted
+        if self.result["verdict"] != "optimal" or not solution or not job:
             return None
+        model = job.file
         from mps360 import solution_out
         rows, columns = ([(line["at"], Fraction(line["activity"]), Fraction(line[price])) for line in solution.get(key, ())]
                          for key, price in (("rows", "dual"), ("columns", "reduced")))
@@ -208,18 +229,16 @@ class Answer:
         basis = self.run.basis if self.run.by_checker else None
         return solution_out.point_of(model, rows, columns, basis=basis, has_basis=basis is not None or not self.run.by_checker)
 
-    def printed_by(self):
-        "who printed the listing, by which route, and the checksums, as the page says it"
-        return " ".join(part for part in (self.provenance.page_sentence(), self.provenance.route_sentence(), self.provenance.checksum_sentence()) if part)
-
-    def json(self):
+    def json(self) -> str:
+        "the answer as JSON"
         run = {"model": self.model.path, "program": self.provenance.kind, "seconds": round(self.run.seconds, 3), "interrupted": self.run.interrupted,
                "notes": self.model.notes, **self.provenance.as_json()}
         whole = tables.document(self.listing, run)
         tables.add_decimals(whole)
         return tables.json_text(whole)
 
-    def csv(self):
+    def csv(self) -> str:
+        "the answer as CSV"
         out = io.StringIO()
         if self.last("solution") and self.result["verdict"] == "optimal":
             tables.write_solution(self.listing, True, out)
@@ -234,7 +253,8 @@ class Answer:
 
     # ---- as a text
 
-    def text_lines(self):
+    def text_lines(self) -> Iterator[str]:
+        "the lines of the answer as a text"
         verdict = self.last("verdict")
         if verdict:
             yield self.sentence(verdict)
@@ -252,7 +272,8 @@ class Answer:
         yield from (part for part in (self.provenance.route_sentence(), self.provenance.checksum_sentence()) if part)
         yield f"Scripts, which are tested, {'made the job of the file and ' if self.model.converted else ''}put in names and decimals (rounded after ≈)."
 
-    def sentence(self, verdict):
+    def sentence(self, verdict: Any) -> str:
+        "a verdict in a sentence"
         sense = self.result["sense"]
         most, more = ("greatest", "more") if sense == "MAX" else ("least", "less")
         changed = notes.after_verdict(self.model.converted.file) if self.model.converted else ""
@@ -266,14 +287,14 @@ class Answer:
             return f"INFEASIBLE{changed}: {self.crossed(verdict['crossed'])}."
         return f"INFEASIBLE{changed}: no plan keeps all limits; those of these rows and columns conflict, with these factors."
 
-    def crossed(self, number):
+    def crossed(self, number: int) -> str:
         "the variable whose lower limit is above its upper one, with its limits"
         if not self.variable:
             return f"variable {number} has a lower limit above its upper one"
         kind, name, lower, upper = self.variable(number)
         return f"the lower limit of the {kind} {as_text(name)}, {both(str(lower))}, is above its upper one, {both(str(upper))}"
 
-    def table_of(self, verdict):
+    def table_of(self, verdict: Any) -> Iterator[str]:
         "the plan with its rows, or the ray or the direction"
         if not verdict:
             return
@@ -294,7 +315,8 @@ class Answer:
             lines = [(line["name"], both(line["activity"]), both(line["direction"])) for line in moving]
             yield from table("Row or column", ("activity", "changes by"), lines)
 
-    def solution_table(self, head, price, lines, near, which, interval):
+    def solution_table(self, head: str, price: str, lines: list[Any], near: dict[int, Any], which: str, interval: tuple[str, str, str]) -> Iterator[str]:
+        "the lines of a table of SOLUTION that aren't 0"
         low, high, words = interval
         shown = [line for line in lines if line[which] != "0"]
         names = ("activity", "shadow price" if price == "dual" else "reduced cost", *([words] if near else []))
@@ -304,43 +326,48 @@ class Answer:
             yield f"({len(lines) - len(shown)} more have {'the activity' if which == 'activity' else 'the price'} 0)"
 
 
-def variables_of(job):
+def variables_of(job: Job) -> Variable:
     "from the number of a variable of a job, rows first, to its kind, and its name and its limits in the file"
     rows, columns, file = list(job.rows), list(job.columns), job.file
-    def variable(number):
+    def variable(number: int) -> Limited:
         if number <= len(rows):
             return "row", rows[number - 1], *file.row_limits(rows[number - 1])
         return "column", columns[number - len(rows) - 1], *file.column_limits(columns[number - len(rows) - 1])
     return variable
 
 
-def variables_of_job(program, names):
+def variables_of_job(program: Any, names: dict[str, Any]) -> Variable:
     "the same of a linear program that a job selects, by the names of the table"
-    long = restore.Table(names["long"]) if "long" in names else None
-    def variable(number):
+    long = long_table(names)
+    def variable(number: int) -> Limited:
         kind, name = "row" if number <= program.m else "column", program.names[number - 1]
         limits = long.limits(number) if long else None
-        return kind, names.get(kind + "s", {}).get(name, name), *(limits or (program.lower[number - 1], program.upper[number - 1]))
+        lower, upper = limits or (program.lower[number - 1], program.upper[number - 1])
+        return kind, names.get(kind + "s", {}).get(name, name), lower, upper
     return variable
 
 
-def conflict(ray, variable):
+def conflict(ray: list[Any], variable: Variable | None) -> Iterator[str]:
     "the limits that conflict, each with its factor, and their sum where the limits are known"
     if not variable:
         yield from table("Row or column", ("factor",), [(line["name"], both(line["multiplier"])) for line in ray])
         return
-    taken = [(line, factor := Fraction(line["multiplier"]), variable(line["number"])[3 if factor > 0 else 2]) for line in ray]
-    if any(limit is None for _, _, limit in taken):
-        raise OtherJob("the ray names a limit that the job hasn't")
+    taken = []
+    for line in ray:
+        factor, (_, _, lower, upper) = Fraction(line["multiplier"]), variable(line["number"])
+        limit = upper if factor > 0 else lower
+        if limit is None:
+            raise OtherJob("the ray names a limit that the job hasn't")
+        taken.append((line, factor, limit))
     lines = [(line["name"], both(line["multiplier"]), f"at {'most' if factor > 0 else 'least'} {both(str(limit))}", both(str(factor * limit)))
              for line, factor, limit in taken]
     yield from table("Row or column", ("factor", "its limit", "factor times activity is at most"), lines)
-    total = sum(factor * limit for _, factor, limit in taken)
+    total = sum((factor * limit for _, factor, limit in taken), Fraction(0))
     yield (f"Together the activities, each times its factor, are 0, whatever the plan; by these limits they are at most {both(str(total))}. "
            f"If one limit alone is to give way, then by at least {both(str(-total))} divided by its factor, taken without its sign.")
 
 
-def with_cells(text, cells):
+def with_cells(text: str, cells: dict[str, str]) -> str:
     "CSV with these columns behind the others, the same on each line"
     import csv
     head, *lines = csv.reader(io.StringIO(text))
@@ -349,13 +376,13 @@ def with_cells(text, cells):
     return out.getvalue()
 
 
-def both(number):
+def both(number: str) -> str:
     "a number as a decimal, with the exact fraction beside it where it is another text"
     text = marked_decimal(number)
     return text if text == number else f"{text} = {number}"
 
 
-def ends_of(line, low, high):
+def ends_of(line: dict[str, Any], low: str, high: str) -> str:
     "an interval of RANGE, or nothing"
     if low not in line or line[low] == "-":
         return ""
@@ -364,7 +391,7 @@ def ends_of(line, low, high):
     return f"{'any' if line[low] is None else marked_decimal(line[low])} to {'any' if line[high] is None else marked_decimal(line[high])}"
 
 
-def table(head, names, lines):
+def table(head: str, names: Sequence[str], lines: Sequence[tuple[str, ...]]) -> Iterator[str]:
     "the lines of a table: a name, and texts under these names"
     width = max([len(head), *(len(as_text(line[0])) for line in lines[:MOST_LINES])])
     wide = [max([len(name), *(len(line[k]) for line in lines[:MOST_LINES])]) for k, name in enumerate(names, 1)]
@@ -377,16 +404,18 @@ def table(head, names, lines):
 
 # ---- the whole
 
-def kept(folder, name, content):
+def kept(folder: pathlib.Path, name: str, content: bytes) -> None:
+    "a file of a folder, which is made where it isn't there"
     make_folder(folder)
     write_file(folder / name, content)
 
 
-def stem_of(options):
+def stem_of(options: argparse.Namespace) -> str:
+    "the model's name, without its ending"
     return pathlib.Path(options.model).name.removesuffix(".gz").rsplit(".", 1)[0] if options.model != "-" else "model"
 
 
-def write_solution(options, model, answer):
+def write_solution(options: argparse.Namespace, answer: Answer) -> None:
     "the files for other solvers; why one isn't written is said"
     wanted = [word for word in ("--write-basis", "--solution") if getattr(options, MODEL_WORDS[word])]
     if not wanted:
@@ -405,13 +434,15 @@ def write_solution(options, model, answer):
             say(f"{word}: {path} isn't written: {cause}")
 
 
-def write_outputs(options, model, answer):
-    write_solution(options, model, answer)
+def write_outputs(options: argparse.Namespace, model: Model, answer: Answer) -> None:
+    "the answer in each form that is wanted"
+    write_solution(options, answer)
     if options.keep:
         kept(pathlib.Path(options.keep), f"{stem_of(options)}.listing", answer.text.encode("latin-1"))
     if options.html:
         from mps360.pages.html import page as page_of
-        page = page_of(model.job.decode("latin-1"), answer.text, model.names, answer.printed_by(), model.notes)
+        from mps360.pages.origin import Origin
+        page = page_of(model.job.decode("latin-1"), answer.text, model.names, Origin.of(answer.provenance, options.model), model.notes)
         path = pathlib.Path(options.html)
         kept(path.parent, path.name, page.encode("utf-8"))
     if options.json:
@@ -422,32 +453,32 @@ def write_outputs(options, model, answer):
         print("\n".join(answer.text_lines()))
 
 
-def program_of(options):
+def program_of(options: argparse.Namespace) -> at_hand.Tool:
     "the program that runs; that it runs unproved is said"
     try:
         program = at_hand.solver_program(options.program)
     except errors.NoProgram as cause:
         raise Ended(70, str(cause))
     if program.kind == "unproved" and not program.prepare:
-        print(f"mps360: running UNPROVED, by the program that was compiled of these sources before; {at_hand.PROVES}", file=sys.stderr, flush=True)
+        at_hand.say_unproved(at_hand.PROGRAM)
     return program
 
 
-def checker_of(options):
-    "the checker of listings, or None"
+def checker_of(options: argparse.Namespace) -> Callable[[], at_hand.Tool | None]:
+    "finds the checker of listings, where it is needed"
     try:
-        return at_hand.listing_checker(options.checker)
+        return at_hand.checker_finder(options.checker)
     except errors.NoProgram as cause:
         raise Ended(70, str(cause))
 
 
-def outcome_of(options, model, program, checker, life):
+def outcome_of(options: argparse.Namespace, model: Model, program: at_hand.Tool, alive: life.Life) -> routes.Outcome:
     "what the run of a job, or the routes of an MPS file, came to"
-    observer = runs.Observer(say=life.say, going=life.say, heard=life.heard, tick=life.tick)
+    observer = runs.Observer(say=alive.say, going=alive.say, heard=alive.heard, tick=alive.tick)
     try:
         if not model.converted:
-            return routes.Outcome(runs.run_alone(model.job, program, seconds=options.seconds, begun=options.begun, observer=observer), [])
-        way = routes.Routes(model.converted, program, plan_of(options), checker, observer)
+            return routes.Outcome(runs.run_alone(model.job, program, seconds=options.seconds, begun=options.begun, observer=observer), [], program)
+        way = routes.Routes(model.converted, program, plan_of(options), checker_of(options), observer)
         if model.basis:
             way.begin_at(model.basis, os.path.basename(options.basis))
         return way.run()
@@ -455,13 +486,13 @@ def outcome_of(options, model, program, checker, life):
         raise Ended(70, f"can't run {cause.filename or program.command[0]}: {cause.strerror}")
     except runs.NoAnswer as cause:
         raise Ended(cause.status, str(cause))
-    except solvers.NoBasis as cause:
+    except NoBasis as cause:
         raise Ended(70, str(cause))
     finally:
-        life.clear()
+        alive.clear()
 
 
-def say_interrupted(attempt):
+def say_interrupted(attempt: runs.Attempt) -> None:
     "what stands after an interruption"
     lines = attempt.lines()
     stands = f"What was printed stands; its last line is: {lines[-1]}" if lines else "Nothing was printed."
@@ -469,24 +500,25 @@ def say_interrupted(attempt):
     say(f"interrupted after {attempt.seconds:.0f} s, when it {waited}. {stands}")
 
 
-def keep(options, name, content):
+def keep(options: argparse.Namespace, name: str, content: bytes) -> None:
+    "a file of the folder of --keep, where one is named"
     if options.keep:
         kept(pathlib.Path(options.keep), name, content)
 
 
-def solve(options, passed):
+def solve(options: argparse.Namespace, passed: list[str]) -> int:
+    "the whole; the exit status"
     model, stem = Model(options, passed), stem_of(options)
     keep(options, f"{stem}.job", model.job)
     if model.table:
         keep(options, f"{stem}.names", model.table)
-    program, checker = program_of(options), checker_of(options) if model.converted else None
-    outcome = outcome_of(options, model, program, checker, life.Life(NAME, options.life))
+    outcome = outcome_of(options, model, program_of(options), life.Life(NAME, options.life))
     attempt = outcome.attempt
     model.ran(attempt)
     keep(options, f"{stem}.job", model.job)
     if attempt.solver and attempt.written:
         keep(options, f"{stem}.{attempt.solver.name}", attempt.written.encode("latin-1"))
-    provenance = Provenance.of(outcome, program, checker, model.checksum)
+    provenance = Provenance.of(outcome, model.checksum)
     answer = Answer(model, attempt, provenance)
     if attempt.interrupted:
         say_interrupted(attempt)
@@ -496,21 +528,29 @@ def solve(options, passed):
     return outcome.status
 
 
-def interrupt(*_):
+def interrupt(*_: object) -> NoReturn:
+    "a TERM signal is as Ctrl-C"
     raise KeyboardInterrupt
 
 
+class Words(argparse.ArgumentParser):
+    "words that end the command where they are wrong"
+    def error(self, message: str) -> NoReturn:
+        say(message)
+        sys.exit(64)
+
+
 @command(NAME)
-def main(words=None):
+def main(words: list[str] | None = None) -> int:
+    "the command; its status"
     words = sys.argv[1:] if words is None else words
     if any(word in ("-h", "--help") for word in words):
-        print(here(__doc__))
+        print(here(__doc__ or ""))
         return 0
     if "--serve" in words:
         from mps360.cli.serve import main as serve
         return serve(words)
-    parser = argparse.ArgumentParser(add_help=False, allow_abbrev=False)
-    parser.error = lambda message: (say(message), sys.exit(64))
+    parser = Words(add_help=False, allow_abbrev=False)
     form = parser.add_mutually_exclusive_group()
     form.add_argument("--json", action="store_true")
     form.add_argument("--csv", action="store_true")
@@ -530,15 +570,15 @@ def main(words=None):
         parser.error("--solution-form goes with --solution")
     if fault := check_routes(options):
         parser.error(fault)
-    sys.stdout.reconfigure(encoding="utf-8")
+    getattr(sys.stdout, "reconfigure")(encoding="utf-8")
     signal.signal(signal.SIGTERM, interrupt)
     try:
         return solve(options, passed)
     except Ended as ended:
-        status, *words = ended.args
-        for word in words:
-            say(word)
-        return status
+        status, *told = ended.args
+        for line in told:
+            say(line)
+        return int(status)
     except KeyboardInterrupt:
         say("interrupted before the program ran; nothing stands")
         return 130

@@ -1,6 +1,7 @@
 """Writes the job of a model.
 
-    job = job_of(model, ranging=False)        a Job, or Refused
+    job = job_of(model, ranging=False)        a Job; Refused, or TooLong where 12 columns don't hold a number
+    job = exact_job(model, ranging=False)     a Job, or Refused; long numbers are kept exactly, and then job.split says by what
 
 A Job has text; rows, columns and sets {name: name in the job}; problem, the problem's name in it; name_map(), a table for JSON by which
 listing2json.py puts the file's names back: the names that were changed by those in the job, the objective, the sense, the sets taken, the
@@ -86,7 +87,7 @@ class Job:
                 "relaxed": [self.columns[name] for name in model.relaxed],
                 "rounded": [{"line": line, "from": word, "to": text_of(near)} for line, word, near in model.rounded], "said": self.said,
                 **({"doubles": [{"line": line, "from": word, "to": short} for line, word, short in file.doubles]} if file.doubles else {}),
-                **({"long": self.split.table(self)} if self.split else {})}
+                **({"units": file.units} if file.units else {}), **({"long": self.split.table(self)} if self.split else {})}
 
 
 class TooLong(Refused):
@@ -221,4 +222,16 @@ def job_of(model: Model, ranging: bool = False, title: str = "") -> Job:
         if size > MOST[what]:
             raise Refused(f"the job would have {size:,} {what}, and {MOST[what]:,} are the most")
     job.text = "\n".join(cards) + "\n"
+    return job
+
+
+def exact_job(model: Model, ranging: bool = False, title: str = "") -> Job:
+    "the job of a model, whose long numbers are kept exactly"
+    try:
+        return job_of(model, ranging, title)
+    except TooLong:
+        from mps360.long_numbers import split_model
+        split = split_model(model)
+    job = job_of(split.model, ranging, title)
+    job.split = split
     return job

@@ -8,10 +8,12 @@ import json
 import re
 from collections.abc import Iterator, Mapping
 from fractions import Fraction
-from typing import Any, Literal, NoReturn, TypedDict, Union
+from typing import TYPE_CHECKING, Any, Literal, NoReturn, TypedDict, Union
 
 from mps360.errors import Error
-from mps360.listings.restore import BadTable, Table, recount, restore
+
+if TYPE_CHECKING:
+    from mps360.listings.restore import Table
 
 # a line of a table, by the names of its columns: number is an int, all else text, None where the listing has NONE
 Line = dict[str, Any]
@@ -349,15 +351,23 @@ def names_of(names: Any) -> Names:
     constant = names.get("constant") or {}
     if names.get("constants") and "constant" not in names:
         raise NoNames("an older mps2job.py wrote it; make it anew")
+    long_table(names)
     try:
-        if "long" in names:
-            Table(names["long"])
         value, rhs = (None if constant.get(key) is None else Fraction(constant[key]) for key in ("value", "rhs"))
-    except BadTable as cause:
-        raise NoNames(str(cause)) from None
     except (AttributeError, TypeError, ValueError, ZeroDivisionError):
         raise NoNames("its constant isn't a number") from None
     return names, value, rhs
+
+
+def long_table(names: dict[str, Any]) -> "Table | None":
+    "what was added to the job for long numbers, by a table of names; None where nothing was"
+    if "long" not in names:
+        return None
+    from mps360.listings import restore
+    try:
+        return restore.Table(names["long"])
+    except restore.BadTable as cause:
+        raise NoNames(str(cause)) from None
 
 
 def objective_line(reports: list[Report], place: int, name: str | None) -> Line | None:
@@ -389,8 +399,9 @@ def name_back(listing: Listing, names: Names) -> bool:
     False where the constant belongs to another objective or right-hand side than a SOLUTION shows, and isn't added there"""
     table, constant, rhs = names
     reports: list[Any] = list(listing["reports"])
-    long = Table(table["long"]) if "long" in table else None
+    long = long_table(table)
     if long:
+        from mps360.listings.restore import recount, restore
         restore(reports, long)
     belongs = constant is None or add_constant(listing["reports"], table, constant, rhs)
     rows: int | None = None

@@ -1,7 +1,14 @@
 "The best value over the parameter of a parametric run: its breakpoints, and pictures of it in letters and in SVG."
+from __future__ import annotations
+
+from collections.abc import Callable, Iterable, Sequence
 from fractions import Fraction
 from xml.sax.saxutils import escape
+
+from mps360.listings.read import Line, Parametric
 from mps360.text import as_text
+
+Point = tuple[Fraction, Fraction]       # a parameter and the best value there
 
 WIDTH, HEIGHT = 61, 17
 # of the picture: its width, and of its labels the width of a letter, as wide as those of usual fonts are, and the height of a row
@@ -11,18 +18,18 @@ PASTS = {"ends": "the run ends at {}", "infeasible": "no plan past {}", "unbound
 
 
 class NoRun(Exception):
-    pass
+    "there is no parametric run that can be drawn"
 
 
-def value_at(lines, theta):
+def value_at(lines: Iterable[Line], theta: Fraction) -> Fraction:
     "price times activity, summed up"
     return sum(((Fraction(line["price"]) + theta * Fraction(line["price_rate"])) * (Fraction(line["value"]) + theta * Fraction(line["value_rate"]))
                 for line in lines), Fraction(0))
 
 
-def points_of(report):
+def points_of(report: Parametric) -> list[Point]:
     "the parameters at which the chain of lines bends or ends, with the values there"
-    points = []
+    points: list[Point] = []
     for interval in report["intervals"]:
         for theta in (Fraction(interval["from"]), Fraction(interval["to"])):
             value = value_at(interval["lines"], theta)
@@ -33,48 +40,44 @@ def points_of(report):
     return points
 
 
-def title(report):
+def title(report: Parametric) -> str:
+    "what is drawn, in a line"
     if report["by"] == "paraobj":
         return f"PARAOBJ: the best value, where the parameter times the row {report['change']} is added to the objective"
     return f"PARARHS: the best value, where the parameter times the set {report['change']} is added to the limits"
 
 
-def rounded(value):
+def rounded(value: Fraction) -> str:
+    "a number with six digits"
     return f"{float(value):.6g}"
 
 
-def scaled(points, width, height):
-    "from exact points to places in a picture, from the left and from the top"
+def scaled(points: Sequence[Point], width: int, height: int) -> tuple[Callable[[Fraction, Fraction], Point], Fraction, Fraction]:
+    "from exact points to places in a picture, from the left and from the top; and the least and the greatest value"
     first, last = points[0][0], points[-1][0]
     low, high = min(value for _, value in points), max(value for _, value in points)
 
-    def place(theta, value):
+    def place(theta: Fraction, value: Fraction) -> Point:
         across = (theta - first) / (last - first) if last > first else Fraction(1, 2)
         up = (value - low) / (high - low) if high > low else Fraction(1, 2)
         return across * width, (1 - up) * height
     return place, low, high
 
 
-def between(points, theta):
+def between(points: Sequence[Point], theta: Fraction) -> Fraction:
+    "the value at a parameter between the points"
     for (first, low), (last, high) in zip(points, points[1:]):
         if first <= theta <= last:
             return low + (high - low) * (theta - first) / (last - first)
     return points[0][1]
 
 
-def in_letters(report, points):
+def in_letters(report: Parametric, points: Sequence[Point]) -> str:
+    "the picture of letters, with a table of the exact values below it"
     place, low, high = scaled(points, WIDTH - 1, HEIGHT - 1)
-    grid = [[" "] * WIDTH for _ in range(HEIGHT)]
     first, last = points[0][0], points[-1][0]
-    for step in range(WIDTH if last > first else 0):
-        theta = first + (last - first) * step / (WIDTH - 1)
-        across, down = place(theta, between(points, theta))
-        grid[round(down)][round(across)] = "."
-    for theta, value in points:
-        across, down = place(theta, value)
-        grid[round(down)][round(across)] = "o"
     labels = {round(place(first, value)[1]): rounded(value) for value in (low, high)}
-    lines = [title(report), ""] + [f"{labels.get(k, ''):>12} |{''.join(row).rstrip()}" for k, row in enumerate(grid)]
+    lines = [title(report), ""] + [f"{labels.get(k, ''):>12} |{row}" for k, row in enumerate(letters(points))]
     under = rounded(first) + (rounded(last).rjust(WIDTH - len(rounded(first))) if last > first else "")
     lines += [" " * 13 + "+" + "-" * WIDTH, " " * 14 + under, ""]
     lines += [f"{'parameter':>16} {'value':>24}  change a unit"]
@@ -84,14 +87,31 @@ def in_letters(report, points):
     return "\n".join([*lines, how_it_ends(report)]) + "\n"
 
 
-def how_it_ends(report):
+def letters(points: Sequence[Point]) -> list[str]:
+    "the rows of the picture of letters: a dot for the line, an o for each point"
+    place, _, _ = scaled(points, WIDTH - 1, HEIGHT - 1)
+    grid = [[" "] * WIDTH for _ in range(HEIGHT)]
+    first, last = points[0][0], points[-1][0]
+    for step in range(WIDTH if last > first else 0):
+        theta = first + (last - first) * step / (WIDTH - 1)
+        across, down = place(theta, between(points, theta))
+        grid[round(down)][round(across)] = "."
+    for theta, value in points:
+        across, down = place(theta, value)
+        grid[round(down)][round(across)] = "o"
+    return ["".join(row).rstrip() for row in grid]
+
+
+def how_it_ends(report: Parametric) -> str:
+    "how the run ends, in a few words"
     return PASTS[report["end"]].format(report["at"]) if "end" in report else "the listing is cut off"
 
 
-def labelled(points, across):
+def labelled(points: Sequence[Point], across: Sequence[float]) -> list[tuple[str, float, int]]:
     """the labels of the breakpoints, in rows, so that none lies over another: the text, where its middle is, its row. A number that has more
     than MOST_LETTERS letters comes as a decimal; its exact value stands in the breakpoint's title. What finds no row is left out."""
-    ends, labels = [], []
+    ends: list[float] = []
+    labels: list[tuple[str, float, int]] = []
     for (theta, _), x in zip(points, across):
         words = str(theta) if len(str(theta)) <= MOST_LETTERS else rounded(theta)
         half = len(words) * LETTER / 2
@@ -104,7 +124,8 @@ def labelled(points, across):
     return labels
 
 
-def in_svg(report, points):
+def in_svg(report: Parametric, points: Sequence[Point]) -> str:
+    "the picture in SVG, with the exact values as titles of the points"
     wide, tall, left, top = 520, 300, 90, 40
     place, low, high = scaled(points, wide, tall)
     spots = [(left + float(across), top + float(down)) for across, down in (place(*point) for point in points)]
@@ -112,7 +133,7 @@ def in_svg(report, points):
     below = top + tall + ROW * (1 + max(row for _, _, row in labels))
     missing = len(points) - len(labels)
 
-    def text(x, y, words, anchor="middle"):
+    def text(x: float, y: float, words: str, anchor: str = "middle") -> str:
         return f'<text x="{x:.1f}" y="{y:.1f}" text-anchor="{anchor}">{escape(as_text(words))}</text>'
 
     parts = [f'<svg xmlns="http://www.w3.org/2000/svg" viewBox="0 0 {WHOLE} {below + 80}" font-family="sans-serif" font-size="12">',

@@ -6,7 +6,7 @@ use Rattle.listing_check.proofs.check.check_job.Goals as goal
 
 pub returns-in-Ok-clause-tells : goal.returns-in-Ok-clause-tells
 returns-in-Ok-clause-tells g c =
-    tells_too (record {
+    tells_too g.T.Checks.checker (record {
       job_fails = λ e. absurd e;
       job_quiet = λ e. c.in-Ok.ensures.quiet (λ stops. absurd (cc stops));
       job_read = λ e. c.in-Ok.ensures.read;
@@ -20,7 +20,7 @@ returns-in-Ok-clause-tells g c =
 
 pub returns-in-Err-clause-tells : goal.returns-in-Err-clause-tells
 returns-in-Err-clause-tells g c =
-    tells_too (record {
+    tells_too g.T.Checks.checker (record {
       job_fails = λ e. read_failed _ _ c.in-Err.stop e c.in-Err.ensures.cause;
       job_quiet = λ e. c.in-Err.ensures.quiet (λ stops. e (cc stops));
       job_read = λ e. read_whole _ _ c.in-Err.stop e c.in-Err.ensures.cause;

@@ -1,5 +1,4 @@
 use Rattle.std.proofs.Common.{ap, length}
-use Rattle.walk_definitions.specs.Checkers.{checker_of_128_bits}
 use Rattle.listing_check.specs.declared.status.CheckStatus.TheVariants.{Words}
 use Rattle.listing_check.specs.Statuses.{code_of}
 use Rattle.listing_check.specs.Answer.{words_text}
@@ -10,15 +9,15 @@ use Rattle.listing_check.proofs.check.check_listing.Goals as goal
 
 pub returns-then-is_empty-clause-answer : goal.returns-then-is_empty-clause-answer
 returns-then-is_empty-clause-answer g c bytes lines none job listing =
-    answer_of _ bytes lines job listing _ (λ e. e) (λ e. e) (λ e. e) (λ e. e) c.check_job.result c.check_job.ensures.tells
+    answer_of g.T.Checks.checker _ bytes lines job listing _ (λ e. e) (λ e. e) (λ e. e) (λ e. e) c.check_job.result c.check_job.ensures.tells
 
 pub returns-then-is_empty-clause-truth : goal.returns-then-is_empty-clause-truth
 returns-then-is_empty-clause-truth g c is bytes lines job listing =
-    true_listing (c.attested_law.ensures checker_of_128_bits) bytes lines _ (code_of c.check_job.result) _ (returns-then-is_empty-clause-answer g c bytes lines (without (length c.args.words.now) c.if-is_empty.ensures) job listing) (ap code_of is)
+    true_listing g.T.Checks.checker (c.attested_law.ensures g.T.Checks.checker) bytes lines _ (code_of c.check_job.result) _ (returns-then-is_empty-clause-answer g c bytes lines (without (length c.args.words.now) c.if-is_empty.ensures) job listing) (ap code_of is)
 
 pub returns-then-is_empty-clause-cause : goal.returns-then-is_empty-clause-cause
 returns-then-is_empty-clause-cause g c =
-    why_tells _ _ (without (length c.args.words.now) c.if-is_empty.ensures) (λ e. e) (λ e. e) (λ e. e) (λ e. e) (λ e. e) c.check_job.result c.check_job.ensures.tells
+    why_tells _ g.T.Checks.checker _ (without (length c.args.words.now) c.if-is_empty.ensures) (λ e. e) (λ e. e) (λ e. e) (λ e. e) (λ e. e) c.check_job.result c.check_job.ensures.tells
 
 -- ---- with words
 

@@ -8,7 +8,7 @@ use Rattle.listing_check.proofs.check.check_read.Goals as goal
 
 pub returns-in-Ok-clause-tells : goal.returns-in-Ok-clause-tells
 returns-in-Ok-clause-tells g c =
-    tells_too (record {
+    tells_too g.T.Checks.checker (record {
       job_fails = λ e. absurd e;
       job_quiet = λ e. e;
       job_read = λ e. e;

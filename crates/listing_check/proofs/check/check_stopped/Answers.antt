@@ -12,7 +12,7 @@ returns-in-ReadFault-clause-tells g c = says read_fault_text ReadFault (job_faul
 
 pub returns-in-Card-clause-tells : goal.returns-in-Card-clause-tells
 returns-in-Card-clause-tells g c =
-    tells_too (record {
+    tells_too g.T.Checks.checker (record {
       job_fails = λ e. absurd e;
       job_quiet = λ e is. absurd (cc (c.in-Card.is, is));
       job_read = λ e. subst IsWhole (sym c.in-Card.is) tt;
@@ -26,7 +26,7 @@ returns-in-Card-clause-tells g c =
 
 pub returns-in-Control-clause-tells : goal.returns-in-Control-clause-tells
 returns-in-Control-clause-tells g c =
-    tells_too (record {
+    tells_too g.T.Checks.checker (record {
       job_fails = λ e. absurd e;
       job_quiet = λ e is. absurd (cc (c.in-Control.is, is));
       job_read = λ e. subst IsWhole (sym c.in-Control.is) tt;

@@ -4,24 +4,24 @@ use Rattle.listing_walk.proofs.Stepping.{underway_first, underway_more, underway
 use Rattle.listing_walk.proofs.course.walk.Goals as goal
 
 pub loop-position-init : goal.loop-position-init
-loop-position-init c =
-    underway_first c.args.program.now c.args.cards.now c.args.listing.now c.new-machine.result c.new-place.result c.first_after.result c.first_after.ensures.same
+loop-position-init g c =
+    underway_first g.T.Checks.checker c.args.program.now c.args.cards.now c.args.listing.now c.new-machine.result c.new-place.result c.first_after.result c.first_after.ensures.same
     (c.new-machine.ensures.sound c.args.cards.now c.first_after.ensures.first c.first_after.ensures.last) (c.new-machine.ensures.start c.args.cards.now)
     c.new-place.ensures.rest c.new-place.ensures.pending c.new-place.ensures.reports
 
 pub returns-then-executed-ge-MAX_EXECUTED : goal.returns-then-executed-ge-MAX_EXECUTED
-returns-then-executed-ge-MAX_EXECUTED c =
-    at_limit_by c.args.program.now c.args.cards.now c.args.listing.now c.loop-position.invariant _ (omega (arith, c.count.ensures.count, c.loop-position-test.true)) (omega arith) c.close.ensures.closes
+returns-then-executed-ge-MAX_EXECUTED g c =
+    at_limit_by g.T.Checks.checker c.args.program.now c.args.cards.now c.args.listing.now c.loop-position.invariant _ (omega (arith, c.count.ensures.count, c.loop-position-test.true)) (omega arith) c.close.ensures.closes
 
 pub loop-position-preserved : goal.loop-position-preserved
-loop-position-preserved c =
-    underway_more c.args.program.now c.args.cards.now c.args.listing.now c.loop-position.invariant c.step.new.machine c.step.new.place c.in-Ok-Goes.to (omega arith) c.step.ensures.sound c.step.ensures.few
+loop-position-preserved g c =
+    underway_more g.T.Checks.checker c.args.program.now c.args.cards.now c.args.listing.now c.loop-position.invariant c.step.new.machine c.step.new.place c.in-Ok-Goes.to (omega arith) c.step.ensures.sound c.step.ensures.few
     (rw c.in-Ok-Goes.field-0-is at c.in-Ok-Goes.ensures.steps)
 
 pub returns-in-Ok-Finds : goal.returns-in-Ok-Finds
-returns-in-Ok-Finds c =
-    underway_found c.args.program.now c.args.cards.now c.args.listing.now c.loop-position.invariant c.step.new.machine c.step.new.place c.in-Ok-Finds.found (omega arith) (rw c.in-Ok-Finds.field-0-is at c.in-Ok-Finds.ensures.steps)
+returns-in-Ok-Finds g c =
+    underway_found g.T.Checks.checker c.args.program.now c.args.cards.now c.args.listing.now c.loop-position.invariant c.step.new.machine c.step.new.place c.in-Ok-Finds.found (omega arith) (rw c.in-Ok-Finds.field-0-is at c.in-Ok-Finds.ensures.steps)
 
 pub returns : goal.returns
-returns c =
-    over_by c.args.program.now c.args.cards.now c.args.listing.now c.loop-position.invariant _ (omega (arith, c.count.ensures.count, c.loop-position-test.false)) c.close-2.ensures.closes
+returns g c =
+    over_by g.T.Checks.checker c.args.program.now c.args.cards.now c.args.listing.now c.loop-position.invariant _ (omega (arith, c.count.ensures.count, c.loop-position-test.false)) c.close-2.ensures.closes

@@ -10,35 +10,35 @@ use Rattle.listing_walk.proofs.Verdict_walks.{solving_no_setup, solving_refused,
 use Rattle.listing_walk.proofs.solving.solve.Goals as goal
 
 pub returns-in_default-clause-walks : goal.returns-in_default-clause-walks
-returns-in_default-clause-walks c = λ cards. solving_no_setup c.args.verb c.args.card cards c.args.machine.now c.args.place.now c.fault.new.place c.in_default.is c.fault.result c.fault.ensures.passes
+returns-in_default-clause-walks g c = λ cards. solving_no_setup g.T.Checks.checker c.args.verb c.args.card cards c.args.machine.now c.args.place.now c.fault.new.place c.in_default.is c.fault.result c.fault.ensures.passes
 
 pub returns-in-Err-clause-walks : goal.returns-in-Err-clause-walks
-returns-in-Err-clause-walks c = λ cards.
-    solving_refused c.args.verb c.args.card cards c.args.machine.now c.args.place.now c.refuse.new.place c.in-Some.chosen c.in-Some.is c.in-Some-get.problem.now (sym c.in-Some-get.ensures) c.in-Err.refusal
+returns-in-Err-clause-walks g c = λ cards.
+    solving_refused g.T.Checks.checker c.args.verb c.args.card cards c.args.machine.now c.args.place.now c.refuse.new.place c.in-Some.chosen c.in-Some.is c.in-Some-get.problem.now (sym c.in-Some-get.ensures) c.in-Err.refusal
     c.in-Err.ensures.refused c.refuse.result c.refuse.ensures.refuses
 
 pub answer_path-requires-clause-sheet : goal.answer_path-requires-clause-sheet
-answer_path-requires-clause-sheet c = record {
+answer_path-requires-clause-sheet g c = record {
   rows = as_many_rows c.in-Some-get.problem.now (choice_of c.args.machine.now.cells c.in-Some.chosen.options) c.in-Ok.lp c.in-Ok.ensures.made.is_selected;
   columns = as_many_columns c.in-Some-get.problem.now (choice_of c.args.machine.now.cells c.in-Some.chosen.options) c.in-Ok.lp c.in-Ok.ensures.made.is_selected;
 }
 
 pub answer_path-requires-clause-no_change : goal.answer_path-requires-clause-no_change
-answer_path-requires-clause-no_change c = no_change c.in-Some-get.problem.now (choice_of c.args.machine.now.cells c.in-Some.chosen.options) c.in-Ok.lp c.in-Ok.ensures.made.is_selected
+answer_path-requires-clause-no_change g c = no_change c.in-Some-get.problem.now (choice_of c.args.machine.now.cells c.in-Some.chosen.options) c.in-Ok.lp c.in-Ok.ensures.made.is_selected
 
 pub returns-in-Err-answer_path-clause-walks : goal.returns-in-Err-answer_path-clause-walks
-returns-in-Err-answer_path-clause-walks c = λ cards.
-    solving_stopped_by c.args.verb c.args.card cards c.args.machine.now c.args.place.now c.answer_path.new.place c.in-Some.chosen c.in-Some.is c.in-Some-get.problem.now (sym c.in-Some-get.ensures) c.in-Ok.lp c.in-Ok.ensures.made
+returns-in-Err-answer_path-clause-walks g c = λ cards.
+    solving_stopped_by g.T.Checks.checker c.args.verb c.args.card cards c.args.machine.now c.args.place.now c.answer_path.new.place c.in-Some.chosen c.in-Some.is c.in-Some-get.problem.now (sym c.in-Some-get.ensures) c.in-Ok.lp c.in-Ok.ensures.made
     c.solver_of.result c.solver_of.ensures c.args.machine.now c.in-Err-answer_path.stopped c.in-Err-answer_path.ensures.answered c.stop_walk.result c.stop_walk.ensures
 
 pub returns-clause-walks : goal.returns-clause-walks
-returns-clause-walks c = λ cards.
-    solving_ended c.args.verb c.args.card cards c.args.machine.now c.args.place.now c.finish.new.place c.in-Some.chosen c.in-Some.is c.in-Some-get.problem.now (sym c.in-Some-get.ensures) c.in-Ok.lp c.in-Ok.ensures.made
+returns-clause-walks g c = λ cards.
+    solving_ended g.T.Checks.checker c.args.verb c.args.card cards c.args.machine.now c.args.place.now c.finish.new.place c.in-Some.chosen c.in-Some.is c.in-Some-get.problem.now (sym c.in-Some-get.ensures) c.in-Ok.lp c.in-Ok.ensures.made
     c.requires.demands c.in-Ok-answer_path.mark c.answer_path.new.place (λ limit. rw c.solver_of.ensures at (c.in-Ok-answer_path.ensures.answered limit)) c.act_of-act.result
     (c.act_of-act.ensures ∙ ap (λ (m : Machine Chosen). act_of m.cells c.args.card (Ended c.in-Ok-answer_path.mark)) (c.keep.ensures c.in-Some.chosen c.in-Some.is))
     c.keep.new.machine (c.keep.ensures c.in-Some.chosen c.in-Some.is) c.finish.result c.finish.ensures.finishes
 
 pub returns-clause-sound : goal.returns-clause-sound
-returns-clause-sound c = λ cards sound.
-    solving_sound c.args.verb c.args.card cards c.args.machine.now c.args.place.now c.finish.new.place c.in-Some.chosen c.in-Some.is c.in-Some-get.problem.now (sym c.in-Some-get.ensures) c.in-Ok.lp c.in-Ok.ensures.made
+returns-clause-sound g c = λ cards sound.
+    solving_sound g.T.Checks.checker c.args.verb c.args.card cards c.args.machine.now c.args.place.now c.finish.new.place c.in-Some.chosen c.in-Some.is c.in-Some-get.problem.now (sym c.in-Some-get.ensures) c.in-Ok.lp c.in-Ok.ensures.made
     c.in-Ok-answer_path.mark c.keep.new.machine (c.keep.ensures c.in-Some.chosen c.in-Some.is) sound
