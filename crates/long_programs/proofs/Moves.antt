@@ -1,13 +1,12 @@
 -- Limits and costs at a value of the parameter.
-use Rattle.std.proofs.Common.{◌≡◌, ℕ, List, refl, sym, ap, ap₂, subst, ◌∙◌, pos, Option, Some, None, length}
-use Rattle.std.specs.Prelude.{option_map}
+use Rattle.std.proofs.Common.{◌≡◌, ℕ, refl, ap, ◌∙◌, pos, Option, Some, None}
 use Rattle.exact_values.specs.Rational.{ℚ, zero_ℚ, ◌+ℚ◌, ◌*ℚ◌}
 use Rattle.exact_values.proofs.Ring.{by_ring2, ◌⊕◌, ◌⊗◌, ◌≐◌, number}
-use Rattle.lp_definitions.specs.LinearProgram.{LinearProgram, Matrix, IsVariable, lower_of, upper_of, cost, entry, combined, with_change_row}
+use Rattle.lp_definitions.specs.LinearProgram.{LinearProgram, IsVariable, lower_of, upper_of, cost, entry, with_change_row}
 use Rattle.sensitivity_laws.proofs.MovedLimits.{moved, lower_is, upper_is}
 use Rattle.long_programs.specs.declared.programs.ChangeAt.{ChangeAt}
 use Rattle.long_programs.specs.declared.programs.ChangeAt.TheVariants.{Unchanged, Row, Set}
-use Rattle.long_programs.specs.Programs.{program_of, shift_at, rate_at}
+use Rattle.long_programs.specs.Programs.{program_of, IsPlain, shift_at, rate_at}
 
 still : (theta : ℚ) (o : Option ℚ) → o ≡ moved theta zero_ℚ o
 still theta None = refl
@@ -36,8 +35,8 @@ sense_at p Unchanged theta = refl
 sense_at p (Row h) theta = refl
 sense_at p (Set shift) theta = refl
 
--- the cost at theta, where no row is added to the objective of p
-pub cost_at : (p : LinearProgram) (change : ChangeAt) (theta : ℚ) (j : ℕ) → p.change ≡ None → cost (program_of p change theta) j ≡ entry p.matrix p.objective j +ℚ theta *ℚ rate_at p change j
+-- the cost at theta
+pub cost_at : (p : LinearProgram) (change : ChangeAt) (theta : ℚ) (j : ℕ) → IsPlain p change → cost (program_of p change theta) j ≡ entry p.matrix p.objective j +ℚ theta *ℚ rate_at p change j
 cost_at p Unchanged theta j none = ap (λ c. with_change_row c (λ i. entry p.matrix i j) (entry p.matrix p.objective j)) none ∙ by_ring2 (entry p.matrix p.objective j) theta (λ l t. l ≐ l ⊕ t ⊗ number (pos 0)) refl
 cost_at p (Row h) theta j none = refl
 cost_at p (Set shift) theta j none = ap (λ c. with_change_row c (λ i. entry p.matrix i j) (entry p.matrix p.objective j)) none ∙ by_ring2 (entry p.matrix p.objective j) theta (λ l t. l ≐ l ⊕ t ⊗ number (pos 0)) refl

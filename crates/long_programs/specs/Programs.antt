@@ -1,13 +1,16 @@
 -- A linear program of a family at a value of the parameter.
 --     program_of p change theta    the linear program
 --     IsChangeIn p change          the row is a row, or each row has a shift
+--     IsPlain p change             no other row is added to the objective than the one that changes
+--     own_theta p                  theta of the change row that a program has, or 0
 --     shift_at p change k          what is added to the limits of variable k for each unit of theta
 --     rate_at p change j           what is added to the cost of column j for each unit of theta
 --     order_to limit x             how a number compares to a limit, if it is there
-use Rattle.std.specs.Prelude.{◌≡◌, ℕ, length, Option, option_map}
+use Rattle.std.specs.Prelude.{◌≡◌, length, Option, Some, None, option_map}
 use Rattle.std.specs.declared.cmp.Ordering.{Ordering}
 use Rattle.exact_values.specs.Rational.{ℚ, zero_ℚ, compare_ℚ}
 use Rattle.lp_definitions.specs.LinearProgram.{LinearProgram, Vector, IsRow, entry}
+use Rattle.lp_definitions.specs.declared.Change.{Change}
 use Rattle.simplex_definitions.specs.ObjectiveRun.{objective_family}
 use Rattle.simplex_definitions.specs.RhsRun.{shift_of, rhs_family}
 use Rattle.long_programs.specs.declared.programs.ChangeAt.{ChangeAt}
@@ -22,6 +25,18 @@ abbrev pub IsChangeIn : LinearProgram → ChangeAt → Type 0
 IsChangeIn p Unchanged = Unit {0}
 IsChangeIn p (Row h) = IsRow p.matrix h
 IsChangeIn p (Set shift) = length shift.now ≡ p.rows
+
+abbrev pub IsPlain : LinearProgram → ChangeAt → Type 0
+IsPlain p Unchanged = p.change ≡ None
+IsPlain p (Row h) = Unit {0}
+IsPlain p (Set shift) = p.change ≡ None
+
+abbrev pub theta_of : Option Change → ℚ
+theta_of None = zero_ℚ
+theta_of (Some change) = change.theta
+
+abbrev pub own_theta : LinearProgram → ℚ
+own_theta p = theta_of p.change
 
 abbrev pub shift_at : LinearProgram → ChangeAt → Vector
 shift_at p Unchanged k = zero_ℚ

@@ -2,10 +2,12 @@
 //! over one denominator, over which the parameter is a whole number too, so no program is made.
 #![tactic(auto)]
 
+mod own;
 mod programs;
 mod spreads;
 
+pub use own::{as_it_is, fraction_value, own_theta, spread_own};
 pub use programs::{
     ChangeAt, ProgramAt, change_of, compare_to_lower, compare_to_upper, number_on, subtract_cost,
 };
-pub use spreads::{Spread, spread_alone, spread_by, top_of};
+pub use spreads::{Spread, spread_by, top_of};

@@ -1,12 +1,12 @@
 // A linear program at a value of the parameter.
-ghost use Rattle.std.specs.Prelude.{◌≡◌, ℕ, None, IfOk, OnOk};
+ghost use Rattle.std.specs.Prelude.{◌≡◌, ℕ, IfOk, OnOk};
 ghost use Rattle.exact_values.specs.Rational.{ℚ, whole, zero_ℚ, compare_ℚ, ◌+ℚ◌, ◌-ℚ◌, ◌*ℚ◌};
 ghost use Rattle.lp_definitions.specs.LinearProgram.{LinearProgram, IsColumn, IsVariable, lower_of, upper_of, on_row, entry, cost};
 ghost use Rattle.problem_definitions.specs.Problem.{Problem};
 ghost use Rattle.question_definitions.specs.Answers.{Sheet as Views};
 ghost use Rattle.answer_definitions.specs.ParametricRuns.{family_of};
 ghost use Rattle.parametric_request.specs.Asking.{ServesChange, changing_of};
-ghost use Rattle.long_programs.specs.Programs.{program_of, IsChangeIn, shift_at, rate_at, order_to};
+ghost use Rattle.long_programs.specs.Programs.{program_of, IsChangeIn, IsPlain, shift_at, rate_at, order_to};
 ghost use Rattle.long_programs.specs.Places.{IsPlace};
 
 use frac128::Frac;
@@ -161,7 +161,7 @@ pub fn subtract_cost(
     moved: &Integer,
 ) -> Result<(), AllocError>
     requires column { IsColumn at.now.lp.now.matrix j }
-    requires no_change { at.now.lp.now.change ≡ None }
+    requires plain { IsPlain at.now.lp.now at.now.change }
     ensures { OnOk result ((theta : ℚ) → whole moved.now ≡ theta *ℚ whole bottom.now →
         sum.new ≡ sum.old -ℚ cost (program_of at.now.lp.now at.now.change theta) j *ℚ whole bottom.now) }
 {

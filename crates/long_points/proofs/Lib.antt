@@ -1,0 +1,4 @@
+pub mod Holds
+pub mod Orders
+pub mod Sums
+pub mod AtTheta

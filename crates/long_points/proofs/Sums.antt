@@ -1,0 +1,96 @@
+-- Sums that are made term by term, times a denominator.
+use Rattle.std.proofs.Common.{◌≡◌, ℕ, zero, suc, ◌+◌, ◌<◌, List, [], ◌∷◌, length, get_or, drop, refl, sym, ap, ◌∙◌, pos, negsuc, arith, add-one}
+use Rattle.std.specs.Prelude.{ℤ, nat_abs, ◌==◌, IsTrue}
+use Rattle.std.proofs.Math.Seq.{drop-cons}
+use Rattle.exact_values.specs.Rational.{ℚ, whole, zero_ℚ, one_ℚ, ◌+ℚ◌, ◌-ℚ◌, ◌*ℚ◌}
+use Rattle.exact_values.specs.Sums.{sum_to, sum_up_to}
+use Rattle.exact_values.proofs.Ring.{by_ring2, by_ring3, by_ring4, by_ring5, ◌⊕◌, ◌⊖◌, ◌⊗◌, ◌≐◌, number}
+use Rattle.exact_values.proofs.Ring_laws.{zero-mul}
+use Rattle.lp_definitions.specs.declared.Entry.{Entry}
+use Rattle.lp_definitions.specs.LinearProgram.{LinearProgram, Vector, entry}
+use Rattle.check_definitions.specs.Steps.{sum_of}
+use Rattle.check_definitions.specs.Checks.{entry_products, row_products}
+use Rattle.certificate_laws.proofs.Products.{sum_of-all}
+
+pub zero_top : (z : ℤ) → IsTrue (nat_abs z == 0) → whole z ≡ zero_ℚ
+zero_top (pos zero) e = refl
+zero_top (pos (suc n)) e = absurd (grind (arith, e))
+zero_top (negsuc n) e = absurd (grind (arith, e))
+
+-- ---- one product more
+
+pub nothing_added : (s e v d t : ℚ) → t ≡ v *ℚ d → t ≡ zero_ℚ → s ≡ s +ℚ e *ℚ v *ℚ d
+nothing_added s e v d t is none =
+    by_ring2 s e (λ s e. s ≐ s ⊕ e ⊗ number (pos 0)) refl
+    ∙ ap (λ q. s +ℚ e *ℚ q) (sym none ∙ is)
+    ∙ by_ring4 s e v d (λ s e v d. s ⊕ e ⊗ (v ⊗ d) ≐ s ⊕ e ⊗ v ⊗ d) refl
+
+pub none_added : (s e v d : ℚ) → e ≡ zero_ℚ → s ≡ s +ℚ e *ℚ v *ℚ d
+none_added s e v d none = by_ring3 s v d (λ s v d. s ≐ s ⊕ number (pos 0) ⊗ v ⊗ d) refl ∙ ap (λ e. s +ℚ e *ℚ v *ℚ d) (sym none)
+
+pub product_added : (s e v d t n new : ℚ) → t ≡ v *ℚ d → n ≡ e → new ≡ s +ℚ n *ℚ t → new ≡ s +ℚ e *ℚ v *ℚ d
+product_added s e v d t n new is is_n made = made ∙ (λ i. s +ℚ is_n i *ℚ is i) ∙ by_ring4 s e v d (λ s e v d. s ⊕ e ⊗ (v ⊗ d) ≐ s ⊕ e ⊗ v ⊗ d) refl
+
+-- ---- what is compared
+
+pub equation_compared : (total z d s a w t : ℚ) → w ≡ whole (negsuc 0) → a ≡ total *ℚ d → t ≡ z *ℚ d → s ≡ a +ℚ w *ℚ t → s ≡ (total -ℚ z) *ℚ d
+equation_compared total z d s a w t minus summed is made = made ∙ (λ i. summed i +ℚ minus i *ℚ is i) ∙ by_ring3 total z d (λ s z d. s ⊗ d ⊕ number (negsuc 0) ⊗ (z ⊗ d) ≐ (s ⊖ z) ⊗ d) refl
+
+pub cost_compared : (total y cost d a b s w t : ℚ) → a ≡ total *ℚ d → w ≡ one_ℚ → t ≡ y *ℚ d → b ≡ a +ℚ w *ℚ t → s ≡ b -ℚ cost *ℚ d → s ≡ (y -ℚ (cost -ℚ total)) *ℚ d
+cost_compared total y cost d a b s w t summed one is made taken =
+    taken ∙ ap (λ b. b -ℚ cost *ℚ d) (made ∙ (λ i. summed i +ℚ one i *ℚ is i))
+    ∙ by_ring4 total y cost d (λ s y k d. s ⊗ d ⊕ number (pos 1) ⊗ (y ⊗ d) ⊖ k ⊗ d ≐ (y ⊖ (k ⊖ s)) ⊗ d) refl
+
+pub slack_compared : (right z slack d e : ℚ) (scale activity shown : ℚ) (w a b c s u : ℚ) → scale ≡ d *ℚ e → activity ≡ z *ℚ d *ℚ e → shown ≡ slack *ℚ e *ℚ d → w ≡ whole (negsuc 0) → u ≡ right →
+    a ≡ zero_ℚ → b ≡ a +ℚ u *ℚ scale → c ≡ b +ℚ w *ℚ activity → s ≡ c +ℚ w *ℚ shown → s ≡ ((right -ℚ z) -ℚ slack) *ℚ (d *ℚ e)
+slack_compared right z slack d e scale activity shown w a b c s u is_scale is_activity is_shown minus is_u none first second third =
+    let first_is : b ≡ zero_ℚ +ℚ right *ℚ (d *ℚ e) = first ∙ (λ i. none i +ℚ is_u i *ℚ is_scale i) in
+    let second_is : c ≡ zero_ℚ +ℚ right *ℚ (d *ℚ e) +ℚ whole (negsuc 0) *ℚ (z *ℚ d *ℚ e) = second ∙ (λ i. first_is i +ℚ minus i *ℚ is_activity i) in
+    third ∙ (λ i. second_is i +ℚ minus i *ℚ is_shown i)
+    ∙ by_ring5 right z slack d e (λ r z s d e. number (pos 0) ⊕ r ⊗ (d ⊗ e) ⊕ number (negsuc 0) ⊗ (z ⊗ d ⊗ e) ⊕ number (negsuc 0) ⊗ (s ⊗ e ⊗ d) ≐ ((r ⊖ z) ⊖ s) ⊗ (d ⊗ e)) refl
+
+-- ---- a row
+
+module _ (p : LinearProgram) (z : Vector) (i : ℕ) where
+  abbrev pub terms : ℕ → ℚ
+  terms j = entry p.matrix i j *ℚ z (p.rows + j)
+
+  pub row_begins : (s d : ℚ) → s ≡ zero_ℚ → s ≡ sum_up_to 0 terms *ℚ d
+  unfolding sum_to
+  row_begins s d none = none ∙ sym (zero-mul d)
+
+  pub row_goes_on : (j : ℕ) (s new d : ℚ) → s ≡ sum_up_to j terms *ℚ d → new ≡ s +ℚ entry p.matrix i (j + 1) *ℚ z (p.rows + (j + 1)) *ℚ d → new ≡ sum_up_to (j + 1) terms *ℚ d
+  unfolding sum_to
+  row_goes_on j s new d so_far made =
+      made ∙ ap (λ s. s +ℚ terms (j + 1) *ℚ d) so_far
+      ∙ by_ring3 (sum_up_to j terms) (terms (j + 1)) d (λ s t d. s ⊗ d ⊕ t ⊗ d ≐ (s ⊕ t) ⊗ d) refl
+      ∙ ap (λ k. (sum_up_to j terms +ℚ terms k) *ℚ d) (add-one j)
+      ∙ ap (λ k. sum_up_to k terms *ℚ d) (sym (add-one j))
+
+  pub row_ends : (j : ℕ) (s d : ℚ) → j ≡ p.cols → s ≡ sum_up_to j terms *ℚ d → s ≡ sum_of zero_ℚ (row_products p z i) *ℚ d
+  row_ends j s d all so_far =
+      so_far ∙ ap (λ n. sum_up_to n terms *ℚ d) all
+      ∙ ap (λ q. q *ℚ d) (sym (sum_of-all (λ j. record { left = entry p.matrix i j; right = z (p.rows + j) }) p.cols))
+
+-- ---- a column
+
+-- the numbers that are left are to be added to the sum so far
+pub record IsPart (y : Vector) (es : List Entry) (i : ℕ) (d s : ℚ) : Type 0 where
+  pub so_far : ℚ
+  pub is : s ≡ so_far *ℚ d
+  pub left : sum_of zero_ℚ (entry_products y es) ≡ sum_of so_far (entry_products y (drop i es))
+
+module _ (y : Vector) (es : List Entry) where
+  pub column_begins : (s d : ℚ) → s ≡ zero_ℚ → IsPart y es 0 d s
+  column_begins s d none = record { so_far = zero_ℚ; is = none ∙ sym (zero-mul d); left = refl }
+
+  pub column_goes_on : (i : ℕ) (e : Entry) (d s t new : ℚ) → i < length es → get_or es i e ≡ e → t ≡ y e.row *ℚ d → new ≡ s +ℚ e.value *ℚ t → IsPart y es i d s → IsPart y es (i + 1) d new
+  column_goes_on i e d s t new below here is_t made part = record {
+    so_far = part.so_far +ℚ y e.row *ℚ e.value;
+    is = made ∙ (λ i. part.is i +ℚ e.value *ℚ is_t i) ∙ by_ring4 part.so_far e.value (y e.row) d (λ s v y d. s ⊗ d ⊕ v ⊗ (y ⊗ d) ≐ (s ⊕ y ⊗ v) ⊗ d) refl;
+    left = part.left ∙ ap (λ rest. sum_of part.so_far (entry_products y rest)) (drop-cons es i e below ∙ ap (λ x. x ∷ drop (suc i) es) here)
+        ∙ ap (λ k. sum_of (part.so_far +ℚ y e.row *ℚ e.value) (entry_products y (drop k es))) (sym (add-one i));
+  }
+
+  pub column_ends : (i : ℕ) (d s : ℚ) → drop i es ≡ [] → IsPart y es i d s → s ≡ sum_of zero_ℚ (entry_products y es) *ℚ d
+  column_ends i d s none part = part.is ∙ ap (λ q. q *ℚ d) (sym (part.left ∙ ap (λ rest. sum_of part.so_far (entry_products y rest)) none))

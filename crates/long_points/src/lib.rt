@@ -1,0 +1,15 @@
+//! The tests of points, prices, slacks and intervals in numbers of any length, each over the whole numbers of a vector over one
+//! denominator. Each tells exactly whether all comparisons of its definition hold.
+#![tactic(auto)]
+
+mod keeping;
+mod limits;
+mod prices;
+mod rows;
+mod slacks;
+
+pub use keeping::{End, all_prices_keep};
+pub use limits::{asked_by, both, counted, feasible, limits_hold, optimal, prices_stand, sign_of};
+pub use prices::{column_sum, reduced_costs_hold};
+pub use rows::{column_top, equations_hold};
+pub use slacks::slacks_hold;

@@ -1,0 +1,149 @@
+// The test of an interval of a parametric run.
+ghost use Rattle.std.specs.Prelude.{◌≡◌, ◌||◌, ◌&&◌, IfOk};
+ghost use Rattle.exact_values.specs.Rational.{ℚ};
+ghost use Rattle.exact_values.specs.Tests.{is_less, is_equal};
+ghost use Rattle.lp_definitions.specs.LinearProgram.{LinearProgram};
+ghost use Rattle.question_definitions.specs.Answers.{Sheet as Views, Changing};
+ghost use Rattle.parametric_request.specs.Asking.{changing_of};
+ghost use Rattle.walk_definitions.specs.Checkers.{checker_of_any_length};
+ghost use Rattle.listing_words.specs.Read.{sheet_view};
+ghost use Rattle.listing_claims.specs.declared.claims.Columns.{Columns as ColumnsView};
+ghost use Rattle.listing_claims.specs.Asked.{IsAskedOf};
+ghost use Rattle.listing_claims.specs.Intervals.{AreCounted, part_verdict};
+ghost use Rattle.listing_claims.specs.Passing.{Judges};
+ghost use Rattle.long_vectors.specs.Vectors.{IsValue};
+ghost use Rattle.long_programs.specs.Programs.{IsChangeIn, IsPlain};
+ghost use Rattle.long_points.specs.Ends.{IsEnd};
+ghost use Rattle.long_solutions.specs.Answers.{Answers};
+ghost use Rattle.long_solutions.specs.Lines.{AreOver, AreLinesOf, IsNumber, IsFamily, points_at, ends_verdict};
+
+use crate::values::{compare_values, compare_with_fraction, is_at_most};
+use crate::verdicts::judged;
+use listing_claims::{Columns, Part, Stop};
+use listing_tables::Sheet;
+use listing_words::Number;
+use long_points::{End, all_prices_keep, both, optimal};
+use long_programs::{ProgramAt, change_of, spread_by};
+use long_vectors::{Column, Value, along, column_of, value_of};
+use parametric_request::ParametricRequest;
+use std::alloc::{AllocError, Global};
+use std::cmp::Ordering;
+
+/// The lines of an interval, each over one denominator.
+#[derive(Drop)]
+pub struct Lines {
+    pub value: Column,
+    pub value_rate: Column,
+    pub price: Column,
+    pub price_rate: Column,
+}
+
+// The lines of an interval over denominators.
+fn lines_of(alloc: Global, columns: &Columns<'_>) -> Result<Lines, AllocError>
+    ensures { IfOk result (AreOver columns.now) }
+{
+    let value = column_of(alloc, &columns.value)?;
+    let value_rate = column_of(alloc, &columns.value_rate)?;
+    let price = column_of(alloc, &columns.price)?;
+    let price_rate = column_of(alloc, &columns.price_rate)?;
+    Ok(Lines {
+        value,
+        value_rate,
+        price,
+        price_rate,
+    })
+}
+
+// The point and the prices at theta.
+fn end_at(alloc: Global, theta: &Value, lines: &Lines) -> Result<End, AllocError>
+    requires lines { (p : LinearProgram) × AreLinesOf p lines.now }
+    ensures { IfOk result (λ end. (x : ℚ) (columns : ColumnsView) → IsValue x theta.now → AreOver columns lines.now → IsEnd (points_at x columns) x end) }
+{
+    let values = along(alloc, theta, &lines.value, &lines.value_rate)?;
+    let costs = along(alloc, theta, &lines.price, &lines.price_rate)?;
+    let point = spread_by(alloc, theta, &values)?;
+    let prices = spread_by(alloc, theta, &costs)?;
+    Ok(End { point, prices })
+}
+
+// Whether both ends are best, and what they keep between them.
+fn ends_hold(
+    alloc: Global,
+    at: &ProgramAt<'_>,
+    from: &Value,
+    to: &Value,
+    lines: &Lines,
+) -> Result<bool, AllocError>
+    requires change { IsChangeIn at.now.lp.now at.now.change }
+    requires plain { IsPlain at.now.lp.now at.now.change }
+    requires lines { AreLinesOf at.now.lp.now lines.now }
+    requires from { IsNumber from.now }
+    requires to { IsNumber to.now }
+    ensures { IfOk result (λ holds. (sheet : Views) (changing : Changing) (first last : ℚ) (columns : ColumnsView) → IsFamily sheet changing at.now.lp.now at.now.change →
+        AreCounted sheet.lp columns → IsValue first from.now → IsValue last to.now → AreOver columns lines.now → Answers holds (ends_verdict sheet changing first last columns)) }
+{
+    let start = end_at(alloc, from, lines)?;
+    let end = end_at(alloc, to, lines)?;
+    let begins = optimal(alloc, at, &start.point, &start.prices)?;
+    let closes = optimal(alloc, at, &end.point, &end.prices)?;
+    let keeps = all_prices_keep(alloc, at, &start, &end)?;
+    let rest = both(closes, keeps);
+    Ok(both(begins, rest))
+}
+
+// An interval goes on; the first may be a point.
+fn goes_on(order: Ordering, is_first: bool) -> bool
+    ensures { result ≡ (is_less order || (is_first && is_equal order)) }
+{
+    order.is_lt() || (is_first && order.is_eq())
+}
+
+// Whether an interval passes that begins at a value.
+fn interval_holds(
+    alloc: Global,
+    sheet: Sheet<'_>,
+    request: &ParametricRequest,
+    is_first: bool,
+    from: &Number<'_>,
+    part: &Part<'_>,
+) -> Result<bool, AllocError>
+    requires asked { IsAskedOf sheet request.now }
+    requires counted { AreCounted sheet.lp.now part.now.columns }
+    ensures { IfOk result (λ holds. Answers holds (part_verdict checker_of_any_length (sheet_view sheet.entry) (changing_of request.now.name request.now.change)
+        from.now part.now.to part.now.columns is_first request.now.to)) }
+{
+    let at = ProgramAt {
+        lp: sheet.lp,
+        change: change_of(request),
+    };
+    let first = value_of(alloc, from)?;
+    let last = value_of(alloc, &part.to)?;
+    let lines = lines_of(alloc, &part.columns)?;
+    let order = compare_values(alloc, &first, &last)?;
+    let most = compare_with_fraction(alloc, &last, request.to)?;
+    let goes = goes_on(order, is_first);
+    let within = is_at_most(most);
+    let ends = ends_hold(alloc, &at, &first, &last, &lines)?;
+    let rest = both(within, ends);
+    Ok(both(goes, rest))
+}
+
+/// Tests an interval of a parametric run that begins at a value.
+pub fn test_interval(
+    alloc: Global,
+    sheet: Sheet<'_>,
+    request: &ParametricRequest,
+    is_first: bool,
+    from: &Number<'_>,
+    part: &Part<'_>,
+) -> Result<(), Stop>
+    requires asked { IsAskedOf sheet request.now }
+    requires counted { AreCounted sheet.lp.now part.now.columns }
+    ensures { Judges (part_verdict checker_of_any_length (sheet_view sheet.entry) (changing_of request.now.name request.now.change) from.now
+        part.now.to part.now.columns is_first request.now.to) result }
+{
+    match interval_holds(alloc, sheet, request, is_first, from, part) {
+        Ok(holds) => judged(holds),
+        Err(_) => Err(Stop::NoMemory),
+    }
+}

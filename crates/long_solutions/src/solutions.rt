@@ -1,0 +1,122 @@
+// The test of what SOLUTION prints.
+ghost use Rattle.std.specs.Prelude.{◌≡◌, ◌↔◌, ℕ, List, IsTrue, IfOk, length};
+ghost use Rattle.exact_values.specs.Rational.{ℚ};
+ghost use Rattle.lp_definitions.specs.LinearProgram.{IsLinearProgram, size, value_at};
+ghost use Rattle.problem_definitions.specs.Problem.{Problem};
+ghost use Rattle.check_definitions.specs.Steps.{AllHold};
+ghost use Rattle.check_definitions.specs.Checks.{equations, reduced_costs};
+ghost use Rattle.walk_definitions.specs.Checkers.{checker_of_any_length};
+ghost use Rattle.walk_definitions.specs.Tests.{best_test};
+ghost use Rattle.listing_words.specs.Read.{sheet_view};
+ghost use Rattle.listing_claims.specs.Passing.{Judges};
+ghost use Rattle.listing_claims.specs.Solutions.{Counted, printed_test};
+ghost use Rattle.long_vectors.specs.Vectors.{IsOver};
+ghost use Rattle.long_programs.specs.Programs.{own_theta};
+ghost use Rattle.long_programs.specs.Places.{IsSpread};
+ghost use Rattle.long_solutions.specs.Answers.{Answers};
+
+use crate::verdicts::judged;
+use listing_claims::{Printed, Stop};
+use listing_definitions::Mark;
+use listing_tables::Sheet;
+use long_points::{
+    both, equations_hold, limits_hold, prices_stand, reduced_costs_hold, slacks_hold,
+};
+use long_programs::{Spread, as_it_is, spread_own};
+use long_vectors::{Column, column_of};
+use lp_model::Lp;
+use std::alloc::{AllocError, Global};
+
+// Whether more holds of a point and of prices under OPTIMAL, where it is known whether the equations and the reduced costs hold.
+fn best_holds(
+    alloc: Global,
+    lp: &Lp,
+    mark: Mark,
+    point: &Spread,
+    prices: &Spread,
+    keeps: bool,
+    priced: bool,
+) -> Result<bool, AllocError>
+    requires places { length point.now.column.tops.items ≡ size lp.now.matrix }
+    requires price_places { length prices.now.column.tops.items ≡ size lp.now.matrix }
+    ensures { IfOk result (λ holds. (problem : Problem ℕ) → (values costs : List ℚ) → IsSpread values (own_theta lp.now) point.now → IsSpread costs (own_theta lp.now) prices.now →
+        IsTrue keeps ↔ AllHold (equations lp.now 1 (value_at values)) → IsTrue priced ↔ AllHold (reduced_costs lp.now (value_at costs)) →
+        Answers holds (best_test checker_of_any_length (record { problem = problem; lp = lp.now }) mark (value_at values) (value_at costs))) }
+{
+    match mark {
+        Mark::Optimal => {
+            let at = as_it_is(lp);
+            let within = limits_hold(alloc, &at, point)?;
+            let stand = prices_stand(alloc, &at, point, &prices.column)?;
+            let feasible = both(keeps, within);
+            let are_prices = both(priced, stand);
+            Ok(both(feasible, are_prices))
+        }
+        Mark::Infeasible | Mark::Unbounded => Ok(true),
+    }
+}
+
+// Whether activities, prices and slacks pass.
+fn values_hold(
+    alloc: Global,
+    lp: &Lp,
+    mark: Mark,
+    point: &Spread,
+    prices: &Spread,
+    slacks: &Column,
+) -> Result<bool, AllocError>
+    requires places { length point.now.column.tops.items ≡ size lp.now.matrix }
+    requires price_places { length prices.now.column.tops.items ≡ size lp.now.matrix }
+    requires slack_places { length slacks.now.tops.items ≡ lp.now.matrix.rows }
+    ensures { IfOk result (λ holds. (problem : Problem ℕ) → (values costs shown : List ℚ) → IsSpread values (own_theta lp.now) point.now → IsSpread costs (own_theta lp.now) prices.now → IsOver shown slacks.now →
+        Answers holds (printed_test checker_of_any_length (record { problem = problem; lp = lp.now }) mark (value_at values) (value_at costs) (value_at shown))) }
+{
+    let at = as_it_is(lp);
+    let keeps = equations_hold(alloc, lp, &point.column)?;
+    let priced = reduced_costs_hold(alloc, &at, prices)?;
+    let slack = slacks_hold(alloc, lp, &point.column, slacks)?;
+    let best = best_holds(alloc, lp, mark, point, prices, keeps, priced)?;
+    let last = both(slack, best);
+    let rest = both(priced, last);
+    Ok(both(keeps, rest))
+}
+
+// Whether what is printed passes.
+fn printed_holds(
+    alloc: Global,
+    lp: &Lp,
+    mark: Mark,
+    printed: &Printed<'_>,
+) -> Result<bool, AllocError>
+    requires { Counted lp.now printed.now }
+    ensures { IfOk result (λ holds. (problem : Problem ℕ) →
+        Answers holds (printed_test checker_of_any_length (record { problem = problem; lp = lp.now }) mark (value_at printed.now.point.items)
+        (value_at printed.now.prices.items) (value_at printed.now.slacks.items))) }
+{
+    let point_column = column_of(alloc, &printed.point)?;
+    let price_column = column_of(alloc, &printed.prices)?;
+    let slacks = column_of(alloc, &printed.slacks)?;
+    let point = spread_own(alloc, lp, point_column)?;
+    let prices = spread_own(alloc, lp, price_column)?;
+    let holds = values_hold(alloc, lp, mark, &point, &prices, &slacks)?;
+    Ok(holds)
+}
+
+/// Tests what SOLUTION prints under a mark.
+pub fn test_solution(
+    alloc: Global,
+    sheet: Sheet<'_>,
+    mark: Mark,
+    printed: &Printed<'_>,
+) -> Result<(), Stop>
+    requires lawful { IsLinearProgram sheet.lp.now }
+    requires counted { Counted sheet.lp.now printed.now }
+    ensures { Judges (printed_test checker_of_any_length (sheet_view sheet.entry) mark (value_at printed.now.point.items)
+        (value_at printed.now.prices.items) (value_at printed.now.slacks.items)) result }
+{
+    let lp = sheet.lp;
+    match printed_holds(alloc, lp, mark, printed) {
+        Ok(holds) => judged(holds),
+        Err(_) => Err(Stop::NoMemory),
+    }
+}
