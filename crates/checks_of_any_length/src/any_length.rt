@@ -1,12 +1,15 @@
 // Numbers of any length, read and tested.
 ghost use Rattle.std.specs.Prelude.{◌≡◌};
 
+use crate::claim_tests::{test_claim, test_opening};
+use crate::closing_tests::test_close;
 use crate::long_words::is_longer;
 use listing_claims::{Checks, Claim, Closing, Part, Printed, Stop};
 use listing_definitions::Mark;
 use listing_tables::Sheet;
 use listing_words::Number;
 use long_numbers::is_number;
+use long_solutions::{test_interval, test_solution};
 use lp_model::{Lp, NoMemory};
 use parametric_request::ParametricRequest;
 use std::alloc::Global;
@@ -44,46 +47,46 @@ impl Checks for OfAnyLength {
         true
     }
 
-    fn test_claim(_alloc: Global, _lp: &Lp, _claim: &Claim<'_>) -> Result<(), Stop> {
-        Err(Stop::NoMemory)
+    fn test_claim(alloc: Global, lp: &Lp, claim: &Claim<'_>) -> Result<(), Stop> {
+        test_claim(alloc, lp, claim)
     }
 
     fn test_opening(
-        _alloc: Global,
-        _sheet: Sheet<'_>,
-        _request: &ParametricRequest,
-        _claim: &Claim<'_>,
+        alloc: Global,
+        sheet: Sheet<'_>,
+        request: &ParametricRequest,
+        claim: &Claim<'_>,
     ) -> Result<(), Stop> {
-        Err(Stop::NoMemory)
+        test_opening(alloc, sheet, request, claim)
     }
 
     fn test_solution(
-        _alloc: Global,
-        _sheet: Sheet<'_>,
-        _mark: Mark,
-        _printed: &Printed<'_>,
+        alloc: Global,
+        sheet: Sheet<'_>,
+        mark: Mark,
+        printed: &Printed<'_>,
     ) -> Result<(), Stop> {
-        Err(Stop::NoMemory)
+        test_solution(alloc, sheet, mark, printed)
     }
 
     fn test_interval(
-        _alloc: Global,
-        _sheet: Sheet<'_>,
-        _request: &ParametricRequest,
-        _is_first: bool,
-        _from: &Number<'_>,
-        _part: &Part<'_>,
+        alloc: Global,
+        sheet: Sheet<'_>,
+        request: &ParametricRequest,
+        is_first: bool,
+        from: &Number<'_>,
+        part: &Part<'_>,
     ) -> Result<(), Stop> {
-        Err(Stop::NoMemory)
+        test_interval(alloc, sheet, request, is_first, from, part)
     }
 
     fn test_close(
-        _alloc: Global,
-        _sheet: Sheet<'_>,
-        _request: &ParametricRequest,
-        _last: &Number<'_>,
-        _closing: &Closing<'_>,
+        alloc: Global,
+        sheet: Sheet<'_>,
+        request: &ParametricRequest,
+        last: &Number<'_>,
+        closing: &Closing<'_>,
     ) -> Result<(), Stop> {
-        Err(Stop::NoMemory)
+        test_close(alloc, sheet, request, last, closing)
     }
 }

@@ -2,6 +2,10 @@
 #![tactic(auto)]
 
 mod any_length;
+mod claim_tests;
+mod closing_tests;
+mod directions;
 mod long_words;
+mod rays;
 
 pub use any_length::OfAnyLength;
