@@ -3,7 +3,7 @@ use Rattle.std.proofs.Common.{◌≡◌, ℕ, List, [], ◌∷◌, ◌++◌, map
 use Rattle.std.specs.Prelude.{IsTrue, ◌↔◌, ◌&&◌}
 use Rattle.std.specs.declared.cmp.Ordering.{Ordering}
 use Rattle.std.specs.declared.cmp.Ordering.TheVariants.{Less, Equal, Greater}
-use Rattle.exact_values.specs.Rational.{ℚ, zero_ℚ, compare_ℚ, ◌+ℚ◌, ◌*ℚ◌}
+use Rattle.exact_values.specs.Rational.{ℚ, zero_ℚ, ◌+ℚ◌, ◌*ℚ◌}
 use Rattle.exact_values.specs.Tests.{is_less, lt_ℚ, eq_ℚ, le_ℚ}
 use Rattle.lp_definitions.specs.LinearProgram.{LinearProgram, Vector, value_at, for_min, objective_value, lower_of, upper_of}
 use Rattle.check_definitions.specs.declared.Verdict.{Verdict}
@@ -25,7 +25,6 @@ use Rattle.long_points.proofs.Holds.{append_hold, both_hold, change_holds, sums_
 use Rattle.long_points.proofs.Orders.{not_above_is}
 use Rattle.long_rays.specs.Tests.{SumsTo}
 use Rattle.long_solutions.specs.Answers.{Answers}
-use Rattle.long_solutions.specs.Lines.{IsFamily}
 use Rattle.long_solutions.proofs.Answered.{answers_of, both_answer, last_answers, after_checked, asked_answers}
 use Rattle.long_solutions.proofs.Ends.{making_hold}
 use Rattle.checks_of_any_length.specs.Orders.{negative_by, at_most_by, improves_past}

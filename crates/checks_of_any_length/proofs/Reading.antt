@@ -1,5 +1,5 @@
 -- What the checker reads of a word.
-use Rattle.std.proofs.Common.{◌≡◌, ℕ, Bool, true, false, ◌&&◌, List, Option, Some, None, if◌then◌else◌, refl, sym, ap, ap₂, ◌∙◌}
+use Rattle.std.proofs.Common.{◌≡◌, ℕ, Bool, true, false, List, Option, Some, None, if◌then◌else◌, refl, ap₂}
 use Rattle.std.specs.Prelude.{bytes_eq}
 use Rattle.exact_values.specs.Rational.{ℚ}
 use Rattle.listing_definitions.specs.Numbers.{rational_text}

@@ -1,8 +1,7 @@
-use Rattle.std.proofs.Common.{List, Bool, refl, sym, subst, ap, ◌∙◌, length}
-use Rattle.std.specs.Prelude.{IsTrue, ◌↔◌, true}
+use Rattle.std.proofs.Common.{List, sym, subst}
 use Rattle.exact_values.specs.Rational.{ℚ}
 use Rattle.lp_definitions.specs.LinearProgram.{value_at}
-use Rattle.check_definitions.specs.Steps.{AllHold, of_any_length, verdict_by}
+use Rattle.check_definitions.specs.Steps.{of_any_length, verdict_by}
 use Rattle.check_definitions.specs.Checks.{infeasible_steps}
 use Rattle.walk_definitions.specs.Checkers.{checker_of_any_length}
 use Rattle.listing_claims.specs.declared.claims.Claim.{Claim}
@@ -17,7 +16,7 @@ pub returns-in-Crossed : goal.returns-in-Crossed
 returns-in-Crossed c = λ x is.
     let q = program_of c.args.at.now.lp.now c.args.at.now.change x in
     subst (λ (claim : Claim). Answers c.limits_cross-crosses.result (claim_test checker_of_any_length q claim)) (sym c.in-Crossed.is)
-    (crossed_shown q c.in-Crossed.field-0 c.limits_cross-crosses.result (c.limits_cross-crosses.ensures c.args.at.now.change x))
+    (crossed_shown q _ c.limits_cross-crosses.result (c.limits_cross-crosses.ensures c.args.at.now.change x))
 
 pub returns-in_ok-shown-in-Infeasible : goal.returns-in_ok-shown-in-Infeasible
 returns-in_ok-shown-in-Infeasible c = λ x is.

@@ -12,7 +12,7 @@ use Rattle.checks_of_any_length.proofs.Claiming.{past_shown}
 use Rattle.checks_of_any_length.proofs.closing_tests.unbounded_holds.Goals as goal
 
 pub past_pair_holds-requires-clause-row : goal.past_pair_holds-requires-clause-row
-past_pair_holds-requires-clause-row c = let serves = rw c.in-Row.is at c.requires.serves in serves.0.1.0
+past_pair_holds-requires-clause-row c = let serves = rw c.in-Row.is at c.requires.serves in serves.0.1
 
 pub past_pair_holds-requires-clause-number : goal.past_pair_holds-requires-clause-number
 past_pair_holds-requires-clause-number c = record { number = c.args.value.now; is = c.in_ok-theta-in-Row.ensures }

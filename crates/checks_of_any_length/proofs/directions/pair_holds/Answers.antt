@@ -9,7 +9,7 @@ use Rattle.checks_of_any_length.proofs.Claiming.{objective_row, pair_shown}
 use Rattle.checks_of_any_length.proofs.directions.pair_holds.Goals as goal
 
 pub point_holds-requires-clause-point : goal.point_holds-requires-clause-point
-point_holds-requires-clause-point c = (c.deref.result.now, (c.in_ok-point.ensures, ap length c.deref.ensures.value ∙ c.requires.pair.0))
+point_holds-requires-clause-point c = (c.deref.result.now, c.in_ok-point.ensures, ap length c.deref.ensures.value ∙ c.requires.pair.0)
 
 pub direction_holds-requires-clause-places : goal.direction_holds-requires-clause-places
 direction_holds-requires-clause-places c = c.in_ok-direction.ensures.counted ∙ ap length c.deref-2.ensures.value ∙ c.requires.pair.1

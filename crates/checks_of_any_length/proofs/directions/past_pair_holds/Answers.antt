@@ -8,13 +8,13 @@ use Rattle.checks_of_any_length.proofs.Claiming.{past_pair_shown}
 use Rattle.checks_of_any_length.proofs.directions.past_pair_holds.Goals as goal
 
 pub point_holds-requires-clause-point : goal.point_holds-requires-clause-point
-point_holds-requires-clause-point c = (c.deref.result.now, (c.in_ok-point.ensures, ap length c.deref.ensures.value ∙ c.requires.pair.0))
+point_holds-requires-clause-point c = (c.deref.result.now, c.in_ok-point.ensures, ap length c.deref.ensures.value ∙ c.requires.pair.0)
 
 pub equations_hold-requires : goal.equations_hold-requires
 equations_hold-requires c = c.in_ok-direction.ensures.counted ∙ ap length c.deref-2.ensures.value ∙ c.requires.pair.1
 
-pub direction_is_free-requires : goal.direction_is_free-requires
-direction_is_free-requires c = c.in_ok-direction.ensures.counted ∙ ap length c.deref-2.ensures.value ∙ c.requires.pair.1
+pub direction_is_free-free-requires : goal.direction_is_free-free-requires
+direction_is_free-free-requires c = c.in_ok-direction.ensures.counted ∙ ap length c.deref-2.ensures.value ∙ c.requires.pair.1
 
 pub past_improves-requires-clause-places : goal.past_improves-requires-clause-places
 past_improves-requires-clause-places c = c.in_ok-direction.ensures.counted ∙ ap length c.deref-2.ensures.value ∙ c.requires.pair.1
