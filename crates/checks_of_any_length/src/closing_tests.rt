@@ -28,12 +28,7 @@ use parametric_request::{Change, ParametricRequest};
 use std::alloc::{AllocError, Global};
 
 // Whether a number is the last end, and the last value.
-fn ends_at(
-    alloc: Global,
-    value: &Value,
-    last: &Value,
-    most: Frac,
-) -> Result<bool, AllocError>
+fn ends_at(alloc: Global, value: &Value, last: &Value, most: Frac) -> Result<bool, AllocError>
     ensures { IfOk result (λ holds. (t l : ℚ) → IsValue t value.now → IsValue l last.now → holds ≡ (eq_ℚ t l && eq_ℚ t most)) }
 {
     let order = compare_values(alloc, value, last)?;
@@ -44,12 +39,7 @@ fn ends_at(
 }
 
 // Whether a number is the last end, before the last value.
-fn goes_past(
-    alloc: Global,
-    value: &Value,
-    last: &Value,
-    most: Frac,
-) -> Result<bool, AllocError>
+fn goes_past(alloc: Global, value: &Value, last: &Value, most: Frac) -> Result<bool, AllocError>
     ensures { IfOk result (λ holds. (t l : ℚ) → IsValue t value.now → IsValue l last.now → holds ≡ (eq_ℚ t l && lt_ℚ t most)) }
 {
     let order = compare_values(alloc, value, last)?;

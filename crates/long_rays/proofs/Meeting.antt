@@ -127,7 +127,7 @@ module _ (q : LinearProgram) (w : Vector) where
   all_sum i sum d order end positive so_far is = (
     all_met 1 (size q.matrix) zero_ℚ (λ k low high. so_far.passed k low (omega (arith, high, end))),
     is ∙ sign_over (sum_up_to i (met_product q w)) d sum positive so_far.is
-    ∙ ap (λ s. compare_ℚ s zero_ℚ) (ap (λ n. sum_up_to n (met_product q w)) end ∙ sym (sum_of_met q w)),
+        ∙ ap (λ s. compare_ℚ s zero_ℚ) (ap (λ n. sum_up_to n (met_product q w)) end ∙ sym (sum_of_met q w)),
   )
 
   pub one_unmet : (k : ℕ) (met : Bool) (old new d : ℚ) → IsVariable q.matrix k → met ≡ false → IsMet q w k met old new d → SumsTo q w None
