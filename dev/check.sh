@@ -1,6 +1,6 @@
 #!/usr/bin/env bash
 # Small checks of the repository, which run after the gate, in three minutes or so on four processors. A check whose tool is missing is skipped, and so is,
-# saying so, what needs the proved program where it isn't fresh. With CHECK_WHOLE=1 a tool that is missing (pytest, mypy) is a fault too.
+# saying so, what needs the proved program where it isn't fresh. With CHECK_WHOLE=1 a tool that is missing (pytest, mypy, pylint) is a fault too.
 # usage: check.sh      ends with 1 where a check fails
 set -u
 case ${1:-} in
@@ -69,12 +69,17 @@ if command -v python3 >/dev/null; then
     for python in python3 /usr/bin/python3 none; do
         ! "$python" -c 'import pytest' 2>/dev/null || break
     done
-    [ "$python" != none ] || missing="pytest (apt-get install python3-pytest; dev/plain_tests.py ran the tests) "
+    [ "$python" != none ] || missing="pytest (apt-get install python3-pytest; dev/plain_tests.py ran the tests); "
     if command -v mypy >/dev/null; then
         # (what mypy keeps between runs goes to the room: nothing of it stays)
-        (cd python && mypy --no-error-summary --cache-dir="$room/mypy" mps360) || fail "types of python/mps360"
+        (cd python && mypy --no-error-summary --cache-dir="$room/mypy" mps360 oracle ../dev/*.py ../dev/bench/*.py) || fail "types of python/mps360, python/oracle or dev"
     else
-        missing="${missing}mypy (apt-get install mypy): no types were checked"
+        missing="${missing}mypy (apt-get install mypy): no types were checked; "
+    fi
+    if command -v pylint >/dev/null; then
+        (cd python && PYLINTHOME="$room/pylint" pylint --rcfile=pyproject.toml --score=n -j 0 mps360 oracle) || fail "pylint of python/mps360 or python/oracle"
+    else
+        missing="${missing}pylint (apt-get install pylint): it wasn't run; "
     fi
     [ -z "$missing" ] || [ -z "${CHECK_WHOLE:-}" ] || fail "missing: $missing"
     if scripts/program.sh --fresh >/dev/null; then

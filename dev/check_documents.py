@@ -10,6 +10,8 @@ import pathlib
 import random
 import re
 import sys
+from collections.abc import Iterator
+from pathlib import Path
 
 TOP = pathlib.Path(__file__).resolve().parent.parent
 CRATES = TOP / "crates"
@@ -23,17 +25,19 @@ NAME = re.compile(r"[A-Za-z_◌][\w◌]*")
 wrong = 0
 
 
-def told(path, number, what):
+def told(path: Path, number: int, what: str) -> None:
+    "says what is wrong in a line of a file"
     global wrong
     wrong += 1
     print(f"{path.relative_to(TOP)}:{number}: {what}", file=sys.stderr)
 
 
-def lines_of(path):
+def lines_of(path: Path) -> enumerate[str]:
+    "the lines of a file, counted from 1"
     return enumerate(path.read_text(encoding="utf-8").splitlines(), 1)
 
 
-def prose(path):
+def prose(path: Path) -> Iterator[tuple[int, str]]:
     "the lines of prose of a file: all but its code"
     fenced = False
     for number, line in lines_of(path):
@@ -49,7 +53,7 @@ def prose(path):
                 yield number, re.sub(r"`[^`]*`", "", comment)
 
 
-def check_citations():
+def check_citations() -> None:
     for path in sorted(TOP.rglob("*")):
         if path.suffix in (".rt", ".antt", ".md", ".edit") and not {"out", ".git"} & set(path.parts):
             for number, text in prose(path):
@@ -57,7 +61,7 @@ def check_citations():
                     told(path, number, f"a paper is cited by number: {found.group()}")
 
 
-def check_paths():
+def check_paths() -> None:
     for page in [*TOP.glob("*.md"), *TOP.glob("docs/*.md"), *TOP.glob("examples/*.md")]:
         for number, line in lines_of(page):
             for found in NAMED.finditer(line):
@@ -69,7 +73,7 @@ def check_paths():
                     told(page, number, f"there is no {name}")
 
 
-def rows(page):
+def rows(page: Path) -> Iterator[tuple[int, str, list[str]]]:
     "the rows of the tables of a page, as cells, each with the heading above it"
     heading = ""
     for number, line in lines_of(page):
@@ -79,15 +83,15 @@ def rows(page):
             yield number, heading, cells
 
 
-def quoted(cell):
+def quoted(cell: str) -> list[str]:
     return re.findall(r"`([^`]+)`", cell)
 
 
-def sources(crate, folder, endings):
+def sources(crate: str, folder: str, endings: tuple[str, ...]) -> str:
     return "\n".join(path.read_text(encoding="utf-8") for path in sorted((CRATES / crate / folder).rglob("*")) if path.suffix in endings)
 
 
-def check_definitions():
+def check_definitions() -> None:
     page = TOP / "docs/DEFINITIONS.md"
     for number, heading, (_, names, places) in rows(page):
         if heading.startswith("### "):
@@ -111,15 +115,15 @@ def check_definitions():
                 told(page, number, f"{name} isn't defined in {', '.join(sorted(crates))}")
 
 
-def defined_in(name, path):
+def defined_in(name: str, path: Path) -> bool:
     "whether a file defines this name, and a function of this name with a clause that it ensures"
     text = path.read_text(encoding="utf-8")
     if path.suffix == ".antt":
-        return re.search(rf"^\s*(?:(?:abbrev|unfoldable) )?(?:pub )?(?:record |data )?{re.escape(name)}(?: :| \(|\s*$)", text, re.M)
-    return re.search(rf"\bfn {re.escape(name)}\b[^{{}}]*?(?:requires[^{{}}]*{{.*?)?\bensures\b", text, re.S)
+        return bool(re.search(rf"^\s*(?:(?:abbrev|unfoldable) )?(?:pub )?(?:record |data )?{re.escape(name)}(?: :| \(|\s*$)", text, re.M))
+    return bool(re.search(rf"\bfn {re.escape(name)}\b[^{{}}]*?(?:requires[^{{}}]*{{.*?)?\bensures\b", text, re.S))
 
 
-def numbers_of_faults():
+def numbers_of_faults() -> dict[tuple[str, str], int]:
     "the number of each fault, by its kind and name, as the definitions have it"
     tables = {"deck": ("run_definitions/specs/Verbs", "deck_fault_number"), "number": ("run_definitions/specs/Verbs", "number_fault_of"),
               "verb": ("listing_definitions/specs/Ending", "verb_fault_number"), "control": ("control_definitions/specs/Compiled", "fault_number"),
@@ -133,16 +137,21 @@ def numbers_of_faults():
     return numbers
 
 
-def body_of(name, path):
+def body_of(name: str, path: Path) -> str:
     "the text of a definition, up to the empty line after it"
     found = re.search(rf"^\s*(?:(?:abbrev|unfoldable) )?(?:pub )?{re.escape(name)} :.*?(?:\n\s*\n|\Z)", path.read_text(encoding="utf-8"), re.M | re.S)
     return found[0] if found else ""
 
 
-def rules():
+# of a rule: the number of its line, what stands there, the fault or None, the name that is linked, and its file
+Line = tuple[int, str, str | None, str, Path]
+Rule = tuple[int, str, list[Line]]
+
+
+def rules() -> list[Rule]:
     "the rules of the tables from rules to code, each with its lines: what stands there, the fault or None, the name, and its file"
     page = TOP / "docs/DEFINITIONS.md"
-    found = []
+    found: list[Rule] = []
     for number, heading, (rule, what, where) in rows(page):
         if heading.startswith("### ") and rule != "Rule":
             if rule:
@@ -157,11 +166,11 @@ def rules():
     return found
 
 
-def check_rules():
+def check_rules() -> None:
     page = TOP / "docs/DEFINITIONS.md"
     numbers, given = numbers_of_faults(), set()
     for first, rule, lines in rules():
-        last = {}
+        last: dict[str, int] = {}
         for number, what, fault, name, path in lines:
             if not defined_in(name, path):
                 told(page, number, f"{name} isn't defined in {path.relative_to(TOP)}, or ensures nothing")
@@ -184,13 +193,13 @@ def check_rules():
         told(page, 1, f"{kind} fault {numbers[kind, fault]}, {fault}, stands in no rule")
 
 
-def links_of(page):
+def links_of(page: Path) -> set[Path]:
     "the pages and files to which the links of a page lead"
     text = re.sub(r"^```.*?^```", "", page.read_text(encoding="utf-8"), flags=re.M | re.S)
     return {(page.parent / name).resolve() for name in re.findall(r"\]\(([^)#\s]+)(?:#[^)]*)?\)", text) if "://" not in name}
 
 
-def walks():
+def walks() -> dict[Path, list[Path]]:
     "the files to which links alone lead from README.md in three steps at most, each with the files on the way"
     ways = {TOP / "README.md": [TOP / "README.md"]}
     edge = list(ways)
@@ -205,12 +214,12 @@ def walks():
     return ways
 
 
-def walk_to(lines, ways):
+def walk_to(lines: list[Line], ways: dict[Path, list[Path]]) -> tuple[list[Path], str] | None:
     "the way to a file that defines a rule, and its definition there; or None"
     return next(((ways[path], name) for _, what, _, name, path in lines if what == "definition" and path in ways and defined_in(name, path)), None)
 
 
-def check_walks():
+def check_walks() -> None:
     "from README.md, links alone lead in three steps at most to a file that defines each rule"
     ways = walks()
     for number, rule, lines in rules():
@@ -218,7 +227,7 @@ def check_walks():
             told(TOP / "docs/DEFINITIONS.md", number, f"{rule}: README.md is more than three links away from its definition")
 
 
-def print_walks(seed):
+def print_walks(seed: str) -> None:
     "ten rules, with the way to each"
     ways = walks()
     for _, rule, lines in random.Random(seed).sample(rules(), 10):
@@ -226,13 +235,13 @@ def print_walks(seed):
         print(f"{rule}: {' -> '.join(str(path.relative_to(TOP)) for path in found[0])}, `{found[1]}`" if found else f"{rule}: no way")
 
 
-def headings_of(page):
+def headings_of(page: Path) -> set[str]:
     "the headings of a page, as links name them"
     text = re.sub(r"^```.*?^```", "", page.read_text(encoding="utf-8"), flags=re.M | re.S)
     return {re.sub(r"[^\w\- ]", "", heading.lower()).strip().replace(" ", "-") for heading in re.findall(r"^#+ (.*)$", text, re.M)}
 
 
-def check_headings():
+def check_headings() -> None:
     for page in [*TOP.glob("*.md"), *TOP.glob("docs/*.md"), *TOP.glob("examples/*.md")]:
         for number, line in lines_of(page):
             for name, heading in re.findall(r"\]\(([^)#\s]*)#([^)\s]+)\)", line):
@@ -241,7 +250,7 @@ def check_headings():
                     told(page, number, f"there is no heading #{heading} in {name or page.name}")
 
 
-def check_claims():
+def check_claims() -> None:
     page = TOP / "docs/CLAIMS.md"
     everywhere = {folder.name: sources(folder.name, "src", (".rt",)) for folder in sorted(CRATES.iterdir()) if folder.is_dir()}
     labels = {crate: set(re.findall(r"\b(?:ensures|requires)\s+(\w+)\s*\{", text) +
@@ -263,7 +272,7 @@ def check_claims():
                 told(page, number, f"there is no clause {clause} in {', '.join(crates) or 'any crate'}")
 
 
-def main():
+def main() -> int:
     words = sys.argv[1:]
     if words[:1] == ["--walks"] and len(words) <= 2:
         print_walks(words[1] if len(words) > 1 else "0")

@@ -8,8 +8,10 @@ usage: faults.py --write       makes docs/FAULTS.md
 import pathlib
 import re
 import sys
+from collections.abc import Iterator
 sys.path.insert(0, str(pathlib.Path(__file__).resolve().parents[1] / "python"))
 from mps360 import programs
+from mps360.errors import NoProgram
 
 FOLDER = programs.TOP / "examples/faults"
 PAGE = programs.TOP / "docs/FAULTS.md"
@@ -24,7 +26,7 @@ PROGRAM = "".join(f"         {verb}\n" for verb in ("PROGRAM", "CONVERT", "SETUP
 DECK = PROGRAM + "NAME          T\nROWS\n N  COST\n"
 
 
-def made(name):
+def made(name: str) -> str | None:
     "the jobs that are too long to be kept as files"
     entry = "    {:<10}{:<10}{}\n".format
     if name == "control-11":
@@ -42,22 +44,22 @@ def made(name):
     return None
 
 
-def job_of(name):
+def job_of(name: str) -> bytes:
+    "the job of a fault, from its file or made"
     path = FOLDER / f"{name}.job"
     if path.exists():
         return path.read_bytes()
-    text = made(name)
-    return text and text.encode()
+    return (made(name) or "").encode()
 
 
-def entries():
+def entries() -> Iterator[dict[str, str]]:
     text = re.sub(r"^#.*\n", "", (FOLDER / "INDEX").read_text(), flags=re.M)
     for block in text.strip().split("\n\n"):
         name, *lines = block.split("\n")
         yield {"name": name, **dict(line[2:].split(" ", 1) for line in lines)}
 
 
-def wrong_card(entry):
+def wrong_card(entry: dict[str, str]) -> str | None:
     "the card that the line names"
     if "card" in entry:
         return entry["card"]
@@ -68,7 +70,7 @@ def wrong_card(entry):
     return card.replace("\t", "<TAB>")
 
 
-def page():
+def page() -> str:
     lines = [
         "# Statuses and faults", "",
         "What each last line of a listing means, a card that has the fault, the line exactly, and the cure; at the end the answers of",
@@ -96,11 +98,12 @@ def page():
     return "\n".join(lines).rstrip("\n") + "\n"
 
 
-def run(unproved):
+def run(unproved: bool) -> int:
+    "runs the jobs, and compares how they end; the status"
     wanted = [entry for entry in entries() if "stop" in entry]
     try:
         answers = programs.run_jobs({entry["name"]: job_of(entry["name"]) for entry in wanted}, unproved)
-    except programs.NoProgram as cause:
+    except NoProgram as cause:
         print(f"faults.py: {cause}", file=sys.stderr)
         return 70
     wrong = 0
@@ -114,7 +117,7 @@ def run(unproved):
     return 1 if wrong else 0
 
 
-def main(words):
+def main(words: list[str]) -> int:
     if words == ["--write"]:
         PAGE.write_text(page())
     elif words == ["--check"]:

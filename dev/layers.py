@@ -11,6 +11,8 @@ import html
 import pathlib
 import re
 import sys
+from collections.abc import Iterator
+from pathlib import Path
 
 TOP = pathlib.Path(__file__).resolve().parent.parent
 LIST, PAGE, PICTURE, MAP = TOP / "crates.txt", TOP / "docs/LAYERS.md", TOP / "docs/layers.svg", TOP / "docs/ARCHITECTURE.md"
@@ -25,9 +27,10 @@ LINES = ["#7a7a7a", "#2f6fb0", "#8a5a2b", "#3d8b57", "#8a4fa0", "#b0486a", "#b9b
 TURNS = 12
 
 
-def listed():
+def listed() -> tuple[list[tuple[str, list[str]]], dict[str, list[str]]]:
     "the crates as crates.txt lists them, in their order: the layers with their crates, and what each line lists"
-    layers, lines = [], {}
+    layers: list[tuple[str, list[str]]] = []
+    lines: dict[str, list[str]] = {}
     for line in re.sub(r"\A(?:#.*\n)+", "", LIST.read_text(encoding="utf-8")).splitlines():
         if line.startswith("#"):
             layers.append((line.strip("# ").rstrip("."), []))
@@ -39,25 +42,25 @@ def listed():
     return layers, lines
 
 
-def code_of(path):
+def code_of(path: Path) -> str:
     "the text of a file without its comments and strings"
     text = re.sub(r'"(?:[^"\\\n]|\\.)*"', '""', path.read_text(encoding="utf-8"))
     return re.sub(r"--.*" if path.suffix == ".antt" else r"//.*", "", text)
 
 
-def files_of(crate, folder=""):
+def files_of(crate: str, folder: str = "") -> list[Path]:
     return [path for path in sorted((TOP / "crates" / crate / folder).rglob("*"))
             if path.suffix in (".rt", ".antt", ".edit") and "out" not in path.relative_to(TOP / "crates" / crate).parts]
 
 
-def cited_by(crate, names):
+def cited_by(crate: str, names: set[str]) -> set[str]:
     "which of the names the files of a crate cite: as Rattle.NAME, as NAME:: or by use NAME"
     text = "\n".join(map(code_of, files_of(crate)))
     words = set(re.findall(r"\bRattle\.(\w+)", text)) | set(re.findall(r"(?<![\w.:])(\w+)::(?!<)|(?<=\buse )(\w+)\b", text))
     return {word for found in words for word in (found if isinstance(found, tuple) else (found,))} & names - {crate}
 
 
-def kind_of(crate, layer, last):
+def kind_of(crate: str, layer: int, last: int) -> str:
     "the kind of a crate, by the rule that docs/ARCHITECTURE.md states"
     if layer == last:
         return "tests"
@@ -72,19 +75,20 @@ def kind_of(crate, layer, last):
 
 class Map:
     "the crates, in layers, with what each stands on"
-    def __init__(self):
+    def __init__(self) -> None:
         self.layers, self.lines = listed()
         self.order = list(self.lines)
         self.layer = {crate: place for place, (_, crates) in enumerate(self.layers) for crate in crates}
         self.below = {crate: [other for other in self.order if other in self.lines[crate]] for crate in self.order}
         self.kind = {crate: kind_of(crate, self.layer[crate], len(self.layers) - 1) for crate in self.order}
-        self.level, self.all_below = {}, {}
+        self.level: dict[str, int] = {}
+        self.all_below: dict[str, set[str]] = {}
         for crate in self.order:
             self.sink(crate)
         self.reduced = {crate: [one for one in self.below[crate] if not any(one in self.all_below[other] for other in self.below[crate])]
                         for crate in self.order}
 
-    def sink(self, crate, over=()):
+    def sink(self, crate: str, over: tuple[str, ...] = ()) -> None:
         "finds the level of a crate, the length of its longest chain down, and all that it stands on"
         if crate in over:
             sys.exit(f"layers.py: crates.txt has a circle: {' '.join(over[over.index(crate):])} {crate}")
@@ -94,30 +98,30 @@ class Map:
             self.level[crate] = 1 + max((self.level[other] for other in self.below[crate]), default=0)
             self.all_below[crate] = set(self.below[crate]).union(*(self.all_below[other] for other in self.below[crate]))
 
-    def longest(self):
+    def longest(self) -> list[str]:
         "a longest chain, the lowest crate first; of several the one whose crates, from the top, stand first in crates.txt"
-        chain = [max(self.order, key=lambda crate: self.level[crate])]
+        chain = [max(self.order, key=self.level.__getitem__)]
         while self.level[chain[-1]] > 1:
             chain.append(next(other for other in self.below[chain[-1]] if self.level[other] == self.level[chain[-1]] - 1))
         return chain[::-1]
 
-    def libraries(self):
+    def libraries(self) -> dict[str, list[str]]:
         "the libraries of the kit, with the crates that cite each"
         return {name: [crate for crate in self.order if name in self.lines[crate]]
                 for name in sorted({one for line in self.lines.values() for one in line} - set(self.order))}
 
 
-def chain_text(crates):
+def chain_text(crates: Map) -> str:
     chain = crates.longest()
     number = NUMBERS[len(chain)] if len(chain) < len(NUMBERS) else len(chain)
     return f"The longest chain of crates has {number}: {', '.join(f'`{crate}`' for crate in chain)}."
 
 
-def lines_in(crate, folder):
+def lines_in(crate: str, folder: str) -> int:
     return sum(path.read_text(encoding="utf-8").count("\n") for path in files_of(crate, folder))
 
 
-def table(crates, place):
+def table(crates: Map, place: int) -> Iterator[str]:
     yield "| Crate | Level | Kind | Code | Definitions | Proofs | Stands on |"
     yield "|---|---|---|---|---|---|---|"
     for crate in crates.layers[place][1]:
@@ -126,7 +130,7 @@ def table(crates, place):
         yield f"| [`{crate}`](../crates/{crate}) | {crates.level[crate]} | {crates.kind[crate]} | {' | '.join(map('{:,}'.format, sizes))} | {below} |"
 
 
-def mermaid(crates):
+def mermaid(crates: Map) -> Iterator[str]:
     yield "flowchart TB"
     for place, (title, members) in reversed(list(enumerate(crates.layers))):
         yield f'    subgraph layer_{place + 1} ["{place + 1}. {title.partition(":")[0]}"]'
@@ -135,7 +139,7 @@ def mermaid(crates):
     yield from (f"    {crate} --> {other}" for crate in crates.order for other in crates.reduced[crate])
 
 
-def page_of(crates):
+def page_of(crates: Map) -> Iterator[str]:
     sizes = [sum(lines_in(crate, folder) for crate in crates.order) for folder in ("src", "specs", "proofs")]
     edges, shown = (sum(map(len, some.values())) for some in (crates.below, crates.reduced))
     yield "# The layers of the crates\n"
@@ -160,17 +164,17 @@ def page_of(crates):
     yield "```"
 
 
-def width(crate):
+def width(crate: str) -> int:
     return round(len(crate) * LETTER + 10)
 
 
-def rows_of(crates, members):
+def rows_of(crates: Map, members: list[str]) -> Iterator[list[str]]:
     "the crates of a layer in rows, the lowest first: each stands over those of its layer that it stands on; a row that is too long is parted"
-    depth = {}
+    depth: dict[str, int] = {}
     for crate in members:
         depth[crate] = 1 + max((depth[other] for other in crates.below[crate] if other in depth), default=0)
     for number in range(1, max(depth.values()) + 1):
-        row = []
+        row: list[str] = []
         for crate in (one for one in members if depth[one] == number):
             if sum(width(one) + GAP for one in (*row, crate)) > WIDE - 2 * MARGIN:
                 yield row
@@ -179,30 +183,30 @@ def rows_of(crates, members):
         yield row
 
 
-def spread(row, wanted):
+def spread(row: list[str], wanted: dict[str, float]) -> dict[str, float]:
     "where the middles of a row come to stand: in the order of the places that they want, with the least moves (squared) that part them"
     row.sort(key=lambda crate: wanted[crate])
     before, room = [], 0
     for crate in row:
         before.append(room)
         room += width(crate) + GAP
-    blocks = []
+    blocks: list[tuple[float, int]] = []
     for place, crate in enumerate(row):
-        blocks.append([wanted[crate] - width(crate) / 2 - before[place], 1])
+        blocks.append((wanted[crate] - width(crate) / 2 - before[place], 1))
         while len(blocks) > 1 and blocks[-2][0] >= blocks[-1][0]:
             mean, count = blocks.pop()
-            blocks[-1] = [(blocks[-1][0] * blocks[-1][1] + mean * count) / (blocks[-1][1] + count), blocks[-1][1] + count]
+            blocks[-1] = ((blocks[-1][0] * blocks[-1][1] + mean * count) / (blocks[-1][1] + count), blocks[-1][1] + count)
     lefts = [min(max(mean, MARGIN), WIDE - MARGIN - room + GAP) for mean, count in blocks for _ in range(count)]
     return {crate: round(left + offset + width(crate) / 2) for crate, left, offset in zip(row, lefts, before)}
 
 
-def placed(crates, rows):
+def placed(crates: Map, rows: list[list[str]]) -> dict[str, float]:
     "the middle of each box, from row to row: near the middle of those that it is joined with"
     joined = {crate: list(crates.reduced[crate]) for crate in crates.order}
     for crate in crates.order:
         for other in crates.reduced[crate]:
             joined[other].append(crate)
-    middle = {crate: WIDE / 2 for crate in crates.order}
+    middle: dict[str, float] = {crate: WIDE / 2 for crate in crates.order}
     for row in rows:
         middle.update(spread(row, {crate: sum(middle[one] for one in crates.reduced[crate]) / len(crates.reduced[crate])
                                    if crates.reduced[crate] else WIDE / 2 for crate in row}))
@@ -213,14 +217,14 @@ def placed(crates, rows):
     return middle
 
 
-def line(crates, crate, other, x, y):
+def line(crates: Map, crate: str, other: str, x: dict[str, float], y: dict[str, int]) -> str:
     first, last = y[crate] + BOX, y[other]
     bend = min((last - first) / 2, 60)
     look = f'stroke="{LINES[crates.layer[crate] % len(LINES)]}" stroke-opacity="0.55"'
     return f'<path d="M{x[crate]} {first:g}C{x[crate]} {first + bend:g} {x[other]} {last - bend:g} {x[other]} {last:g}" {look}/>'
 
 
-def picture(crates):
+def picture(crates: Map) -> str:
     bands = [list(rows_of(crates, members)) for _, members in crates.layers]
     x = placed(crates, [row for band in bands for row in band])
     y, parts, top = {}, [], MARGIN + BOX + GAP
@@ -247,12 +251,12 @@ def picture(crates):
         f'<rect width="{WIDE}" height="{top}" fill="#ffffff"/>', *legend, *parts, '<g fill="none" stroke-width="1.1">', *lines, "</g>", *boxes, "</svg>"]) + "\n"
 
 
-def with_chain(text, crates):
+def with_chain(text: str, crates: Map) -> str:
     "the text of a page with the computed sentence between its markers"
     return re.sub(f"{re.escape(MARKS[0])}.*?{re.escape(MARKS[1])}", lambda _: f"{MARKS[0]}\n{chain_text(crates)}\n{MARKS[1]}", text, flags=re.S)
 
 
-def made(crates):
+def made(crates: Map) -> dict[Path, str]:
     "the files that are made, with their texts"
     return {
         PAGE: "\n".join(page_of(crates)) + "\n",
@@ -261,7 +265,7 @@ def made(crates):
     }
 
 
-def trimmed(crates):
+def trimmed(crates: Map) -> str:
     "crates.txt, where each line lists what the files of its crate cite"
     names = set(crates.order) | set(crates.libraries())
     lines = []
@@ -271,7 +275,7 @@ def trimmed(crates):
     return "\n".join(lines) + "\n"
 
 
-def check_order(crates):
+def check_order(crates: Map) -> Iterator[str]:
     for crate in crates.order:
         for other in crates.below[crate]:
             if crates.layer[other] > crates.layer[crate]:
@@ -280,7 +284,7 @@ def check_order(crates):
                 yield f"crates.txt: {crate} stands on {other}, which is to stand above it"
 
 
-def check_cited(crates):
+def check_cited(crates: Map) -> Iterator[str]:
     names = set(crates.order) | set(crates.libraries())
     for crate in crates.order:
         cited, given = cited_by(crate, names), set(crates.lines[crate])
@@ -292,7 +296,7 @@ def check_cited(crates):
             yield f"crates.txt: {crate} lists a crate twice"
 
 
-def check_map(crates):
+def check_map(crates: Map) -> Iterator[str]:
     "each crate stands once in the tables of docs/ARCHITECTURE.md, under the heading of its layer"
     headings = [part for part in re.split(r"^(?=## )", MAP.read_text(encoding="utf-8"), flags=re.M) if "\n| Crate |" in part]
     if len(headings) != len(crates.layers):
@@ -311,7 +315,7 @@ def check_map(crates):
             yield f"docs/ARCHITECTURE.md: {crate} stands in {found.count(crate)} rows of its tables"
 
 
-def check_fresh(crates):
+def check_fresh(crates: Map) -> Iterator[str]:
     for path, text in made(crates).items():
         if not path.exists() or path.read_text(encoding="utf-8") != text:
             yield f"{path.relative_to(TOP)} isn't fresh: dev/layers.py --write makes it"
@@ -324,7 +328,7 @@ def check_fresh(crates):
             yield f"{page.relative_to(TOP)}: a sentence says the longest chain of crates outside the markers"
 
 
-def main(words):
+def main(words: list[str]) -> int:
     if words not in (["--write"], ["--trim"], ["--check"]):
         print(__doc__)
         return 0 if words in (["-h"], ["--help"]) else 64

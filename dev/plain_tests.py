@@ -86,7 +86,13 @@ def given(name: str, fixtures: dict[str, Test], stack: contextlib.ExitStack) -> 
     if name == "tmp_path":
         return pathlib.Path(stack.enter_context(tempfile.TemporaryDirectory()))
     value = fixtures[name](**{word: given(word, fixtures, stack) for word in inspect.signature(fixtures[name]).parameters})
-    return stack.enter_context(contextlib.contextmanager(lambda: value)()) if inspect.isgenerator(value) else value
+    if not inspect.isgenerator(value):
+        return value
+
+    def going_on() -> Iterator[Any]:
+        yield from value
+
+    return stack.enter_context(contextlib.contextmanager(going_on)())
 
 
 def outcome(test: Test, values: Values, fixtures: dict[str, Test]) -> str:

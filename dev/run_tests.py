@@ -58,7 +58,8 @@ def main(words: list[str]) -> int:
     # (a shell that starts this in the background has it ignore Ctrl-C, and all that it starts)
     signal.signal(signal.SIGINT, signal.default_int_handler)
     # the longest texts first, so that the last processes don't wait for one of them
-    files = options.files or sorted(TESTS.glob("test_*.py"), key=lambda path: -path.stat().st_size)
+    every = sorted(TESTS.glob("test_*.py"), key=lambda path: path.stat().st_size, reverse=True)
+    files: list[pathlib.Path] = options.files or every
     begun, runs, counts, failed = time.monotonic(), runner(), collections.Counter[str](), False
     with ThreadPoolExecutor(max(1, options.at_once)) as pool:
         for path, status, told, seconds in pool.map(lambda path: outcome(runs, path), files):

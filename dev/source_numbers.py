@@ -12,19 +12,21 @@ import shutil
 import subprocess
 import sys
 import tempfile
+from collections.abc import Iterator
+from pathlib import Path
 import layers
 
 MANY = 7
 MOST_PAIRS, MOST_SECONDS = 200, 600
 
 
-def look_at(tree):
+def look_at(tree: Path) -> layers.Map:
     "has the module layers look at this checkout"
     layers.TOP, layers.LIST = tree, tree / "crates.txt"
     return layers.Map()
 
 
-def after_angles(text, place):
+def after_angles(text: str, place: int) -> int:
     "the place behind what stands in angles here"
     depth = 0
     while True:
@@ -34,7 +36,7 @@ def after_angles(text, place):
             return place
 
 
-def parameters(text, place):
+def parameters(text: str, place: int) -> int:
     "how many parameters stand in the brackets that open here"
     depth, parts = 0, [""]
     for at in range(place, len(text)):
@@ -52,7 +54,7 @@ def parameters(text, place):
     return 0
 
 
-def functions(text):
+def functions(text: str) -> Iterator[int]:
     "the number of parameters of each function"
     for found in re.finditer(r"\bfn \w+\s*", text):
         place = found.end()
@@ -63,16 +65,16 @@ def functions(text):
             yield parameters(text, place)
 
 
-def code(crates):
+def code(crates: layers.Map) -> list[str]:
     return [layers.code_of(path) for crate in crates.order for path in layers.files_of(crate, "src")]
 
 
-def upward(crates):
+def upward(crates: layers.Map) -> int:
     place = {crate: (crates.layer[crate], at) for at, crate in enumerate(crates.order)}
     return sum(place[other] > place[crate] for crate in crates.order for other in crates.below[crate])
 
 
-def pairs(tree):
+def pairs(tree: Path) -> str | int:
     "how many pairs of places the command duplicates finds; it reads .rs files, so the code is read under such names"
     if not shutil.which("duplicates"):
         return "no command duplicates"
@@ -88,7 +90,7 @@ def pairs(tree):
     return f"{len(re.findall(r'^D[0-9]+ ', said, re.MULTILINE)) + (int(more[1]) if more else 0)}{whole}"
 
 
-def rows(tree, with_duplicates):
+def rows(tree: Path, with_duplicates: bool) -> Iterator[tuple[str, int | str]]:
     crates = look_at(tree)
     sizes = [sum(layers.lines_in(crate, folder) for crate in crates.order) for folder in ("src", "specs", "proofs")]
     texts = code(crates)
@@ -103,7 +105,7 @@ def rows(tree, with_duplicates):
     yield "test functions", sum(len(re.findall(r"^ *#\[test\]", text, re.MULTILINE)) for text in texts)
 
 
-def main(words):
+def main(words: list[str]) -> int:
     if words in (["-h"], ["--help"]):
         print(__doc__)
         return 0

@@ -37,6 +37,7 @@ mkdir -p "$home/faults" "$home/python" "$documents/examples" "$prefix"/{bin,shar
 install -m 755 "$("$scripts/program.sh" --fresh mps360)" "$home/program"
 install -m 755 "$("$scripts/program.sh" --fresh mps360check)" "$home/check"
 echo "mps360 $(git -C "$scripts" rev-parse --short HEAD 2>/dev/null || echo 'of unknown commit'), proved program" >"$home/version"
+"$scripts/program.sh" --sum >"$home/sources"
 install -m 644 "$scripts/../examples/faults/INDEX" "$home/faults"
 
 # the commands, each with its name, and the package that does their work

@@ -16,11 +16,15 @@ answer may not fit a fraction of 127 bits: then there is no listing, since none 
 where there is no checker or no esolver."""
 import argparse
 import collections
+import functools
 import pathlib
 import shutil
 import subprocess
 import sys
 import tempfile
+from collections.abc import Callable, Iterator
+from typing import NoReturn
+
 sys.path.insert(0, str(pathlib.Path(__file__).resolve().parents[2] / "python"))
 import bench_bases
 from mps360 import mps
@@ -30,22 +34,26 @@ from mps360.jobs.write import job_of
 from mps360.plain import Plain
 from mps360.listings.write import Answer, listing_of
 from mps360 import programs
-from oracle.attesting import ATTESTED, UNCHECKED, attest
+from mps360.cli.options import Parser
+from mps360.errors import NoProgram
+from oracle.attesting import attest
+from oracle.claims import ATTESTED, UNCHECKED
 
 HERE = pathlib.Path(__file__).resolve().parent
+Asked = Callable[[bytes, bytes], tuple[int, str]]   # from a job and a listing to the status and the line of a checker
 ENDS = ("attested", "unchecked", "doesn't fit", "no end")
 
 
-def solved(path, solution, seconds):
+def solved(path: pathlib.Path, solution: pathlib.Path, seconds: float) -> bool:
     "whether esolver has written an answer in time"
     try:
-        subprocess.run(["esolver", "-O", solution, path], capture_output=True, timeout=seconds)
+        subprocess.run(["esolver", "-O", solution, path], capture_output=True, timeout=seconds, check=False)
     except subprocess.TimeoutExpired:
         return False
     return solution.exists()
 
 
-def end_of(asked, text, folder, seconds):
+def end_of(asked: Asked, text: str, folder: pathlib.Path, seconds: float) -> str:
     "what becomes of the answer to a model, as text"
     path, solution = folder / "model.mps", folder / "solution"
     path.write_text(text)
@@ -64,21 +72,21 @@ def end_of(asked, text, folder, seconds):
     return "attested" if status == ATTESTED else "unchecked"
 
 
-def counts(asked, options):
+def counts(asked: Asked, options: argparse.Namespace) -> None:
     "a line for each kind of model"
     print("| Rows | Decimals | Models | Attested | Unchecked: an operation of a test doesn't fit | A number of the answer doesn't fit | No answer in time |")
     print("|" + "---|" * 7)
     with tempfile.TemporaryDirectory() as folder:
         for rows in options.rows:
             for decimals in bench_bases.DECIMALS:
-                ends = collections.Counter()
+                ends = collections.Counter[str]()
                 for number in range(1, options.models + 1):
                     model = Plain(bench_bases.made_model(rows, decimals, number))
                     ends[end_of(asked, model.text, pathlib.Path(folder), options.seconds)] += 1
                 print("| " + " | ".join(str(cell) for cell in (rows, decimals, options.models, *(ends[end] for end in ENDS))) + " |", flush=True)
 
 
-def greatest_deck():
+def greatest_deck() -> Iterator[str]:
     "a deck of the greatest size, whose opening basis is optimal (that of bench_converting.sh)"
     entry = "    {:<8}  {:<8}  {:<12}\n".format
     yield "NAME          GREATEST\nROWS\n N  COST\n" + "".join(f" L  R{row}\n" for row in range(1, 1000)) + "COLUMNS\n"
@@ -88,7 +96,8 @@ def greatest_deck():
     yield "RHS\n" + "".join(entry("LIMIT", f"R{row}", row) for row in range(1, 1000)) + "ENDATA\n"
 
 
-def times(program):
+def times(program: str) -> None:
+    "a line for each of two listings"
     greatest = job_of(mps.read_text("".join(greatest_deck())))
     wide = programs.TOP / "examples/wide.job"
     print("| What | Bytes of the listing | Answer, processor time, memory |\n|---|---|---|")
@@ -97,21 +106,22 @@ def times(program):
         with tempfile.TemporaryDirectory() as folder:
             for name, text in (("JOB", job), ("LISTING", listing)):
                 pathlib.Path(folder, name).write_text(text)
-            told = subprocess.run([sys.executable, HERE / "timed.py", "JOB", program], cwd=folder, stdout=subprocess.PIPE, text=True)
+            told = subprocess.run([sys.executable, HERE / "timed.py", "JOB", program], cwd=folder, stdout=subprocess.PIPE, text=True, check=False)
         print(f"| {what} | {len(listing)} | {told.stdout.strip()} |", flush=True)
 
 
-def refused(message):
+def refused(message: str) -> NoReturn:
+    "ends the command for wrong use"
     print(f"bench_attesting.py: {message}", file=sys.stderr)
     sys.exit(64)
 
 
-def main(words):
+def main(words: list[str]) -> int:
+    "the command; its status"
     if any(word in ("-h", "--help") for word in words):
         print(__doc__)
         return 0
-    parser = argparse.ArgumentParser(add_help=False)
-    parser.error = refused
+    parser = Parser(refused, allow_abbrev=True)
     parser.add_argument("--itself", action="store_true")
     parser.add_argument("--program", type=lambda word: str(pathlib.Path(word).resolve()))
     parser.add_argument("--models", type=int, default=10)
@@ -123,15 +133,18 @@ def main(words):
         refused("--itself asks no program")
     try:
         if not options.times and not shutil.which("esolver"):
-            raise programs.NoProgram("esolver isn't installed (qsopt-ex)")
+            raise NoProgram("esolver isn't installed (qsopt-ex)")
         program = None if options.itself else options.program or programs.checker_program()
-    except programs.NoProgram as cause:
+    except NoProgram as cause:
         print(f"bench_attesting.py: {cause}", file=sys.stderr)
         return 70
-    if options.times:
+    if options.times and program:
         times(program)
         return 0
-    counts((lambda job, listing: programs.attested_by(program, job, listing)) if program else attest, options)
+    asked: Asked = attest
+    if program:
+        asked = functools.partial(programs.attested_by, program)
+    counts(asked, options)
     return 0
 
 

@@ -27,8 +27,10 @@ import sys
 import tempfile
 import time
 from fractions import Fraction
+
 sys.path.insert(0, str(pathlib.Path(__file__).resolve().parents[2] / "python"))
-from mps360.bases import BASIC, with_insert
+from mps360.bases import BASIC, Basis, with_insert
+from mps360.cli.options import Parser, ending
 from mps360 import solver_names, solvers
 from mps360.plain import Plain
 from mps360.processes import Processes
@@ -41,10 +43,14 @@ STOPS, OTHERS = ("INSERT", "PRIMAL", "SOLUTION"), ("singular", "no basis", "no e
 ENDS = ("printed", *STOPS, *OTHERS)
 
 
-def made_model(rows, decimals, number):
+def made_model(rows: int, decimals: int, number: int) -> Model:
+    "a random sparse model of so many rows, whose numbers have so many decimals"
     chance = random.Random(f"{rows} {decimals} {number}")
     unit, capacities = Fraction(1, 10 ** decimals), max(1, rows // 3)
-    entry = lambda: chance.randint(1, 10 ** (decimals + 1) - 1) * unit
+
+    def entry() -> Fraction:
+        return chance.randint(1, 10 ** (decimals + 1) - 1) * unit
+
     model = Model(f"S{rows}D{decimals}N{number}", "MIN", "COST", rhs_set="RHS")
     model.rows = {"COST": "N", **{f"R{i}": "L" if i <= capacities else chance.choice("LGE") for i in range(1, rows + 1)}}
     sums = dict.fromkeys(model.rows, Fraction(0))
@@ -61,7 +67,7 @@ def made_model(rows, decimals, number):
     return model
 
 
-def transport(count):
+def transport(count: int) -> Model:
     "the problem of mps360 --make"
     model = Model("TRANSP", "MIN", "COST", rhs_set="RHS")
     places = range(1, count + 1)
@@ -73,24 +79,24 @@ def transport(count):
     return model
 
 
-def run(program, job, seconds):
+def run(program: str, job: str, seconds: float) -> tuple[int | None, str, float]:
     "the status, the listing and the processor time of a run; no status where it was ended"
     before = resource.getrusage(resource.RUSAGE_CHILDREN)
     try:
-        ended = subprocess.run([program], input=job.encode("ascii"), stdout=subprocess.PIPE, timeout=seconds)
+        ended = subprocess.run([program], input=job.encode("ascii"), stdout=subprocess.PIPE, timeout=seconds, check=False)
     except subprocess.TimeoutExpired:
         return None, "", seconds
     after = resource.getrusage(resource.RUSAGE_CHILDREN)
     return ended.returncode, ended.stdout.decode("ascii"), after.ru_utime + after.ru_stime - before.ru_utime - before.ru_stime
 
 
-def has_wide_objective(model, seconds):
+def has_wide_objective(model: Model, seconds: float) -> bool:
     "whether the best objective, as QSopt_ex has it in exact fractions, doesn't fit in a number of the program; False where there is none in time"
     with tempfile.TemporaryDirectory() as folder:
         path, solution = pathlib.Path(folder, "model.mps"), pathlib.Path(folder, "solution")
         path.write_text(Plain(model).text)
         try:
-            subprocess.run(["esolver", "-O", solution, path], capture_output=True, timeout=seconds)
+            subprocess.run(["esolver", "-O", solution, path], capture_output=True, timeout=seconds, check=False)
         except (subprocess.TimeoutExpired, FileNotFoundError):
             return False
         found = re.search(r"Value = (\S+)", solution.read_text()) if solution.exists() else None
@@ -98,10 +104,11 @@ def has_wide_objective(model, seconds):
     return max(abs(value.numerator), value.denominator) > MOST_NUMBER
 
 
-def asked(options, model):
+def asked(options: argparse.Namespace, model: Model) -> Basis | None:
     "the basis of the solver, or None where it gives none in time"
     with Processes() as processes:
-        request = options.found.ask(Plain(model), processes)
+        found: solvers.Solver = options.found
+        request = found.ask(Plain(model), processes)
         if not processes.wait([request.process], time.monotonic() + options.seconds):
             return None
         try:
@@ -110,7 +117,7 @@ def asked(options, model):
             return None
 
 
-def end_of(status, listing):
+def end_of(status: int | None, listing: str) -> str:
     "whether all was printed, or where the run stopped"
     if status is None:
         return "no end"
@@ -123,11 +130,12 @@ def end_of(status, listing):
     return "SOLUTION" if "PRIMAL " in listing else "PRIMAL" if "INSERT " in listing else "INSERT"
 
 
-def steps_of(listing):
+def steps_of(listing: str) -> int | None:
+    "the steps of PRIMAL, None where it hasn't ended"
     return next((int(line.split()[3]) for line in listing.split("\n") if line.startswith("PRIMAL ")), None)
 
 
-def counts(options):
+def counts(options: argparse.Namespace) -> None:
     "a line for each kind of model"
     print("| Rows | Decimals | Models | Inserted, solved and printed | in no step | Stopped at INSERT | at PRIMAL | at SOLUTION | "
           "the objective itself doesn't fit | singular | no basis | no end | By PRIMAL from the opening basis |")
@@ -151,13 +159,14 @@ def counts(options):
             print("| " + " | ".join(str(cell) for cell in cells) + " |", flush=True)
 
 
-def least(program, job, seconds):
+def least(program: str, job: str, seconds: float) -> tuple[int | None, str, float]:
     "the status, the listing and the least processor time of so many runs"
     ended = [run(program, job, seconds) for _ in range(RUNS)]
     return min(ended, key=lambda one: one[2])
 
 
-def times(options):
+def times(options: argparse.Namespace) -> None:
+    "a line for each of two models"
     print(f"The least processor time of {RUNS} runs, in seconds.")
     print("| What | Basic columns | Deck alone | with INSERT | INSERT and PRIMAL | steps | PRIMAL from the opening basis | steps |")
     print("|" + "---|" * 8)
@@ -176,25 +185,31 @@ def times(options):
         print("| " + " | ".join(str(cell) for cell in cells) + " |", flush=True)
 
 
-def main(words):
+def say(cause: str) -> None:
+    "a line on standard error"
+    print(f"bench_bases.py: {cause}", file=sys.stderr)
+
+
+def main(words: list[str]) -> int:
+    "the command; its status"
     if any(word in ("-h", "--help") for word in words):
         print(__doc__)
         return 0
     if words[:1] == ["--model"]:
         sys.stdout.write(Plain(made_model(*(int(word) for word in words[1:4]))).text)
         return 0
-    parser = argparse.ArgumentParser(add_help=False)
-    parser.error = lambda message: (print(f"bench_bases.py: {message}", file=sys.stderr), sys.exit(64))
+    parser = Parser(ending(say), allow_abbrev=True)
     parser.add_argument("--with", dest="solver", choices=SOLVERS, default="clp")
     parser.add_argument("--models", type=int, default=10)
     parser.add_argument("--rows", type=lambda word: [int(part) for part in word.split(",")], default=ROWS)
     parser.add_argument("--seconds", type=float, default=60)
     parser.add_argument("--times", action="store_true")
-    parser.add_argument("program", type=os.path.abspath)
+    parser.add_argument("program")
     options = parser.parse_args(words)
+    options.program = os.path.abspath(options.program)
     options.found = solvers.find(options.solver)
     if options.found is None:
-        print(f"bench_bases.py: {options.solver} isn't installed", file=sys.stderr)
+        say(f"{options.solver} isn't installed")
         return 70
     (times if options.times else counts)(options)
     return 0

@@ -9,7 +9,6 @@ usage: bench_beside.py [--runs N] [--program FILE]
   --program FILE   the program of jobs; without it the proved one
 
 It prints a table, and ends with 64 for wrong use, 70 where there is no program or no esolver."""
-import argparse
 import fractions
 import pathlib
 import re
@@ -18,8 +17,11 @@ import shutil
 import subprocess
 import sys
 import tempfile
+from typing import NoReturn
+
 sys.path.insert(0, str(pathlib.Path(__file__).resolve().parents[2] / "python"))
 from mps360 import programs
+from mps360.cli.options import Parser
 
 HERE = pathlib.Path(__file__).resolve().parent
 CASES = [("transportation", 20), ("transportation", 40), ("transportation", 60), ("queens", 8), ("queens", 10), ("queens", 12), ("narrow", None), ("wide", None)]
@@ -28,33 +30,33 @@ NAMES = {"transportation": "transportation of {0} by {0}", "queens": "{0} queens
 PROGRAM = "".join(f"         {statement}\n" for statement in ("PROGRAM", "MOVE(XITERLIM,'NONE')", "CONVERT", "SETUP", "PRIMAL", "EXIT", "PEND"))
 
 
-def deck_of(kind, size):
+def deck_of(kind: str, size: int | None) -> str:
     "the deck of a case, by bench_path.sh"
-    command = [HERE / "bench_path.sh", f"--{kind}"] + ([] if size is None else [str(size)])
+    command = [str(HERE / "bench_path.sh"), f"--{kind}"] + ([] if size is None else [str(size)])
     return subprocess.run(command, capture_output=True, text=True, check=True).stdout
 
 
-def spent(command, runs, **given):
+def spent(command: list[str], runs: int, given: str | None = None) -> tuple[str, float]:
     "what a command printed last, and the least processor time of its runs, in seconds"
     times = []
     for _ in range(runs):
         before = resource.getrusage(resource.RUSAGE_CHILDREN)
-        ended = subprocess.run(command, capture_output=True, text=True, **given)
+        ended = subprocess.run(command, capture_output=True, text=True, input=given, check=False)
         after = resource.getrusage(resource.RUSAGE_CHILDREN)
         times.append(after.ru_utime + after.ru_stime - before.ru_utime - before.ru_stime)
     return ended.stdout, min(times)
 
 
-def own_answer(program, deck, runs):
+def own_answer(program: str, deck: str, runs: int) -> tuple[int, fractions.Fraction, float]:
     "steps, objective and time of the program of jobs"
-    listing, seconds = spent([program], runs, input=PROGRAM + deck)
+    listing, seconds = spent([program], runs, PROGRAM + deck)
     verdict = re.search(r"^PRIMAL OPTIMAL STEPS (\d+) OBJECTIVE (\S+) CHECKED$", listing, re.MULTILINE)
     if not verdict:
         raise SystemExit(f"bench_beside.py: the program has no optimum: {listing.splitlines()[-1:]}")
     return int(verdict[1]), fractions.Fraction(verdict[2]), seconds
 
 
-def other_answer(deck, folder, runs):
+def other_answer(deck: str, folder: pathlib.Path, runs: int) -> tuple[fractions.Fraction, float]:
     "objective and time of esolver"
     path, solution = folder / "deck.mps", folder / "deck.sol"
     path.write_text(deck)
@@ -65,7 +67,7 @@ def other_answer(deck, folder, runs):
     return fractions.Fraction(value[1]), seconds
 
 
-def table(program, runs):
+def table(program: str, runs: int) -> bool:
     "prints the table; answers whether all objectives agree"
     agree = True
     print("| What | Steps | Objective | mps360 | QSopt_ex | Ratio |\n|---|---|---|---|---|---|")
@@ -81,11 +83,11 @@ def table(program, runs):
     return agree
 
 
-def main(words):
-    options = argparse.ArgumentParser(usage="bench_beside.py [--runs N] [--program FILE]", add_help=False)
+def main(words: list[str]) -> int:
+    "the command; its status"
+    options = Parser(wrong_use, allow_abbrev=True)
     options.add_argument("--runs", type=int, default=3)
     options.add_argument("--program")
-    options.error = wrong_use
     chosen = options.parse_args(words)
     if chosen.runs < 1:
         wrong_use("--runs takes a number from 1 on")
@@ -96,8 +98,9 @@ def main(words):
     return 0 if table(program, chosen.runs) else 1
 
 
-def wrong_use(cause):
-    print(f"bench_beside.py: {cause}\n{__doc__.splitlines()[4]}", file=sys.stderr)
+def wrong_use(cause: str) -> NoReturn:
+    "ends the command for wrong use"
+    print(f"bench_beside.py: {cause}\n{(__doc__ or '').splitlines()[4]}", file=sys.stderr)
     sys.exit(64)
 
 

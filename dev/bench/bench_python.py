@@ -15,7 +15,9 @@ import resource
 import subprocess
 import sys
 import tempfile
+from collections.abc import Callable, Mapping
 from fractions import Fraction
+from typing import Any
 
 HERE = pathlib.Path(__file__).resolve().parent
 TOP = HERE.parents[1]
@@ -25,7 +27,7 @@ from mps360.jobs.write import job_of
 from mps360.listings.write import Answer
 from mps360.long_answers import listing_of
 
-GLASS = {"answer": "optimal", "columns": {"doors": 2, "windows": 6}, "prices": {"plant_2_hours": "3/2", "plant_3_hours": 1}}
+GLASS: dict[str, Any] = {"answer": "optimal", "columns": {"doors": 2, "windows": 6}, "prices": {"plant_2_hours": "3/2", "plant_3_hours": 1}}
 
 
 def narrow_deck() -> str:
@@ -40,15 +42,15 @@ def stand_in(path: pathlib.Path, line: str) -> str:
     return str(path)
 
 
-def made(folder: pathlib.Path, name: str, text: str, solution: dict[str, object]) -> tuple[str, str, str]:
+def made(folder: pathlib.Path, name: str, text: str, solution: Mapping[str, Any]) -> tuple[str, str, str]:
     "a model's file, a solution of it, and a program that prints the listing of that; nothing of it is checked"
     model, answer = folder / f"{name}.mps", folder / f"{name}.json"
     model.write_text(text, encoding="utf-8")
     answer.write_text(json.dumps(solution), encoding="ascii")
     read = mps.read_text(text)
     job = job_of(read, False, read.name)
-    columns = {key: Fraction(str(value)) for key, value in dict(solution["columns"]).items()}  # type: ignore[call-overload]
-    prices = {key: Fraction(str(value)) for key, value in dict(solution["prices"]).items()}  # type: ignore[call-overload]
+    columns = {key: Fraction(str(value)) for key, value in solution["columns"].items()}
+    prices = {key: Fraction(str(value)) for key, value in solution["prices"].items()}
     (folder / f"{name}.listing").write_text(listing_of(job, Answer("optimal", columns, prices)), encoding="ascii")
     return str(model), str(answer), stand_in(folder / f"{name}.program", f"exec cat {folder}/{name}.listing")
 
@@ -85,7 +87,8 @@ def main(words: list[str]) -> int:
                   made(folder, "glass", (TOP / "examples/glass.mps").read_text(encoding="utf-8"), GLASS)]
         checker = stand_in(folder / "checker", "echo ATTESTED 5 REPORTS")
         scripts, python = TOP / "scripts", sys.executable
-        rows = [("`solve --json`", lambda model, answer, program: [python, str(scripts / "solve"), "--json", "--only", "primal", "--program", program, model]),
+        rows: list[tuple[str, Callable[[str, str, str], list[str]]]] = [
+                ("`solve --json`", lambda model, answer, program: [python, str(scripts / "solve"), "--json", "--only", "primal", "--program", program, model]),
                 ("`solve`", lambda model, answer, program: [python, str(scripts / "solve"), "--only", "primal", "--program", program, model]),
                 ("`solve --html`", lambda model, answer, program: [python, str(scripts / "solve"), "--html", str(folder / "page.html"), "--only", "primal", "--program", program, model]),
                 ("`attest`", lambda model, answer, program: [python, str(scripts / "attest"), "--program", checker, model, answer])]

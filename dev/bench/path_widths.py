@@ -6,14 +6,17 @@ Usage: path_widths.py [--all DECK ..]. With --all it reads the named decks, and 
 more than 127 bits, which is as many as end without an overflow in the best case."""
 import pathlib
 import sys
+from collections.abc import Iterable
+from fractions import Fraction
 
 sys.path.insert(0, str(pathlib.Path(__file__).resolve().parents[2] / "python"))
-from oracle.listing import LinearProgram, Problem, Table
+from oracle.decks import Problem
+from oracle.tableau import LinearProgram, Table
 
 BITS = 127
 
 
-def bits(values):
+def bits(values: Iterable[Fraction]) -> int:
     "the bits of the widest numerator or denominator"
     return max((max(abs(x.numerator), x.denominator).bit_length() for x in values), default=0)
 
@@ -21,11 +24,12 @@ def bits(values):
 class Watched(Table):
     "a table that notes how wide its numbers have been"
 
-    def __init__(self, lp):
+    def __init__(self, lp: LinearProgram) -> None:
         super().__init__(lp)
         self.rates = self.values = self.objective = 0
 
-    def value(self):
+    def value(self) -> list[Fraction]:
+        "the activities, whose widths are noted"
         value, lp = super().value(), self.lp
         limited = [k for k in range(self.size) if lp.lower[k] is not None or lp.upper[k] is not None]
         self.rates = max(self.rates, bits(x for line in self.rate.values() for x in line))
@@ -34,7 +38,7 @@ class Watched(Table):
         return value
 
 
-def followed(deck):
+def followed(deck: str) -> tuple[str, int, Watched]:
     "the end of the deck's path, its steps, and the table that it was followed by"
     problem = Problem([card for card in deck.split("\n") if card.strip()])
     table = Watched(LinearProgram(problem, None, None, {"range": None, "bound": None, "sense": "MIN"}))
@@ -42,7 +46,8 @@ def followed(deck):
     return end[0], steps, table
 
 
-def main(words):
+def main(words: list[str]) -> None:
+    "the command"
     if words in (["-h"], ["--help"]):
         print(__doc__)
     elif words[:1] == ["--all"]:

@@ -50,12 +50,12 @@ if len(sys.argv) not in (3, 4):
     sys.exit(0 if sys.argv[1:] in (["-h"], ["--help"]) else 64)
 program, job = os.path.abspath(sys.argv[1]), pathlib.Path(sys.argv[2]).read_bytes()
 with tempfile.TemporaryDirectory() as folder:
-    for listing in sys.argv[3:]:
-        shutil.copyfile(listing, f"{folder}/LISTING")
+    for other in sys.argv[3:]:
+        shutil.copyfile(other, f"{folder}/LISTING")
     made, told = f"{folder}/allocator.so", f"{folder}/told"
     subprocess.run(["cc", "-x", "c", "-", "-shared", "-fPIC", "-O1", "-ldl", "-o", made], input=ALLOCATOR.encode(), check=True)
 
-    def run(refused):
+    def run(refused: int) -> tuple[int, bytes, int]:
         "the status, the listing and the number of allocations of a run that is refused one of them"
         words = {**os.environ, "LD_PRELOAD": made, "REFUSED": str(refused), "TOLD": told}
         ended = subprocess.run([program], input=job, stdout=subprocess.PIPE, env=words, cwd=folder)

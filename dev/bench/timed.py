@@ -10,12 +10,12 @@ if len(sys.argv) < 3:
     print(__doc__)
     sys.exit(0 if sys.argv[1:] in (["-h"], ["--help"]) else 64)
 job, *program = sys.argv[1:]
-least, before = None, 0.0
+least, before = float("inf"), 0.0
 for _ in range(5):
     with open(job, "rb") as file:
-        ended = subprocess.run(program, stdin=file, stdout=subprocess.PIPE)
+        ended = subprocess.run(program, stdin=file, stdout=subprocess.PIPE, check=False)
     used = resource.getrusage(resource.RUSAGE_CHILDREN)
     spent = used.ru_utime + used.ru_stime
-    least = spent - before if least is None else min(least, spent - before)
+    least = min(least, spent - before)
     before = spent
 print(f"{ended.stdout.decode().splitlines()[-1]}: {least:.3f} s, {used.ru_maxrss / 1024:.1f} MB")

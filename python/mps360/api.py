@@ -19,6 +19,7 @@ from mps360.jobs.write import Job, exact_job
 from mps360.listings import write
 from mps360.model import Model, Number, exact
 from mps360.processes import Processes
+from mps360.reading import INFINITY, Reading
 from mps360.routes import Plan, Routes
 from mps360.solver_names import NoBasis
 
@@ -80,21 +81,21 @@ def refused(cause: Refused, file: str | None) -> Refused:
 
 def read_mps(path: Source, *, form: Form = "either", numbers: Numbers = "exact", doubles: bool = False, relax: bool = False,
              negative_up: Literal["keep", "free"] | None = None, marker_upper: Literal["1", "none"] | None = None,
-             blank_set: Literal["same", "own"] | None = None, constant: Literal["minus", "plus"] = "minus", infinity: Number = mps.INFINITY,
+             blank_set: Literal["same", "own"] | None = None, constant: Literal["minus", "plus"] = "minus", infinity: Number = INFINITY,
              sense: Literal["MIN", "MAX"] | None = None, objective: str | None = None, rhs: str | None = None, ranges: str | None = None,
              bounds: str | None = None) -> Model:
     """the model of an MPS or CPLEX LP file, gzipped or not, by the file's names, in exact fractions. numbers: exact takes every decimal number, round rounds
     to the nearest that 12 columns hold, refuse refuses one that they don't; doubles takes a number of 16 or 17 digits as the shortest decimal that is the same
     double. relax takes columns of whole numbers as columns of any numbers. The other words are those of the command mps2job.py. What was changed, left out or
     chosen stands in the model's notes. Refused names file, line, column and word; OSError where the file can't be read."""
-    reading = mps.Reading(form=form, numbers=READS[numbers], relax=relax, marker_upper=marker_upper, negative_up=negative_up, blank_set=blank_set,
+    reading = Reading(form=form, numbers=READS[numbers], relax=relax, marker_upper=marker_upper, negative_up=negative_up, blank_set=blank_set,
                           constant=constant, infinity=exact(infinity), sense=sense, objective=objective, rhs_set=rhs, range_set=ranges, bound_set=bounds,
                           doubles=doubles)
     content, file = content_of(path)
     try:
         return mps.read_bytes(content, reading, file or "")
     except Refused as cause:
-        raise refused(cause, file)
+        raise refused(cause, file) from None
 
 
 def read_basis(path: Source, model: Model, *, writer: str | None = None) -> Basis:
@@ -104,7 +105,7 @@ def read_basis(path: Source, model: Model, *, writer: str | None = None) -> Basi
     try:
         return bases.read_text(bases.text_of(content), model, writer)
     except Refused as cause:
-        raise refused(cause, file)
+        raise refused(cause, file) from None
 
 
 def read_solution(path: Source, model: Model) -> Solution:

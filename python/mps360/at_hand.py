@@ -67,20 +67,35 @@ def named(file: str, name: str) -> Tool:
 
 def say_unproved(name: str) -> None:
     "a line on standard error"
-    print(f"{name}: running UNPROVED, by the program that was compiled of these sources before; {PROVES}", file=sys.stderr, flush=True)
+    is_trial = programs.installed_program(name, programs.UNPROVED)
+    how = "by the program of a trial package" if is_trial else f"by the program that was compiled of these sources before; {PROVES}"
+    print(f"{name}: running UNPROVED, {how}", file=sys.stderr, flush=True)
+
+
+def proved_program(name: str) -> str | None:
+    "the proved program; with MPS360_UNPROVED set only one that is installed"
+    return programs.proved_program(name, not os.environ.get("MPS360_UNPROVED"))
+
+
+def kept_program(name: str) -> str | None:
+    "the unproved program that a trial package brings, or that is compiled already"
+    trial = programs.installed_program(name, programs.UNPROVED)
+    if trial:
+        return trial
+    from mps360 import unproved
+    return unproved.kept(name) if unproved.crate_of(name).is_dir() else None
 
 
 def solver_program(file: str | None = None) -> Tool:
     "the program that is named, or the proved one, or the unproved one"
     if file:
         return named(file, PROGRAM)
-    proved = None if os.environ.get("MPS360_UNPROVED") else programs.proved_program(PROGRAM)
+    proved = proved_program(PROGRAM)
     if proved:
         return Tool((proved,), "proved")
     if os.environ.get("MPS360_PROVED"):
         raise NoProgram(f"no proved program is there; {PROVES}")
-    from mps360 import unproved
-    kept = unproved.kept(PROGRAM) if unproved.crate_of(PROGRAM).is_dir() else None
+    kept = kept_program(PROGRAM)
     if kept:
         return Tool((kept,), "unproved")
     command = str(programs.COMMANDS / PROGRAM)
@@ -95,10 +110,8 @@ def checker_finder(file: str | None = None) -> Callable[[], Tool | None]:
 
 def listing_checker() -> Tool | None:
     "the proved checker of listings, or an unproved one that is compiled already; None where there is neither"
-    proved = None if os.environ.get("MPS360_UNPROVED") else programs.proved_program(CHECKER)
+    proved = proved_program(CHECKER)
     if proved:
         return Tool((proved,), "proved", name=CHECKER)
-    from mps360 import unproved
-    kept = unproved.kept(CHECKER) if not os.environ.get("MPS360_PROVED") and unproved.crate_of(CHECKER).is_dir() else None
+    kept = None if os.environ.get("MPS360_PROVED") else kept_program(CHECKER)
     return Tool((kept,), "unproved", name=CHECKER) if kept else None
-

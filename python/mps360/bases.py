@@ -12,14 +12,15 @@ and at 0. Programs that write XU, XL, UL and LL mean the same by basic, but not 
     lp_solve turns L rows, and E rows with a range below 0: what it calls lower is their upper limit
     glpsol has no such cards: its -w writes one line for each row that isn't N, and each column, by their numbers
 So where a row has one limit, or two that are equal, the code is of no use, and where it has two that differ it goes by the writer."""
-from collections.abc import Collection
-from fractions import Fraction
-from mps360.jobs.write import Job
-from mps360.model import Model, of_set
 import re
+from collections.abc import Collection
 from dataclasses import dataclass, field
+from fractions import Fraction
+
 from mps360.errors import Refused
 from mps360.files import unzipped
+from mps360.jobs.write import Job
+from mps360.model import Model, of_set
 from mps360.text import some_of
 
 BASIC, LOWER, UPPER, FREE = "BS", "LL", "UL", "FR"
@@ -283,7 +284,7 @@ class Numbered:
             return opening_of(limits)
         return said if (lower if said == LOWER else upper) is not None else other_status(self.basis, self.line, name, said, limits)
 
-    def whole(self, lines: list[str]) -> Basis:
+    def whole(self, _lines: list[str]) -> Basis:
         "the basis, whose lines are all there"
         if len(self.named) < len(self.rows) + len(self.columns):
             raise Refused("rows or columns are missing before this line", "e")

@@ -17,6 +17,9 @@ class Line:
 
     def __init__(self, text: str, fixed: bool) -> None:
         self.text, self.fixed = text, fixed
+        # the column, from 0, and the word that begin a remark
+        self.remark: int | None = None
+        self.marked = ""
         if fixed:
             self.check_gaps()
             text = self.text

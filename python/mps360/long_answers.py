@@ -41,6 +41,7 @@ def left_over(sums: Sums, column: str, wanted: Fraction, prices: Entries) -> Fra
 
 
 def in_short(answer: Answer, split: Split) -> Answer:
+    "the answer of the model of short numbers that says the same as this one of the file's"
     columns = answer.columns | ({split.one: UNIT} if split.one else {})
     if answer.kind == "infeasible":
         return crossed_in_short(answer, split) if answer.crossed else ray_in_short(answer, split)

@@ -20,8 +20,8 @@ from typing import Iterator, NamedTuple
 from mps360.errors import Refused
 from mps360.model import MOST, Limits, Model, Place
 from mps360.model_checks import Choices, warnings
-from mps360.mps import Reading, numbers_told
 from mps360.numbers import decimal_text, finite_number, has_text, nearest, shortest_double, text_of
+from mps360.reading import Reading, numbers_told
 from mps360.text import counted, lines_text, some_of
 
 LETTERS = r"[^\W\d]|[!\"#$%&(),;?@_`'{}|~/\u0080-\U0010ffff]"
@@ -72,6 +72,7 @@ def section_of(line: str, start: int, end: int) -> tuple[str, int] | None:
 
 
 def tokens_of(lines: list[str]) -> Iterator[Token]:
+    "the words of a file, and its end; comments are left out"
     for count, line in enumerate(lines, 1):
         text, at, first = line.split("\\", 1)[0], 0, True
         while found := TOKEN.search(text, at):
@@ -101,6 +102,8 @@ class Side(NamedTuple):
 
 
 class Reader:
+    "takes the words of a file one after the other into a model; Refused where one of them is not as it may be"
+
     def __init__(self, reading: Reading) -> None:
         self.reading, self.model = reading, Model()
         self.lines: list[str] = []
@@ -113,6 +116,7 @@ class Reader:
         self.unnamed: list[str] = []
 
     def read(self, text: str) -> Model:
+        "the model of a text"
         self.lines = re.split(r"\r\n|\n|\r", text)
         self.tokens = list(tokens_of(self.lines))
         self.labels = {token.text for token, after in zip(self.tokens, self.tokens[1:]) if after.kind == "colon"}
@@ -302,6 +306,7 @@ class Reader:
     # ---- sections
 
     def read_objective(self) -> None:
+        "the sense, the objective and its constant"
         token = self.take()
         if token.section not in ("MIN", "MAX"):
             raise self.refused("an LP file begins with Minimize or Maximize", token)
@@ -328,6 +333,7 @@ class Reader:
             self.read_constraint()
 
     def read_constraint(self) -> None:
+        "one constraint: its name, its sum, and a sense with a number on one side or on both"
         begin, label = self.peek(), self.label()
         row = label.text if label else self.made_name()
         if row in self.model.rows:
@@ -368,6 +374,7 @@ class Reader:
             raise self.refused(self.why_no_term(token) if token.kind == "arrow" else "a number alone stands at the right of the sense", token)
 
     def limit_row(self, row: str, left: tuple[str, Side] | None, right: tuple[str, Side]) -> None:
+        "gives a row its sense, its right-hand side and its range, of what stands at its left and at its right"
         kind, side = right
         if side.value is None or left and left[1].value is None:
             raise self.refused("a limit of a row that is infinite: leave it out", side.token if side.value is None else left[1].token if left else None)
@@ -397,6 +404,7 @@ class Reader:
             self.read_bound()
 
     def read_bound(self) -> None:
+        "one line of bounds: a column between two numbers, beside one, or free"
         left = None
         if self.peek().kind in ("sign", "number") or self.is_number():
             begin = self.at
@@ -448,6 +456,7 @@ class Reader:
     # ---- whole numbers
 
     def read_whole(self, section: str) -> None:
+        "a section of columns whose values are to be whole"
         heading = self.tokens[self.at - 1]
         while not self.begins_section():
             token = self.take()
@@ -481,6 +490,7 @@ class Reader:
         return model
 
     def end_bounds(self) -> None:
+        "puts the limits of columns, and those of binary ones, into the set of bounds"
         for column, limits in self.bounds.items():
             if limits.upper is None or limits.upper >= 0 or limits.lower_line:
                 continue
@@ -494,6 +504,7 @@ class Reader:
             self.notes.setdefault("negative " + self.reading.negative_up, []).append(limits.upper_line)
 
     def tell(self) -> None:
+        "a sentence for each thing that was left out, chosen or rounded"
         sentences = {"infinite": f"a limit of {decimal_text(self.reading.infinity)} and more is none",
                      "bounds alone": "a column that no row names", "whole alone": "a column that no row names",
                      "negative keep": "a negative upper limit alone: the lower limit stays at 0, so there is no plan",

@@ -7,7 +7,8 @@ A Model holds all of the file, by the file's names, with Fractions for numbers a
     row_limits(row), column_limits(column): the lower and the upper limit under the sets taken; constant: the objective's
     numbers_of(column): its entries, and the sums that it has on combinations (rows of type DN, DL, DG or DE)
     relaxed: the columns whose values should be whole; rounded: [(line, word, number)]; said: a sentence for each thing that is changed,
-    left out or chosen; warned: those of them that may be meant otherwise; doubles: [(line, word, the shorter word that is taken)]; long: {number that 12 columns don't hold: the Place where it stands first};
+    left out or chosen; warned: those of them that may be meant otherwise; doubles: [(line, word, the shorter word that is taken)];
+    long: {number that 12 columns don't hold: the Place where it stands first};
     units: {name of a row or a column: the unit that a remark gives it}"""
 import heapq
 from collections.abc import Mapping

@@ -9,21 +9,20 @@ from typing import Any
 import codecs
 import re
 import sys
-from collections.abc import Iterator
-from dataclasses import dataclass, replace
+from dataclasses import replace
 from fractions import Fraction
 from mps360.commands import called
 from mps360.errors import Refused
-from mps360.fields import FIELDS, LAST_COLUMN, Line
+from mps360.fields import LAST_COLUMN, Line
 from mps360.files import unzipped
 from mps360.model import MOST, Limits, Model, Place
 from mps360.model_checks import Choices, warnings
 from mps360.numbers import NUMBER, decimal_text, has_text, nearest, number, shortest_double, text_of
+from mps360.reading import Reading, numbers_told
 from mps360.text import counted, lines_text, some_of
 from mps360.units import units_of
 
 MOST_TEXT = 300_000_000
-INFINITY = Fraction(10) ** 20
 SENSES = {"MAX": "MAX", "MAXIMIZE": "MAX", "MAXIMISE": "MAX", "MAXIMUM": "MAX", "MIN": "MIN", "MINIMIZE": "MIN", "MINIMISE": "MIN", "MINIMUM": "MIN"}
 COMBINATIONS = ("DN", "DL", "DG", "DE")
 SECTIONS = ("ROWS", "COLUMNS", "RHS", "RANGES", "BOUNDS")
@@ -35,25 +34,6 @@ BOUNDS = {"UP": ("upper", True, False), "LO": ("lower", True, False), "FX": ("bo
 FREE_DECK = re.compile(r"NAME.{18}  FREE")
 # the first word behind the remarks of an MPS file and the comments of an LP file
 FIRST_WORD = re.compile(r"(?:\s|(?:(?<=\n)|^)\*[^\n]*\n?|\\[^\n]*\n?)*([^\s\\:]+)")
-
-
-@dataclass(frozen=True)
-class Reading:
-    "how a file is read"
-    form: str = "either"             # fields are words, unless their columns say otherwise; "free": words; "fixed": by their columns
-    numbers: str = "job"             # "exact", "job" or "round"
-    doubles: bool = False            # a number of 16 or 17 digits is the shortest decimal that is the same double
-    relax: bool = False              # columns of whole numbers are taken as columns of any numbers
-    marker_upper: str | None = None  # the upper limit of such a column between markers that has no bound: "1" or "none"
-    negative_up: str | None = None   # "keep" leaves the lower limit of a negative UP at 0, "free" takes it away
-    blank_set: str | None = None     # a blank name of a set beside named ones: "same" as before, or a set of its "own"
-    constant: str = "minus"          # the objective's constant is "minus" its number in RHS, or "plus" it
-    infinity: Fraction = INFINITY    # a limit of this size and more is none
-    sense: str | None = None         # these five go before what the file says, or what stands first in it
-    objective: str | None = None
-    rhs_set: str | None = None
-    range_set: str | None = None
-    bound_set: str | None = None
 
 
 class Reader:
@@ -212,6 +192,7 @@ class Reader:
         return near
 
     def take_row(self, line: Line) -> None:
+        "a line of ROWS: a plain row, or a part of a combination"
         words = [word for word in line.words if word] if not line.fixed else line.words[:2] + [word for word in line.words[2:] if word]
         kind = words[0].upper()
         if kind not in ("N", "L", "G", "E", *COMBINATIONS):
@@ -544,22 +525,6 @@ class Reader:
         if len(others) > 1 and self.choices().objective:
             told.append(f"there are {len(others)} N rows; the objective is {model.objective}")
         told += numbers_told(model)
-
-
-def numbers_told(model: Model) -> Iterator[str]:
-    "a sentence for the numbers that were rounded, and one for those that were taken as doubles"
-    if model.doubles:
-        line, word, short = model.doubles[0]
-        yield (f"{counted(len(model.doubles), 'number', 'of 16 or 17 digits was', 'of 16 or 17 digits were')} taken as the shortest decimal that is the same double, as {short} for "
-               f"{word[:40]} in line {line}")
-    if model.rounded:
-        exact = [(line, word, near, Fraction(number(word))) for line, word, near in model.rounded]
-        changes = [(abs(near - value), abs(near / value - 1), line, word) for line, word, near, value in exact]
-        most, least = max(changes), max(changes, key=lambda change: change[1])
-        told = f"{counted(len(changes), 'number', 'was', 'were')} rounded to 12 columns; "
-        told += f"the greatest change is {decimal_text(most[0])}, of {most[3][:40]} in line {most[2]}"
-        told += f", and the greatest relative change {decimal_text(least[1])}, of {least[3][:40]} in line {least[2]}"
-        yield told
 
 
 # forms that files of models come in, and what helps

@@ -11,14 +11,22 @@ from mps360.errors import NoProgram
 # the repository, or the folder where the commands are installed
 TOP = pathlib.Path(__file__).resolve().parents[2]
 COMMANDS = TOP / "scripts" if (TOP / "scripts").is_dir() else TOP
+# what the programs of a trial package end in
+UNPROVED = ".unproved"
 
 
-def proved_program(name: str = "mps360") -> str | None:
-    "the path of the proved program of this name, installed or fresh, or None where there is none"
-    installed = COMMANDS / {"mps360": "program", "mps360check": "check"}[name]
-    if installed.exists():
-        return str(installed)
-    found = subprocess.run([COMMANDS / "program.sh", "--fresh", name], capture_output=True, text=True)
+def installed_program(name: str, ending: str = "") -> str | None:
+    "the path of the program of this name that is installed beside these modules, proved, or with the ending .unproved of a trial package; else None"
+    installed = COMMANDS / ({"mps360": "program", "mps360check": "check"}[name] + ending)
+    return str(installed) if installed.exists() else None
+
+
+def proved_program(name: str = "mps360", may_be_built: bool = True) -> str | None:
+    "the path of the proved program of this name, installed or (where that is asked too) built here and fresh; None where there is none"
+    installed = installed_program(name)
+    if installed or not may_be_built or installed_program(name, UNPROVED):
+        return installed
+    found = subprocess.run([COMMANDS / "program.sh", "--fresh", name], capture_output=True, text=True, check=False)
     return found.stdout.strip() if found.returncode == 0 else None
 
 
@@ -40,14 +48,14 @@ def attested_by(program: str, job: bytes, listing: bytes) -> tuple[int, str]:
     "the status of a checker of listings, and what it prints"
     with tempfile.TemporaryDirectory() as folder:
         pathlib.Path(folder, "LISTING").write_bytes(listing)
-        ended = subprocess.run([program], input=job, stdout=subprocess.PIPE, cwd=folder, timeout=600)
+        ended = subprocess.run([program], input=job, stdout=subprocess.PIPE, cwd=folder, timeout=600, check=False)
     return ended.returncode, ended.stdout.decode("latin-1")
 
 
 def run_proved(program: str, job: bytes) -> tuple[int, bytes, bytes | None]:
     "the status, the listing and the punched deck (None where nothing is punched) of a job"
     with tempfile.TemporaryDirectory() as folder:
-        ended = subprocess.run([program], input=job, stdout=subprocess.PIPE, cwd=folder, timeout=600)
+        ended = subprocess.run([program], input=job, stdout=subprocess.PIPE, cwd=folder, timeout=600, check=False)
         punch = pathlib.Path(folder, "PUNCH")
         return ended.returncode, ended.stdout, punch.read_bytes() if punch.exists() else None
 
@@ -63,7 +71,7 @@ def run_jobs(jobs: Mapping[str, bytes], unproved: bool = False, whole: bool = Tr
     with tempfile.TemporaryDirectory() as folder:
         for name, job in jobs.items():
             pathlib.Path(folder, name).write_bytes(job)
-        ended = subprocess.run(["rt", "try", "--cases", folder], cwd=TOP / "crates/mps360", capture_output=True)
+        ended = subprocess.run(["rt", "try", "--cases", folder], cwd=TOP / "crates/mps360", capture_output=True, check=False)
     text = ended.stdout + ended.stderr
     statuses = {found[1].decode(): int(found[2]) for found in re.finditer(rb"^case=(\S+) run=ended status=(\d+)", text, re.M)}
     parts = re.split(rb"^== (\S+)\n", ended.stdout, flags=re.M)

@@ -76,8 +76,9 @@ class Provenance:
         "who proved the answer, or why it isn't proved, and by which route, in a line"
         if not self.has_verdict:
             return f"no verdict: {tried_words(self.routes)}"
-        who = {"proved": f"proved by the {'checker' if self.by_checker else 'program'}", "unproved": f"not proved, since the {'checker' if self.by_checker else 'program'} ran unproved",
-               "other": f"not proved, since another {'checker' if self.by_checker else 'program'} ran"}[self.kind]
+        what = "checker" if self.by_checker else "program"
+        who = {"proved": f"proved by the {what}", "unproved": f"not proved, since the {what} ran unproved",
+               "other": f"not proved, since another {what} ran"}[self.kind]
         return f"{who}: by {self.route}{f' ({self.solver_words})' if self.version else ''}"
 
     def sentence(self) -> str:

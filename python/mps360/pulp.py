@@ -77,16 +77,16 @@ class MPS360(pulp.LpSolver):  # type: ignore[misc]
         except NoProgram:
             return False
 
-    def actualSolve(self, problem: Any, **_: Any) -> int:  # pylint: disable=arguments-differ
+    def actualSolve(self, lp: Any, **_: Any) -> int:  # pylint: disable=arguments-differ
         "solves the problem; its status"
-        model = model_of(problem, self.relax)
-        answer = problem.exact = api.solve(model, with_=self.asked, seconds=self.timeLimit, program=self.program, on_life=self.teller())
+        model = model_of(lp, self.relax)
+        answer = lp.exact = api.solve(model, with_=self.asked, seconds=self.timeLimit, program=self.program, on_life=self.teller())
         status, solution = STATES.get(answer.status, NOT_SOLVED)
         if answer.columns:
-            self.assign(problem, answer, model.objective)
+            self.assign(lp, answer, model.objective)
         elif answer.point:
-            problem.assignVarsVals({name: float(value) for name, value in answer.point.items()})
-        problem.assignStatus(status, solution)
+            lp.assignVarsVals({name: float(value) for name, value in answer.point.items()})
+        lp.assignStatus(status, solution)
         return int(status)
 
     def teller(self) -> Callable[[api.Life], None] | None:

@@ -14,11 +14,12 @@ from __future__ import annotations
 import functools
 import os
 import time
-from collections.abc import Callable, Sequence
+from collections.abc import Callable
 from dataclasses import dataclass, field
 from typing import TYPE_CHECKING
 
 from mps360.errors import Refused
+from mps360.life import within
 from mps360.processes import Process, Processes
 from mps360.runs import NO_END, Attempt, NoAnswer, Observer, shown, waits_for
 from mps360.solver_names import EXACT_SOLVER, NAMES, NoBasis, not_installed
@@ -99,6 +100,7 @@ class Decided(Exception):
 
 class Routes:
     "the routes of one job, which mps360.jobs.write made of a model"
+    processes: Processes   # while it runs
 
     def __init__(self, job: Job, program: Tool, plan: Plan, find_checker: Callable[[], Tool | None] = lambda: None, observer: Observer | None = None) -> None:
         "find_checker finds the checker of listings, once a route needs it"
@@ -184,9 +186,15 @@ class Routes:
     def wait(self, process: Process, seconds: float | None, waits: Callable[[], str]) -> bool:
         "whether the process ends within these seconds; Decided where the run beside it comes to a verdict"
         until = None if seconds is None else time.monotonic() + seconds
+        limit = None if seconds is None else process.seconds + seconds
+
+        def words() -> str:
+            beside = f"; {OPENING} goes on beside it" if self.opening and self.opening.process is not process else ""
+            return f"{waits()}, {within(process.seconds, limit)}{beside}"
+
         while True:
             beside = [self.opening.process] if self.opening and self.opening.process and self.opening.process is not process else []
-            ended = self.processes.wait([process, *beside], until, lambda: self.observer.tick(time.monotonic() - self.begun, waits))
+            ended = self.processes.wait([process, *beside], until, lambda: self.observer.tick(time.monotonic() - self.begun, words))
             if ended is None or ended is process:
                 return ended is process
             self.end_opening(None)

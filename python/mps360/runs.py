@@ -12,7 +12,7 @@ from collections.abc import Callable, Sequence
 from dataclasses import dataclass, field
 from typing import TYPE_CHECKING
 
-from mps360.life import awaited
+from mps360.life import awaited, is_on_path
 from mps360.output import CANT_WRITE
 from mps360.processes import Process, Processes
 
@@ -118,10 +118,14 @@ def stop_words(lines: Sequence[str], status: int) -> str | None:
 
 
 def waits_for(attempt: Attempt) -> str:
-    "what a run of the program does, as far as its listing tells"
+    "what a run of the program does, as far as its listing tells; of a route its words, with what it waits for where it isn't on its path"
     assert attempt.process is not None
     attempt.listing = attempt.process.printed()
-    return awaited(attempt.job, attempt.lines())
+    lines = attempt.lines()
+    told = awaited(attempt.job, lines)
+    if attempt.words == ITSELF:
+        return told
+    return attempt.words if is_on_path(attempt.job, lines) else f"{attempt.words} ({told.partition(';')[0]})"
 
 
 def run_alone(job: bytes, program: Tool, *, seconds: float | None = None, begun: float | None = None, observer: Observer | None = None) -> Attempt:

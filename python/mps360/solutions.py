@@ -5,16 +5,16 @@
 
 Two forms are read, gzipped too: what `esolver -O` of QSopt_ex writes, which leaves out what is 0; and JSON, which the page on models of other
 solvers describes. Numbers are whole, or fractions such as -7/3: a decimal number is refused, since most programs round it."""
-from typing import Any, NoReturn
-from mps360.model import Model
 import json
 import re
 from fractions import Fraction
+from typing import Any, NoReturn
 
 from mps360.commands import called
 from mps360.errors import Refused
 from mps360.files import unzipped
 from mps360.listings.write import Answer
+from mps360.model import Model
 from mps360.model import Sums
 
 FRACTION = re.compile(r"[+-]?[0-9]{1,4000}(?:/[0-9]{1,4000})?")

@@ -17,7 +17,6 @@ import os
 import pathlib
 import re
 import shutil
-import subprocess
 import sys
 from collections.abc import Iterable
 from dataclasses import dataclass
@@ -34,7 +33,8 @@ DEBIAN_PYTHON = "/usr/bin/python3"
 VERSION_SECONDS = 15.0
 MODEL, WRITTEN, OPTIONS, BASIS = "plain.mps", "written", "options", "basis"
 # how each tells its version, and where it stands in what it prints
-VERSIONS = {"clp": (("-stop",), r"Coin LP version (\S+?),? build|Coin LP version (\S+)"), "esolver": (("-v",), r"QSopt_ex (\d\S*)"), "glpsol": (("--version",), r"Solver,? v?(\d\S*)"),
+VERSIONS = {"clp": (("-stop",), r"Coin LP version (\S+?),? build|Coin LP version (\S+)"), "esolver": (("-v",), r"QSopt_ex (\d\S*)"),
+            "glpsol": (("--version",), r"Solver,? v?(\d\S*)"),
             "lp_solve": (("-p",), r"lp_solve version (\d[\d.]*\d)"), "highs": (("--version",), r"HiGHS version (\S+)")}
 # (the package stands last on the path, so that none of its modules hides one of Python's)
 RUNS_HIGHS = "import sys; sys.path.append(sys.argv[1]); from mps360.highs import main; sys.exit(main())"

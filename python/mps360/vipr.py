@@ -1,4 +1,5 @@
-"""VIPR certificates (VER 1.0, and of VER 1.1 what has all multipliers) of linear programs that were solved to their end: read, checked, made of a listing, and made a model and an answer.
+"""VIPR certificates (VER 1.0, and of VER 1.1 what has all multipliers) of linear programs that were solved to their end: read,
+checked, made of a listing, and made a model and an answer.
 The form is described in Cheung, Gleixner, Steffy: Verifying Integer Programming Results (IPCO 2017).
 
     certificate = read(TEXT)           a Certificate, or NoCertificate, which names the line

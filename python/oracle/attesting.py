@@ -11,55 +11,75 @@ usage: dev/oracle attesting JOB LISTING       it prints one line, and ends with 
  42 UNCHECKED LINE n     an operation of a test doesn't fit 127 bits
  43 LONG LISTING         of more than 64,000,000 bytes
  64 wrong use; 66 a file can't be read; as the program: STOP 4 WORDS, with 4, and STOP 27 LISTING FAULT, with 27"""
+from __future__ import annotations
+
 import pathlib
 import sys
+from collections.abc import Callable, Sequence
 from fractions import Fraction
+from typing import Any, TypeVar
 
 from oracle.claims import (ATTESTED, Changing, Claim, DEFAULTS, DEMAND_OF, Found, LONG, Listing, MOST_LISTING, MOST_STATEMENTS, Misses, OPEN, Sheet,
-                           UNCHECKED, WRONG, ask, check_direction, check_equations, check_interval, check_optimal, check_prices, cost, count, for_min, fraction, has_form, is_checked, is_open_stop, ray_sum, read_code, shown, total, worth_of)
-from oracle.deck_rules import BasisDeck, DataDeck, RevisionDeck
-from oracle.rules import Program, Refused, Stop, cut, is_skipped, name_field, subtract, word_of
+                           UNCHECKED, WRONG, ask, check_direction, check_equations, check_interval, check_optimal, check_prices, cost, count,
+                           for_min, fraction, has_form, is_checked, is_open_stop, ray_sum, read_code, shown, total, worth_of)
+from oracle.deck_rules import BasisDeck, DataDeck, Problem, RevisionDeck
+from oracle.rules import Argument, Program, Refused, Statement, Stop, cut, is_skipped, name_field, subtract, word_of
 from oracle.selecting import LinearProgram, SelectionFault
 
 
 # ---- the walk
 
+Result = TypeVar("Result")
+Options = tuple[str | None, str | None, str]   # of a SETUP: the bound set, the range set and the sense
+
+
 class Walk:
-    def __init__(self, job, listing):
-        self.listing, self.reports, self.pending = Listing(listing.decode("latin-1")), 0, None
-        self.cards, self.place = [], 0
-        self.problems, self.last, self.setup, self.mark = {}, None, None, None
-        self.cells, self.demands = dict(DEFAULTS), {}
+    "goes through a job's statements, and takes from the listing what is due at each"
+    card: int
+
+    def __init__(self, job: bytes, listing: bytes) -> None:
+        self.listing, self.reports = Listing(listing.decode("latin-1")), 0
+        # an optimum whose SOLUTION hasn't come yet, and its line
+        self.pending: tuple[int, Claim] | None = None
+        self.cards: list[str] = []
+        self.place = 0
+        self.problems: dict[str, Problem] = {}
+        self.last: str | None = None
+        self.setup: tuple[Problem, Options] | None = None
+        self.mark: str | None = None
+        # names and numbers
+        self.cells: dict[str, Any] = dict(DEFAULTS)
+        self.demands: dict[str, int] = {}
         self.job = job
 
     # -- what comes
 
-    def open_stop(self):
+    def open_stop(self) -> None:
         if is_open_stop(self.listing.peek() or ""):
             raise Found(OPEN, self.listing.line())
 
-    def open_pending(self):
+    def open_pending(self) -> None:
         if self.pending:
             raise Found(OPEN, self.pending[0])
 
-    def due(self, text):
+    def due(self, text: str) -> None:
         "a line on which nothing is left to the listing"
         self.open_stop()
         if self.listing.peek() != text:
             raise self.wrong()
         self.listing.at += 1
 
-    def ends(self, text):
+    def ends(self, text: str) -> None:
         self.open_stop()
         self.open_pending()
         self.due(text)
         raise Found(*((ATTESTED, self.reports) if self.listing.is_over() else (WRONG, self.listing.line())))
 
-    def reported(self, text):
+    def reported(self, text: str) -> None:
         self.due(text)
         self.reports += 1
 
-    def read(self, reading):
+    def read(self, reading: Callable[[], Result]) -> Result:
         "a report that has numbers of its own; what the reading gives of it"
         line = self.listing.line()
         try:
@@ -73,16 +93,17 @@ class Walk:
 
     # -- the run
 
-    def run(self):
+    def run(self) -> None:
         try:
             self.cards = cut(self.job)
             program = Program(self.cards)
-            self.place = program.ends
+            self.place = program.ends or 0
             self.statements(program)
         except Stop as stop:
             self.ends(stop.text)
 
-    def statements(self, program):
+    def statements(self, program: Program) -> None:
+        "executes the statements from the first on"
         at = executed = 0
         while at < len(program.statements):
             if executed == MOST_STATEMENTS:
@@ -92,7 +113,7 @@ class Walk:
             if one.verb == "EXIT":
                 break
             if one.verb == "GOTO":
-                at = program.labels[one.arguments[0]]
+                at = program.labels[str(one.arguments[0])]
                 continue
             demand = self.execute(one, program.labels)
             if demand:
@@ -101,36 +122,37 @@ class Walk:
                 at = self.demands[demand]
         self.ends("END 0")
 
-    def execute(self, one, labels):
+    def execute(self, one: Statement, labels: dict[str, int]) -> str | None:
         "a statement; the demand to which it goes, if any"
         self.card = one.card
         if one.verb == "MVADR":
-            self.demands[one.arguments[0]] = labels[one.arguments[1]]
+            self.demands[str(one.arguments[0])] = labels[str(one.arguments[1])]
             return None
-        return getattr(self, "setup_" if one.verb == "SETUP" else one.verb.lower())(*one.arguments)
+        verb: Callable[..., str | None] = getattr(self, "setup_" if one.verb == "SETUP" else one.verb.lower())
+        return verb(*one.arguments)
 
-    def fault(self, number):
+    def fault(self, number: int) -> Stop:
         return Stop(f"STOP 10 VERB FAULT {number} CARD {self.card}")
 
-    def clear_mark(self):
+    def clear_mark(self) -> None:
         self.open_pending()
         self.mark = None
 
-    def initialz(self):
+    def initialz(self) -> None:
         self.clear_mark()
         self.cells, self.demands = dict(DEFAULTS), {}
 
-    def title(self, text):
+    def title(self, text: str) -> None:
         self.reported("TITLE " + text)
 
-    def move(self, cell, value):
+    def move(self, cell: str, value: Argument) -> None:
         self.cells[cell] = value
         if cell in ("XOBJ", "XRHS"):
             self.clear_mark()
 
     # -- decks and problems
 
-    def deck(self):
+    def deck(self) -> tuple[list[str], int, str | None]:
         "the next deck, with the number of its first card; where XDATA was moved the next one of that name"
         while True:
             while self.place < len(self.cards) and is_skipped(self.cards[self.place]):
@@ -146,22 +168,22 @@ class Walk:
             if "XDATA" not in self.cells or self.cells["XDATA"] == name:
                 return self.cards[first:self.place], first + 1, name
 
-    def filed(self, cell):
-        name = self.cells.get(cell, self.last)
-        if name not in self.problems:
+    def filed(self, cell: str) -> Problem:
+        problem = self.problems.get(self.cells.get(cell, self.last))
+        if problem is None:
             raise self.fault(2)
-        return self.problems[name]
+        return problem
 
-    def convert(self):
+    def convert(self) -> None:
         cards, first, name = self.deck()
         self.file("CONVERT", DataDeck(cards, first, len(self.cards)), name)
 
-    def revise(self):
+    def revise(self) -> None:
         old = self.filed("XOLDNAME")
         cards, first, name = self.deck()
         self.file("REVISE", RevisionDeck(old, cards, first, len(self.cards)), name)
 
-    def file(self, verb, deck, name):
+    def file(self, verb: str, deck: DataDeck, name: str | None) -> None:
         deck.read()
         problem = deck.problem
         problem.name = self.cells.get("XPBNAME", name)
@@ -170,38 +192,44 @@ class Walk:
         self.reported(f"{verb:<7} {problem.name:<8} ROWS {len(problem.rows)} COLUMNS {len(problem.columns)} ENTRIES {problem.entries()}")
         self.problems[problem.name], self.last, self.setup = problem, problem.name, None
 
-    def bcdout(self):
+    def bcdout(self) -> None:
         problem = self.filed("XPBNAME")
         self.reported(f"BCDOUT  {problem.name:<8} CARDS {problem.punched_cards()}")
 
-    def setup_lp(self, setup):
+    def setup_lp(self, setup: tuple[Problem, Options]) -> LinearProgram:
         problem, options = setup
         try:
             return LinearProgram(problem, self.cells.get("XOBJ"), self.cells.get("XRHS"), options)
         except SelectionFault as fault:
             raise self.fault(fault.args[0]) from None
 
-    def select(self):
+    def select(self) -> LinearProgram:
         if self.setup is None:
             raise self.fault(3)
         return self.setup_lp(self.setup)
 
-    def not_refused(self, lp):
+    def problem_set_up(self) -> Problem:
+        "the problem of the last SETUP, after select"
+        assert self.setup is not None
+        return self.setup[0]
+
+    def not_refused(self, lp: LinearProgram) -> None:
         if lp.is_refused:
             raise Found(UNCHECKED, self.listing.line())
 
-    def setup_(self, *options):
+    def setup_(self, bound: str | None, ranges: str | None, sense: str) -> None:
+        options = bound, ranges, sense
         problem = self.filed("XPBNAME")
         lp = self.setup_lp((problem, options))
         self.open_stop()
         self.clear_mark()
         self.not_refused(lp)
-        self.reported(f"SETUP   {problem.name:<8} {options[2]}")
+        self.reported(f"SETUP   {problem.name:<8} {sense}")
         self.setup = problem, options
 
     # -- verdicts
 
-    def claim(self, verb, lp, kinds):
+    def claim(self, verb: str, lp: LinearProgram, kinds: Sequence[str]) -> Claim:
         "a verdict of one of these kinds, read"
         words, sheet = (self.listing.peek() or "").split(" "), Sheet(lp)
         ask(len(words) > 5 and words[0] == verb and words[1] in kinds and words[2] == "STEPS")
@@ -225,7 +253,7 @@ class Walk:
         point, direction = sheet.table(self.listing, 0, 0)
         return Claim(kind, word, objective=objective, point=point, direction=direction)
 
-    def tested_claim(self, verb, lp, kinds, made):
+    def tested_claim(self, verb: str, lp: LinearProgram, kinds: Sequence[str], made: Callable[[], LinearProgram]) -> Claim:
         "a verdict that passes its test in a linear program, which is made once the verdict is read"
         line, claim = self.listing.line(), self.claim(verb, lp, kinds)
         lp = made()
@@ -233,16 +261,16 @@ class Walk:
         self.met(line, lp, claim)
         return claim
 
-    def met(self, line, lp, claim):
+    def met(self, line: int, lp: LinearProgram, claim: Claim) -> None:
         "what follows of a claim that has passed its test; nothing here"
 
-    def primal(self):
+    def primal(self) -> str | None:
         return self.solve("PRIMAL")
 
-    def dual(self):
+    def dual(self) -> str | None:
         return self.solve("DUAL")
 
-    def solve(self, verb):
+    def solve(self, verb: str) -> str | None:
         lp = self.select()
         self.open_stop()
         self.open_pending()
@@ -254,25 +282,29 @@ class Walk:
 
     # -- SOLUTION, and what can't be read without a basis
 
-    def needs_mark(self, *marks):
+    def needs_mark(self, *marks: str) -> tuple[Problem, Options]:
+        "the present setup; the fault of a statement that needs one of these marks where there is none"
         if self.setup is None or self.mark is None or self.mark not in marks:
             raise self.fault(3 if self.setup is None else 4 if self.mark is None else 5)
+        return self.setup
 
-    def solution(self):
-        self.needs_mark("OPTIMAL", "INFEASIBLE", "UNBOUNDED")
+    def solution(self) -> None:
+        "SOLUTION: its numbers are tested, and with them an optimum that is pending"
+        setup = self.needs_mark("OPTIMAL", "INFEASIBLE", "UNBOUNDED")
         self.open_stop()
-        lp, line = self.setup_lp(self.setup), self.listing.line()
-        shown = self.read(lambda: self.tested_solution(lp))
+        lp, line = self.setup_lp(setup), self.listing.line()
+        claimed = self.read(lambda: self.tested_solution(lp))
         if self.mark != "OPTIMAL":
             return
         if self.pending:
             first, claim = self.pending
-            if claim.objective != shown.objective or not claim.is_checked:
+            if claim.objective != claimed.objective or not claim.is_checked:
                 raise Found(WRONG, first)
             self.pending = None
-        self.met(line, lp, shown)
+        self.met(line, lp, claimed)
 
-    def tested_solution(self, lp):
+    def tested_solution(self, lp: LinearProgram) -> Claim:
+        "the tables of SOLUTION, which are read and tested"
         listing, sheet = self.listing, Sheet(lp)
         ask(listing.take() == f"SOLUTION {self.mark}")
         point, prices, slacks = [], [], []
@@ -301,7 +333,7 @@ class Walk:
             check_optimal(lp, point, prices)
         return Claim("OPTIMAL", True, objective=point[lp.objective], point=point, prices=prices)
 
-    def is_by_basis(self, text, has_count=False):
+    def is_by_basis(self, text: str, has_count: bool = False) -> bool:
         "whether the line of a report that needs the basis is due there, which then is open: a text, and where it has one a count"
         self.open_stop()
         line = self.listing.peek() or ""
@@ -310,25 +342,26 @@ class Walk:
         self.untold()
         return True
 
-    def untold(self):
+    def untold(self) -> None:
         "the report that can't be tested begins at the next line"
         raise Found(OPEN, self.listing.line())
 
-    def wrong(self):
+    def wrong(self) -> Found:
         return Found(WRONG, self.listing.line())
 
-    def range(self):
+    def range(self) -> None:
         self.needs_mark("OPTIMAL")
         if not self.is_by_basis("RANGE"):
             raise self.wrong()
 
-    def punch(self):
+    def punch(self) -> None:
         lp = self.select()
-        if not self.is_by_basis(f"PUNCH   {self.setup[0].name:<8} CARDS ", has_count=True):
+        if not self.is_by_basis(f"PUNCH   {self.problem_set_up().name:<8} CARDS ", has_count=True):
             self.not_refused(lp)
             raise self.wrong()
 
-    def insert(self):
+    def insert(self) -> None:
+        "INSERT: its deck is read for its faults, and what it leads to is open"
         lp = self.select()
         try:
             cards, first, name = self.deck()
@@ -346,20 +379,21 @@ class Walk:
 
     # -- parametric runs
 
-    def paraobj(self):
+    def paraobj(self) -> str | None:
         return self.parametric("PARAOBJ")
 
-    def pararhs(self):
+    def pararhs(self) -> str | None:
         return self.parametric("PARARHS")
 
-    def parametric(self, verb):
+    def parametric(self, verb: str) -> str | None:
+        "PARAOBJ or PARARHS; the demand to which it goes, if any"
         lp = self.select()
         if lp.is_refused:
             self.open_stop()
             self.open_pending()
             self.not_refused(lp)
-        problem, cells = self.setup[0], self.cells
-        change = cells.get("XCHROW" if verb == "PARAOBJ" else "XCHCOL")
+        problem, cells = self.problem_set_up(), self.cells
+        change: str = cells.get("XCHROW" if verb == "PARAOBJ" else "XCHCOL", "")
         if verb == "PARAOBJ" and (change not in problem.rows or problem.rows[change].kind != "N"):
             raise self.fault(6)
         if verb == "PARARHS" and change not in problem.rhs:
@@ -375,13 +409,16 @@ class Walk:
         else:
             changing = Changing(lp, shift=[problem.rhs[change].get(name, Fraction(0)) for name in lp.row_names])
         head = f"{verb} FROM {cells['XPARAM']} CHANGE {change}"
-        return self.read(lambda: self.chain(verb, changing) if self.listing.peek() == head else self.opening(verb, changing))
+        if self.listing.peek() != head:
+            return self.read(lambda: self.opening(verb, changing))
+        self.read(lambda: self.chain(verb, changing))
+        return None
 
-    def opening(self, verb, changing):
-        made = lambda: changing.at(self.cells["XPARAM"])
-        return DEMAND_OF[self.tested_claim(verb, changing.lp, tuple(DEMAND_OF), made).kind]
+    def opening(self, verb: str, changing: Changing) -> str:
+        return DEMAND_OF[self.tested_claim(verb, changing.lp, tuple(DEMAND_OF), lambda: changing.at(self.cells["XPARAM"])).kind]
 
-    def chain(self, verb, changing):
+    def chain(self, verb: str, changing: Changing) -> None:
+        "the intervals of a parametric run, each tested at both ends"
         listing, sheet, last, most, number = self.listing, Sheet(changing.lp), self.cells["XPARAM"], self.cells["XPARMAX"], 0
         listing.take()
         while (listing.peek() or "").startswith("INTERVAL "):
@@ -396,23 +433,24 @@ class Walk:
         self.closing(verb, changing, sheet, last, most)
         self.cells["XPARAM"] = last
 
-    def closing(self, verb, changing, sheet, last, most):
+    def closing(self, verb: str, changing: Changing, sheet: Sheet, last: Fraction, most: Fraction) -> None:
+        "the last line of a parametric run, with the test of what it says lies past the end"
         line, lp = self.listing.take(), changing.lp
         if line == f"{verb} ENDS AT {most}":
             ask(last == most)
             return
         ask(line == f"{verb} {'UNBOUNDED' if verb == 'PARAOBJ' else 'INFEASIBLE'} PAST {last}" and last < most)
-        if verb == "PARAOBJ":
+        if changing.row is not None:
             point, direction = sheet.table(self.listing, 0, 0)
             check_direction(lp, point, direction)
             ask(worth_of(changing.at(last), direction) <= 0 and for_min(lp, direction[changing.row]) < 0)
             return
         ray = sheet.ray(self.listing)
         ask(ray_sum(changing.at(last), ray) <= 0)
-        ask(total(Fraction(0), zip(ray, changing.shift)) < 0)
+        ask(total(Fraction(0), zip(ray, changing.shift or ())) < 0)
 
 
-def attest(job, listing):
+def attest(job: bytes, listing: bytes) -> tuple[int, str]:
     "the status, and the line that is printed"
     if len(listing) > MOST_LISTING:
         return LONG, "LONG LISTING"
@@ -424,7 +462,7 @@ def attest(job, listing):
     raise AssertionError("a walk has an end")
 
 
-def as_program(words):
+def as_program(words: list[str]) -> tuple[int, str]:
     "the status, and the line that is printed, as the program has them"
     if words:
         return 4, "STOP 4 WORDS"
@@ -436,7 +474,8 @@ def as_program(words):
     return attest(job, listing)
 
 
-def main(words):
+def main(words: list[str]) -> int:
+    "the command; its status"
     if words[:1] == ["--as-program"]:
         status, line = as_program(words[1:])
         print(line)

@@ -1,23 +1,27 @@
 """DUAL, PUNCH and INSERT for oracle/listing.py, worked out apart from the program in exact fractions.
 
-A table (expected_listing.Table) has the present basis; variables are numbered from 0, rows before columns."""
+A table (tableau.Table) has the present basis; variables are numbered from 0, rows before columns."""
+from __future__ import annotations
+
+from collections.abc import Callable, Iterator
 from fractions import Fraction
 
 from oracle.decks import GAPS, SECTIONS, DeckFault
+from oracle.tableau import End, LinearProgram, Table
 
 CODES = {"XU": "UL", "XL": "LL", "UL": "UL", "LL": "LL"}
 
 
 class Singular(Exception):
     "columns of which one is a sum of others, with the vector that says so"
-    def __init__(self, vector):
+    def __init__(self, vector: list[Fraction]) -> None:
         super().__init__(vector)
         self.vector = vector
 
 
 # ---- the dual simplex method
 
-def wrong_price(table):
+def wrong_price(table: Table) -> int | None:
     "the least-numbered nonbasic whose price has a sign that an optimal basis hasn't, None where there is none"
     lp, prices = table.lp, table.prices()
     for k in range(table.size):
@@ -28,7 +32,7 @@ def wrong_price(table):
     return None
 
 
-def dual_path(table, most):
+def dual_path(table: Table, most: Fraction | None) -> tuple[End, int]:
     "the end of the path, and the number of steps: the least-numbered basic outside leaves, the least ratio of price and rate enters"
     wrong, steps = wrong_price(table), 0
     if wrong is not None:
@@ -53,13 +57,13 @@ def dual_path(table, most):
 
 # ---- basis decks
 
-def parts(table):
+def parts(table: Table) -> tuple[list[int], list[int]]:
     "the basic columns and the nonbasic rows"
     lp = table.lp
     return [k for k in range(lp.m, table.size) if k in table.rate], [k for k in range(lp.m) if k not in table.rate]
 
 
-def deck(name, table, opening):
+def deck(name: str, table: Table, opening: list[str]) -> Iterator[str]:
     "the cards that PUNCH punches; opening says where each variable stands after SETUP"
     names, (columns, rows) = table.lp.names, parts(table)
     yield f"NAME          {name}".rstrip()
@@ -71,11 +75,11 @@ def deck(name, table, opening):
     yield "ENDATA"
 
 
-def stands_for(cards, lp, opening, is_skipped, fields):
+def stands_for(cards: list[str], lp: LinearProgram, opening: list[str], is_skipped: Callable[[str], bool], fields: Callable[[str], list[str]]) -> list[str]:
     "where each variable stands by the cards of a basis deck, by its number; what no card names stands as after SETUP"
     column_of = {name: lp.m + k for k, name in enumerate(lp.names[lp.m:])}
     row_of = {name: k for k, name in enumerate(lp.names[:lp.m])}
-    at, named, is_begun = list(opening), set(), False
+    at, named, is_begun = list(opening), set[int](), False
     for place, card in enumerate(cards):
         if is_skipped(card):
             continue
@@ -112,9 +116,9 @@ def stands_for(cards, lp, opening, is_skipped, fields):
     raise DeckFault(13, len(cards) - 1)
 
 
-def dependency(lp, columns, rows):
+def dependency(lp: LinearProgram, columns: list[int], rows: list[int]) -> list[Fraction] | None:
     "the first of these columns that those before it make up in these rows: the vector that is 1 there; None where there is none"
-    reduced = []
+    reduced: list[tuple[int, dict[int, Fraction], dict[int, Fraction]]] = []
     for column in columns:
         entries = {i: lp.columns[column - lp.m].get(i, Fraction(0)) for i in rows}
         made = {column: Fraction(1)}
@@ -122,17 +126,17 @@ def dependency(lp, columns, rows):
             factor = entries[row] / other[row]
             entries = {i: entries[i] - factor * other[i] for i in rows}
             made = {k: made.get(k, Fraction(0)) - factor * others.get(k, Fraction(0)) for k in made | others}
-        row = next((i for i in rows if entries[i]), None)
-        if row is None:
+        first = next((i for i in rows if entries[i]), None)
+        if first is None:
             vector = [Fraction(0)] * lp.m + [made.get(k, Fraction(0)) for k in range(lp.m, lp.m + lp.n)]
             for i in range(lp.m):
                 vector[i] = sum((entries.get(i, 0) * vector[lp.m + j] for j, entries in enumerate(lp.columns)), Fraction(0))
             return vector
-        reduced.append((row, entries, made))
+        reduced.append((first, entries, made))
     return None
 
 
-def take(table, at):
+def take(table: Table, at: list[str]) -> None:
     "brings a table at the opening basis to the basis in which each variable stands so"
     lp = table.lp
     columns, rows = [k for k in range(lp.m, table.size) if at[k] == "BS"], [k for k in range(lp.m) if at[k] != "BS"]

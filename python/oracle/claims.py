@@ -1,9 +1,14 @@
 "What a listing claims, as it is read and as the checks test it, with plain operations of 128 bits."
+from __future__ import annotations
+
 import re
+from collections.abc import Iterable, Sequence
 from dataclasses import dataclass
 from fractions import Fraction
+from typing import Any
 
 from oracle.rules import GREATEST, add, multiply, subtract
+from oracle.selecting import LinearProgram
 
 MOST_LISTING, MOST_STATEMENTS = 64_000_000, 100_000
 ATTESTED, WRONG, OPEN, UNCHECKED, LONG = 0, 40, 41, 42, 43
@@ -20,7 +25,7 @@ OPEN_STOPS = ("STOP 16 ITERATION LIMIT # CARD #", "STOP 24 READ FAULT", "STOP 26
 
 class Found(Exception):
     "the end of the walk: a status, and a line or the number of reports"
-    def __init__(self, status, number):
+    def __init__(self, status: int, number: int) -> None:
         super().__init__(status, number)
         self.status, self.number = status, number
 
@@ -29,7 +34,8 @@ class Misses(Exception):
     "what is due isn't of its form, or fails a test"
 
 
-def ask(holds):
+def ask(holds: object) -> None:
+    "Misses where this doesn't hold"
     if not holds:
         raise Misses
 
@@ -38,30 +44,31 @@ def ask(holds):
 
 class Listing:
     "the lines of a listing, and the next one"
-    def __init__(self, text):
+    def __init__(self, text: str) -> None:
         self.lines, self.at = text.split("\n"), 0
         self.last = self.lines.pop()
         self.has_part = bool(self.last)
 
-    def line(self):
+    def line(self) -> int:
         "the number of the next line"
         return self.at + 1
 
-    def peek(self):
+    def peek(self) -> str | None:
         "the next line; None at the end, and of a line without its line feed"
         return self.lines[self.at] if self.at < len(self.lines) else None
 
-    def take(self):
+    def take(self) -> str:
         line = self.peek()
-        ask(line is not None)
+        if line is None:
+            raise Misses
         self.at += 1
         return line
 
-    def is_over(self):
+    def is_over(self) -> bool:
         return self.at == len(self.lines) and not self.has_part
 
 
-def fraction(word):
+def fraction(word: str) -> Fraction:
     "a fraction as it is written in lowest terms, of 128 bits"
     ask(len(word) <= MOST_DIGITS and re.fullmatch(FRACTION, word, re.ASCII))
     parts = word.split("/")
@@ -71,17 +78,18 @@ def fraction(word):
     return value
 
 
-def count(word, most=2 ** 32 - 1):
+def count(word: str, most: int = 2 ** 32 - 1) -> int:
     ask(len(word) <= MOST_DIGITS and re.fullmatch(r"0|[1-9]\d*", word, re.ASCII) and int(word) <= most)
     return int(word)
 
 
-def is_open_stop(line):
+def is_open_stop(line: str) -> bool:
     "whether a line is the first one of a stop text that can't be attested"
     return any(has_form(line.split(" "), form.split(" ")) for form in OPEN_STOPS)
 
 
-def has_form(words, form):
+def has_form(words: list[str], form: list[str]) -> bool:
+    "whether words are of a form: # stands for a count, / for a fraction, ! for an operation"
     try:
         ask(len(words) == len(form))
         for word, piece in zip(words, form):
@@ -97,33 +105,34 @@ def has_form(words, form):
     return True
 
 
-def is_checked(words):
+def is_checked(words: list[str]) -> bool:
     "whether the words at the end of a verdict say CHECKED; the other form names an operation and its operands"
     if words == ["CHECKED"]:
         return True
     ask(len(words) == 4 and words[0] == "UNCHECKED" and words[1] in OPERATIONS)
-    fraction(words[2]), fraction(words[3])
+    for word in words[2:]:
+        fraction(word)
     return False
 
 
-def shown(value):
+def shown(value: Fraction | None) -> str:
     return "NONE" if value is None else str(value)
 
 
 class Sheet:
     "a linear program whose table lines are read"
-    def __init__(self, lp):
+    def __init__(self, lp: LinearProgram) -> None:
         self.lp, self.size = lp, lp.m + lp.n
 
-    def head(self, k):
+    def head(self, k: int) -> str:
         return f"{k + 1:5} {self.lp.names[k]:<8} "
 
-    def values(self, line, k):
+    def values(self, line: str, k: int) -> list[str]:
         "the words behind the head of a variable's line"
         ask(line.startswith(self.head(k)))
         return line[len(self.head(k)):].split(" ")
 
-    def table(self, listing, *kinds):
+    def table(self, listing: Listing, *kinds: int | None) -> list[list[Any]]:
         "a line for each variable: an AT code for a kind of None, and a number for one of 0; the columns of numbers"
         lines = []
         for k in range(self.size):
@@ -132,7 +141,7 @@ class Sheet:
             lines.append([read_code(word) if kind is None else fraction(word) for kind, word in zip(kinds, words)])
         return [list(column) for column in zip(*lines)] if lines else [[] for _ in kinds]
 
-    def ray(self, listing):
+    def ray(self, listing: Listing) -> list[Fraction]:
         "the lines of a ray, ascending, each with a number other than 0; no other table line may follow"
         ray = [Fraction(0)] * self.size
         for k in range(self.size):
@@ -147,21 +156,21 @@ class Sheet:
         return ray
 
 
-def read_code(word):
+def read_code(word: str) -> str:
     ask(word in ("BS", "**", "EQ", "LL", "UL", "FR"))
     return word
 
 
 # ---- the sums of the checks, with plain operations of 128 bits
 
-def total(start, products):
+def total(start: Fraction, products: Iterable[tuple[Fraction, Fraction]]) -> Fraction:
     for x, y in products:
         start = add(start, multiply(x, y))
     return start
 
 
-def check_equations(lp, point):
-    rows = [[] for _ in range(lp.m)]
+def check_equations(lp: LinearProgram, point: Sequence[Fraction]) -> None:
+    rows: list[list[tuple[Fraction, Fraction]]] = [[] for _ in range(lp.m)]
     for j, entries in enumerate(lp.columns):
         for i, value in entries:
             rows[i].append((value, point[lp.m + j]))
@@ -169,12 +178,12 @@ def check_equations(lp, point):
         ask(total(Fraction(0), products) == point[i])
 
 
-def check_limits(lp, point):
+def check_limits(lp: LinearProgram, point: Sequence[Fraction]) -> None:
     for value, lower, upper in zip(point, lp.lower, lp.upper):
         ask((lower is None or value >= lower) and (upper is None or value <= upper))
 
 
-def cost(lp, entries):
+def cost(lp: LinearProgram, entries: list[tuple[int, Fraction]]) -> Fraction:
     "the cost of a column"
     own = dict(entries)
     if not lp.change:
@@ -183,17 +192,17 @@ def cost(lp, entries):
     return add(own.get(lp.objective, Fraction(0)), multiply(theta, own.get(row, Fraction(0))))
 
 
-def check_prices(lp, prices):
+def check_prices(lp: LinearProgram, prices: Sequence[Fraction]) -> None:
     for j, entries in enumerate(lp.columns):
         worth = cost(lp, entries)
         ask(subtract(worth, total(Fraction(0), ((prices[i], value) for i, value in entries))) == prices[lp.m + j])
 
 
-def for_min(lp, price):
+def for_min(lp: LinearProgram, price: Fraction) -> Fraction:
     return price if lp.sense == "MIN" else -price
 
 
-def check_optimal(lp, point, prices):
+def check_optimal(lp: LinearProgram, point: Sequence[Fraction], prices: Sequence[Fraction]) -> None:
     check_equations(lp, point)
     check_limits(lp, point)
     check_prices(lp, prices)
@@ -201,11 +210,12 @@ def check_optimal(lp, point, prices):
         ask(not price or point[k] == (lp.lower if for_min(lp, price) > 0 else lp.upper)[k])
 
 
-def check_crossed(lp, k):
-    ask(None not in (lp.lower[k], lp.upper[k]) and lp.lower[k] > lp.upper[k])
+def check_crossed(lp: LinearProgram, k: int) -> None:
+    lower, upper = lp.lower[k], lp.upper[k]
+    ask(lower is not None and upper is not None and lower > upper)
 
 
-def ray_sum(lp, ray):
+def ray_sum(lp: LinearProgram, ray: Sequence[Fraction]) -> Fraction:
     "the sum of the multipliers, each times its limit, after the tests of the columns and of the limits"
     for j, entries in enumerate(lp.columns):
         ask(total(ray[lp.m + j], ((ray[i], value) for i, value in entries)) == 0)
@@ -213,12 +223,13 @@ def ray_sum(lp, ray):
     for k, factor in enumerate(ray):
         if factor:
             limit = (lp.upper if factor > 0 else lp.lower)[k]
-            ask(limit is not None)
+            if limit is None:
+                raise Misses
             whole = add(whole, multiply(factor, limit))
     return whole
 
 
-def check_direction(lp, point, direction):
+def check_direction(lp: LinearProgram, point: Sequence[Fraction], direction: Sequence[Fraction]) -> None:
     "a feasible point, and a direction that keeps all limits"
     check_equations(lp, point)
     check_limits(lp, point)
@@ -227,7 +238,7 @@ def check_direction(lp, point, direction):
         ask(not by or (lp.lower if by < 0 else lp.upper)[k] is None)
 
 
-def worth_of(lp, direction):
+def worth_of(lp: LinearProgram, direction: Sequence[Fraction]) -> Fraction:
     "what the objective gains along a direction, counted for MIN"
     worth = direction[lp.objective]
     if lp.change:
@@ -239,25 +250,28 @@ def worth_of(lp, direction):
 
 class Changing:
     "the linear programs of a parametric run: the objective with theta times a row, or the limits with theta times the rows' shifts"
-    def __init__(self, lp, row=None, shift=None):
+    def __init__(self, lp: LinearProgram, row: int | None = None, shift: Sequence[Fraction] | None = None) -> None:
         self.lp, self.row, self.shift = lp, row, shift
 
-    def at(self, theta):
+    def at(self, theta: Fraction) -> LinearProgram:
+        "the linear program at a parameter"
         if self.row is not None:
             return self.lp.with_(change=(self.row, theta))
         lower, upper = list(self.lp.lower), list(self.lp.upper)
-        for i, by in enumerate(self.shift):
+        for i, by in enumerate(self.shift or ()):
             for limits in (lower, upper):
-                if limits[i] is not None:
-                    limits[i] = add(limits[i], multiply(theta, by))
+                limit = limits[i]
+                if limit is not None:
+                    limits[i] = add(limit, multiply(theta, by))
         return self.lp.with_(lower=lower, upper=upper)
 
 
-def along(theta, values, rates):
+def along(theta: Fraction, values: list[Fraction], rates: list[Fraction]) -> list[Fraction]:
     return [add(value, multiply(theta, rate)) for value, rate in zip(values, rates)]
 
 
-def check_interval(changing, is_first, first, last, most, columns):
+def check_interval(changing: Changing, is_first: bool, first: Fraction, last: Fraction, most: Fraction, columns: list[list[Any]]) -> None:
+    "tests an interval of a parametric run: at both ends its plan is best, and its prices are right at both"
     ask(first < last or is_first and first == last)
     ask(last <= most)
     ends = []
@@ -281,12 +295,12 @@ class Claim:
     is_checked: bool
     objective: Fraction | None = None
     crossed: int | None = None
-    ray: list | None = None
-    point: list | None = None
-    direction: list | None = None
-    prices: list | None = None
+    ray: Sequence[Fraction] = ()
+    point: Sequence[Fraction] = ()
+    direction: Sequence[Fraction] = ()
+    prices: Sequence[Fraction] | None = None
 
-    def test(self, lp):
+    def test(self, lp: LinearProgram) -> None:
         "the test of its proof; an optimal one is tested at SOLUTION"
         if self.kind == "OPTIMAL":
             return

@@ -1,9 +1,12 @@
 """Decks of problems and of revisions for oracle/listing.py, read apart from the program by the rules of docs/DECKS.md: the problem that a
 deck, fixed or free, describes, or its first fault."""
-import collections
+from __future__ import annotations
+
 import copy
 import re
+from collections.abc import Iterator
 from fractions import Fraction
+from typing import Any, NamedTuple
 
 SECTIONS = ("NAME", "ROWS", "COLUMNS", "RHS", "RANGES", "BOUNDS", "ENDATA")
 # the first and the last column of each field of a fixed card, and the columns between them
@@ -12,7 +15,8 @@ GAPS = [column for column in range(1, 62) if not any(first <= column <= last for
 NAMES, NUMBERS = (2, 3, 5), (4, 6)
 NAME_LENGTH, NUMBER_LENGTH = 8, 12
 KINDS, COMBINATIONS = ("N", "G", "L", "E"), ("DN", "DG", "DL", "DE")
-TYPE_NAMED, PARTS = [(1, 2)], [(1, 2, 3, 4), (1, 2, 3, 4, 5, 6)]
+TYPE_NAMED: list[tuple[int, ...]] = [(1, 2)]
+PARTS: list[tuple[int, ...]] = [(1, 2, 3, 4), (1, 2, 3, 4, 5, 6)]
 # the ends of a column that a bound touches, and the types that take a number
 BOUNDS = {"UP": "U", "PL": "U", "LO": "L", "MI": "L", "FX": "LU", "FR": "LU"}
 VALUED = ("UP", "LO", "FX")
@@ -21,21 +25,25 @@ MOST_ROWS, MOST_COLUMNS, MOST_ENTRIES, MOST_POWER = 1000, 5000, 50_000, 18
 NUMBER = re.compile(r"([+-]?(?:\d+\.?\d*|\.\d+))(?:[EeDd]([+-]?\d+))?$")
 # the same where any number of digits, none too, may stand in each place
 BEGUN_NUMBER = re.compile(r"[+-]?(\d*)(?:\.(\d*))?(?:[EeDd]([+-]?\d*))?")
-NAMED_PAIRS, BARE_PAIRS = [(2, 3, 4), (2, 3, 4, 5, 6)], [(3, 4), (3, 4, 5, 6)]
+NAMED_PAIRS: list[tuple[int, ...]] = [(2, 3, 4), (2, 3, 4, 5, 6)]
+BARE_PAIRS: list[tuple[int, ...]] = [(3, 4), (3, 4, 5, 6)]
 
-# the texts of a data card's fields, by their numbers, and the columns in which its numbers begin
-Fields = collections.namedtuple("Fields", "text column")
+
+class Fields(NamedTuple):
+    "the texts of a data card's fields, by their numbers, and the columns in which its numbers begin"
+    text: dict[int, str]
+    column: dict[int, int]
 
 
 class DeckFault(Exception):
     """a deck that has a fault: its number, the place of its card in the deck, from 0, what follows on the line, and for an unknown row the names
     of those that are known there"""
-    def __init__(self, number, place=None, more="", known=None):
-        super().__init__(number)
-        self.number, self.place, self.more, self.known = number, place, more, known
+    def __init__(self, fault: int, place: int | None = None, more: str = "", known: list[str] | None = None) -> None:
+        super().__init__(fault)
+        self.number, self.place, self.more, self.known = fault, place, more, known
 
 
-def number(text):
+def number(text: str) -> Fraction:
     found = NUMBER.match(text.strip())
     if not found:
         raise ValueError(f"not a number: {text!r}")
@@ -44,20 +52,22 @@ def number(text):
 
 class Written(Fraction):
     "a number as a card has it: its value, and its text"
-    def __new__(cls, text):
+    text: str
+
+    def __new__(cls, text: str) -> Written:  # pylint: disable=signature-differs
         self = super().__new__(cls, number(text))
         self.text = text.strip()
         return self
 
-    def __deepcopy__(self, _):
+    def __deepcopy__(self, memo: dict[int, Any]) -> Written:
         return self
 
 
-def number_on(text, column):
+def number_on(text: str, column: int) -> Written:
     "the number in a field that begins in this column"
     word, blanks = text.strip(), len(text) - len(text.lstrip())
     found = BEGUN_NUMBER.match(word)
-    if not word:
+    if not word or found is None:
         raise DeckFault(8, more=" NUMBER 1")
     if found.end() < len(word):
         raise DeckFault(8, more=f" NUMBER 2 COLUMN {column + blanks + found.end()}")
@@ -70,39 +80,39 @@ def number_on(text, column):
 
 # ---- cards
 
-def is_skipped(card):
+def is_skipped(card: str) -> bool:
     return not card or card.startswith("*")
 
 
-def deck_name(cards):
+def deck_name(cards: list[str]) -> str | None:
     "the name on the first card, where that is a NAME card"
     first = next((card for card in cards if not is_skipped(card)), "")
     return first[14:22].rstrip() if first.split(" ")[0] == "NAME" else None
 
 
-def is_free(name_card):
+def is_free(name_card: str) -> bool:
     "whether a NAME card begins a free deck: FREE in columns 25 to 28, and nothing else after the name"
     return name_card[22:80].rstrip() == "  FREE"
 
 
-def words_of(card):
+def words_of(card: str) -> list[tuple[int, str]]:
     "the words of a card, each with its first column"
     return [(found.start() + 1, found[0]) for found in re.finditer("[^ ]+", card)]
 
 
-def action_on(card, is_free):
+def action_on(card: str, has_words: bool) -> tuple[str, str] | None:
     "the word and the name on an action card of a revision; None on another card"
-    if not is_free:
+    if not has_words:
         return (card[1:].split(" ")[0], card[14:22].rstrip()) if re.match(r" [^ ]{3}", card) else None
     words = [word for _, word in words_of(card)]
-    return (words[0], *words[1:], "")[:2] if words[0] in ACTIONS and len(words) <= 2 else None
+    return (words[0], "".join(words[1:])) if words[0] in ACTIONS and len(words) <= 2 else None
 
 
-def fields(card):
+def fields(card: str) -> list[str]:
     return [card[first - 1:last].rstrip() for first, last in FIELDS.values()]
 
 
-def fixed_fields(card):
+def fixed_fields(card: str) -> Fields:
     if any(card[column - 1:column].strip() for column in GAPS):
         raise DeckFault(20)
     text = dict(zip(FIELDS, fields(card)))
@@ -110,7 +120,7 @@ def fixed_fields(card):
     return Fields(text, {field: FIELDS[field][0] for field in NUMBERS})
 
 
-def word_fields(section, deletes, first):
+def word_fields(section: str, deletes: bool, first: str) -> list[tuple[int, ...]]:
     "which fields the words of a free card may be; its first word tells its type"
     if deletes:
         return [(2,)] if section == "ROWS" else [(2,), (2, 3)]
@@ -121,7 +131,8 @@ def word_fields(section, deletes, first):
     return NAMED_PAIRS if section == "COLUMNS" else NAMED_PAIRS + BARE_PAIRS
 
 
-def free_fields(card, section, deletes):
+def free_fields(card: str, section: str, deletes: bool) -> Fields:
+    "the fields of a card of a free deck, by the words that it has"
     words = words_of(card)
     first = words[0][1]
     if section == "ROWS" and not deletes and first not in KINDS + COMBINATIONS:
@@ -139,7 +150,7 @@ def free_fields(card, section, deletes):
     return Fields(text, {field: column for field, (column, _) in zip(given, words)})
 
 
-def needs_blank(field, *numbers):
+def needs_blank(field: Fields, *numbers: int) -> None:
     if any(field.text[number].strip() for number in numbers):
         raise DeckFault(20)
 
@@ -149,27 +160,31 @@ def needs_blank(field, *numbers):
 class Problem:
     """what a deck says; DeckFault where it has a fault. A row has its kind; a combination also has its parts, which are multipliers by the names
     of other rows"""
-    def __init__(self, cards):
-        self.name, self.rows, self.parts, self.columns = "", {}, {}, {}
-        self.sets = {"RHS": {}, "RANGES": {}, "BOUNDS": {}}
+    def __init__(self, cards: list[str]) -> None:
+        self.name = ""
+        self.rows: dict[str, str] = {}
+        self.parts: dict[str, dict[str, Written]] = {}
+        self.columns: dict[str, dict[str, Written]] = {}
+        # of each section its sets by their names: numbers by the names of rows, or in BOUNDS a list of types, columns and numbers
+        self.sets: dict[str, dict[str, Any]] = {"RHS": {}, "RANGES": {}, "BOUNDS": {}}
         DataDeck(self, cards).read()
 
-    def entries(self):
+    def entries(self) -> int:
         return sum(len(entries) for entries in self.columns.values())
 
-    def summed(self, column):
+    def summed(self, column: str) -> dict[str, Fraction]:
         """the numbers of a column by the names of rows: its entries, and on each combination that has a part where the column has a number the sum
         of such parts, each its multiplier times that number"""
-        numbers = dict(self.columns[column])
+        numbers: dict[str, Fraction] = {**self.columns[column]}
         for name in self.rows:
             products = [times * numbers[row] for row, times in self.parts.get(name, {}).items() if row in numbers]
             if products:
                 numbers[name] = sum(products, Fraction(0))
         return numbers
 
-    def deck(self):
+    def deck(self) -> Iterator[str]:
         "the cards that BCDOUT punches"
-        def card(kind, *names, value=None):
+        def card(kind: str, *names: str, value: Written | None = None) -> str:
             text = " {:<2} {:<10}{:<10}".format(kind, *names, *[""] * (2 - len(names))) + (value.text if value is not None else "")
             return text.rstrip()
 
@@ -197,14 +212,14 @@ class Problem:
         yield from (card(kind, name, column, value=value) for name, items in self.sets["BOUNDS"].items() for kind, column, value in items)
         yield "ENDATA"
 
-    def revised(self, cards):
+    def revised(self, cards: list[str]) -> Problem:
         "what the deck of a revision makes of it; the problem itself stays as it is"
         revised = copy.deepcopy(self)
         Revision(revised, cards).read()
         return revised
 
 
-def rows_before(problem, name):
+def rows_before(problem: Problem, name: str) -> list[str]:
     "the names of the rows before the one of this name"
     names = list(problem.rows)
     return names[:names.index(name)]
@@ -212,13 +227,22 @@ def rows_before(problem, name):
 
 class Deck:
     "reads the cards of a deck into a problem, one after the other"
-    def __init__(self, problem, cards):
-        self.problem, self.cards, self.section, self.is_free = problem, cards, None, False
+    def __init__(self, problem: Problem, cards: list[str]) -> None:
+        self.problem, self.cards, self.section, self.is_free = problem, cards, "", False
         # the type and the name on the card of ROWS before, where that is a combination's
-        self.combining = None
+        self.combining: tuple[str, str] | None = None
         self.entries = problem.entries()
 
-    def read(self):
+    def may_follow(self) -> tuple[str, ...]:
+        "the sections that may follow the present one; each kind of deck has its own"
+        raise NotImplementedError
+
+    def take_data(self, card: str) -> None:
+        "takes a data card of the present section; each kind of deck has its own"
+        raise NotImplementedError
+
+    def read(self) -> None:
+        "takes card after card up to ENDATA; DeckFault where one has a fault"
         for place, card in enumerate(self.cards):
             if is_skipped(card):
                 continue
@@ -230,9 +254,10 @@ class Deck:
                 return
         raise DeckFault(13, len(self.cards) - 1)
 
-    def take(self, card):
+    def take(self, card: str) -> None:
+        "a card that isn't skipped"
         word = card.split(" ")[0]
-        if self.section is None and word != "NAME" or not word and self.section == "NAME":
+        if not self.section and word != "NAME" or not word and self.section == "NAME":
             raise DeckFault(1)
         if not word:
             self.take_data(card)
@@ -245,13 +270,13 @@ class Deck:
             self.problem.name, self.is_free = card[14:22].rstrip(), is_free(card)
         self.begin(word)
 
-    def begin(self, section):
+    def begin(self, section: str) -> None:
         self.section = section
 
-    def fields_on(self, card, deletes=False):
+    def fields_on(self, card: str, deletes: bool = False) -> Fields:
         return free_fields(card, self.section, deletes) if self.is_free else fixed_fields(card)
 
-    def take_pairs(self, field, items, replaces=False, known=None):
+    def take_pairs(self, field: Fields, items: dict[str, Written], replaces: bool = False, known: list[str] | None = None) -> None:
         """the pairs of rows and numbers on a card, into a column's entries, a set's items or the parts of a combination, which stand on known rows
         alone and may be none"""
         for name, value in ((3, 4), (5, 6)):
@@ -275,15 +300,15 @@ class Deck:
                 self.entries += 1
             items[row] = written
 
-    def begin_row(self, kind, name):
+    def begin_row(self, kind: str, name: str) -> None:
         "a new row at the end; a revision has a place for it"
         self.problem.rows[name] = kind
 
-    def rows_before_new(self):
+    def rows_before_new(self) -> list[str]:
         "the names of the rows before a new one"
         return list(self.problem.rows)
 
-    def take_row(self, field):
+    def take_row(self, field: Fields) -> None:
         """a card that begins a row, or goes on with the combination of the card before it; the parts of a combination stand on rows before it"""
         kind, name, problem = field.text[1], field.text[2], self.problem
         if kind not in KINDS + COMBINATIONS:
@@ -304,20 +329,21 @@ class Deck:
         if not goes_on:
             self.begin_row(kind[-1], name)
 
-    def test_column_card(self, field):
+    def test_column_card(self, field: Fields) -> None:
         needs_blank(field, 1)
         if "'MARKER'" in (field.text[3], field.text[5]):
             raise DeckFault(14)
         if not field.text[2]:
             raise DeckFault(15)
 
-    def test_new_column(self, name):
+    def test_new_column(self, name: str) -> None:
         if name in self.problem.columns:
             raise DeckFault(5)
         if len(self.problem.columns) == MOST_COLUMNS:
             raise DeckFault(17)
 
-    def take_bound(self, field, replaces=False):
+    def take_bound(self, field: Fields, replaces: bool = False) -> None:
+        "a card of BOUNDS; a revision may replace what another one says"
         kind, name, column = (field.text[number] for number in (1, 2, 3))
         if kind not in BOUNDS:
             raise DeckFault(10)
@@ -336,11 +362,11 @@ class Deck:
 
 class DataDeck(Deck):
     "a deck that states a problem"
-    def may_follow(self):
+    def may_follow(self) -> tuple[str, ...]:
         later = SECTIONS[SECTIONS.index(self.section) + 1:] if self.section else SECTIONS
         return later[:1] if later[0] in ("NAME", "ROWS", "COLUMNS") else later
 
-    def take_data(self, card):
+    def take_data(self, card: str) -> None:
         field, problem = self.fields_on(card), self.problem
         if self.section == "ROWS":
             self.take_row(field)
@@ -359,18 +385,23 @@ class DataDeck(Deck):
 
 class Revision(Deck):
     "a deck that revises a problem"
-    action, place, inserted = None, 0, None
+    action: str | None = None
+    place = 0
+    inserted: str | None = None
 
-    def may_follow(self):
+    def may_follow(self) -> tuple[str, ...]:
         return SECTIONS[SECTIONS.index(self.section) + 1:] if self.section else SECTIONS[:1]
 
-    def begin(self, section):
+    def begin(self, section: str) -> None:
         self.section, self.action = section, None
 
-    def listed(self):
-        return self.problem.rows if self.section == "ROWS" else self.problem.columns
+    def listed(self) -> dict[str, Any]:
+        "the rows or the columns, by the section"
+        if self.section == "ROWS":
+            return self.problem.rows
+        return self.problem.columns
 
-    def take_data(self, card):
+    def take_data(self, card: str) -> None:
         action = action_on(card, self.is_free)
         if action:
             self.begin_action(*action)
@@ -392,7 +423,7 @@ class Revision(Deck):
             needs_blank(field, 1)
             self.take_pairs(field, self.problem.sets[self.section].setdefault(field.text[2], {}), replaces=True)
 
-    def begin_action(self, word, name):
+    def begin_action(self, word: str, name: str) -> None:
         "BEFORE and AFTER have a place in the list of rows or columns"
         if word not in ACTIONS or word in ("BEFORE", "AFTER") and self.section not in ("ROWS", "COLUMNS"):
             raise DeckFault(21)
@@ -403,20 +434,20 @@ class Revision(Deck):
                 raise DeckFault(22)
             self.place = (names.index(name) + (word == "AFTER")) if name else (0 if word == "BEFORE" else len(names))
 
-    def insert(self, name, value):
+    def insert(self, name: str, value: dict[str, Written] | str) -> None:
         listed = list(self.listed().items())
         listed.insert(self.place, (name, value))
         self.listed().clear()
         self.listed().update(listed)
         self.place, self.inserted = self.place + 1, name
 
-    def rows_before_new(self):
+    def rows_before_new(self) -> list[str]:
         return list(self.problem.rows)[:self.place]
 
-    def begin_row(self, kind, name):
+    def begin_row(self, kind: str, name: str) -> None:
         self.insert(name, kind)
 
-    def modify_row(self, field):
+    def modify_row(self, field: Fields) -> None:
         "a plain row stays plain, and a combination one, whose parts on the card come in the place of those on the same rows, or at the end"
         kind, name, problem = field.text[1], field.text[2], self.problem
         if not name:
@@ -433,7 +464,7 @@ class Revision(Deck):
             needs_blank(field, 3, 4, 5, 6)
         problem.rows[name] = kind[-1]
 
-    def edit_column(self, field):
+    def edit_column(self, field: Fields) -> None:
         self.test_column_card(field)
         name, columns = field.text[2], self.problem.columns
         if self.action == "MODIFY" and name not in columns:
@@ -443,7 +474,8 @@ class Revision(Deck):
             self.insert(name, {})
         self.take_pairs(field, columns[name], replaces=self.action == "MODIFY")
 
-    def delete_row(self, field):
+    def delete_row(self, field: Fields) -> None:
+        "takes away a row, with all numbers on it"
         name = field.text[2]
         if not name:
             raise DeckFault(15)
@@ -456,7 +488,8 @@ class Revision(Deck):
         for items in (*self.problem.parts.values(), *self.problem.columns.values(), *sets["RHS"].values(), *sets["RANGES"].values()):
             items.pop(name, None)
 
-    def delete_column(self, field):
+    def delete_column(self, field: Fields) -> None:
+        "takes away a column with its bounds, or its number on one row"
         needs_blank(field, 1)
         if not field.text[2]:
             raise DeckFault(15)
@@ -470,7 +503,7 @@ class Revision(Deck):
         for name, items in self.problem.sets["BOUNDS"].items():
             self.problem.sets["BOUNDS"][name] = [item for item in items if item[1] != field.text[2]]
 
-    def delete_of_row(self, field, items):
+    def delete_of_row(self, field: Fields, items: dict[str, Written]) -> None:
         "the entry of a column, or the item of a set, on the row in field 3"
         row = field.text[3]
         if row not in self.problem.rows:
@@ -480,7 +513,7 @@ class Revision(Deck):
         needs_blank(field, 4, 5, 6)
         del items[row]
 
-    def delete_item(self, field):
+    def delete_item(self, field: Fields) -> None:
         "a set, or what field 3 names of it"
         sets, name, other = self.problem.sets[self.section], field.text[2], field.text[3]
         if self.section != "BOUNDS":
@@ -497,7 +530,7 @@ class Revision(Deck):
         needs_blank(field, 4, 5, 6)
         sets[name] = [item for item in sets[name] if item[1] != other] if other else []
 
-    def drop_empty_sets(self):
+    def drop_empty_sets(self) -> None:
         for sets in self.problem.sets.values():
             for name in [name for name, items in sets.items() if not items]:
                 del sets[name]

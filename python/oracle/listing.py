@@ -7,13 +7,20 @@ run's status. With --make N the job is the generated one: N sources with 10 each
 It knows every verb (RANGE, PARAOBJ and PARARHS are worked out in oracle/postoptimal.py, DUAL, PUNCH and INSERT in oracle/bases.py), the
 faults of statements, and those of decks (oracle/decks.py). It looks for few other faults, and ends with 70 where it meets one. Of the stops
 with 20 it knows those of selections (formulas 13 and 19). With --punch the punched cards go to FILE, where there are any."""
+from __future__ import annotations
+
 import re
 import sys
+from collections.abc import Callable, Iterable
 from fractions import Fraction
+from typing import Any, TypeVar
 
 from oracle import bases, postoptimal
 from oracle.decks import DeckFault, Problem, deck_name, fields, is_skipped, number
-from oracle.tableau import LinearProgram, Overflow, Table, VerbFault
+from oracle.rules import matched
+from oracle.tableau import End, LinearProgram, Overflow, Table, VerbFault
+
+Read = TypeVar("Read")
 
 
 class Fault(Exception):
@@ -22,26 +29,42 @@ class Fault(Exception):
 
 # ---- a run
 
-def shown(value):
+def shown(value: Fraction | None) -> str:
     return "NONE" if value is None else str(value)
 
 
 class Run:
-    def __init__(self, text):
+    "a run of a job: its lines, its punched cards, and what its statements have changed so far"
+    lp: LinearProgram
+    table: Table
+    card: int
+    verb: str
+
+    def __init__(self, text: str) -> None:
         self.cards = [line.rstrip(" \r") for line in text.split("\n")]
         if self.cards and not self.cards[-1]:
             self.cards.pop()
         if any(len(card) > 80 or re.search(r"[^ -~]", card) for card in self.cards):
             raise Fault("a card of more than 80 bytes, or with a byte that isn't printable")
-        self.statements, self.labels, self.place = [], {}, 0
-        self.problems, self.last, self.setup, self.mark, self.lines, self.punched = {}, None, None, None, [], []
+        self.statements: list[tuple[int, str, list[str]]] = []   # each with its card, its verb and its words
+        self.labels: dict[str, int] = {}
+        self.place = 0
+        self.problems: dict[str, Problem] = {}
+        self.last: str | None = None
+        self.setup: tuple[Problem, dict[str, str | None]] | None = None
+        self.mark: str | None = None
+        self.lines: list[str] = []
+        self.punched: list[str] = []
         self.compile()
         self.reset()
 
-    def reset(self):
-        self.cells, self.demands, self.mark = {"XITERLIM": Fraction(10000), "XPARAM": Fraction(0)}, {}, None
+    def reset(self) -> None:
+        self.cells: dict[str, Any] = {"XITERLIM": Fraction(10000), "XPARAM": Fraction(0)}   # names, numbers, and None for no limit of steps
+        self.demands: dict[str, int] = {}
+        self.mark = None
 
-    def compile(self):
+    def compile(self) -> None:
+        "takes the statements with their labels, up to PEND"
         for place, card in enumerate(self.cards, 1):
             if is_skipped(card):
                 continue
@@ -49,7 +72,7 @@ class Run:
             if card[0] != " ":
                 self.labels[card.split()[0]] = len(self.statements)
                 card = card[len(card.split()[0]):]
-            text = re.match(r"\s*((?:'[^']*'|[^' ])*)", card)[1]
+            text = matched(r"\s*((?:'[^']*'|[^' ])*)", card)[1]
             if text == "PEND":
                 self.place = place
                 return
@@ -58,7 +81,8 @@ class Run:
                 self.statements.append((place, verb, re.findall(r"'[^']*'|[^,']+", rest[:-1])))
         raise Fault("no PEND")
 
-    def deck(self):
+    def deck(self) -> list[str]:
+        "the cards of the next deck; where XDATA was moved, of the next one of that name"
         while True:
             while self.place < len(self.cards) and is_skipped(self.cards[self.place]):
                 self.place += 1
@@ -73,37 +97,39 @@ class Run:
             if self.cells.get("XDATA", deck_name(taken)) == deck_name(taken):
                 return taken
 
-    def read_deck(self, read, cards):
+    def read_deck(self, read: Callable[[list[str]], Read], cards: list[str]) -> Read:
         "what is read of the deck just taken; its fault names a card of the job"
         try:
             return read(cards)
         except DeckFault as fault:
-            raise DeckFault(fault.number, self.place - len(cards) + fault.place + 1, fault.more) from None
+            raise DeckFault(fault.number, self.place - len(cards) + (fault.place or 0) + 1, fault.more) from None
 
-    def table_line(self, k, values):
+    def table_line(self, k: int, values: Iterable[str | Fraction | None]) -> str:
         return f"{k + 1:5} {self.lp.names[k]:<8} " + " ".join(str(value) if isinstance(value, str) else shown(value) for value in values)
 
-    def select(self):
+    def select(self) -> Problem:
+        "makes the linear program that is selected now of the problem that was set up"
         if self.setup is None:
             raise VerbFault(3)
         problem, options = self.setup
         self.lp = LinearProgram(problem, self.cells.get("XOBJ"), self.cells.get("XRHS"), options)
+        return problem
 
-    def filed(self, cell):
-        name = self.cells.get(cell, self.last)
-        if name not in self.problems:
+    def filed(self, cell: str) -> Problem:
+        problem = self.problems.get(self.cells.get(cell, self.last))
+        if problem is None:
             raise VerbFault(2)
-        return self.problems[name]
+        return problem
 
-    def needs_mark(self, *marks):
+    def needs_mark(self, *marks: str) -> None:
         if self.setup is None or self.mark is None or self.mark not in marks:
             raise VerbFault(3 if self.setup is None else 4 if self.mark is None else 5)
 
-    def limit(self):
+    def limit(self) -> Fraction:
         "the steps of a verb that has a limit under 'NONE' too"
-        return 1_000_000 if self.cells["XITERLIM"] is None else self.cells["XITERLIM"]
+        return Fraction(1_000_000 if self.cells["XITERLIM"] is None else self.cells["XITERLIM"])
 
-    def primal(self):
+    def primal(self) -> End:
         self.select()
         self.table.take(self.lp)
         end, steps = self.table.path(self.cells["XITERLIM"])
@@ -111,7 +137,7 @@ class Run:
             self.mark = self.verdict("PRIMAL", end, steps)
         return end
 
-    def dual(self):
+    def dual(self) -> End:
         self.select()
         self.table.take(self.lp)
         end, steps = bases.dual_path(self.table, self.limit())
@@ -121,9 +147,9 @@ class Run:
             self.mark = self.verdict("DUAL", end, steps)
         return end
 
-    def verdict(self, verb, end, steps):
+    def verdict(self, verb: str, end: End, steps: int) -> str:
         "the lines on the end of a path, and the mark"
-        kind, say = end[0], self.lines.append
+        kind, say = str(end[0]), self.lines.append
         if kind in ("OPTIMAL", "UNBOUNDED"):
             say(f"{verb} {kind} STEPS {steps} OBJECTIVE {end[1][self.lp.objective]} CHECKED")
             self.lines += [self.table_line(k, pair) for k, pair in enumerate(zip(*end[1:]))] if kind == "UNBOUNDED" else []
@@ -135,14 +161,13 @@ class Run:
             self.lines += self.factors(end[1])
         return "INFEASIBLE"
 
-    def factors(self, ray):
+    def factors(self, ray: list[Fraction]) -> list[str]:
         return [self.table_line(k, [value]) for k, value in enumerate(ray) if value]
 
-    def parametric(self, verb):
+    def parametric(self, verb: str) -> End:
         "PARAOBJ or PARARHS, from XPARAM to XPARMAX"
-        self.select()
-        problem, cells = self.setup[0], self.cells
-        change = cells.get("XCHROW" if verb == "PARAOBJ" else "XCHCOL")
+        problem, cells = self.select(), self.cells
+        change: str = cells.get("XCHROW" if verb == "PARAOBJ" else "XCHCOL", "")
         if verb == "PARAOBJ" and problem.rows.get(change) != "N":
             raise VerbFault(6)
         if verb == "PARARHS" and change not in problem.sets["RHS"]:
@@ -151,7 +176,7 @@ class Run:
             raise VerbFault(9 if "XPARMAX" in cells else 8)
         self.mark = None
         if verb == "PARAOBJ":
-            changes = postoptimal.OfObjective(self.lp, list(problem.rows).index(change))
+            changes: postoptimal.OfObjective | postoptimal.OfLimits = postoptimal.OfObjective(self.lp, list(problem.rows).index(change))
         else:
             values = problem.sets["RHS"][change]
             changes = postoptimal.OfLimits(self.lp, [values.get(name, Fraction(0)) for name in problem.rows] + [Fraction(0)] * self.lp.n)
@@ -165,8 +190,8 @@ class Run:
         if end[0] == "LIMIT":
             return end
         self.lines.append(f"{verb} FROM {cells['XPARAM']} CHANGE {change}")
-        for number, (first, last, table) in enumerate(parts, 1):
-            self.lines.append(f"INTERVAL {number} FROM {first} TO {last}")
+        for count, (first, last, table) in enumerate(parts, 1):
+            self.lines.append(f"INTERVAL {count} FROM {first} TO {last}")
             self.lines += [self.table_line(k, line) for k, line in enumerate(table)]
         cells["XPARAM"] = parts[-1][1]
         self.lines.append(f"{verb} {end[0]} {cells['XPARAM']}")
@@ -176,12 +201,12 @@ class Run:
             self.lines += self.factors(end[1])
         return ("OPTIMAL",)
 
-    def ranges(self):
+    def ranges(self) -> None:
         self.lines += ["RANGE"]
         for title, lines in postoptimal.ranges(self.table):
             self.lines += [title, *(self.table_line(k, line) for k, line in lines)]
 
-    def solution(self):
+    def solution(self) -> None:
         lp, table, value, prices = self.lp, self.table, self.table.value(), self.table.prices()
         self.lines += [f"SOLUTION {self.mark}", "SECTION 1 - ROWS", "NUMBER ROW AT ACTIVITY SLACK LOWER UPPER DUAL"]
         for k in range(lp.m + lp.n):
@@ -192,7 +217,7 @@ class Run:
         if not lp.n:
             self.lines += ["SECTION 2 - COLUMNS", "NUMBER COLUMN AT ACTIVITY COST LOWER UPPER REDUCED"]
 
-    def move(self, cell, value):
+    def move(self, cell: str, value: str) -> None:
         if cell == "XITERLIM" and value == "NONE":
             self.cells[cell] = None
         else:
@@ -200,17 +225,16 @@ class Run:
         if cell in ("XOBJ", "XRHS"):
             self.mark = None
 
-    def file(self, verb):
+    def file(self, verb: str) -> None:
         "CONVERT and REVISE"
         old = self.filed("XOLDNAME") if verb == "REVISE" else None
         problem = self.read_deck(old.revised if old else Problem, self.deck())
         problem.name = self.cells.get("XPBNAME", problem.name)
         self.problems[problem.name], self.last, self.setup, self.mark = problem, problem.name, None, None
-        counts = len(problem.rows), len(problem.columns), problem.entries()
-        self.lines.append("{:<7} {:<8} ROWS {} COLUMNS {} ENTRIES {}".format(verb, problem.name, *counts))
+        self.lines.append(f"{verb:<7} {problem.name:<8} ROWS {len(problem.rows)} COLUMNS {len(problem.columns)} ENTRIES {problem.entries()}")
 
-    def set_up(self, words):
-        options = {"bound": None, "range": None, "sense": "MAX" if "MAX" in words else "MIN"}
+    def set_up(self, words: list[str]) -> None:
+        options: dict[str, str | None] = {"bound": None, "range": None, "sense": "MAX" if "MAX" in words else "MIN"}
         for kind in ("BOUND", "RANGE"):
             if kind in words:
                 options[kind.lower()] = words[words.index(kind) + 1]
@@ -220,32 +244,31 @@ class Run:
         self.mark, self.table = None, Table(self.lp)
         self.lines.append(f"SETUP   {problem.name:<8} {options['sense']}")
 
-    def punch(self):
+    def punch(self) -> None:
         problem = self.filed("XPBNAME")
         cards = list(problem.deck())
         self.punched += cards
         self.lines.append(f"BCDOUT  {problem.name:<8} CARDS {len(cards)}")
 
-    def basis_out(self):
+    def basis_out(self) -> None:
         "PUNCH"
-        self.select()
-        problem = self.setup[0]
+        problem = self.select()
         self.table.take(self.lp)
         cards = list(bases.deck(problem.name, self.table, Table(self.lp).at))
         self.punched += cards
         self.lines.append(f"PUNCH   {problem.name:<8} CARDS {len(cards)}")
 
-    def basis_taken(self):
+    def basis_taken(self) -> tuple[list[str], list[str]]:
         "the deck that INSERT takes, and where each variable stands by it"
         self.select()
         cards, opening = self.deck(), Table(self.lp).at
         return cards, self.read_deck(lambda cards: bases.stands_for(cards, self.lp, opening, is_skipped, fields), cards)
 
-    def inserted(self, cards, at):
+    def inserted(self, cards: list[str], at: list[str]) -> None:
         self.mark = None
         self.lines.append(f"INSERT  {deck_name(cards):<8} BASIC {at[self.lp.m:].count('BS')}")
 
-    def insert(self):
+    def insert(self) -> None:
         cards, at = self.basis_taken()
         table = Table(self.lp)
         try:
@@ -255,7 +278,8 @@ class Run:
         self.table = table
         self.inserted(cards, at)
 
-    def run(self):
+    def run(self) -> int:
+        "executes the statements; the status"
         at = executed = 0
         while at < len(self.statements):
             if executed == 100_000:
@@ -294,7 +318,7 @@ class Run:
         self.lines.append("END 0")
         return 0
 
-    def execute(self, verb, words):
+    def execute(self, verb: str, words: list[str]) -> None:
         "a statement after which the next one follows"
         if verb == "TITLE":
             self.lines.append("TITLE " + (words[0] if words else ""))
@@ -324,7 +348,7 @@ class Run:
             raise Fault(f"verb {verb}")
 
 
-def made_job(n):
+def made_job(n: int) -> str:
     "the generated job: a unit from source i to destination j costs (7i + 11j) mod 19, and 1"
     item = "    {:<10}{:<10}{}".format
     sources, destinations = ([f"{letter}{k:03}" for k in range(1, n + 1)] for letter in "SD")
@@ -338,7 +362,8 @@ def made_job(n):
     return "\n".join(cards) + "\n"
 
 
-def main(words):
+def main(words: list[str]) -> int:
+    "the command; its status"
     if words and words[0] in ("-h", "--help"):
         print(__doc__)
         return 0

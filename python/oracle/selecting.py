@@ -1,31 +1,40 @@
 "The linear program that a selection makes of a problem, with its faults, worked out apart from the programs."
-from fractions import Fraction
+from __future__ import annotations
 
-from oracle.deck_rules import TOUCHED
+from collections.abc import Callable
+from fractions import Fraction
+from typing import Any
+
+from oracle.deck_rules import TOUCHED, Problem
 from oracle.rules import Refused, add, multiply, subtract
 
 
 # ---- the linear program of a selection: variables count from 0, rows before columns
 
 class LinearProgram:
-    def __init__(self, problem, objective, rhs, options):
+    "the linear program of a selection: limits of all variables, right-hand sides, and of each column its numbers by the numbers of rows"
+
+    def __init__(self, problem: Problem, objective: str | None, rhs: str | None, options: tuple[str | None, str | None, str]) -> None:
         bound, ranges, self.sense = options
         free = [name for name, row in problem.rows.items() if row.kind == "N"]
-        chosen = objective if objective is not None else (free + [None])[0]
+        chosen = next(iter(free), None) if objective is None else objective
         for number, is_there in ((10, chosen in problem.rows), (11, chosen in free), (12, rhs is None or rhs in problem.rhs),
                                  (13, ranges is None or ranges in problem.ranges), (14, bound is None or bound in problem.bounds)):
             if not is_there:
                 raise SelectionFault(number)
+        assert chosen is not None
         self.row_names, self.column_names = list(problem.rows), list(problem.columns)
         self.names, self.m, self.n = self.row_names + self.column_names, len(problem.rows), len(problem.columns)
         place, column = ({name: k for k, name in enumerate(names)} for names in (self.row_names, self.column_names))
-        self.objective, self.change = place[chosen], None
+        self.objective = place[chosen]
+        self.change: tuple[int, Fraction] | None = None
         values = problem.rhs[rhs] if rhs is not None else next(iter(problem.rhs.values()), {})
         self.rhs = [values.get(name, Fraction(0)) for name in self.row_names]
         self.is_refused = False
         self.columns = [[(place[name], value) for name, value in entries.items()] + self.sums(problem, place, entries)
                         for entries in problem.columns.values()]
-        self.lower, self.upper = [None] * self.m + [Fraction(0)] * self.n, [None] * (self.m + self.n)
+        self.lower: list[Fraction | None] = [*[None] * self.m, *[Fraction(0)] * self.n]
+        self.upper: list[Fraction | None] = [None] * (self.m + self.n)
         for k, (name, row) in enumerate(problem.rows.items()):
             self.limit_row(k, row.kind, (problem.ranges[ranges] if ranges is not None else {}).get(name))
         for kind, name, value in problem.bounds[bound] if bound is not None else ():
@@ -35,7 +44,8 @@ class LinearProgram:
             if "U" in TOUCHED[kind]:
                 self.upper[k] = value
 
-    def limit_row(self, k, kind, over):
+    def limit_row(self, k: int, kind: str, over: Fraction | None) -> None:
+        "the limits of a row of this type, with a range or none"
         b = self.rhs[k]
         if kind in ("G", "E"):
             self.lower[k] = b
@@ -48,19 +58,19 @@ class LinearProgram:
         else:
             self.upper[k] = self.made(add, b, abs(over))
 
-    def sums(self, problem, place, entries):
+    def sums(self, problem: Problem, place: dict[str, int], entries: dict[str, Fraction]) -> list[tuple[int, Fraction]]:
         "what a column of these entries has on the combinations: a number on each of which a part stands on a row where the column has one"
         has, sums = dict(entries), []
         for name, row in problem.rows.items():
-            met = [part for part in (row.parts or ()) if part in has]
+            met = [(times, has[part]) for part, times in (row.parts or {}).items() if part in has]
             if met:
                 has[name] = Fraction(0)
-                for part in met:
-                    has[name] = self.made(add, has[name], self.made(multiply, row.parts[part], has[part]))
+                for times, number in met:
+                    has[name] = self.made(add, has[name], self.made(multiply, times, number))
                 sums.append((place[name], has[name]))
         return sums
 
-    def made(self, operation, x, y):
+    def made(self, operation: Callable[[Fraction, Fraction], Fraction], x: Fraction, y: Fraction) -> Fraction:
         "an operation of the selection; where one is refused, the linear program is refused"
         try:
             return operation(x, y)
@@ -68,7 +78,8 @@ class LinearProgram:
             self.is_refused = True
             return Fraction(0)
 
-    def with_(self, **changes):
+    def with_(self, **changes: Any) -> LinearProgram:
+        "the same with other attributes"
         other = object.__new__(LinearProgram)
         other.__dict__.update(self.__dict__, **changes)
         return other

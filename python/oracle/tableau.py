@@ -1,24 +1,35 @@
 "Linear programs in exact fractions, and bases with their tables: the simplex method of the listings that are worked out apart."
+from __future__ import annotations
+
 import copy
+from collections.abc import Callable, Sequence
 from fractions import Fraction
+from typing import TYPE_CHECKING, Any
 
 from oracle.rules import Refused, add, multiply, subtract
+
+if TYPE_CHECKING:
+    from oracle.decks import Problem
+
+Operation = Callable[[Fraction, Fraction], Fraction]
+# how a path ends: CROSSED and the variable; RAY and its factors; OPTIMAL and the values; UNBOUNDED, the values and the direction; LIMIT and the steps
+End = tuple[Any, ...]
 
 
 class VerbFault(Exception):
     "a statement that can't be done, with the number of its fault, what follows on its line, and the lines after that"
-    def __init__(self, number, more="", lines=()):
+    def __init__(self, number: int, more: str = "", lines: Sequence[str] = ()) -> None:
         super().__init__(number)
         self.more, self.lines = more, lines
 
 
 class Overflow(Exception):
     "an operation of a selection which doesn't fit 127 bits: its formula, the operation and its operands, and the numbers I, J and TERM"
-    def __init__(self, formula, operation, left, right, i, j, term):
+    def __init__(self, formula: int, operation: str, left: Fraction, right: Fraction, i: int, j: int, term: int) -> None:
         super().__init__(f"F{formula} {operation} {left} {right} P 0 Q 0 I {i} J {j} TERM {term} THETA 0")
 
 
-def is_refused(operation, left, right):
+def is_refused(operation: Operation, left: Fraction, right: Fraction) -> bool:
     try:
         operation(left, right)
     except Refused:
@@ -29,28 +40,38 @@ def is_refused(operation, left, right):
 # ---- a linear program: variables are numbered from 0, rows before columns
 
 class LinearProgram:
-    def __init__(self, problem, objective, rhs, options):
+    "the linear program that a selection makes of a problem"
+
+    def __init__(self, problem: Problem, objective: str | None, rhs: str | None, options: dict[str, str | None]) -> None:
         self.names = [*problem.rows, *problem.columns]
         self.m, self.n = len(problem.rows), len(problem.columns)
         place = {name: k for k, name in enumerate(problem.rows)}
         free = [name for name, kind in problem.rows.items() if kind == "N"]
-        chosen = objective if objective is not None else next(iter(free), None)
+        chosen = next(iter(free), None) if objective is None else objective
         sets = problem.sets["RHS"]
         for fault, is_there in ((10, chosen in problem.rows), (11, chosen in free), (12, rhs is None or rhs in sets),
                                 (13, options["range"] is None or options["range"] in problem.sets["RANGES"]),
                                 (14, options["bound"] is None or options["bound"] in problem.sets["BOUNDS"])):
             if not is_there:
                 raise VerbFault(fault)
-        self.objective, self.sense, self.change = place[chosen], options["sense"], None
+        assert chosen is not None
+        self.objective, self.sense = place[chosen], options["sense"]
+        self.change: tuple[int, Fraction] | None = None
         values = sets[rhs] if rhs is not None else next(iter(sets.values()), {})
         self.rhs = [values.get(name, Fraction(0)) for name in problem.rows]
         ranges = problem.sets["RANGES"][options["range"]] if options["range"] is not None else {}
         self.columns = [{place[row]: value for row, value in problem.summed(column).items()} for column in problem.columns]
-        self.lower, self.upper = [None] * self.m + [Fraction(0)] * self.n, [None] * (self.m + self.n)
+        self.lower: list[Fraction | None] = [*[None] * self.m, *[Fraction(0)] * self.n]
+        self.upper: list[Fraction | None] = [None] * (self.m + self.n)
         self.test_ranges(problem, ranges)
         self.test_combinations(problem)
-        for name, kind in problem.rows.items():
-            k, b = place[name], self.rhs[place[name]]
+        self.limit_rows(problem, ranges)
+        self.limit_columns(problem, problem.sets["BOUNDS"][options["bound"]] if options["bound"] is not None else [])
+
+    def limit_rows(self, problem: Problem, ranges: dict[str, Fraction]) -> None:
+        "the limits of the rows, by their types, right-hand sides and ranges"
+        for k, (name, kind) in enumerate(problem.rows.items()):
+            b = self.rhs[k]
             if kind in "GE":
                 self.lower[k] = b
             if kind in "LE":
@@ -61,7 +82,9 @@ class LinearProgram:
                     self.lower[k] = b - abs(r)
                 else:
                     self.upper[k] = b + abs(r)
-        bounds = problem.sets["BOUNDS"][options["bound"]] if options["bound"] is not None else []
+
+    def limit_columns(self, problem: Problem, bounds: list[tuple[str, str, Fraction | None]]) -> None:
+        "the limits of the columns, by the bounds: each has a type, a column and a number"
         number_of = {name: self.m + k for k, name in enumerate(problem.columns)}
         for kind, name, value in bounds:
             k = number_of[name]
@@ -70,7 +93,7 @@ class LinearProgram:
             if kind in ("UP", "FX", "FR", "PL"):
                 self.upper[k] = value if kind in ("UP", "FX") else None
 
-    def test_ranges(self, problem, ranges):
+    def test_ranges(self, problem: Problem, ranges: dict[str, Fraction]) -> None:
         "Overflow where a limit, made of a right-hand side and a range, doesn't fit"
         for k, (name, kind) in enumerate(problem.rows.items()):
             if name in ranges:
@@ -79,7 +102,7 @@ class LinearProgram:
                 if is_refused(subtract if falls else add, *operands):
                     raise Overflow(13, "SUB" if falls else "ADD", *operands, k + 1, 0, 0)
 
-    def test_combinations(self, problem):
+    def test_combinations(self, problem: Problem) -> None:
         "Overflow where the sum of a combination in a column has a product that doesn't fit, or doesn't fit after a part that counts"
         for j, column in enumerate(problem.columns, self.m + 1):
             numbers = problem.summed(column)
@@ -94,15 +117,15 @@ class LinearProgram:
                         raise Overflow(19, "ADD", before, product, i, j, term)
                     before += product
 
-    def crossed(self):
+    def crossed(self) -> int | None:
         "the least-numbered variable whose lower limit is above its upper one"
-        return next((k for k, (low, high) in enumerate(zip(self.lower, self.upper)) if None not in (low, high) and low > high), None)
+        return next((k for k, (low, high) in enumerate(zip(self.lower, self.upper)) if low is not None and high is not None and low > high), None)
 
-    def better(self):
+    def better(self) -> int:
         "1 where the objective is to rise, -1 where it is to fall"
         return 1 if self.sense == "MAX" else -1
 
-    def worth(self):
+    def worth(self) -> dict[int, Fraction]:
         "the rows that are made best, each with its factor: the objective, and a change row where there is one"
         rows = {self.objective: Fraction(1)}
         if self.change:
@@ -110,13 +133,13 @@ class LinearProgram:
             rows[row] = rows.get(row, Fraction(0)) + theta
         return rows
 
-    def with_change(self, row, theta):
+    def with_change(self, row: int, theta: Fraction) -> LinearProgram:
         "the same with theta times a row's activity added to the objective"
         changed = copy.copy(self)
         changed.change = row, theta
         return changed
 
-    def with_limits(self, shift, theta):
+    def with_limits(self, shift: Sequence[Fraction], theta: Fraction) -> LinearProgram:
         "the same with theta times its shift added to each limit"
         changed = copy.copy(self)
         changed.lower, changed.upper = ([end if end is None else end + theta * by for end, by in zip(ends, shift)] for ends in (self.lower, self.upper))
@@ -126,7 +149,9 @@ class LinearProgram:
 # ---- a basis, with its table: each basic as a sum of nonbasics
 
 class Table:
-    def __init__(self, lp):
+    "a basis: where each variable stands, and each basic one as a sum of nonbasic ones"
+
+    def __init__(self, lp: LinearProgram) -> None:
         size = lp.m + lp.n
         self.lp, self.size = lp, size
         self.rate = {i: [Fraction(0)] * size for i in range(lp.m)}
@@ -136,66 +161,67 @@ class Table:
         self.at = ["BS"] * lp.m + ["LL" if lp.lower[k] is not None else "UL" if lp.upper[k] is not None else "FR"
                                    for k in range(lp.m, size)]
 
-    def take(self, lp):
+    def take(self, lp: LinearProgram) -> None:
         "the same basis, for other limits, right-hand sides or another objective"
         self.lp = lp
 
-    def value(self):
+    def value(self) -> list[Fraction]:
         lp, value = self.lp, [Fraction(0)] * self.size
         for k in range(self.size):
             if k not in self.rate:
-                value[k] = {"LL": lp.lower[k], "UL": lp.upper[k], "FR": Fraction(0)}[self.at[k]]
+                value[k] = {"LL": lp.lower[k], "UL": lp.upper[k], "FR": Fraction(0)}[self.at[k]] or Fraction(0)
         for i, line in self.rate.items():
             value[i] = sum((line[k] * value[k] for k in range(self.size) if k not in self.rate and line[k]), Fraction(0))
         return value
 
-    def rates_of(self, rows):
+    def rates_of(self, rows: dict[int, Fraction]) -> list[Fraction]:
         "the rates of a sum of basic rows, each with its factor, at each nonbasic variable"
         return [Fraction(0) if k in self.rate else sum((factor * self.rate[row][k] for row, factor in rows.items()), Fraction(0))
                 for k in range(self.size)]
 
-    def prices(self):
-        return self.rates_of({self.lp.objective: 1})
+    def prices(self) -> list[Fraction]:
+        return self.rates_of({self.lp.objective: Fraction(1)})
 
-    def is_outside(self, k, value):
+    def is_outside(self, k: int, value: list[Fraction]) -> str | None:
         lp = self.lp
-        if lp.lower[k] is not None and value[k] < lp.lower[k]:
+        lower, upper = lp.lower[k], lp.upper[k]
+        if lower is not None and value[k] < lower:
             return "below"
-        if lp.upper[k] is not None and value[k] > lp.upper[k]:
+        if upper is not None and value[k] > upper:
             return "above"
         return None
 
-    def first_outside(self, value):
+    def first_outside(self, value: list[Fraction]) -> int | None:
         "the least-numbered basic outside its limits"
         return next((k for k in range(self.size) if k in self.rate and self.is_outside(k, value)), None)
 
-    def ray(self, p, below):
+    def ray(self, p: int, below: bool) -> list[Fraction]:
         "the factors by which the limits of p and of the nonbasics conflict"
         ray = [Fraction(0) if k in self.rate else rate if below else -rate for k, rate in enumerate(self.rate[p])]
         ray[p] = Fraction(-1 if below else 1)
         return ray
 
-    def may_move(self, k, up):
+    def may_move(self, k: int, up: bool) -> bool:
         lp = self.lp
         if k in self.rate or lp.lower[k] is not None and lp.lower[k] == lp.upper[k]:
             return False
         return self.at[k] in (("LL", "FR") if up else ("UL", "FR"))
 
-    def entering(self, wish):
+    def entering(self, wish: Callable[[int], Fraction]) -> int | None:
         "the least-numbered nonbasic that may move so that what has these rates rises"
         for k in range(self.size):
             if k not in self.rate and wish(k) and self.may_move(k, wish(k) > 0):
                 return k
         return None
 
-    def direction(self, q):
+    def direction(self, q: int) -> list[Fraction]:
         direction = [Fraction(0)] * self.size
         direction[q] = Fraction(1)
         for i, line in self.rate.items():
             direction[i] = line[q]
         return direction
 
-    def leaving(self, q, up, value):
+    def leaving(self, q: int, up: bool, value: list[Fraction]) -> tuple[int, str] | None:
         "the least-numbered of those that stop q first, and the limit to which it goes"
         best, lp = None, self.lp
         for k, speed in enumerate(self.direction(q)):
@@ -207,7 +233,8 @@ class Table:
                     best = room, k, "UL" if speed > 0 else "LL"
         return best and best[1:]
 
-    def exchange(self, p, q, to):
+    def exchange(self, p: int, q: int, to: str) -> None:
+        "p leaves the basis to this limit, and q comes into it; where they are the same it goes to its other limit"
         self.at[p] = to
         if p == q:
             return
@@ -224,7 +251,7 @@ class Table:
                         other[k] += factor * new[k]
         self.rate[q] = new
 
-    def path(self, most):
+    def path(self, most: Fraction | None) -> tuple[End, int]:
         "the end of the path and the number of steps"
         lp, steps, crossed = self.lp, 0, self.lp.crossed()
         if crossed is not None:
@@ -255,7 +282,7 @@ class Table:
             self.exchange(p, q, to)
             steps += 1
 
-    def code(self, k, value):
+    def code(self, k: int, value: list[Fraction]) -> str:
         lp = self.lp
         if k in self.rate:
             return "**" if self.is_outside(k, value) else "BS"

@@ -6,6 +6,8 @@ usage: check_vipr.py CERTIFICATE      CERTIFICATE may be gzipped; - is standard 
 
 It prints what is proved, infeasible or the objective's bounds, and ends with 0; with 1 where something isn't so, with the place. Derivations
 by other means than multipliers (lin), as branching needs them, are refused. 65: it isn't such a certificate; 66: it can't be read."""
+from __future__ import annotations
+
 import errno
 import gzip
 import io
@@ -31,17 +33,18 @@ class Wrong(Exception):
 
 @dataclass
 class Constraint:
+    "a constraint, given or derived: a sum of variables, by their numbers, that is equal to, at most or at least its side"
     name: str
     sense: str
     side: Fraction
-    entries: dict
-    lin: dict | None = None      # the multipliers of the constraints before it; None for one of the problem
+    entries: dict[int, Fraction]
+    lin: dict[int, Fraction] | None = None      # the multipliers of the constraints before it; None for one of the problem
     line: int = 0
 
-    def is_absurd(self):
+    def is_absurd(self) -> bool:
         return not any(self.entries.values()) and {"E": self.side != 0, "L": self.side < 0, "G": self.side > 0}[self.sense]
 
-    def dominates(self, other):
+    def dominates(self, other: Constraint) -> bool:
         "whether what keeps this one keeps the other"
         if self.is_absurd():
             return True
@@ -52,17 +55,17 @@ class Constraint:
 
 @dataclass
 class Certificate:
-    variables: list = field(default_factory=list)
-    integers: list = field(default_factory=list)
+    variables: list[str] = field(default_factory=list)
+    integers: list[int] = field(default_factory=list)
     sense: str = "min"
-    objective: dict = field(default_factory=dict)
-    constraints: list = field(default_factory=list)   # those of the problem, then the derived ones
+    objective: dict[int, Fraction] = field(default_factory=dict)
+    constraints: list[Constraint] = field(default_factory=list)   # those of the problem, then the derived ones
     count: int = 0                                    # how many are the problem's
-    bounds: tuple | None = None                       # None where it is to be infeasible, else the lower and the upper, None for none
-    solutions: list = field(default_factory=list)
+    bounds: tuple[Fraction | None, Fraction | None] | None = None   # None where it is to be infeasible, else the lower and the upper, None for none
+    solutions: list[tuple[str, dict[int, Fraction]]] = field(default_factory=list)
 
 
-def nonzero(entries):
+def nonzero(entries: dict[int, Fraction]) -> dict[int, Fraction]:
     return {k: value for k, value in entries.items() if value}
 
 
@@ -70,42 +73,42 @@ def nonzero(entries):
 
 class Reader:
     "the words of a certificate"
-    def __init__(self, text):
+    def __init__(self, text: str) -> None:
         self.words = [(word, place) for place, line in enumerate(text.split("\n"), 1) if not line.lstrip().startswith("%") for word in line.split()]
         self.at = 0
 
-    def refuse(self, wanted):
+    def refuse(self, wanted: str) -> NoCertificate:
         line = self.words[min(self.at, len(self.words)) - 1][1] if self.words else 1
         return NoCertificate(f"line {line}: {wanted}")
 
-    def word(self):
+    def word(self) -> str:
         self.at += 1
         if self.at > len(self.words):
             raise self.refuse("the certificate ends too early")
         return self.words[self.at - 1][0]
 
-    def line(self):
+    def line(self) -> int:
         return self.words[self.at - 1][1]
 
-    def literal(self, *wanted):
+    def literal(self, *wanted: str) -> str:
         word = self.word()
         if word not in wanted:
             raise self.refuse(f"{word[:40]!r}, where {' or '.join(wanted)} is due")
         return word
 
-    def whole(self, least, most):
+    def whole(self, least: int, most: int) -> int:
         word = self.word()
         if not re.fullmatch(r"-?[0-9]{1,12}", word) or not least <= int(word) <= most:
             raise self.refuse(f"{word[:40]!r}, where a whole number from {least} to {most} is due")
         return int(word)
 
-    def number(self):
+    def number(self) -> Fraction:
         word = self.word()
         if not NUMBER.fullmatch(word) or re.search(r"/0+$", word):
             raise self.refuse(f"{word[:40]!r}, where a number is due")
         return Fraction(word)
 
-    def entries(self, most):
+    def entries(self, most: int) -> dict[int, Fraction]:
         "a count, and so many pairs of an index below most and a number"
         entries = {}
         for _ in range(self.whole(0, most)):
@@ -116,7 +119,8 @@ class Reader:
         return entries
 
 
-def parse(text):
+def parse(text: str) -> Certificate:
+    "the certificate of a text"
     reader, found = Reader(text), Certificate()
     reader.literal("VER")
     reader.literal("1.0", "1.1")
@@ -148,7 +152,8 @@ def parse(text):
     return found
 
 
-def bound(reader, none):
+def bound(reader: Reader, none: str) -> Fraction | None:
+    "a bound of the objective; None where its word says that there is none"
     word = reader.word()
     if word == none:
         return None
@@ -156,7 +161,8 @@ def bound(reader, none):
     return reader.number()
 
 
-def constraint(reader, found):
+def constraint(reader: Reader, found: Certificate) -> Constraint:
+    "a constraint, up to its sum"
     name, sense, side, line = reader.word(), reader.literal(*SENSES), reader.number(), reader.line()
     if reader.at < len(reader.words) and reader.words[reader.at][0] == "OBJ":
         reader.word()
@@ -166,7 +172,8 @@ def constraint(reader, found):
     return Constraint(name, sense, side, entries, line=line)
 
 
-def derived(reader, found):
+def derived(reader: Reader, found: Certificate) -> Constraint:
+    "a derived constraint with its multipliers"
     one = constraint(reader, found)
     reader.literal("{")
     kind = reader.word()
@@ -182,18 +189,19 @@ def derived(reader, found):
 
 # ---- checking
 
-def worth(entries, values):
+def worth(entries: dict[int, Fraction], values: dict[int, Fraction]) -> Fraction:
     return sum((entry * values.get(k, Fraction(0)) for k, entry in entries.items()), Fraction(0))
 
 
-def keeps(one, values):
+def keeps(one: Constraint, values: dict[int, Fraction]) -> bool:
     activity = worth(one.entries, values)
     return {"E": activity == one.side, "L": activity <= one.side, "G": activity >= one.side}[one.sense]
 
 
-def combined(constraints, lin):
+def combined(constraints: list[Constraint], lin: dict[int, Fraction]) -> Constraint | None:
     "the sum of constraints, each times its multiplier; None where their senses don't go together"
-    entries, side, senses = {}, Fraction(0), set()
+    entries: dict[int, Fraction] = {}
+    side, senses = Fraction(0), set[str]()
     for index, factor in nonzero(lin).items():
         one = constraints[index]
         if one.sense != "E":
@@ -204,7 +212,7 @@ def combined(constraints, lin):
     return None if len(senses) > 1 else Constraint("", senses.pop() if senses else "E", side, nonzero(entries))
 
 
-def check_solution(found, name, values):
+def check_solution(found: Certificate, name: str, values: dict[int, Fraction]) -> None:
     for k in found.integers:
         if values.get(k, Fraction(0)).denominator > 1:
             raise Wrong(f"the solution {name}: {found.variables[k]} isn't whole")
@@ -213,12 +221,12 @@ def check_solution(found, name, values):
             raise Wrong(f"the solution {name} breaks the constraint {one.name} of line {one.line}")
 
 
-def check(found):
+def check(found: Certificate) -> str:
     "what is proved, as a sentence"
     for name, values in found.solutions:
         check_solution(found, name, values)
     for one in found.constraints[found.count:]:
-        whole = combined(found.constraints, one.lin)
+        whole = combined(found.constraints, one.lin or {})
         if whole is None:
             raise Wrong(f"line {one.line}: the multipliers of {one.name} add up at-most and at-least constraints")
         if not whole.dominates(one):
@@ -235,29 +243,35 @@ def check(found):
     target = Constraint("", "G" if found.sense == "min" else "L", proved, found.objective) if proved is not None else None
     if target and (last is None or not last.dominates(target)):
         raise Wrong(f"the last constraint doesn't prove that the objective is at {'least' if found.sense == 'min' else 'most'} {proved}")
-    values = [worth(found.objective, values) for _, values in found.solutions]
-    if reached is not None and not any(value <= reached if found.sense == "min" else value >= reached for value in values):
+    objectives = [worth(found.objective, values) for _, values in found.solutions]
+    if reached is not None and not any(value <= reached if found.sense == "min" else value >= reached for value in objectives):
         raise Wrong(f"no solution has an objective of {reached} or better")
     if lower is not None and lower == upper:
         return f"optimal, the objective is {lower}"
     return f"the objective is from {'-inf' if lower is None else lower} to {'inf' if upper is None else upper}"
 
 
-def read_file(path):
-    data = sys.stdin.buffer.read(MOST_BYTES) if path == "-" else open(path, "rb").read(MOST_BYTES)
+def read_file(path: str) -> Certificate:
+    "the certificate of a file, gzipped or not; - is standard input"
+    if path == "-":
+        data = sys.stdin.buffer.read(MOST_BYTES)
+    else:
+        with open(path, "rb") as source:
+            data = source.read(MOST_BYTES)
     if data[:2] == b"\x1f\x8b":
         try:
-            data = gzip.open(io.BytesIO(data)).read(MOST_BYTES)
+            with gzip.open(io.BytesIO(data)) as packed:
+                data = packed.read(MOST_BYTES)
         except (OSError, EOFError, zlib.error) as cause:
             raise NoCertificate(f"it begins as a gzipped file, and isn't one: {cause}") from None
     return parse(data.decode("latin-1"))
 
 
-def say(message):
+def say(message: str) -> None:
     print("".join(letter if " " <= letter <= "~" else "?" for letter in f"check_vipr.py: {message}"), file=sys.stderr)
 
 
-def printed(text):
+def printed(text: str) -> int:
     "the status of printing a text: 0, or 73 where standard output doesn't take all of it, which is said"
     try:
         if sys.stdout is None:
@@ -272,9 +286,10 @@ def printed(text):
     return 0
 
 
-def main(words):
+def main(words: list[str]) -> int:
+    "the command; its status"
     if words and words[0] in ("-h", "--help"):
-        return printed(__doc__)
+        return printed(__doc__ or "")
     if len(words) != 1:
         say("one certificate is due; --help says what there is")
         return 64

@@ -3,6 +3,8 @@ a stand-in for the installed program gives up at the opening basis and works out
 import csv
 import json
 import os
+import pty
+import re
 import shutil
 import subprocess
 import sys
@@ -70,6 +72,24 @@ def test_by_a_solvers_basis(tmp_path):
     assert (house.models / "listings/glass.listing").read_text().endswith("END 0\n") and (house.models / "listings/glass.names").exists()
 
 
+def test_a_line_on_a_terminal(tmp_path):
+    "one line that is written over says how many are done and what the longest one does; the result's line comes in its place"
+    house = House(tmp_path, hangs=True)
+    reads, writes = pty.openpty()
+    env = {**os.environ, "PATH": str(house.path), "FAKE_PIDS": str(house.folder / "pids")}
+    ended = subprocess.run([sys.executable, house.folder / "scripts/mps360-batch", "--with", "none", "--seconds", "3", house.models], stdout=writes, stderr=writes,
+                           timeout=120, check=False, env=env)
+    os.write(writes, b".")
+    told = b""
+    while not told.endswith(b"."):
+        told += os.read(reads, 10_000)
+    os.close(reads)
+    os.close(writes)
+    line = re.search(r"mps360-batch: \d s, 0 of 1 done, 1 running, the longest since \d s: glass\r( +)\r", told.decode())
+    assert ended.returncode == 3 and line and len(line[1]) == len(line[0]) - len(line[1]) - 2, told
+    assert re.search(rb"[\r\n]none  glass +stopped after 3 s\r\n", told), told
+
+
 def test_what_comes_to_no_answer(tmp_path):
     house = House(tmp_path)
     (house.models / "wrong.mps").write_text(WRONG)
@@ -110,7 +130,7 @@ def test_resume_goes_by_the_words(tmp_path):
 
 @pytest.mark.parametrize("words, status, cause", [
     (("--with", "cplex"), 64, "no solver cplex"), (("--with", "glpsol"), 70, "glpsol isn't installed (apt-get install glpk-utils)"), (("--seconds", "-1"), 64, "--seconds"),
-    (("--mps2job=--neglect",), 64, "--mps2job: "), (("--mps2job='",), 64, "--mps2job: "), (("--mps2job=--infinity x",), 64, "--mps2job: --infinity: x isn't a number")])
+    (("--mps2job=--neglect",), 64, "--mps2job: "), (("--mps2job", "--neglect"), 64, "--mps2job: unrecognized arguments: --neglect"), (("--mps2job='",), 64, "--mps2job: "), (("--mps2job=--infinity x",), 64, "--mps2job: --infinity: x isn't a number")])
 def test_wrong_words_are_wrong_at_once(tmp_path, words, status, cause):
     house = House(tmp_path)
     found, text, said = house.batch(*words)
@@ -208,7 +228,7 @@ def test_the_compiled_program_is_taken(tmp_path):
     (tmp_path / "crates/mps360").mkdir(parents=True)
     (tmp_path / "crates.txt").write_text("mps360:\n")
     code = "import sys; sys.path.insert(0, sys.argv[1]); from mps360 import unproved; print(unproved.place_of('mps360') / unproved.key('mps360'))"
-    env = {**os.environ, "PATH": str(house.path) + ":/bin:/usr/bin"}
+    env = {**os.environ, "PATH": str(house.path) + ":/bin:/usr/bin", "XDG_CACHE_HOME": str(tmp_path / "cache")}
     fakes.program(house.path, "rt", "sys.exit('rt was called')")
     place = subprocess.run([sys.executable, "-c", code, tmp_path / "python"], stdout=subprocess.PIPE, check=True, env=env).stdout.decode().strip()
     os.makedirs(place)

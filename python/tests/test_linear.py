@@ -24,7 +24,7 @@ sys.setprofile(None)
 print(status, calls, file=sys.stderr)
 """
 # the modules of the package that a run loads on the ordinary path, a model of short numbers whose optimum the program prints, each with what it is there for
-READING = {"mps": "reads the model", "fields": "cuts its lines", "files": "unpacks it", "model": "holds it", "model_checks": "says what may be meant otherwise",
+READING = {"mps": "reads the model", "reading": "as these words say", "fields": "cuts its lines", "files": "unpacks it", "model": "holds it", "model_checks": "says what may be meant otherwise",
            "numbers": "its numbers", "units": "units in its remarks", "jobs": "", "jobs.write": "its job", "cli.mps2job": "the words of how it is read", "cli.options": "their parser",
            "cli.words": "words with their values", "commands": "what commands are called here", "errors": "faults", "output": "writing, and its faults",
            "text": "names and numbers as text", "notes": "what was changed or chosen", "at_hand": "which program there is", "programs": "where it is", "cli": ""}

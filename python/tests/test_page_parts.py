@@ -5,16 +5,24 @@ import json
 import re
 import shutil
 import subprocess
+from fractions import Fraction
 
 import places
 import programs_at_hand
 import pytest
+import random_jobs
 from calls import call
-from fractions import Fraction
+from long_models import random_text
+from mps360.jobs.write import exact_job
+from mps360.listings.read import names_of
+from mps360.mps import Reading, read_text
 from mps360.pages import limits, shown
 from mps360.pages.html import page as page_of
 from mps360.pages.origin import Origin
+from mps360.provenance import Provenance
+from mps360.routes import Tried
 from mps360.units import units_of
+from oracle import listing as oracle_listing
 from page_checks import Read, check_page, words_of
 
 EXAMPLES, SCRIPTS = places.EXAMPLES, places.SCRIPTS
@@ -29,7 +37,7 @@ def page_text(name, origin=None, old="", new=""):
 
 # ---- where the answer comes from
 
-PROVED = Origin("2026-11-29 18:00 UTC", "plan.mps", "ab" * 32, True, "the proved program printed the listing.", "INSERT of clp's basis and PRIMAL, with clp 1.17.6",
+PROVED = Origin("2026-11-29 18:00 UTC", "plan.mps", "ab" * 32, True, "the proved program printed the listing.", "INSERT of clp's basis and PRIMAL (clp 1.17.6)",
                 ("PRIMAL from the opening basis: no end in 5 seconds",), "mps360, commit 1234567", "cd" * 32)
 
 
@@ -37,7 +45,7 @@ def test_the_box_at_the_top():
     "the box stands before the verdict, and says what is known"
     text = page_text("first", PROVED)
     before = text.partition("Optimal")[0]
-    for words in ("PROVED : the proved program printed the listing.", "Route INSERT of clp's basis and PRIMAL, with clp 1.17.6",
+    for words in ("PROVED : the proved program printed the listing.", "Route INSERT of clp's basis and PRIMAL (clp 1.17.6)",
                   "tried too: PRIMAL from the opening basis: no end in 5 seconds", f"File plan.mps SHA-256 {'ab' * 32}",
                   f"Program mps360, commit 1234567 SHA-256 {'cd' * 32}", "Page made 2026-11-29 18:00 UTC"):
         assert words_of(words) in words_of(before), words
@@ -49,6 +57,26 @@ def test_no_verdict_is_proved_of_a_stop(listing, state):
     read = Read(page_of("", listing, origin=PROVED))
     assert read.pieces[read.pieces.index(state) + 1].startswith(": ")
     assert ("NO VERDICT" in read.text) == (state == "NO VERDICT")
+
+
+PRIMAL, CLP = "PRIMAL from the opening basis", "INSERT of clp's basis and PRIMAL"
+EXACT = "esolver's exact answer, attested by the checker"
+
+
+@pytest.mark.parametrize("provenance, state, words", (
+    (Provenance("proved", False, PRIMAL), "PROVED", ("the proved program printed the listing.", f"Route {PRIMAL} File")),
+    (Provenance("unproved", False, PRIMAL), "UNPROVED", ("an UNPROVED run of the program printed the listing.", "Program mps360, ")),
+    (Provenance("proved", False, CLP, (Tried(PRIMAL, 5.0, "no end in 5 seconds"), Tried(CLP, 1.0, None)), "clp", "1.17.6"), "PROVED",
+     (f"Route {CLP} (clp 1.17.6) tried too: {PRIMAL}: no end in 5 seconds File",)),
+    (Provenance("proved", True, EXACT, (Tried(PRIMAL, 0.1, "a number doesn't fit"), Tried(EXACT, 1.0, None)), "esolver", "2.5.8"), "PROVED",
+     ("the proved checker attested the listing.", f"Route {EXACT} (esolver 2.5.8)", "Program mps360check, ")),
+    (Provenance("proved", False, PRIMAL, (Tried(PRIMAL, 9.0, "no end in 9 seconds"),), has_verdict=False), "NO VERDICT",
+     (f"Route tried: {PRIMAL}: no end in 9 seconds",))))
+def test_the_box_of_each_route(provenance, state, words):
+    "the box says by which route the answer came, with the solver's version, and who proved it"
+    origin = Origin.of(provenance, "plan.mps")
+    text = words_of(Read(origin.box(state != "NO VERDICT")).text)
+    assert text.startswith(f"{state} :") and all(words_of(word) in text for word in words), text
 
 
 def test_the_box_of_solve(tmp_path):
@@ -146,6 +174,19 @@ def test_a_direction_of_another_job(tmp_path):
     assert told.returncode == 65 and b"meets a limit" in told.stderr, told
 
 
+@pytest.mark.parametrize("name, old, new", (
+    ("endless", "    1 PROFIT   200 2\n", ""), ("endless", "UNBOUNDED STEPS 1 OBJECTIVE 200", "OPTIMAL STEPS 1 RAY"),
+    ("conflict", "    2 HOURS    1\n    3 CHAIRS   -2\n    4 TABLES   -5\n", ""), ("paraobj", "    7 BUY      LL 0 0 -15 1\nINTERVAL 2", "INTERVAL 2"),
+    ("paraobj", "    1 PROFIT   -32 -15\n", "")))
+def test_a_listing_that_lacks_a_part(tmp_path, name, old, new):
+    "what no run prints is told, and no page is made of it"
+    listing, text = tmp_path / "part.listing", (EXAMPLES / f"{name}.listing").read_text()
+    assert old in text
+    listing.write_text(text.replace(old, new))
+    told = call(SCRIPTS / "listing2html.py", EXAMPLES / f"{name}.job", listing)
+    assert told.returncode == 65 and b"Traceback" not in told.stderr and not told.stdout, told
+
+
 # ---- numbers and units
 
 def test_numbers_of_many_digits():
@@ -234,3 +275,30 @@ def test_on_paper(tmp_path, is_exact):
     page.write_text(text.replace('id="exact"', 'id="exact" checked') if is_exact else text, encoding="utf-8")
     browser(tmp_path, "--no-pdf-header-footer", f"--print-to-pdf={pdf}", f"file://{page}")
     assert 1 <= pages_of(pdf) <= 2
+
+
+# ---- random jobs
+
+@pytest.mark.parametrize("seed", range(40))
+def test_the_page_of_a_random_job(seed):
+    "whatever a job does, its page is made: each ray's activities add up to 0 by the job's entries, and no limit stops a direction; so is that of a part"
+    job = random_jobs.job(seed, True, True, True, True, True, True)
+    run = oracle_listing.Run(job)
+    run.run()
+    check_page(str(seed), page_of(job, "\n".join([*run.lines, ""])))
+    check_page(str(seed), page_of(job, "\n".join([*run.lines[:seed % len(run.lines)], ""])))
+
+
+@pytest.mark.parametrize("where", ("cb", "ub", "ar", "cbura"))
+@pytest.mark.parametrize("seed", range(8))
+def test_the_page_of_long_numbers(seed, where):
+    "of a model whose long numbers stand on several rows in its job, the activities of a ray add up to 0 by the file's rows and columns"
+    job = exact_job(read_text(random_text(seed, where, 3), Reading(negative_up="free", numbers="exact")), True, "long")
+    run = oracle_listing.Run(job.text)
+    run.run()
+    read = check_page(where, page_of(job.text, "\n".join([*run.lines, ""]), names_of(job.name_map())))
+    if "Infeasible." in read.text:
+        assert "The sum that proves it" in read.text and "The activities, column by column" in read.text
+        added = set(job.split.table(job)["rows"]) | set(job.split.table(job)["columns"]) if job.split else set()
+        shown_ = read.text.partition("What is proved")[0].split()
+        assert not added & {word.strip("()") for word in shown_}

@@ -106,7 +106,7 @@ def test_the_glass_products(tmp_path):
           and re.search(r"^plant_2_hours +12 +1\.5 = 3/2 +6 to 18$", told, re.M)
           and "Not proved" in told), f"solve glass: {told}"
     read = check_page("glass", (tmp_path / "glass.html").read_text(encoding="utf-8"))
-    assert "plant_2_hours 12 at its upper limit 0 12 1.5 3/2 6 to 18" in words_of(read.text), "the page of the glass products"
+    assert "plant_2_hours 12 1.5 3/2 at its upper limit 0 12 6 to 18" in words_of(read.text), "the page of the glass products"
     packed = subprocess.run(["gzip", "-c", path], capture_output=True).stdout
     for given in (path.read_bytes(), packed):
         told = call(SCRIPTS / "solve", "--program", program, "--csv", "-", input=given).stdout.decode()

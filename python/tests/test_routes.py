@@ -2,6 +2,7 @@
 MPS360_PROGRAM or, where none is named, the reading of the rules in Python that stands apart from the product."""
 import os
 import pathlib
+import re
 import sys
 import time
 
@@ -194,7 +195,7 @@ def test_a_run_from_a_basis_that_hangs(tmp_path):
 def test_interrupted(tmp_path):
     "what stands is said, and nothing is left"
     with fakes.only_path(tmp_path) as pids:
-        told = Told(stop=lambda waits: "1 lines" in waits and pids.exists())
+        told = Told(stop=lambda waits: waits.startswith(f"{routes.OPENING} (waits for CONVERT), ") and pids.exists())
         outcome = run(tmp_path, plan(solvers=()), opening="hangs", told=told)
         assert outcome.attempt.interrupted and outcome.status == 130 and outcome.attempt.lines() == ["TITLE FAKE"]
         assert fakes.left_over(pids) == []
@@ -203,7 +204,7 @@ def test_interrupted(tmp_path):
 def test_interrupted_while_a_solver_runs(tmp_path):
     with fakes.only_path(tmp_path) as pids:
         fakes.program(tmp_path, "clp", fakes.HANGS)
-        told = Told(stop=lambda waits: "basis of clp" in waits and pids.exists() and pids.read_text().endswith("\n"))
+        told = Told(stop=lambda waits: re.match(f"waits for a basis of clp, [0-9]+ s of [0-9.]+(; {routes.OPENING} goes on beside it)?$", waits) and pids.exists() and pids.read_text().endswith("\n"))
         outcome = run(tmp_path, plan(solvers=("clp",)), told=told)
         assert outcome.attempt.interrupted and outcome.attempt.lines()[-1].startswith("STOP 20")
         assert fakes.left_over(pids) == []

@@ -32,7 +32,7 @@ def test_without_a_program(tmp_path):
 def test_unproved_runs(tmp_path):
     "where there is no proved program a job runs unproved; here rt gives no module, and runs it itself"
     house, jobs = made(tmp_path)
-    said = b"mps360: running UNPROVED, which takes about a minute the first time, to compile" + UNPROVED
+    said = b"mps360: running UNPROVED, which takes about half a minute the first time, to compile" + UNPROVED
     for name, (status, _) in STATUSES.items():
         ended = call(house / "scripts/mps360", jobs / f"{name}.job", env=with_rt(house))
         assert (ended.returncode, ended.stdout, ended.stderr) == (status, example(name), said), (f"mps360 unproved: {name}", ended)
@@ -67,7 +67,7 @@ def test_a_program_that_is_kept(tmp_path):
     tried.unlink()
     for count, (name, (status, _)) in enumerate(STATUSES.items()):
         ended = call(mps360, jobs / f"{name}.job", **there)
-        how = b"by the program that was compiled of these sources before" if count else b"which takes about a minute the first time, to compile"
+        how = b"by the program that was compiled of these sources before" if count else b"which takes about half a minute the first time, to compile"
         said = b"mps360: running UNPROVED, " + how + UNPROVED
         assert (ended.returncode, ended.stdout, ended.stderr) == (status, example(name), said), (f"mps360 unproved, kept: {name}", ended)
     assert tried.read_text() == "once\n", "rt is called once"
@@ -86,8 +86,9 @@ def test_a_program_that_is_kept(tmp_path):
     call(mps360, jobs / "first.job", **there)
     call(mps360, jobs / "first.job", **there)
     assert tried.read_text() == "once\n" * 2, "a changed source is compiled once again"
-    kept = [path for path in (house / "crates/mps360/out/unproved").iterdir() if path.is_dir()]
-    assert len(kept) == 1, f"programs of other sources go: {kept}"
+    place = house / "cache/mps360/unproved/mps360"
+    kept = [path for path in place.iterdir() if path.is_dir()]
+    assert len(kept) == 2, f"a program of sources that ran today stays: {kept}"
     shutil.rmtree(source.parent)
     (house / "module").unlink()
 
@@ -116,7 +117,7 @@ def test_the_unproved_checker(tmp_path):
     (house / "made").write_text(CHECKER.format(house))
     (house / "tried").unlink()
     ended = call(script, store, listing, env=with_rt(house))
-    said = b"mps360check: running UNPROVED, which takes about a minute the first time, to compile" + UNPROVED
+    said = b"mps360check: running UNPROVED, which takes about half a minute the first time, to compile" + UNPROVED
     assert (ended.returncode, ended.stdout, ended.stderr) == (0, b"ATTESTED 5 REPORTS\n", said), ("mps360check unproved", ended)
     check_checker(script, with_rt(house), b"mps360check: running UNPROVED, by the program that was compiled of these sources before" + UNPROVED, tmp_path)
     assert (house / "tried").read_text() == "once\n", "rt is called once for the checker"
@@ -124,4 +125,3 @@ def test_the_unproved_checker(tmp_path):
     assert ended.returncode == 0 and ended.stdout.startswith(b"not proved, since the checker ran unproved; it attests: OPTIMAL, objective 9\n"), \
         ("attest unproved", ended)
     (house / "module").unlink()
-    shutil.rmtree(house / "crates/mps360check/out/unproved")

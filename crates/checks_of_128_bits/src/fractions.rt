@@ -1,5 +1,6 @@
 // The numbers of a claim, in fractions of 128 bits.
-ghost use Rattle.std.specs.Prelude.{◌≡◌, IfOk};
+ghost use Rattle.std.specs.Prelude.{◌≡◌, IfOk, OkIff};
+ghost use Rattle.frac128.specs.Operations.{TermsFit};
 ghost use Rattle.checks_of_128_bits.specs.Fractions.{AreFractions};
 
 use frac128::Frac;
@@ -26,7 +27,7 @@ pub struct FractionColumns {
 
 /// The fraction of a number. Each that this checker reads has one; of another there is nothing to be tested, as where memory runs out.
 pub fn fraction(number: &Number<'_>) -> Result<Frac, NoMemory>
-    ensures { IfOk result (λ value. value ≡ number.now) }
+    ensures { OkIff result (TermsFit number.now) number.now }
 {
     match number.fraction() {
         Some(value) => Ok(value),

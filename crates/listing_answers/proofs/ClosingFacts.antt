@@ -12,34 +12,35 @@ use Rattle.lp_model.specs.declared.NoMemory.{NoMemory}
 use Rattle.question_definitions.specs.Answers.{Sheet, Changing, Row, Set, parametric_solver}
 use Rattle.answer_definitions.specs.ParametricRuns.{row_of, shifts_of}
 use Rattle.run_definitions.specs.Verbs.{last_value}
-use Rattle.walk_definitions.specs.Checkers.{checker_of_128_bits}
-use Rattle.walk_definitions.specs.Words.{Parsed, left_after, fraction_in}
+use Rattle.walk_definitions.specs.Checkers.{Checker}
+use Rattle.walk_definitions.specs.Words.{Parsed, left_after}
 use Rattle.walk_definitions.specs.Tests.{asked, past_test, unbounded_past, infeasible_past, close_test}
 use Rattle.walk_definitions.specs.Reading.{close_in}
-use Rattle.listing_answers.specs.declared.closing.Closing as declared
-use Rattle.listing_answers.specs.declared.closing.Closing.TheVariants as closings
+use Rattle.listing_claims.specs.declared.claims.Closing as declared
+use Rattle.listing_claims.specs.declared.claims.Closing.TheVariants as closings
+use Rattle.listing_claims.specs.Closings.{ClosingFits, closing_test}
 use Rattle.listing_answers.specs.Words.{Found}
-use Rattle.listing_answers.specs.Closings.{end_in, close_after_in, Closes, value_of, ClosingFits, closing_test}
+use Rattle.listing_answers.specs.Closings.{end_in, close_after_in, Closes, value_of}
 use Rattle.listing_answers.proofs.Tables.{multipliers_counted}
 
 -- ---- what is read
 
-module _ (sheet : Sheet) (second : List ℕ → Parsed ChainEnd) (old new : List ℕ) where
-  pub end_first : (t : ℚ) → end_in old ≡ Some (EndsAt t, new) → Found (Closes sheet) (option_or (end_in old) (second old)) new (Some (closings.At t))
+module _ (of : List ℕ → Option ℚ) (sheet : Sheet) (second : List ℕ → Parsed ChainEnd) (old new : List ℕ) where
+  pub end_first : (t : ℚ) → end_in of old ≡ Some (EndsAt t, new) → Found (Closes sheet) (option_or (end_in of old) (second old)) new (Some (closings.At t))
   end_first t e = record { answer = EndsAt t; is_found = ap (λ o. option_or o (second old)) e; shows = refl }
 
-  module _ (last : List ℕ) (missing : (end_in old ≡ None) × (new ≡ old)) where
-    end_second : (found : Option declared.Closing) → Found (Closes sheet) (second new) last found → Found (Closes sheet) (option_or (end_in old) (second old)) last found
+  module _ (last : List ℕ) (missing : (end_in of old ≡ None) × (new ≡ old)) where
+    end_second : (found : Option declared.Closing) → Found (Closes sheet) (second new) last found → Found (Closes sheet) (option_or (end_in of old) (second old)) last found
     end_second None none = ap (λ o. option_or o (second old)) missing.0 ∙ ap second (sym missing.1) ∙ none
     end_second (Some closing) found = record { answer = found.answer; is_found = ap (λ o. option_or o (second old)) missing.0 ∙ ap second (sym missing.1) ∙ found.is_found; shows = found.shows }
 
-    pub end_then : (result : Result (Option declared.Closing) NoMemory) → IfOk result (Found (Closes sheet) (second new) last) → IfOk result (Found (Closes sheet) (option_or (end_in old) (second old)) last)
+    pub end_then : (result : Result (Option declared.Closing) NoMemory) → IfOk result (Found (Closes sheet) (second new) last) → IfOk result (Found (Closes sheet) (option_or (end_in of old) (second old)) last)
     end_then (Ok found) h = end_second found h
     end_then (Err none) h = h
 
-pub close_taken : (sheet : Sheet) (changing : Changing) (old left : List ℕ) → left_after (solver_text (parametric_solver changing)) old ≡ Some left → close_in (fraction_in checker_of_128_bits) sheet (parametric_solver changing) old ≡ close_after_in sheet changing left
-close_taken sheet (Row name) old left e = ap (option_and_then (close_after_in sheet (Row name))) e
-close_taken sheet (Set name) old left e = ap (option_and_then (close_after_in sheet (Set name))) e
+pub close_taken : (of : List ℕ → Option ℚ) (sheet : Sheet) (changing : Changing) (old left : List ℕ) → left_after (solver_text (parametric_solver changing)) old ≡ Some left → close_in of sheet (parametric_solver changing) old ≡ close_after_in of sheet changing left
+close_taken of sheet (Row name) old left e = ap (option_and_then (close_after_in of sheet (Row name))) e
+close_taken of sheet (Set name) old left e = ap (option_and_then (close_after_in of sheet (Set name))) e
 
 -- ---- what is tested
 
@@ -55,13 +56,13 @@ closing_value sheet (closings.Unbounded t pair) (UnboundedPast printed lines) cl
 closing_value sheet (closings.Infeasible t ray) (InfeasiblePast printed lines) closes = closes.0
 closing_value sheet closing end closes = absurd closes
 
-pub closing_tested : (sheet : Sheet) (changing : Changing) (max last : ℚ) (closing : declared.Closing) (end : ChainEnd) → Closes sheet closing end → closing_test sheet changing max last closing ≡ close_test checker_of_128_bits sheet changing max last end
-closing_tested sheet (Row name) max last (closings.At t) (EndsAt printed) closes = ap (λ t. in_turn (asked (eq_ℚ t last) ∷ asked (eq_ℚ t max) ∷ [])) closes
-closing_tested sheet (Set name) max last (closings.At t) (EndsAt printed) closes = ap (λ t. in_turn (asked (eq_ℚ t last) ∷ asked (eq_ℚ t max) ∷ [])) closes
-closing_tested sheet (Row name) max last (closings.Unbounded t pair) (UnboundedPast printed lines) closes =
-    λ i. past_test max last (closes.0 i) (unbounded_past checker_of_128_bits sheet (Row name) (row_of sheet.problem name) (closes.0 i) (value_at (closes.1.is_point i)) (value_at (closes.1.is_direction i)))
-closing_tested sheet (Set name) max last (closings.Unbounded t pair) (UnboundedPast printed lines) closes = refl
-closing_tested sheet (Row name) max last (closings.Infeasible t ray) (InfeasiblePast printed lines) closes = refl
-closing_tested sheet (Set name) max last (closings.Infeasible t ray) (InfeasiblePast printed lines) closes =
-    λ i. past_test max last (closes.0 i) (infeasible_past checker_of_128_bits sheet (Set name) (shifts_of sheet.problem name) (closes.0 i) (value_at (closes.1 i)))
-closing_tested sheet changing max last closing end closes = absurd closes
+pub closing_tested : (C : Checker) (sheet : Sheet) (changing : Changing) (max last : ℚ) (closing : declared.Closing) (end : ChainEnd) → Closes sheet closing end → closing_test C sheet changing max last closing ≡ close_test C sheet changing max last end
+closing_tested C sheet (Row name) max last (closings.At t) (EndsAt printed) closes = ap (λ t. in_turn (asked (eq_ℚ t last) ∷ asked (eq_ℚ t max) ∷ [])) closes
+closing_tested C sheet (Set name) max last (closings.At t) (EndsAt printed) closes = ap (λ t. in_turn (asked (eq_ℚ t last) ∷ asked (eq_ℚ t max) ∷ [])) closes
+closing_tested C sheet (Row name) max last (closings.Unbounded t pair) (UnboundedPast printed lines) closes =
+    λ i. past_test max last (closes.0 i) (unbounded_past C sheet (Row name) (row_of sheet.problem name) (closes.0 i) (value_at (closes.1.is_point i)) (value_at (closes.1.is_direction i)))
+closing_tested C sheet (Set name) max last (closings.Unbounded t pair) (UnboundedPast printed lines) closes = refl
+closing_tested C sheet (Row name) max last (closings.Infeasible t ray) (InfeasiblePast printed lines) closes = refl
+closing_tested C sheet (Set name) max last (closings.Infeasible t ray) (InfeasiblePast printed lines) closes =
+    λ i. past_test max last (closes.0 i) (infeasible_past C sheet (Set name) (shifts_of sheet.problem name) (closes.0 i) (value_at (closes.1 i)))
+closing_tested C sheet changing max last closing end closes = absurd closes

@@ -1,13 +1,9 @@
 mod Chains
 mod Tables
+mod Judging
 mod Claimed
-mod Passing
 mod Solutions
-mod Limits
-mod Ends
 mod Runs
 mod ClosingFacts
-mod ClosingSums
 mod ParametricRunFacts
-mod PastFacts
 mod Choices

@@ -1,20 +1,21 @@
 -- The intervals of a run, one after another: what is left decides the whole.
-use Rattle.std.proofs.Common.{◌≡◌, ℕ, ◌+◌, ◌<◌, true, false, List, [], ◌∷◌, ◌++◌, Some, None, Result, Ok, Err, refl, sym, ap, subst, ◌∙◌, append_assoc, arith, add-one, length, get_or, drop, if◌then◌else◌}
+use Rattle.std.proofs.Common.{◌≡◌, ℕ, ◌+◌, ◌<◌, false, List, [], ◌∷◌, ◌++◌, Option, Some, None, Result, Ok, Err, refl, sym, ap, subst, ◌∙◌, append_assoc, arith, add-one, length, get_or, drop, if◌then◌else◌}
 use Rattle.std.proofs.Math.Seq.{drop-cons}
 use Rattle.std.specs.Prelude.{codes, nat_eq, IsErrAnd}
-use Rattle.std.proofs.lemmas.Result.{err_from_is_err_and}
 use Rattle.std.proofs.lemmas.Bool.Decides.{nat_tests}
 use Rattle.exact_values.specs.Rational.{ℚ}
 use Rattle.listing_definitions.specs.Report.{ParametricInterval, ChainEnd}
 use Rattle.question_definitions.specs.Answers.{Sheet, ParametricRun, parametric_solver}
 use Rattle.run_definitions.specs.Verbs.{last_value}
-use Rattle.walk_definitions.specs.Checkers.{checker_of_128_bits}
-use Rattle.walk_definitions.specs.Words.{left_after, fraction_in}
+use Rattle.walk_definitions.specs.Checkers.{Checker}
+use Rattle.walk_definitions.specs.Words.{left_after}
 use Rattle.walk_definitions.specs.Tests.{interval_test, close_test}
-use Rattle.walk_definitions.specs.Reading.{Judged, Right, Fails, Refuses, tested, judged_map, Run, interval_in, close_in, onward, part_in, run_in}
-use Rattle.listing_answers.specs.declared.answer.Stop.{Stop}
-use Rattle.listing_answers.specs.declared.answer.Stop.TheVariants as stops
-use Rattle.listing_answers.specs.Taken.{Taken}
+use Rattle.walk_definitions.specs.Reading.{Judged, Right, Fails, Refuses, tested_by, judged_map, Run, interval_in, close_in, onward, part_in, run_in}
+use Rattle.listing_claims.specs.declared.claims.Stop.{Stop}
+use Rattle.listing_claims.specs.declared.claims.Stop.TheVariants as stops
+use Rattle.listing_answers.specs.Intervals.{first_by, first_in}
+use Rattle.listing_answers.specs.Taken.{IsStopped, Taken}
+use Rattle.listing_answers.proofs.Judging.{handed_on}
 
 abbrev pub after : List ParametricInterval → Judged Run → Judged Run
 after intervals rest = judged_map (λ run. (intervals ++ run.0, run.1)) rest
@@ -39,14 +40,41 @@ EndsPart to interval = to ≡ interval.to
 abbrev pub EndsChain : ℚ → ChainEnd → Type 0
 EndsChain last end = last ≡ last_value end
 
-module _ (sheet : Sheet) (parametric_run : ParametricRun) where
+module _ (C : Checker) (sheet : Sheet) (parametric_run : ParametricRun) where
   -- some intervals were read
   pub record IsRunSoFar (whole : Judged Run) (room : List ℕ) (number : ℕ) (last : ℚ) (rest : List ℕ) : Type 0 where
     pub intervals : List ParametricInterval
-    pub decides : whole ≡ after intervals (run_in checker_of_128_bits sheet parametric_run room number last rest)
+    pub decides : whole ≡ after intervals (run_in C sheet parametric_run room number last rest)
 
-  pub run_begins : (room : List ℕ) (number : ℕ) (last : ℚ) (rest : List ℕ) → IsRunSoFar (run_in checker_of_128_bits sheet parametric_run room number last rest) room number last rest
-  run_begins room number last rest = record { intervals = []; decides = sym (after_none (run_in checker_of_128_bits sheet parametric_run room number last rest)) }
+  -- ---- the first interval
+
+  run_by_first : (byte : ℕ) (room rest : List ℕ) → run_in C sheet parametric_run (byte ∷ room) 1 parametric_run.from rest ≡ onward (run_in C sheet parametric_run room (1 + 1)) (first_in C sheet parametric_run rest)
+  run_by_first byte room rest = by (left_after (codes "INTERVAL ") rest)
+    where
+      by : (o : Option (List ℕ)) → part_in C sheet parametric_run (run_in C sheet parametric_run room (1 + 1)) 1 parametric_run.from rest o ≡ onward (run_in C sheet parametric_run room (1 + 1)) (first_by C sheet parametric_run rest o)
+      by None = refl
+      by (Some left) = refl
+
+  pub run_begins : (bytes : List ℕ) (to : ℚ) (new : List ℕ) → Taken EndsPart (first_in C sheet parametric_run bytes) new (Ok to) → IsRunSoFar (run_in C sheet parametric_run bytes 1 parametric_run.from bytes) (drop 1 bytes) (1 + 1) to new
+  run_begins [] to new taken = absurd (cc taken.is_right)
+  run_begins (byte ∷ room) to new taken = record {
+    intervals = taken.answer ∷ [];
+    decides =
+        run_by_first byte room (byte ∷ room) ∙ ap (onward (run_in C sheet parametric_run room (1 + 1))) taken.is_right
+        ∙ sym (after_none (judged_map (λ run. (taken.answer ∷ run.0, run.1)) (run_in C sheet parametric_run room (1 + 1) taken.answer.to new)))
+        ∙ after_more [] taken.answer (run_in C sheet parametric_run room (1 + 1) taken.answer.to new)
+        ∙ ap (λ t. after (taken.answer ∷ []) (run_in C sheet parametric_run room (1 + 1) t new)) (sym taken.shows);
+  }
+
+  pub first_stops : (bytes : List ℕ) (stop : Stop) → IsStopped (first_in C sheet parametric_run bytes) stop → IsStopped (run_in C sheet parametric_run bytes 1 parametric_run.from bytes) stop
+  first_stops [] stops.Wrong wrong = refl
+  first_stops [] stops.Unchecked refused = absurd (cc refused)
+  first_stops [] stops.NoMemory none = tt
+  first_stops (byte ∷ room) stops.Wrong wrong = run_by_first byte room (byte ∷ room) ∙ ap (onward (run_in C sheet parametric_run room (1 + 1))) wrong
+  first_stops (byte ∷ room) stops.Unchecked refused = run_by_first byte room (byte ∷ room) ∙ ap (onward (run_in C sheet parametric_run room (1 + 1))) refused
+  first_stops (byte ∷ room) stops.NoMemory none = tt
+
+  -- ---- those after it
 
   -- each interval takes a byte of room
   pub room_left : (whole : Judged Run) (bytes : List ℕ) (i : ℕ) (last : ℚ) (rest : List ℕ) → i < length bytes → IsRunSoFar whole (drop i bytes) (i + 1) last rest → IsRunSoFar whole (get_or bytes i 0 ∷ drop (i + 1) bytes) (i + 1) last rest
@@ -54,45 +82,38 @@ module _ (sheet : Sheet) (parametric_run : ParametricRun) where
       subst (λ (room : List ℕ). IsRunSoFar whole room (i + 1) last rest) (drop-cons bytes i 0 below ∙ ap (λ j. get_or bytes i 0 ∷ drop j bytes) (sym (add-one i))) so_far
 
   abbrev part_judged : ℕ → ℚ → List ℕ → Judged ParametricInterval
-  part_judged number last rest = tested (interval_test checker_of_128_bits sheet parametric_run.changing (nat_eq number 1) parametric_run.to) (interval_in (fraction_in checker_of_128_bits) sheet number last rest)
+  part_judged number last rest = tested_by C (interval_test C sheet parametric_run.changing (nat_eq number 1) parametric_run.to) (λ of. interval_in of sheet number last) rest
 
   abbrev close_judged : ℚ → List ℕ → Judged ChainEnd
-  close_judged last rest = tested (close_test checker_of_128_bits sheet parametric_run.changing parametric_run.to last) (close_in (fraction_in checker_of_128_bits) sheet (parametric_solver parametric_run.changing) rest)
+  close_judged last rest = tested_by C (close_test C sheet parametric_run.changing parametric_run.to last) (λ of. close_in of sheet (parametric_solver parametric_run.changing)) rest
 
   module _ (whole : Judged Run) (byte : ℕ) (room : List ℕ) (number : ℕ) (last : ℚ) (rest : List ℕ) (so_far : IsRunSoFar whole (byte ∷ room) number last rest) where
     -- an interval stands here
     module _ (left : List ℕ) (stands : left_after (codes "INTERVAL ") rest ≡ Some left) where
-      here : whole ≡ after so_far.intervals (onward (run_in checker_of_128_bits sheet parametric_run room (number + 1)) (part_judged number last rest))
-      here = so_far.decides ∙ ap (λ o. after so_far.intervals (part_in checker_of_128_bits sheet parametric_run (run_in checker_of_128_bits sheet parametric_run room (number + 1)) number last rest o)) stands
+      here : whole ≡ after so_far.intervals (onward (run_in C sheet parametric_run room (number + 1)) (part_judged number last rest))
+      here = so_far.decides ∙ ap (λ o. after so_far.intervals (part_in C sheet parametric_run (run_in C sheet parametric_run room (number + 1)) number last rest o)) stands
 
       pub run_goes_on : (to : ℚ) (new : List ℕ) → Taken EndsPart (part_judged number last rest) new (Ok to) → IsRunSoFar whole room (number + 1) to new
       run_goes_on to new taken = record {
         intervals = so_far.intervals ++ taken.answer ∷ [];
         decides =
-            here ∙ ap (λ j. after so_far.intervals (onward (run_in checker_of_128_bits sheet parametric_run room (number + 1)) j)) taken.is_right
-            ∙ after_more so_far.intervals taken.answer (run_in checker_of_128_bits sheet parametric_run room (number + 1) taken.answer.to new)
-            ∙ ap (λ t. after (so_far.intervals ++ taken.answer ∷ []) (run_in checker_of_128_bits sheet parametric_run room (number + 1) t new)) (sym taken.shows);
+            here ∙ ap (λ j. after so_far.intervals (onward (run_in C sheet parametric_run room (number + 1)) j)) taken.is_right
+            ∙ after_more so_far.intervals taken.answer (run_in C sheet parametric_run room (number + 1) taken.answer.to new)
+            ∙ ap (λ t. after (so_far.intervals ++ taken.answer ∷ []) (run_in C sheet parametric_run room (number + 1) t new)) (sym taken.shows);
       }
 
-      stops_by : (stop : Stop) (new : List ℕ) → Taken EndsPart (part_judged number last rest) new (Err stop) → Taken EndsRun whole new (Err stop)
-      stops_by stops.Wrong new wrong = here ∙ ap (λ j. after so_far.intervals (onward (run_in checker_of_128_bits sheet parametric_run room (number + 1)) j)) wrong
-      stops_by stops.Unchecked new refused = here ∙ ap (λ j. after so_far.intervals (onward (run_in checker_of_128_bits sheet parametric_run room (number + 1)) j)) refused
-      stops_by stops.NoMemory new none = tt
+      stops_by : (stop : Stop) → IsStopped (part_judged number last rest) stop → IsStopped whole stop
+      stops_by stops.Wrong wrong = here ∙ ap (λ j. after so_far.intervals (onward (run_in C sheet parametric_run room (number + 1)) j)) wrong
+      stops_by stops.Unchecked refused = here ∙ ap (λ j. after so_far.intervals (onward (run_in C sheet parametric_run room (number + 1)) j)) refused
+      stops_by stops.NoMemory none = tt
 
-      pub run_stops : (stop : Stop) (new : List ℕ) (result : Result ℚ Stop) → Taken EndsPart (part_judged number last rest) new (Err stop) → IsErrAnd result (λ y. y ≡ stop) → Taken EndsRun whole new result
-      run_stops stop new result h handed =
-          let p = err_from_is_err_and result handed in
-          subst (λ (r : Result ℚ Stop). Taken EndsRun whole new r) (sym p.1) (subst (λ (s : Stop). Taken EndsRun whole new (Err s)) (sym p.2) (stops_by stop new h))
+      pub run_stops : (stop : Stop) (new : List ℕ) (result : Result ℚ Stop) → IsStopped (part_judged number last rest) stop → IsErrAnd result (λ y. y ≡ stop) → Taken EndsRun whole new result
+      run_stops stop new result h handed = handed_on EndsRun whole new result stop (stops_by stop h) handed
 
     -- none stands here
     module _ (missing : left_after (codes "INTERVAL ") rest ≡ None) where
       over : whole ≡ after so_far.intervals (if nat_eq number 1 then Fails else judged_map (λ end. ([], end)) (close_judged last rest))
-      over = so_far.decides ∙ ap (λ o. after so_far.intervals (part_in checker_of_128_bits sheet parametric_run (run_in checker_of_128_bits sheet parametric_run room (number + 1)) number last rest o)) missing
-
-      pub run_fails : number ≡ 1 → whole ≡ Fails
-      run_fails first =
-          let is : nat_eq number 1 ≡ true = grind (arith, nat_tests, first) in
-          over ∙ ap (λ b. after so_far.intervals (if b then Fails else judged_map (λ end. ([], end)) (close_judged last rest))) is
+      over = so_far.decides ∙ ap (λ o. after so_far.intervals (part_in C sheet parametric_run (run_in C sheet parametric_run room (number + 1)) number last rest o)) missing
 
       closing : 1 < number → whole ≡ after so_far.intervals (judged_map (λ end. ([], end)) (close_judged last rest))
       closing later =
@@ -108,7 +129,3 @@ module _ (sheet : Sheet) (parametric_run : ParametricRun) where
       run_closes later new (Err stops.Wrong) wrong = closing later ∙ ap (λ j. after so_far.intervals (judged_map (λ end. ([], end)) j)) wrong
       run_closes later new (Err stops.Unchecked) refused = closing later ∙ ap (λ j. after so_far.intervals (judged_map (λ end. ([], end)) j)) refused
       run_closes later new (Err stops.NoMemory) none = tt
-
-  -- there is no more room
-  pub run_over : (whole : Judged Run) (room : List ℕ) (number : ℕ) (last : ℚ) (rest : List ℕ) → IsRunSoFar whole room number last rest → room ≡ [] → whole ≡ Fails
-  run_over whole room number last rest so_far none = so_far.decides ∙ ap (λ r. after so_far.intervals (run_in checker_of_128_bits sheet parametric_run r number last rest)) none

@@ -1,89 +1,58 @@
--- What is read of intervals, and their tests.
+-- What is read of intervals.
 --     part_head number from        what stands before the end of an interval
---     IsPartEnd                    where an interval ends was read
---     Counted, AreColumnsRead      the lines of an interval were read
+--     IsPartEnd of                 where an interval ends was read
+--     AreColumns, AreColumnsRead   the lines of an interval were read
 --     IsPart                       an interval
---     end_verdict, part_verdict    the tests at an end of it, and of the whole
---     IsEnd, AreEnds               what is made at an end, and at both
---     kept_steps start end         the comparisons of a variable at both ends
-use Rattle.std.specs.Prelude.{◌≡◌, ◌≤◌, ℕ, Bool, List, ◌++◌, Option, Some, None, map, length, codes}
+--     first_in C sheet run         the first interval of a run, tested
+use Rattle.std.specs.Prelude.{◌≡◌, ℕ, List, ◌++◌, Option, Some, None, codes, nat_eq}
 use Rattle.exact_values.specs.Rational.{ℚ}
-use Rattle.lp_definitions.specs.LinearProgram.{LinearProgram, IsVariable, size, variables, value_at}
-use Rattle.check_definitions.specs.declared.Verdict.{Verdict}
-use Rattle.check_definitions.specs.Steps.{Step}
-use Rattle.simplex_definitions.specs.Chain.{along}
+use Rattle.lp_definitions.specs.LinearProgram.{variables}
 use Rattle.listing_definitions.specs.Numbers.{digits, rational_text}
 use Rattle.listing_definitions.specs.Report.{Line, ParametricInterval}
-use Rattle.question_definitions.specs.Answers.{Sheet, Changing}
-use Rattle.answer_definitions.specs.ParametricRuns.{family_of}
-use Rattle.walk_definitions.specs.Checkers.{checker_of_128_bits}
-use Rattle.walk_definitions.specs.Words.{Parsed, with_text, with_word, fraction_in}
+use Rattle.question_definitions.specs.Answers.{Sheet, ParametricRun}
+use Rattle.walk_definitions.specs.Checkers.{Checker}
+use Rattle.walk_definitions.specs.Words.{Parsed, left_after, with_text, with_word}
 use Rattle.walk_definitions.specs.Tables.{table_in, part_slots, column_of}
-use Rattle.walk_definitions.specs.Tests.{end_test, part_test, keeps_limit}
-use Rattle.listing_answers.specs.declared.intervals.Columns.{Columns}
-use Rattle.listing_answers.specs.declared.intervals.Part.{Part}
-use Rattle.listing_answers.specs.declared.intervals.IntervalEnd.{IntervalEnd}
+use Rattle.walk_definitions.specs.Tests.{interval_test}
+use Rattle.walk_definitions.specs.Reading.{Judged, Fails, tested_by, interval_in}
+use Rattle.listing_claims.specs.declared.claims.Columns.{Columns}
+use Rattle.listing_claims.specs.declared.claims.Part.{Part}
+use Rattle.listing_claims.specs.Intervals.{AreCounted}
 
 abbrev pub part_head : ℕ → ℚ → List ℕ
 part_head number from = codes "INTERVAL " ++ (digits number ++ (codes " FROM " ++ (rational_text from ++ codes " TO ")))
-
--- whatever is read after it
-abbrev pub part_end_in : ℕ → ℚ → (ℚ → List ℕ → Parsed ParametricInterval) → List ℕ → Parsed ParametricInterval
-part_end_in number from next = with_text (part_head number from) (with_word (fraction_in checker_of_128_bits) (λ to. with_text (codes "\n") (λ rest. next to rest)))
-
-abbrev pub IsPartEnd : ℕ → ℚ → List ℕ → List ℕ → Option ℚ → Type 0
-IsPartEnd number from old new None = (next : ℚ → List ℕ → Parsed ParametricInterval) → part_end_in number from next old ≡ None
-IsPartEnd number from old new (Some to) = (next : ℚ → List ℕ → Parsed ParametricInterval) → part_end_in number from next old ≡ next to new
-
--- a value, a price and their rates for each variable
-pub record Counted (p : LinearProgram) (columns : Columns) : Type 0 where
-  pub value : length columns.value.items ≡ size p.matrix
-  pub value_rate : length columns.value_rate.items ≡ size p.matrix
-  pub price : length columns.price.items ≡ size p.matrix
-  pub price_rate : length columns.price_rate.items ≡ size p.matrix
 
 pub record AreColumns (sheet : Sheet) (columns : Columns) (lines : List Line) : Type 0 where
   pub value : columns.value.items ≡ column_of 1 lines
   pub value_rate : columns.value_rate.items ≡ column_of 2 lines
   pub price : columns.price.items ≡ column_of 3 lines
   pub price_rate : columns.price_rate.items ≡ column_of 4 lines
-  pub counted : Counted sheet.lp columns
+  pub counted : AreCounted sheet.lp columns
 
-abbrev pub AreColumnsRead : Sheet → List ℕ → List ℕ → Option Columns → Type 0
-AreColumnsRead sheet old new None = table_in (fraction_in checker_of_128_bits) sheet part_slots (variables sheet.lp.matrix) old ≡ None
-AreColumnsRead sheet old new (Some columns) = (lines : List Line) × (table_in (fraction_in checker_of_128_bits) sheet part_slots (variables sheet.lp.matrix) old ≡ Some (lines, new)) × AreColumns sheet columns lines
+-- by how the word of a number is read
+module _ (of : List ℕ → Option ℚ) where
+  -- whatever is read after it
+  abbrev pub part_end_in : ℕ → ℚ → (ℚ → List ℕ → Parsed ParametricInterval) → List ℕ → Parsed ParametricInterval
+  part_end_in number from next = with_text (part_head number from) (with_word of (λ to. with_text (codes "\n") (λ rest. next to rest)))
+
+  abbrev pub IsPartEnd : ℕ → ℚ → List ℕ → List ℕ → Option ℚ → Type 0
+  IsPartEnd number from old new None = (next : ℚ → List ℕ → Parsed ParametricInterval) → part_end_in number from next old ≡ None
+  IsPartEnd number from old new (Some to) = (next : ℚ → List ℕ → Parsed ParametricInterval) → part_end_in number from next old ≡ next to new
+
+  abbrev pub AreColumnsRead : Sheet → List ℕ → List ℕ → Option Columns → Type 0
+  AreColumnsRead sheet old new None = table_in of sheet part_slots (variables sheet.lp.matrix) old ≡ None
+  AreColumnsRead sheet old new (Some columns) = (lines : List Line) × (table_in of sheet part_slots (variables sheet.lp.matrix) old ≡ Some (lines, new)) × AreColumns sheet columns lines
 
 pub record IsPart (sheet : Sheet) (from : ℚ) (part : Part) (interval : ParametricInterval) : Type 0 where
   pub begins : interval.from ≡ from
   pub ends : interval.to ≡ part.to
   pub columns : AreColumns sheet part.columns interval.lines
 
--- ---- tests
+-- the first interval of a run, before which it doesn't close
+module _ (C : Checker) (sheet : Sheet) (parametric_run : ParametricRun) where
+  abbrev pub first_by : List ℕ → Option (List ℕ) → Judged ParametricInterval
+  first_by rest None = Fails
+  first_by rest (Some after) = tested_by C (interval_test C sheet parametric_run.changing (nat_eq 1 1) parametric_run.to) (λ of. interval_in of sheet 1 parametric_run.from) rest
 
-abbrev pub end_verdict : Sheet → Changing → ℚ → Columns → Verdict
-end_verdict sheet changing theta columns = end_test checker_of_128_bits sheet changing theta columns.value.items columns.value_rate.items columns.price.items columns.price_rate.items
-
-pub record IsEnd (sheet : Sheet) (changing : Changing) (theta : ℚ) (columns : Columns) (end : IntervalEnd) : Type 0 where
-  pub program : end.program ≡ family_of sheet changing theta
-  pub point : end.point.items ≡ map (along theta columns.value.items columns.value_rate.items) (variables sheet.lp.matrix)
-  pub prices : end.prices.items ≡ map (along theta columns.price.items columns.price_rate.items) (variables sheet.lp.matrix)
-
-abbrev pub part_verdict : Sheet → Changing → ℚ → ℚ → Columns → Bool → ℚ → Verdict
-part_verdict sheet changing from to columns = part_test checker_of_128_bits sheet changing from to columns.value.items columns.value_rate.items columns.price.items columns.price_rate.items
-
--- ---- at both ends
-
--- the linear programs have the same variables, of which k is one, and each has a value and a price
-pub record AreEnds (start end : IntervalEnd) (k : ℕ) : Type 0 where
-  pub first : IsVariable start.program.matrix k
-  pub last : IsVariable end.program.matrix k
-  pub first_point : k ≤ length start.point.items
-  pub last_point : k ≤ length end.point.items
-  pub first_prices : k ≤ length start.prices.items
-  pub last_prices : k ≤ length end.prices.items
-
-abbrev pub kept_at : IntervalEnd → IntervalEnd → ℚ → ℕ → List Step
-kept_at start end price k = keeps_limit start.program end.program (value_at start.point.items) (value_at end.point.items) price k
-
-abbrev pub kept_steps : IntervalEnd → IntervalEnd → ℕ → List Step
-kept_steps start end k = kept_at start end (value_at start.prices.items k) k ++ kept_at start end (value_at end.prices.items k) k
+  abbrev pub first_in : List ℕ → Judged ParametricInterval
+  first_in rest = first_by rest (left_after (codes "INTERVAL ") rest)

@@ -1,28 +1,19 @@
 -- What is read of SOLUTION.
 --     rows_head mark, columns_head what stands before the lines of the rows and of the columns
 --     AreLines                     the numbers of the lines were read
---     IsPrinted, Shows, Counted    the activities, the prices and the slacks of them
---     printed_test sheet mark      the test of them
-use Rattle.std.specs.Prelude.{◌≡◌, ℕ, List, [], ◌∷◌, ◌++◌, map, length, codes}
-use Rattle.std.specs.List.{flat_map}
-use Rattle.lp_definitions.specs.LinearProgram.{LinearProgram, Vector, size}
-use Rattle.check_definitions.specs.declared.Verdict.{Verdict}
-use Rattle.check_definitions.specs.Steps.{verdict_of, in_turn}
-use Rattle.check_definitions.specs.Checks.{equations, reduced_costs}
-use Rattle.answer_definitions.specs.Lines.{row_numbers}
+--     IsPrinted, Shows             the activities, the prices and the slacks of them
+use Rattle.std.specs.Prelude.{◌≡◌, ℕ, List, ◌++◌, map, length, codes}
 use Rattle.listing_definitions.specs.declared.Mark.{Mark}
 use Rattle.listing_definitions.specs.Report.{Line, SolutionLines}
 use Rattle.listing_definitions.specs.Text.{mark_text}
 use Rattle.question_definitions.specs.Answers.{Sheet}
-use Rattle.walk_definitions.specs.Checkers.{checker_of_128_bits}
 use Rattle.walk_definitions.specs.Tables.{column_of}
-use Rattle.walk_definitions.specs.Tests.{slack_steps, best_test}
 use Rattle.listing_readers.specs.declared.tables.Numbers.{Numbers}
 use Rattle.listing_readers.specs.declared.tables.Shape.{Shape}
 use Rattle.listing_readers.specs.declared.tables.Shape.TheVariants.{Row, Column}
 use Rattle.listing_readers.specs.Tables.{numbers_of}
 use Rattle.listing_answers.specs.declared.solution.Lines.{Lines}
-use Rattle.listing_answers.specs.declared.solution.Printed.{Printed}
+use Rattle.listing_claims.specs.declared.claims.Printed.{Printed}
 
 abbrev pub rows_head : Mark → List ℕ
 rows_head mark = codes "SOLUTION " ++ (mark_text mark ++ codes "\nSECTION 1 - ROWS\nNUMBER ROW AT ACTIVITY SLACK LOWER UPPER DUAL\n")
@@ -49,14 +40,3 @@ pub record Shows (printed : Printed) (lines : SolutionLines) : Type 0 where
   pub point : printed.point.items ≡ column_of 1 (lines.rows ++ lines.columns)
   pub prices : printed.prices.items ≡ column_of 5 (lines.rows ++ lines.columns)
   pub slacks : printed.slacks.items ≡ column_of 2 lines.rows
-
--- a value for each variable, and a slack for each row
-pub record Counted (p : LinearProgram) (printed : Printed) : Type 0 where
-  pub point : length printed.point.items ≡ size p.matrix
-  pub prices : length printed.prices.items ≡ size p.matrix
-  pub slacks : length printed.slacks.items ≡ p.matrix.rows
-
--- the test of them
-abbrev pub printed_test : Sheet → Mark → Vector → Vector → Vector → Verdict
-printed_test sheet mark z y slack =
-    in_turn (verdict_of (equations sheet.lp 1 z) ∷ verdict_of (reduced_costs sheet.lp y) ∷ verdict_of (flat_map (slack_steps sheet z slack) (row_numbers sheet.lp)) ∷ best_test checker_of_128_bits sheet mark z y ∷ [])

@@ -66,17 +66,18 @@ abbrev pub IsRayHeadRead : List ℕ → List ℕ → Option Bool → Type 0
 IsRayHeadRead old new None = (next : ℕ → Check → List ℕ → Parsed Claim) → ray_head_in next old ≡ None
 IsRayHeadRead old new (Some is_checked) = IsRayHead old new is_checked
 
--- a text, a number of steps, an objective, and the word of a check
-abbrev pub head_in : List ℕ → (ℕ → ℚ → Check → List ℕ → Parsed Claim) → List ℕ → Parsed Claim
-head_in text next = with_text text (with_word (count_in max_count) (λ steps. with_text (codes " OBJECTIVE ") (with_word (fraction_in checker_of_128_bits) (λ objective.
-    with_text (codes " ") (with_check (λ check rest. next steps objective check rest))))))
+-- a text, a number of steps, an objective, and the word of a check, by how the word of the objective is read
+module _ (of : List ℕ → Option ℚ) where
+  abbrev pub head_in : List ℕ → (ℕ → ℚ → Check → List ℕ → Parsed Claim) → List ℕ → Parsed Claim
+  head_in text next = with_text text (with_word (count_in max_count) (λ steps. with_text (codes " OBJECTIVE ") (with_word of (λ objective.
+      with_text (codes " ") (with_check (λ check rest. next steps objective check rest))))))
 
-pub record IsHead (text old new : List ℕ) (head : Head) : Type 0 where
-  pub steps : ℕ
-  pub check : Check
-  pub reads : (next : ℕ → ℚ → Check → List ℕ → Parsed Claim) → head_in text next old ≡ next steps head.objective check new
-  pub says : head.is_checked ≡ says_checked check
+  pub record IsHead (text old new : List ℕ) (head : Head) : Type 0 where
+    pub steps : ℕ
+    pub check : Check
+    pub reads : (next : ℕ → ℚ → Check → List ℕ → Parsed Claim) → head_in text next old ≡ next steps head.objective check new
+    pub says : head.is_checked ≡ says_checked check
 
-abbrev pub IsHeadRead : List ℕ → List ℕ → List ℕ → Option Head → Type 0
-IsHeadRead text old new None = (next : ℕ → ℚ → Check → List ℕ → Parsed Claim) → head_in text next old ≡ None
-IsHeadRead text old new (Some head) = IsHead text old new head
+  abbrev pub IsHeadRead : List ℕ → List ℕ → List ℕ → Option Head → Type 0
+  IsHeadRead text old new None = (next : ℕ → ℚ → Check → List ℕ → Parsed Claim) → head_in text next old ≡ None
+  IsHeadRead text old new (Some head) = IsHead text old new head

@@ -1,69 +1,35 @@
 // The answers to questions.
-ghost use Rattle.std.specs.Prelude.{◌≡◌, ℕ, Option, None};
-ghost use Rattle.lp_definitions.specs.LinearProgram.{IsLinearProgram};
+ghost use Rattle.std.specs.Prelude.{◌≡◌, ℕ, Option, None, length};
+ghost use Rattle.lp_definitions.specs.LinearProgram.{IsLinearProgram, size, value_at};
 ghost use Rattle.listing_tables.specs.Sheets.{IsSheet};
 ghost use Rattle.question_definitions.specs.Answers.{OfPath, OfSolution, OfParametricRun};
 ghost use Rattle.parametric_request.specs.Asking.{Serves, parametric_run_of};
-ghost use Rattle.walk_definitions.specs.Checkers.{checker_of_128_bits};
 ghost use Rattle.walk_definitions.specs.Tests.{point_of};
 ghost use Rattle.walk_definitions.specs.Reading.{judged};
 ghost use Rattle.listing_words.specs.Read.{sheet_view};
 ghost use Rattle.listing_answers.specs.Claims.{conclusion_by};
 ghost use Rattle.listing_answers.specs.Taken.{Taken, IsConclusion, IsParametricRunAnswer};
 
-use crate::claim_tests::test;
-use crate::claims::{Claim, Stated, read_verdict};
-use crate::judging::judge;
+use crate::claims::{Stated, take_word, verdict};
 use crate::openings::{read_opening, take_parametric_run_head};
 use crate::parametric_runs::read_run;
-use crate::solution::{printed_of, read_lines};
-use crate::solution_tests::check_printed;
-use frac128::{Frac, Refused};
+use crate::solution::{printed_of, solution_lines};
+use listing_claims::{Checks, Claim, Stop};
 use listing_definitions::{Mark, Solver};
-use listing_readers::Cursor;
-use listing_tables::{Sheet, objective_of};
-use lp_model::NoMemory;
+use listing_tables::Sheet;
+use listing_words::{Cursor, Number};
+use lp_model::Lp;
 use parametric_request::ParametricRequest;
 use std::alloc::Global;
 
-/// Why an answer isn't taken.
-#[derive(Clone, Copy, Debug)]
-pub enum Stop {
-    /// It isn't of its form, or it fails a test.
-    Wrong,
-    /// An operation of a test is refused.
-    Unchecked,
-    /// There is no memory.
-    NoMemory,
-}
-
-impl From<NoMemory> for Stop {
-    ghost use Rattle.std.specs.Prelude.{◌≡◌};
-    ghost use Rattle.listing_answers.specs.declared.answer.Stop.TheVariants as stops;
-
-    ghost from_gives = { λ _ stop. stop ≡ stops.NoMemory };
-
-    fn from(_refused: NoMemory) -> Stop {
-        Stop::NoMemory
-    }
-}
-
-impl From<Refused> for Stop {
-    ghost use Rattle.std.specs.Prelude.{◌≡◌};
-    ghost use Rattle.listing_answers.specs.declared.answer.Stop.TheVariants as stops;
-
-    ghost from_gives = { λ _ stop. stop ≡ stops.Unchecked };
-
-    fn from(_refused: Refused) -> Stop {
-        Stop::Unchecked
-    }
-}
-
 /// What a verdict comes to.
-#[derive(Clone, Copy, Debug)]
-pub enum Conclusion {
+#[derive(Drop)]
+pub enum Conclusion<'a> {
     /// There is a best point with this objective, which SOLUTION has to show; and whether the listing says that it was checked.
-    Optimal { objective: Frac, is_checked: bool },
+    Optimal {
+        objective: Number<'a>,
+        is_checked: bool,
+    },
     /// No point is feasible, as was proved.
     Infeasible,
     /// There is no best point, as was proved.
@@ -71,21 +37,21 @@ pub enum Conclusion {
 }
 
 /// What a parametric run comes to.
-#[derive(Clone, Copy, Debug)]
-pub enum ParametricRunAnswer {
+#[derive(Drop)]
+pub enum ParametricRunAnswer<'a> {
     /// Its opening isn't optimal, and the verdict leaves this mark.
     Opened(Mark),
     /// Its last interval ends at this value.
-    RanThrough(Frac),
+    RanThrough(Number<'a>),
 }
 
 // What a claim comes to.
-fn comes_to(stated: &Stated) -> Conclusion
+fn comes_to<'a>(stated: &Stated<'a>) -> Conclusion<'a>
     ensures { result ≡ conclusion_by stated.now.claim stated.now.is_checked }
 {
     match &stated.claim {
         Claim::Optimal(objective) => Conclusion::Optimal {
-            objective: *objective,
+            objective: objective.again(),
             is_checked: stated.is_checked,
         },
         Claim::Crossed(_) | Claim::Infeasible(_) => Conclusion::Infeasible,
@@ -93,67 +59,72 @@ fn comes_to(stated: &Stated) -> Conclusion
     }
 }
 
+// The activity of the objective row.
+fn objective_of<'a>(lp: &Lp, point: &[Number<'a>]) -> Number<'a>
+    requires { length point.now ≡ size lp.now.matrix }
+    ensures { result ≡ value_at point.now lp.now.objective }
+{
+    point[lp.objective as usize - 1].again()
+}
+
 /// Reads the verdict of a solving verb and tests it. An optimal one is tested where SOLUTION shows it.
-pub fn answer_to_path(
+pub fn answer_to_path<'a, T: Checks>(
     alloc: Global,
-    cursor: &mut Cursor<'_>,
+    cursor: &mut Cursor<'a>,
     sheet: Sheet<'_>,
     solver: Solver,
-) -> Result<Conclusion, Stop>
+) -> Result<Conclusion<'a>, Stop>
     requires sheet { IsSheet sheet }
     requires lawful { IsLinearProgram sheet.lp.now }
     requires no_change { sheet.lp.now.change ≡ None }
-    ensures { (limit : Option ℕ) → Taken IsConclusion (judged checker_of_128_bits (OfPath solver limit) (sheet_view sheet.entry) cursor.old)
+    ensures { (limit : Option ℕ) → Taken IsConclusion (judged T.checker (OfPath solver limit) (sheet_view sheet.entry) cursor.old)
         cursor.new result }
 {
-    let Some(stated) = read_verdict(alloc, cursor, sheet, solver)? else {
-        return Err(Stop::Wrong);
-    };
-    judge(test(sheet.lp, &stated))?;
+    let stated = verdict::<T>(alloc, cursor, sheet, solver)?;
+    T::test_claim(alloc, sheet.lp, &stated.claim)?;
+    take_word::<T>(&stated)?;
     Ok(comes_to(&stated))
 }
 
 /// Reads the lines of SOLUTION under a mark and tests them. Gives the activity of the objective row.
-pub fn answer_to_solution(
+pub fn answer_to_solution<'a, T: Checks>(
     alloc: Global,
-    cursor: &mut Cursor<'_>,
+    cursor: &mut Cursor<'a>,
     sheet: Sheet<'_>,
     mark: Mark,
-) -> Result<Frac, Stop>
+) -> Result<Number<'a>, Stop>
     requires sheet { IsSheet sheet }
     requires lawful { IsLinearProgram sheet.lp.now }
     requires no_change { sheet.lp.now.change ≡ None }
     ensures { Taken (λ objective lines. objective ≡ point_of (sheet_view sheet.entry) lines sheet.entry.lp.now.objective)
-        (judged checker_of_128_bits (OfSolution mark) (sheet_view sheet.entry) cursor.old) cursor.new result }
+        (judged T.checker (OfSolution mark) (sheet_view sheet.entry) cursor.old) cursor.new result }
 {
-    let Some(lines) = read_lines(alloc, cursor, sheet, mark)? else {
-        return Err(Stop::Wrong);
-    };
+    let lines = solution_lines::<T>(alloc, cursor, sheet, mark)?;
     let printed = printed_of(alloc, &lines)?;
-    check_printed(sheet, mark, &printed)?;
+    T::test_solution(alloc, sheet, mark, &printed)?;
     Ok(objective_of(sheet.lp, &printed.point))
 }
 
 /// Reads what PARAOBJ or PARARHS prints of the parametric run that is asked for, interval by interval, and tests it.
-pub fn answer_to_parametric_run(
+pub fn answer_to_parametric_run<'a, T: Checks>(
     alloc: Global,
-    cursor: &mut Cursor<'_>,
+    cursor: &mut Cursor<'a>,
     sheet: Sheet<'_>,
     request: &ParametricRequest,
-) -> Result<ParametricRunAnswer, Stop>
+) -> Result<ParametricRunAnswer<'a>, Stop>
     requires sheet { IsSheet sheet }
     requires lawful { IsLinearProgram sheet.lp.now }
     requires no_change { sheet.lp.now.change ≡ None }
     requires serves { Serves sheet.problem.now sheet.lp.now request.now }
-    ensures { (limit : ℕ) → Taken IsParametricRunAnswer (judged checker_of_128_bits (OfParametricRun (parametric_run_of limit request.now)) (sheet_view sheet.entry) cursor.old)
+    ensures { (limit : ℕ) → Taken IsParametricRunAnswer (judged T.checker (OfParametricRun (parametric_run_of limit request.now)) (sheet_view sheet.entry) cursor.old)
         cursor.new result }
 {
     let mut ahead = Cursor::new(cursor.left());
     if !take_parametric_run_head(&mut ahead, request) {
-        let mark = read_opening(alloc, cursor, sheet, request)?;
+        let mark = read_opening::<T>(alloc, cursor, sheet, request)?;
         return Ok(ParametricRunAnswer::Opened(mark));
     }
     *cursor = ahead;
-    let last = read_run(alloc, cursor, sheet, request)?;
+    let last = read_run::<T>(alloc, cursor, sheet, request)?;
     Ok(ParametricRunAnswer::RanThrough(last))
 }

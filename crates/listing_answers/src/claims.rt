@@ -1,63 +1,50 @@
 // What a verdict claims, as the listing has it.
 ghost use Rattle.std.specs.Prelude.{◌≡◌, ◌++◌, IfOk, codes};
 ghost use Rattle.std.specs.Option.{option_or};
+ghost use Rattle.listing_definitions.specs.Report.{Check};
 ghost use Rattle.listing_definitions.specs.Text.{solver_text};
 ghost use Rattle.listing_tables.specs.Sheets.{IsSheet};
-ghost use Rattle.walk_definitions.specs.Checkers.{checker_of_128_bits};
-ghost use Rattle.walk_definitions.specs.Words.{left_after, fraction_in};
+ghost use Rattle.walk_definitions.specs.Checkers.{says_checked};
+ghost use Rattle.walk_definitions.specs.Words.{left_after};
 ghost use Rattle.walk_definitions.specs.Reading.{optimal_in, crossed_in, infeasible_in, unbounded_in, claim_in, verdict_in};
 ghost use Rattle.listing_words.specs.Read.{taken, sheet_view};
+ghost use Rattle.listing_claims.specs.Numbers.{number_in};
+ghost use Rattle.listing_claims.specs.Passing.{Judges};
 ghost use Rattle.listing_answers.specs.Words.{Found, IsRayHeadRead};
-ghost use Rattle.listing_answers.specs.Claims.{IsPairRead, IsStated, Tried, optimum_in, shown_in};
+ghost use Rattle.listing_answers.specs.Claims.{IsPairRead, IsStated, Tried, optimum_in, shown_in, word_holds, word_test};
+ghost use Rattle.listing_answers.specs.Taken.{IsReadBy};
 
+use crate::unread::stop_unread;
 use crate::words::{check_after, count_after, read_head};
-use frac128::Frac;
+use listing_claims::{By, Checks, Claim, Pair, Stop};
 use listing_definitions::Solver;
-use listing_readers::{Cursor, MAX_COUNT, Shape, firsts, ray, seconds, table};
+use listing_readers::{MAX_COUNT, Shape, firsts, ray, seconds, table};
 use listing_tables::{Sheet, solver_word};
+use listing_words::Cursor;
 use lp_model::NoMemory;
 use std::alloc::Global;
 
-/// A point, and a direction in which it goes on.
-#[derive(Drop)]
-pub struct Pair {
-    pub point: Vec<Frac>,
-    pub direction: Vec<Frac>,
-}
-
-/// What a verdict says of a linear program, with the numbers that are to prove it.
-#[derive(Drop)]
-pub enum Claim {
-    /// There is a best point, with this objective.
-    Optimal(Frac),
-    /// The lower limit of this variable is greater than its upper one.
-    Crossed(u32),
-    /// No point is feasible, by these multipliers.
-    Infeasible(Vec<Frac>),
-    /// There is no best point, since one with this objective goes on in a direction.
-    Unbounded(Frac, Pair),
-}
-
 /// A claim, and whether the listing says that it was checked.
 #[derive(Drop)]
-pub struct Stated {
-    pub claim: Claim,
+pub struct Stated<'a> {
+    pub claim: Claim<'a>,
     pub is_checked: bool,
 }
 
 // ---- each kind of claim, as it stands here
 
 /// A point and a direction, from the lines of a table.
-pub fn read_pair(
+pub fn read_pair<'a, T: Checks>(
     alloc: Global,
-    cursor: &mut Cursor<'_>,
+    cursor: &mut Cursor<'a>,
+    by: By,
     sheet: Sheet<'_>,
-) -> Result<Option<Pair>, NoMemory>
+) -> Result<Option<Pair<'a>>, NoMemory>
     requires { IsSheet sheet }
-    ensures { IfOk result (IsPairRead (sheet_view sheet.entry) cursor.old cursor.new) }
+    ensures { IfOk result (IsPairRead (number_in T.checker by) (sheet_view sheet.entry) cursor.old cursor.new) }
 {
     let count = sheet.lp.number_of_variables();
-    let Some(numbers) = table(alloc, cursor, sheet, Shape::Pair, 0, count)? else {
+    let Some(numbers) = table::<T>(alloc, cursor, by, sheet, Shape::Pair, 0, count)? else {
         return Ok(None);
     };
     let point = firsts(alloc, &numbers)?;
@@ -66,18 +53,25 @@ pub fn read_pair(
 }
 
 // That there is a best point.
-fn optimal(cursor: &mut Cursor<'_>, sheet: Sheet<'_>) -> Option<Stated>
-    ensures { Found (IsStated (sheet_view sheet.entry)) (optimal_in (fraction_in checker_of_128_bits) (sheet_view sheet.entry) cursor.old) cursor.new result }
+fn optimal<'a, T: Checks>(
+    alloc: Global,
+    cursor: &mut Cursor<'a>,
+    by: By,
+    sheet: Sheet<'_>,
+) -> Result<Option<Stated<'a>>, NoMemory>
+    ensures { IfOk result (Found (IsStated (sheet_view sheet.entry)) (optimal_in (number_in T.checker by) (sheet_view sheet.entry) cursor.old) cursor.new) }
 {
-    let head = read_head(cursor, b"OPTIMAL STEPS ")?;
-    Some(Stated {
+    let Some(head) = read_head::<T>(alloc, cursor, by, b"OPTIMAL STEPS ")? else {
+        return Ok(None);
+    };
+    Ok(Some(Stated {
         claim: Claim::Optimal(head.objective),
         is_checked: head.is_checked,
-    })
+    }))
 }
 
 // That limits are crossed.
-fn crossed(cursor: &mut Cursor<'_>, sheet: Sheet<'_>) -> Option<Stated>
+fn crossed<'a>(cursor: &mut Cursor<'a>, sheet: Sheet<'_>) -> Option<Stated<'a>>
     ensures { Found (IsStated (sheet_view sheet.entry)) (crossed_in (sheet_view sheet.entry) cursor.old) cursor.new result }
 {
     let size = sheet.lp.number_of_variables();
@@ -101,18 +95,19 @@ fn ray_head(cursor: &mut Cursor<'_>) -> Option<bool>
 }
 
 // That a ray shows that no point is feasible.
-fn infeasible(
+fn infeasible<'a, T: Checks>(
     alloc: Global,
-    cursor: &mut Cursor<'_>,
+    cursor: &mut Cursor<'a>,
+    by: By,
     sheet: Sheet<'_>,
-) -> Result<Option<Stated>, NoMemory>
+) -> Result<Option<Stated<'a>>, NoMemory>
     requires { IsSheet sheet }
-    ensures { IfOk result (Found (IsStated (sheet_view sheet.entry)) (infeasible_in (fraction_in checker_of_128_bits) (sheet_view sheet.entry) cursor.old) cursor.new) }
+    ensures { IfOk result (Found (IsStated (sheet_view sheet.entry)) (infeasible_in (number_in T.checker by) (sheet_view sheet.entry) cursor.old) cursor.new) }
 {
     let Some(is_checked) = ray_head(cursor) else {
         return Ok(None);
     };
-    let Some(ray) = ray(alloc, cursor, sheet)? else {
+    let Some(ray) = ray::<T>(alloc, cursor, by, sheet)? else {
         return Ok(None);
     };
     Ok(Some(Stated {
@@ -122,18 +117,19 @@ fn infeasible(
 }
 
 // That there is no best point.
-fn unbounded(
+fn unbounded<'a, T: Checks>(
     alloc: Global,
-    cursor: &mut Cursor<'_>,
+    cursor: &mut Cursor<'a>,
+    by: By,
     sheet: Sheet<'_>,
-) -> Result<Option<Stated>, NoMemory>
+) -> Result<Option<Stated<'a>>, NoMemory>
     requires { IsSheet sheet }
-    ensures { IfOk result (Found (IsStated (sheet_view sheet.entry)) (unbounded_in (fraction_in checker_of_128_bits) (sheet_view sheet.entry) cursor.old) cursor.new) }
+    ensures { IfOk result (Found (IsStated (sheet_view sheet.entry)) (unbounded_in (number_in T.checker by) (sheet_view sheet.entry) cursor.old) cursor.new) }
 {
-    let Some(head) = read_head(cursor, b"UNBOUNDED STEPS ") else {
+    let Some(head) = read_head::<T>(alloc, cursor, by, b"UNBOUNDED STEPS ")? else {
         return Ok(None);
     };
-    let Some(pair) = read_pair(alloc, cursor, sheet)? else {
+    let Some(pair) = read_pair::<T>(alloc, cursor, by, sheet)? else {
         return Ok(None);
     };
     Ok(Some(Stated {
@@ -145,17 +141,24 @@ fn unbounded(
 // ---- one claim or another: a claim that isn't there leaves the cursor where it is
 
 // That there is a best point, if it stands here.
-fn try_optimal(cursor: &mut Cursor<'_>, sheet: Sheet<'_>) -> Option<Stated>
-    ensures { Tried (sheet_view sheet.entry) (optimal_in (fraction_in checker_of_128_bits)) cursor.old cursor.new result }
+fn try_optimal<'a, T: Checks>(
+    alloc: Global,
+    cursor: &mut Cursor<'a>,
+    by: By,
+    sheet: Sheet<'_>,
+) -> Result<Option<Stated<'a>>, NoMemory>
+    ensures { IfOk result (Tried (sheet_view sheet.entry) (optimal_in (number_in T.checker by)) cursor.old cursor.new) }
 {
     let mut ahead = Cursor::new(cursor.left());
-    let stated = optimal(&mut ahead, sheet)?;
+    let Some(stated) = optimal::<T>(alloc, &mut ahead, by, sheet)? else {
+        return Ok(None);
+    };
     *cursor = ahead;
-    Some(stated)
+    Ok(Some(stated))
 }
 
 // That limits are crossed, if it stands here.
-fn try_crossed(cursor: &mut Cursor<'_>, sheet: Sheet<'_>) -> Option<Stated>
+fn try_crossed<'a>(cursor: &mut Cursor<'a>, sheet: Sheet<'_>) -> Option<Stated<'a>>
     ensures { Tried (sheet_view sheet.entry) crossed_in cursor.old cursor.new result }
 {
     let mut ahead = Cursor::new(cursor.left());
@@ -165,16 +168,17 @@ fn try_crossed(cursor: &mut Cursor<'_>, sheet: Sheet<'_>) -> Option<Stated>
 }
 
 // That a ray shows that no point is feasible, if it stands here.
-fn try_infeasible(
+fn try_infeasible<'a, T: Checks>(
     alloc: Global,
-    cursor: &mut Cursor<'_>,
+    cursor: &mut Cursor<'a>,
+    by: By,
     sheet: Sheet<'_>,
-) -> Result<Option<Stated>, NoMemory>
+) -> Result<Option<Stated<'a>>, NoMemory>
     requires { IsSheet sheet }
-    ensures { IfOk result (Tried (sheet_view sheet.entry) (infeasible_in (fraction_in checker_of_128_bits)) cursor.old cursor.new) }
+    ensures { IfOk result (Tried (sheet_view sheet.entry) (infeasible_in (number_in T.checker by)) cursor.old cursor.new) }
 {
     let mut ahead = Cursor::new(cursor.left());
-    let Some(stated) = infeasible(alloc, &mut ahead, sheet)? else {
+    let Some(stated) = infeasible::<T>(alloc, &mut ahead, by, sheet)? else {
         return Ok(None);
     };
     *cursor = ahead;
@@ -182,66 +186,75 @@ fn try_infeasible(
 }
 
 // That there is a best point, if it stands here and the verb may find one.
-fn try_optimum(cursor: &mut Cursor<'_>, sheet: Sheet<'_>, solver: Solver) -> Option<Stated>
-    ensures { Tried (sheet_view sheet.entry) (λ sheet. optimum_in sheet solver) cursor.old cursor.new result }
+fn try_optimum<'a, T: Checks>(
+    alloc: Global,
+    cursor: &mut Cursor<'a>,
+    by: By,
+    sheet: Sheet<'_>,
+    solver: Solver,
+) -> Result<Option<Stated<'a>>, NoMemory>
+    ensures { IfOk result (Tried (sheet_view sheet.entry) (λ sheet. optimum_in (number_in T.checker by) sheet solver) cursor.old cursor.new) }
 {
     match solver {
-        Solver::Primal | Solver::Dual => try_optimal(cursor, sheet),
-        Solver::Paraobj | Solver::Pararhs => None,
+        Solver::Primal | Solver::Dual => try_optimal::<T>(alloc, cursor, by, sheet),
+        Solver::Paraobj | Solver::Pararhs => Ok(None),
     }
 }
 
 // That a ray shows that no point is feasible, or that there is no best point.
-fn infeasible_or_unbounded(
+fn infeasible_or_unbounded<'a, T: Checks>(
     alloc: Global,
-    cursor: &mut Cursor<'_>,
+    cursor: &mut Cursor<'a>,
+    by: By,
     sheet: Sheet<'_>,
-) -> Result<Option<Stated>, NoMemory>
+) -> Result<Option<Stated<'a>>, NoMemory>
     requires { IsSheet sheet }
-    ensures { IfOk result (Found (IsStated (sheet_view sheet.entry)) (option_or (infeasible_in (fraction_in checker_of_128_bits) (sheet_view sheet.entry) cursor.old)
-        (unbounded_in (fraction_in checker_of_128_bits) (sheet_view sheet.entry) cursor.old)) cursor.new) }
+    ensures { IfOk result (Found (IsStated (sheet_view sheet.entry)) (option_or (infeasible_in (number_in T.checker by) (sheet_view sheet.entry) cursor.old)
+        (unbounded_in (number_in T.checker by) (sheet_view sheet.entry) cursor.old)) cursor.new) }
 {
-    if let Some(stated) = try_infeasible(alloc, cursor, sheet)? {
+    if let Some(stated) = try_infeasible::<T>(alloc, cursor, by, sheet)? {
         return Ok(Some(stated));
     }
-    unbounded(alloc, cursor, sheet)
+    unbounded::<T>(alloc, cursor, by, sheet)
 }
 
 // What shows that no point is feasible, or that there is no best point; DUAL doesn't find the second.
-fn shown(
+fn shown<'a, T: Checks>(
     alloc: Global,
-    cursor: &mut Cursor<'_>,
+    cursor: &mut Cursor<'a>,
+    by: By,
     sheet: Sheet<'_>,
     solver: Solver,
-) -> Result<Option<Stated>, NoMemory>
+) -> Result<Option<Stated<'a>>, NoMemory>
     requires { IsSheet sheet }
-    ensures { IfOk result (Found (IsStated (sheet_view sheet.entry)) (shown_in (sheet_view sheet.entry) solver cursor.old) cursor.new) }
+    ensures { IfOk result (Found (IsStated (sheet_view sheet.entry)) (shown_in (number_in T.checker by) (sheet_view sheet.entry) solver cursor.old) cursor.new) }
 {
     match solver {
-        Solver::Dual => infeasible(alloc, cursor, sheet),
+        Solver::Dual => infeasible::<T>(alloc, cursor, by, sheet),
         Solver::Primal | Solver::Paraobj | Solver::Pararhs => {
-            infeasible_or_unbounded(alloc, cursor, sheet)
+            infeasible_or_unbounded::<T>(alloc, cursor, by, sheet)
         }
     }
 }
 
 // A claim of a solving verb.
-fn read_claim(
+fn read_claim<'a, T: Checks>(
     alloc: Global,
-    cursor: &mut Cursor<'_>,
+    cursor: &mut Cursor<'a>,
+    by: By,
     sheet: Sheet<'_>,
     solver: Solver,
-) -> Result<Option<Stated>, NoMemory>
+) -> Result<Option<Stated<'a>>, NoMemory>
     requires { IsSheet sheet }
-    ensures { IfOk result (Found (IsStated (sheet_view sheet.entry)) (claim_in (fraction_in checker_of_128_bits) (sheet_view sheet.entry) solver cursor.old) cursor.new) }
+    ensures { IfOk result (Found (IsStated (sheet_view sheet.entry)) (claim_in (number_in T.checker by) (sheet_view sheet.entry) solver cursor.old) cursor.new) }
 {
-    if let Some(stated) = try_optimum(cursor, sheet, solver) {
+    if let Some(stated) = try_optimum::<T>(alloc, cursor, by, sheet, solver)? {
         return Ok(Some(stated));
     }
     if let Some(stated) = try_crossed(cursor, sheet) {
         return Ok(Some(stated));
     }
-    shown(alloc, cursor, sheet, solver)
+    shown::<T>(alloc, cursor, by, sheet, solver)
 }
 
 // Takes the name of a solving verb and a blank.
@@ -252,18 +265,64 @@ fn take_solver(cursor: &mut Cursor<'_>, solver: Solver) -> bool
     cursor.take(solver_word(solver)) && cursor.take(b" ")
 }
 
-/// The verdict of a solving verb.
-pub fn read_verdict(
+// The verdict of a solving verb.
+fn read_verdict<'a, T: Checks>(
     alloc: Global,
-    cursor: &mut Cursor<'_>,
+    cursor: &mut Cursor<'a>,
+    by: By,
     sheet: Sheet<'_>,
     solver: Solver,
-) -> Result<Option<Stated>, NoMemory>
+) -> Result<Option<Stated<'a>>, NoMemory>
     requires { IsSheet sheet }
-    ensures { IfOk result (Found (IsStated (sheet_view sheet.entry)) (verdict_in (fraction_in checker_of_128_bits) (sheet_view sheet.entry) solver cursor.old) cursor.new) }
+    ensures { IfOk result (Found (IsStated (sheet_view sheet.entry)) (verdict_in (number_in T.checker by) (sheet_view sheet.entry) solver cursor.old) cursor.new) }
 {
     if !take_solver(cursor, solver) {
         return Ok(None);
     }
-    read_claim(alloc, cursor, sheet, solver)
+    read_claim::<T>(alloc, cursor, by, sheet, solver)
+}
+
+/// The verdict of a solving verb; it is left unchecked where only a number that is too long keeps it from being read.
+pub fn verdict<'a, T: Checks>(
+    alloc: Global,
+    cursor: &mut Cursor<'a>,
+    sheet: Sheet<'_>,
+    solver: Solver,
+) -> Result<Stated<'a>, Stop>
+    requires { IsSheet sheet }
+    ensures { IsReadBy (IsStated (sheet_view sheet.entry)) T.checker (λ of. verdict_in of (sheet_view sheet.entry) solver) cursor.old cursor.new result }
+{
+    let start = cursor.left();
+    if let Some(stated) = read_verdict::<T>(alloc, cursor, By::Value, sheet, solver)? {
+        return Ok(stated);
+    }
+    if !T::has_limit() {
+        return Err(Stop::Wrong);
+    }
+    let mut again = Cursor::new(start);
+    let form = read_verdict::<T>(alloc, &mut again, By::Form, sheet, solver)?;
+    Err(stop_unread(form.is_some()))
+}
+
+// Whether a claim may be printed with the word of its check.
+fn may_stand<T: Checks>(stated: &Stated<'_>) -> bool
+    ensures { (check : Check) → says_checked check ≡ stated.now.is_checked → word_holds T.checker stated.now.claim check ≡ result }
+{
+    match &stated.claim {
+        Claim::Optimal(_) => true,
+        Claim::Crossed(_) | Claim::Infeasible(_) | Claim::Unbounded(_, _) => {
+            T::takes(stated.is_checked)
+        }
+    }
+}
+
+/// Goes on where a claim may be printed with the word of its check. An optimal one is tested where SOLUTION shows it.
+pub fn take_word<T: Checks>(stated: &Stated<'_>) -> Result<(), Stop>
+    ensures { (check : Check) → says_checked check ≡ stated.now.is_checked → Judges (word_test T.checker stated.now.claim check) result }
+{
+    if may_stand::<T>(stated) {
+        Ok(())
+    } else {
+        Err(Stop::Wrong)
+    }
 }

@@ -4,173 +4,202 @@ ghost use Rattle.listing_tables.specs.Sheets.{IsSheet};
 ghost use Rattle.question_definitions.specs.Answers.{parametric_solver};
 ghost use Rattle.parametric_request.specs.Asking.{changing_of};
 ghost use Rattle.run_definitions.specs.Verbs.{last_value};
-ghost use Rattle.walk_definitions.specs.Checkers.{checker_of_128_bits};
-ghost use Rattle.walk_definitions.specs.Words.{fraction_in};
 ghost use Rattle.walk_definitions.specs.Tests.{close_test};
-ghost use Rattle.walk_definitions.specs.Reading.{close_in, tested};
+ghost use Rattle.walk_definitions.specs.Reading.{close_in, tested_by};
 ghost use Rattle.listing_words.specs.Read.{sheet_view};
-ghost use Rattle.listing_answers.specs.Asked.{IsAskedOf};
+ghost use Rattle.listing_claims.specs.Asked.{IsAskedOf};
+ghost use Rattle.listing_claims.specs.Numbers.{number_in};
 ghost use Rattle.listing_answers.specs.Words.{Found};
 ghost use Rattle.listing_answers.specs.Closings.{IsValueRead, IsEndRead, Closes, unbounded_in, infeasible_in, past_in, close_after_in, value_of};
-ghost use Rattle.listing_answers.specs.Taken.{Taken};
+ghost use Rattle.listing_answers.specs.Taken.{Taken, IsReadBy};
 
-use crate::answer::Stop;
-use crate::claims::{Pair, read_pair};
-use crate::closing_tests::check_closing;
+use crate::claims::read_pair;
 use crate::openings::solver_of;
-use crate::words::fraction_after;
-use frac128::Frac;
-use listing_readers::{Cursor, ray};
+use crate::unread::stop_unread;
+use crate::words::number_after;
+use listing_claims::{By, Checks, Closing, Stop};
+use listing_readers::ray;
 use listing_tables::{Sheet, solver_word};
+use listing_words::{Cursor, Number};
 use lp_model::NoMemory;
 use parametric_request::{Change, ParametricRequest};
 use std::alloc::Global;
 
-/// How a run closes, with the numbers that are to prove it.
-#[derive(Drop)]
-pub enum Closing {
-    /// At its last value.
-    At(Frac),
-    /// Past this value there is no best point.
-    Unbounded(Frac, Pair),
-    /// Past this value no point is feasible.
-    Infeasible(Frac, Vec<Frac>),
-}
-
 // A value after a text, and the end of the line.
-fn value_line(cursor: &mut Cursor<'_>, text: &[u8]) -> Option<Frac>
-    ensures { IsValueRead text.now cursor.old cursor.new result }
+fn value_line<'a, T: Checks>(
+    alloc: Global,
+    cursor: &mut Cursor<'a>,
+    by: By,
+    text: &[u8],
+) -> Result<Option<Number<'a>>, NoMemory>
+    ensures { IfOk result (IsValueRead (number_in T.checker by) text.now cursor.old cursor.new) }
 {
-    let value = fraction_after(cursor, text)?;
+    let Some(value) = number_after::<T>(alloc, cursor, by, text)? else {
+        return Ok(None);
+    };
     if !cursor.take(b"\n") {
-        return None;
+        return Ok(None);
     }
-    Some(value)
+    Ok(Some(value))
 }
 
 // That the run ends at a value, if it stands here.
-fn try_end(cursor: &mut Cursor<'_>) -> Option<Frac>
-    ensures { IsEndRead cursor.old cursor.new result }
+fn try_end<'a, T: Checks>(
+    alloc: Global,
+    cursor: &mut Cursor<'a>,
+    by: By,
+) -> Result<Option<Number<'a>>, NoMemory>
+    ensures { IfOk result (IsEndRead (number_in T.checker by) cursor.old cursor.new) }
 {
     let mut ahead = Cursor::new(cursor.left());
-    let value = value_line(&mut ahead, b" ENDS AT ")?;
+    let Some(value) = value_line::<T>(alloc, &mut ahead, by, b" ENDS AT ")? else {
+        return Ok(None);
+    };
     *cursor = ahead;
-    Some(value)
+    Ok(Some(value))
 }
 
 // That there is no best point past a value.
-fn unbounded_past(
+fn unbounded_past<'a, T: Checks>(
     alloc: Global,
-    cursor: &mut Cursor<'_>,
+    cursor: &mut Cursor<'a>,
+    by: By,
     sheet: Sheet<'_>,
-) -> Result<Option<Closing>, NoMemory>
+) -> Result<Option<Closing<'a>>, NoMemory>
     requires { IsSheet sheet }
-    ensures { IfOk result (Found (Closes (sheet_view sheet.entry)) (unbounded_in (sheet_view sheet.entry) cursor.old) cursor.new) }
+    ensures { IfOk result (Found (Closes (sheet_view sheet.entry)) (unbounded_in (number_in T.checker by) (sheet_view sheet.entry) cursor.old) cursor.new) }
 {
-    let Some(value) = value_line(cursor, b" UNBOUNDED PAST ") else {
+    let Some(value) = value_line::<T>(alloc, cursor, by, b" UNBOUNDED PAST ")? else {
         return Ok(None);
     };
-    let Some(pair) = read_pair(alloc, cursor, sheet)? else {
+    let Some(pair) = read_pair::<T>(alloc, cursor, by, sheet)? else {
         return Ok(None);
     };
     Ok(Some(Closing::Unbounded(value, pair)))
 }
 
 // That no point is feasible past a value.
-fn infeasible_past(
+fn infeasible_past<'a, T: Checks>(
     alloc: Global,
-    cursor: &mut Cursor<'_>,
+    cursor: &mut Cursor<'a>,
+    by: By,
     sheet: Sheet<'_>,
-) -> Result<Option<Closing>, NoMemory>
+) -> Result<Option<Closing<'a>>, NoMemory>
     requires { IsSheet sheet }
-    ensures { IfOk result (Found (Closes (sheet_view sheet.entry)) (infeasible_in (sheet_view sheet.entry) cursor.old) cursor.new) }
+    ensures { IfOk result (Found (Closes (sheet_view sheet.entry)) (infeasible_in (number_in T.checker by) (sheet_view sheet.entry) cursor.old) cursor.new) }
 {
-    let Some(value) = value_line(cursor, b" INFEASIBLE PAST ") else {
+    let Some(value) = value_line::<T>(alloc, cursor, by, b" INFEASIBLE PAST ")? else {
         return Ok(None);
     };
-    let Some(ray) = ray(alloc, cursor, sheet)? else {
+    let Some(ray) = ray::<T>(alloc, cursor, by, sheet)? else {
         return Ok(None);
     };
     Ok(Some(Closing::Infeasible(value, ray)))
 }
 
 // What ends a run before its last value.
-fn past(
+fn past<'a, T: Checks>(
     alloc: Global,
-    cursor: &mut Cursor<'_>,
+    cursor: &mut Cursor<'a>,
+    by: By,
     sheet: Sheet<'_>,
     request: &ParametricRequest,
-) -> Result<Option<Closing>, NoMemory>
+) -> Result<Option<Closing<'a>>, NoMemory>
     requires { IsSheet sheet }
-    ensures { IfOk result (Found (Closes (sheet_view sheet.entry)) (past_in (sheet_view sheet.entry)
+    ensures { IfOk result (Found (Closes (sheet_view sheet.entry)) (past_in (number_in T.checker by) (sheet_view sheet.entry)
         (changing_of request.now.name request.now.change) cursor.old) cursor.new) }
 {
     match &request.change {
-        Change::Row(_) => unbounded_past(alloc, cursor, sheet),
-        Change::Set(_) => infeasible_past(alloc, cursor, sheet),
+        Change::Row(_) => unbounded_past::<T>(alloc, cursor, by, sheet),
+        Change::Set(_) => infeasible_past::<T>(alloc, cursor, by, sheet),
     }
 }
 
 // How a run closes, after the name of the verb.
-fn close_after(
+fn close_after<'a, T: Checks>(
     alloc: Global,
-    cursor: &mut Cursor<'_>,
+    cursor: &mut Cursor<'a>,
+    by: By,
     sheet: Sheet<'_>,
     request: &ParametricRequest,
-) -> Result<Option<Closing>, NoMemory>
+) -> Result<Option<Closing<'a>>, NoMemory>
     requires { IsSheet sheet }
-    ensures { IfOk result (Found (Closes (sheet_view sheet.entry)) (close_after_in (sheet_view sheet.entry)
+    ensures { IfOk result (Found (Closes (sheet_view sheet.entry)) (close_after_in (number_in T.checker by) (sheet_view sheet.entry)
         (changing_of request.now.name request.now.change) cursor.old) cursor.new) }
 {
-    if let Some(value) = try_end(cursor) {
+    if let Some(value) = try_end::<T>(alloc, cursor, by)? {
         return Ok(Some(Closing::At(value)));
     }
-    past(alloc, cursor, sheet, request)
+    past::<T>(alloc, cursor, by, sheet, request)
 }
 
 // How a run closes.
-fn read_closing(
+fn read_closing<'a, T: Checks>(
     alloc: Global,
-    cursor: &mut Cursor<'_>,
+    cursor: &mut Cursor<'a>,
+    by: By,
     sheet: Sheet<'_>,
     request: &ParametricRequest,
-) -> Result<Option<Closing>, NoMemory>
+) -> Result<Option<Closing<'a>>, NoMemory>
     requires { IsSheet sheet }
-    ensures { IfOk result (Found (Closes (sheet_view sheet.entry)) (close_in (fraction_in checker_of_128_bits) (sheet_view sheet.entry) (parametric_solver
+    ensures { IfOk result (Found (Closes (sheet_view sheet.entry)) (close_in (number_in T.checker by) (sheet_view sheet.entry) (parametric_solver
         (changing_of request.now.name request.now.change)) cursor.old) cursor.new) }
 {
     if !cursor.take(solver_word(solver_of(request))) {
         return Ok(None);
     }
-    close_after(alloc, cursor, sheet, request)
+    close_after::<T>(alloc, cursor, by, sheet, request)
 }
 
-/// Reads how a run closes whose last interval ends here, and tests it. Gives the value at which it ends.
-pub fn read_close(
+// How a run closes; that is left unchecked where only a number that is too long keeps it from being read.
+fn run_closing<'a, T: Checks>(
     alloc: Global,
-    cursor: &mut Cursor<'_>,
+    cursor: &mut Cursor<'a>,
     sheet: Sheet<'_>,
     request: &ParametricRequest,
-    last: Frac,
-) -> Result<Frac, Stop>
-    requires sheet { IsSheet sheet }
-    requires asked { IsAskedOf sheet request.now }
-    ensures { let changing = changing_of request.now.name request.now.change in
-        Taken (λ end close. end ≡ last_value close) (tested (close_test checker_of_128_bits (sheet_view sheet.entry) changing request.now.to last) (close_in (fraction_in checker_of_128_bits)
-        (sheet_view sheet.entry) (parametric_solver changing) cursor.old)) cursor.new result }
+) -> Result<Closing<'a>, Stop>
+    requires { IsSheet sheet }
+    ensures { let solver = parametric_solver (changing_of request.now.name request.now.change) in
+        IsReadBy (Closes (sheet_view sheet.entry)) T.checker (λ of. close_in of (sheet_view sheet.entry) solver) cursor.old cursor.new result }
 {
-    let Some(closing) = read_closing(alloc, cursor, sheet, request)? else {
+    let start = cursor.left();
+    if let Some(closing) = read_closing::<T>(alloc, cursor, By::Value, sheet, request)? {
+        return Ok(closing);
+    }
+    if !T::has_limit() {
         return Err(Stop::Wrong);
-    };
-    check_closing(alloc, sheet, request, last, &closing)?;
-    Ok(value_of(&closing))
+    }
+    let mut again = Cursor::new(start);
+    let form = read_closing::<T>(alloc, &mut again, By::Form, sheet, request)?;
+    Err(stop_unread(form.is_some()))
 }
 
 // The value at which a run ends.
-fn value_of(closing: &Closing) -> Frac
+fn value_of<'a>(closing: &Closing<'a>) -> Number<'a>
     ensures { result ≡ value_of closing.now }
 {
     match closing {
-        Closing::At(value) | Closing::Unbounded(value, _) | Closing::Infeasible(value, _) => *value,
+        Closing::At(value) | Closing::Unbounded(value, _) | Closing::Infeasible(value, _) => {
+            value.again()
+        }
     }
+}
+
+/// Reads how a run closes whose last interval ends here, and tests it. Gives the value at which it ends.
+pub fn read_close<'a, T: Checks>(
+    alloc: Global,
+    cursor: &mut Cursor<'a>,
+    sheet: Sheet<'_>,
+    request: &ParametricRequest,
+    last: &Number<'_>,
+) -> Result<Number<'a>, Stop>
+    requires sheet { IsSheet sheet }
+    requires asked { IsAskedOf sheet request.now }
+    ensures { let changing = changing_of request.now.name request.now.change in
+        Taken (λ end close. end ≡ last_value close) (tested_by T.checker (close_test T.checker (sheet_view sheet.entry) changing request.now.to last.now)
+        (λ of. close_in of (sheet_view sheet.entry) (parametric_solver changing)) cursor.old) cursor.new result }
+{
+    let closing = run_closing::<T>(alloc, cursor, sheet, request)?;
+    T::test_close(alloc, sheet, request, last, &closing)?;
+    Ok(value_of(&closing))
 }

@@ -1,22 +1,17 @@
 //! The answers that stand in a listing to what a control program asks of linear programming: read where they stand, and tested by their
-//! own numbers. No path, no basis and no rates are known here.
+//! own numbers, as a checker tests them. No path, no basis and no rates are known here.
 #![tactic(auto)]
 
 mod answer;
-mod claim_tests;
 mod claims;
 mod closing;
-mod closing_tests;
-mod families;
 mod intervals;
-mod judging;
 mod openings;
 mod parametric_runs;
 mod solution;
-mod solution_tests;
+mod unread;
 mod words;
 
 pub use answer::{
-    Conclusion, ParametricRunAnswer, Stop, answer_to_parametric_run, answer_to_path,
-    answer_to_solution,
+    Conclusion, ParametricRunAnswer, answer_to_parametric_run, answer_to_path, answer_to_solution,
 };

@@ -3,22 +3,18 @@ ghost use Rattle.std.specs.Prelude.{◌≡◌, ◌++◌, ℕ, codes};
 ghost use Rattle.listing_tables.specs.Sheets.{IsSheet};
 ghost use Rattle.question_definitions.specs.Answers.{parametric_solver};
 ghost use Rattle.parametric_request.specs.Asking.{changing_of, parametric_run_of};
-ghost use Rattle.walk_definitions.specs.Checkers.{checker_of_128_bits};
 ghost use Rattle.walk_definitions.specs.Words.{left_after};
 ghost use Rattle.walk_definitions.specs.Reading.{parametric_run_head, opening_in};
 ghost use Rattle.listing_words.specs.Read.{taken, sheet_view};
-ghost use Rattle.listing_answers.specs.Asked.{IsAskedOf};
+ghost use Rattle.listing_claims.specs.Asked.{IsAskedOf};
 ghost use Rattle.listing_answers.specs.Claims.{mark_by};
 ghost use Rattle.listing_answers.specs.Taken.{Taken, IsOpened};
 
-use crate::answer::Stop;
-use crate::claim_tests::test;
-use crate::claims::{Claim, read_verdict};
-use crate::families::program_at;
-use crate::judging::judge;
+use crate::claims::{take_word, verdict};
+use listing_claims::{Checks, Claim, Stop};
 use listing_definitions::{Mark, Solver};
-use listing_readers::Cursor;
 use listing_tables::{Sheet, fraction, solver_word};
+use listing_words::Cursor;
 use parametric_request::{Change, ParametricRequest};
 use std::alloc::Global;
 
@@ -96,7 +92,7 @@ pub fn take_parametric_run_head(cursor: &mut Cursor<'_>, request: &ParametricReq
 }
 
 // The mark that a claim leaves.
-fn mark_left(claim: &Claim) -> Mark
+fn mark_left(claim: &Claim<'_>) -> Mark
     ensures { result ≡ mark_by claim.now }
 {
     match claim {
@@ -106,9 +102,8 @@ fn mark_left(claim: &Claim) -> Mark
     }
 }
 
-/// Reads the verdict of an opening that isn't optimal and tests it. It speaks of the linear program at the first value, which is made once
-/// it is read.
-pub fn read_opening(
+/// Reads the verdict of an opening that isn't optimal and tests it, on the linear program at the first value.
+pub fn read_opening<T: Checks>(
     alloc: Global,
     cursor: &mut Cursor<'_>,
     sheet: Sheet<'_>,
@@ -116,13 +111,11 @@ pub fn read_opening(
 ) -> Result<Mark, Stop>
     requires sheet { IsSheet sheet }
     requires asked { IsAskedOf sheet request.now }
-    ensures { (limit : ℕ) → Taken IsOpened (opening_in checker_of_128_bits (sheet_view sheet.entry)
+    ensures { (limit : ℕ) → Taken IsOpened (opening_in T.checker (sheet_view sheet.entry)
         (parametric_run_of limit request.now) cursor.old) cursor.new result }
 {
-    let Some(stated) = read_verdict(alloc, cursor, sheet, solver_of(request))? else {
-        return Err(Stop::Wrong);
-    };
-    let program = program_at(alloc, sheet, request, request.from)?;
-    judge(test(&program, &stated))?;
+    let stated = verdict::<T>(alloc, cursor, sheet, solver_of(request))?;
+    T::test_opening(alloc, sheet, request, &stated.claim)?;
+    take_word::<T>(&stated)?;
     Ok(mark_left(&stated.claim))
 }

@@ -2,20 +2,19 @@
 ghost use Rattle.std.specs.Prelude.{◌≡◌, ℕ, List, codes};
 ghost use Rattle.listing_tables.specs.Sheets.{IsSheet};
 ghost use Rattle.parametric_request.specs.Asking.{parametric_run_of};
-ghost use Rattle.walk_definitions.specs.Checkers.{checker_of_128_bits};
 ghost use Rattle.walk_definitions.specs.Words.{left_after};
 ghost use Rattle.walk_definitions.specs.Reading.{run_in};
 ghost use Rattle.run_definitions.specs.Verbs.{last_value};
 ghost use Rattle.listing_words.specs.Read.{taken, sheet_view};
-ghost use Rattle.listing_answers.specs.Asked.{IsAskedOf};
+ghost use Rattle.listing_claims.specs.Asked.{IsAskedOf};
+ghost use Rattle.listing_answers.specs.Intervals.{first_in};
 ghost use Rattle.listing_answers.specs.Taken.{Taken};
 
-use crate::answer::Stop;
 use crate::closing::read_close;
 use crate::intervals::read_part;
-use frac128::Frac;
-use listing_readers::Cursor;
-use listing_tables::Sheet;
+use listing_claims::{Checks, Stop};
+use listing_tables::{Sheet, fraction};
+use listing_words::{Cursor, Number};
 use parametric_request::ParametricRequest;
 use std::alloc::Global;
 
@@ -27,28 +26,45 @@ fn begins_interval(cursor: &Cursor<'_>) -> bool
     ahead.take(b"INTERVAL ")
 }
 
-/// Reads the intervals of a run, each tested before the next one is read, and how it closes. Gives the last end.
-pub fn read_run(
+// The first interval, before which a run doesn't close.
+fn first_part<'a, T: Checks>(
     alloc: Global,
-    cursor: &mut Cursor<'_>,
+    cursor: &mut Cursor<'a>,
     sheet: Sheet<'_>,
     request: &ParametricRequest,
-) -> Result<Frac, Stop>
+) -> Result<Number<'a>, Stop>
     requires sheet { IsSheet sheet }
     requires asked { IsAskedOf sheet request.now }
-    ensures { (limit : ℕ) → Taken (λ last run. last ≡ last_value run.1) (run_in checker_of_128_bits (sheet_view sheet.entry)
+    ensures { (limit : ℕ) → Taken (λ to interval. to ≡ interval.to) (first_in T.checker (sheet_view sheet.entry)
+        (parametric_run_of limit request.now) cursor.old) cursor.new result }
+{
+    if !begins_interval(cursor) {
+        return Err(Stop::Wrong);
+    }
+    let text = fraction(request.from);
+    let from = Number::new(text.as_str().as_bytes());
+    read_part::<T>(alloc, cursor, sheet, request, 1, &from)
+}
+
+/// Reads the intervals of a run, each tested before the next one is read, and how it closes. Gives the last end.
+pub fn read_run<'a, T: Checks>(
+    alloc: Global,
+    cursor: &mut Cursor<'a>,
+    sheet: Sheet<'_>,
+    request: &ParametricRequest,
+) -> Result<Number<'a>, Stop>
+    requires sheet { IsSheet sheet }
+    requires asked { IsAskedOf sheet request.now }
+    ensures { (limit : ℕ) → Taken (λ last run. last ≡ last_value run.1) (run_in T.checker (sheet_view sheet.entry)
         (parametric_run_of limit request.now) cursor.old 1 request.now.from cursor.old) cursor.new result }
 {
     let room = cursor.rest().len();
-    let mut last = request.from;
-    for index in 0..room {
+    let mut last = first_part::<T>(alloc, cursor, sheet, request)?;
+    for index in 1..room {
         if !begins_interval(cursor) {
-            if index == 0 {
-                return Err(Stop::Wrong);
-            }
-            return read_close(alloc, cursor, sheet, request, last);
+            return read_close::<T>(alloc, cursor, sheet, request, &last);
         }
-        last = read_part(alloc, cursor, sheet, request, index + 1, last)?;
+        last = read_part::<T>(alloc, cursor, sheet, request, index + 1, &last)?;
     }
     Err(Stop::Wrong)
 }

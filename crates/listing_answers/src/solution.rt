@@ -4,34 +4,29 @@ ghost use Rattle.lp_definitions.specs.LinearProgram.{IsLinearProgram};
 ghost use Rattle.listing_definitions.specs.Text.{mark_text};
 ghost use Rattle.listing_tables.specs.Sheets.{IsSheet};
 ghost use Rattle.answer_definitions.specs.Lines.{row_numbers, column_numbers};
-ghost use Rattle.walk_definitions.specs.Checkers.{checker_of_128_bits};
-ghost use Rattle.walk_definitions.specs.Words.{left_after, fraction_in};
+ghost use Rattle.walk_definitions.specs.Words.{left_after};
 ghost use Rattle.walk_definitions.specs.Reading.{solution_in};
 ghost use Rattle.listing_words.specs.Read.{taken, sheet_view};
+ghost use Rattle.listing_claims.specs.Numbers.{number_in};
 ghost use Rattle.listing_readers.specs.Tables.{IsTableRead};
 ghost use Rattle.listing_answers.specs.Words.{Found};
 ghost use Rattle.listing_answers.specs.Solutions.{rows_head, columns_head, AreLines, IsPrinted};
+ghost use Rattle.listing_answers.specs.Taken.{IsReadBy};
 
-use frac128::Frac;
+use crate::unread::stop_unread;
+use listing_claims::{By, Checks, Printed, Stop};
 use listing_definitions::Mark;
-use listing_readers::{Cursor, Numbers, Shape, firsts, seconds, table, thirds};
+use listing_readers::{Numbers, Shape, firsts, seconds, table, thirds};
 use listing_tables::{Sheet, mark_word};
+use listing_words::{Cursor, Number};
 use lp_model::NoMemory;
 use std::alloc::Global;
 
 /// The numbers of the lines of SOLUTION.
 #[derive(Drop)]
-pub struct Lines {
-    pub rows: Vec<Numbers>,
-    pub columns: Vec<Numbers>,
-}
-
-/// What SOLUTION prints of a point: the activities and the prices of all variables, and the slacks of the rows.
-#[derive(Drop)]
-pub struct Printed {
-    pub point: Vec<Frac>,
-    pub prices: Vec<Frac>,
-    pub slacks: Vec<Frac>,
+pub struct Lines<'a> {
+    pub rows: Vec<Numbers<'a>>,
+    pub columns: Vec<Numbers<'a>>,
 }
 
 // Takes the heads of the rows.
@@ -66,86 +61,121 @@ fn take_rows_head(cursor: &mut Cursor<'_>, mark: Mark) -> bool
 }
 
 // The lines of the rows.
-fn rows(
+fn rows<'a, T: Checks>(
     alloc: Global,
-    cursor: &mut Cursor<'_>,
+    cursor: &mut Cursor<'a>,
+    by: By,
     sheet: Sheet<'_>,
-) -> Result<Option<Vec<Numbers>>, NoMemory>
+) -> Result<Option<Vec<Numbers<'a>>>, NoMemory>
     requires sheet { IsSheet sheet }
     requires lawful { IsLinearProgram sheet.lp.now }
-    ensures { IfOk result (λ found. IsTableRead (sheet_view sheet.entry) Shape.Row (row_numbers sheet.entry.lp.now)
+    ensures { IfOk result (λ found. IsTableRead (number_in T.checker by) (sheet_view sheet.entry) Shape.Row (row_numbers sheet.entry.lp.now)
         cursor.old cursor.new (option_map (λ table. table.items) found)) }
 {
     let lp = sheet.lp;
-    table(alloc, cursor, sheet, Shape::Row, 0, lp.rows)
+    table::<T>(alloc, cursor, by, sheet, Shape::Row, 0, lp.rows)
 }
 
 // The lines of the columns.
-fn columns(
+fn columns<'a, T: Checks>(
     alloc: Global,
-    cursor: &mut Cursor<'_>,
+    cursor: &mut Cursor<'a>,
+    by: By,
     sheet: Sheet<'_>,
-) -> Result<Option<Vec<Numbers>>, NoMemory>
+) -> Result<Option<Vec<Numbers<'a>>>, NoMemory>
     requires sheet { IsSheet sheet }
     requires lawful { IsLinearProgram sheet.lp.now }
     requires no_change { sheet.lp.now.change ≡ None }
-    ensures { IfOk result (λ found. IsTableRead (sheet_view sheet.entry) Shape.Column (column_numbers sheet.entry.lp.now)
+    ensures { IfOk result (λ found. IsTableRead (number_in T.checker by) (sheet_view sheet.entry) Shape.Column (column_numbers sheet.entry.lp.now)
         cursor.old cursor.new (option_map (λ table. table.items) found)) }
 {
     let lp = sheet.lp;
-    table(alloc, cursor, sheet, Shape::Column, lp.rows, lp.cols)
+    table::<T>(alloc, cursor, by, sheet, Shape::Column, lp.rows, lp.cols)
 }
 
-/// The lines of SOLUTION under a mark.
-pub fn read_lines(
+// The lines of SOLUTION under a mark.
+fn read_lines<'a, T: Checks>(
     alloc: Global,
-    cursor: &mut Cursor<'_>,
+    cursor: &mut Cursor<'a>,
+    by: By,
     sheet: Sheet<'_>,
     mark: Mark,
-) -> Result<Option<Lines>, NoMemory>
+) -> Result<Option<Lines<'a>>, NoMemory>
     requires sheet { IsSheet sheet }
     requires lawful { IsLinearProgram sheet.lp.now }
     requires no_change { sheet.lp.now.change ≡ None }
-    ensures { IfOk result (Found (AreLines (sheet_view sheet.entry)) (solution_in (fraction_in checker_of_128_bits) (sheet_view sheet.entry) mark cursor.old) cursor.new) }
+    ensures { IfOk result (Found (AreLines (sheet_view sheet.entry)) (solution_in (number_in T.checker by) (sheet_view sheet.entry) mark cursor.old) cursor.new) }
 {
     if !take_rows_head(cursor, mark) {
         return Ok(None);
     }
-    let Some(rows) = rows(alloc, cursor, sheet)? else {
+    let Some(rows) = rows::<T>(alloc, cursor, by, sheet)? else {
         return Ok(None);
     };
     if !take_columns_head(cursor) {
         return Ok(None);
     }
-    let Some(columns) = columns(alloc, cursor, sheet)? else {
+    let Some(columns) = columns::<T>(alloc, cursor, by, sheet)? else {
         return Ok(None);
     };
     Ok(Some(Lines { rows, columns }))
 }
 
+/// The lines of SOLUTION under a mark; they are left unchecked where only a number that is too long keeps them from being read.
+pub fn solution_lines<'a, T: Checks>(
+    alloc: Global,
+    cursor: &mut Cursor<'a>,
+    sheet: Sheet<'_>,
+    mark: Mark,
+) -> Result<Lines<'a>, Stop>
+    requires sheet { IsSheet sheet }
+    requires lawful { IsLinearProgram sheet.lp.now }
+    requires no_change { sheet.lp.now.change ≡ None }
+    ensures { IsReadBy (AreLines (sheet_view sheet.entry)) T.checker (λ of. solution_in of (sheet_view sheet.entry) mark) cursor.old cursor.new result }
+{
+    let start = cursor.left();
+    if let Some(lines) = read_lines::<T>(alloc, cursor, By::Value, sheet, mark)? {
+        return Ok(lines);
+    }
+    if !T::has_limit() {
+        return Err(Stop::Wrong);
+    }
+    let mut again = Cursor::new(start);
+    let form = read_lines::<T>(alloc, &mut again, By::Form, sheet, mark)?;
+    Err(stop_unread(form.is_some()))
+}
+
 // The first numbers of two tables, one after the other.
-fn all_firsts(alloc: Global, rows: &[Numbers], columns: &[Numbers]) -> Result<Vec<Frac>, NoMemory>
+fn all_firsts<'a>(
+    alloc: Global,
+    rows: &[Numbers<'a>],
+    columns: &[Numbers<'a>],
+) -> Result<Vec<Number<'a>>, NoMemory>
     ensures { IfOk result (λ values. values.items ≡ map (λ numbers. numbers.first) rows.now ++ map (λ numbers. numbers.first) columns.now) }
 {
     let mut values = firsts(alloc, rows)?;
-    let more = firsts(alloc, columns)?;
-    values.extend_from_slice(&more)?;
+    let mut more = firsts(alloc, columns)?;
+    values.append(&mut more)?;
     Ok(values)
 }
 
 // The second numbers of two tables, one after the other.
-fn all_seconds(alloc: Global, rows: &[Numbers], columns: &[Numbers]) -> Result<Vec<Frac>, NoMemory>
+fn all_seconds<'a>(
+    alloc: Global,
+    rows: &[Numbers<'a>],
+    columns: &[Numbers<'a>],
+) -> Result<Vec<Number<'a>>, NoMemory>
     ensures { IfOk result (λ values. values.items ≡ map (λ numbers. numbers.second) rows.now ++ map
         (λ numbers. numbers.second) columns.now) }
 {
     let mut values = seconds(alloc, rows)?;
-    let more = seconds(alloc, columns)?;
-    values.extend_from_slice(&more)?;
+    let mut more = seconds(alloc, columns)?;
+    values.append(&mut more)?;
     Ok(values)
 }
 
 /// What is printed of the point.
-pub fn printed_of(alloc: Global, lines: &Lines) -> Result<Printed, NoMemory>
+pub fn printed_of<'a>(alloc: Global, lines: &Lines<'a>) -> Result<Printed<'a>, NoMemory>
     ensures { IfOk result (λ printed. IsPrinted lines.now.rows.items lines.now.columns.items printed) }
 {
     let point = all_firsts(alloc, &lines.rows, &lines.columns)?;

@@ -1,16 +1,21 @@
 // The words of verdicts.
-ghost use Rattle.std.specs.Prelude.{◌≡◌, option_map};
+ghost use Rattle.std.specs.Prelude.{◌≡◌, option_map, IfOk};
 ghost use Rattle.walk_definitions.specs.Checkers.{checker_of_128_bits};
 ghost use Rattle.walk_definitions.specs.Words.{fraction_in, count_in};
+ghost use Rattle.listing_claims.specs.Numbers.{number_in};
 ghost use Rattle.listing_answers.specs.Words.{labelled, refusal_in, IsCheckRead, IsCheckAfter, IsHeadRead};
 
 use frac128::{Frac, Refused};
-use listing_readers::{Cursor, MAX_COUNT, count_in, fraction_in, operation_of};
+use listing_claims::{By, Checks, number_by};
+use listing_readers::{MAX_COUNT, operation_of};
+use listing_words::{Cursor, Number, count_in, fraction_in};
+use lp_model::NoMemory;
+use std::alloc::Global;
 
 /// What stands before the lines of a verdict: its objective, and whether the listing says that it was checked.
-#[derive(Clone, Copy, Debug)]
-pub struct Head {
-    pub objective: Frac,
+#[derive(Drop)]
+pub struct Head<'a> {
+    pub objective: Number<'a>,
     pub is_checked: bool,
 }
 
@@ -24,8 +29,23 @@ pub fn count_after(cursor: &mut Cursor<'_>, text: &[u8], most: u32) -> Option<u3
     count_in(cursor.word(), most)
 }
 
-/// A fraction after a text.
-pub fn fraction_after(cursor: &mut Cursor<'_>, text: &[u8]) -> Option<Frac>
+/// A number after a text.
+pub fn number_after<'a, T: Checks>(
+    alloc: Global,
+    cursor: &mut Cursor<'a>,
+    by: By,
+    text: &[u8],
+) -> Result<Option<Number<'a>>, NoMemory>
+    ensures { IfOk result (λ found. labelled text.now (number_in T.checker by) cursor.old ≡ option_map (λ x. (x, cursor.new)) found) }
+{
+    if !cursor.take(text) {
+        return Ok(None);
+    }
+    number_by::<T>(alloc, by, cursor.word())
+}
+
+// A fraction of 128 bits after a text.
+fn fraction_after(cursor: &mut Cursor<'_>, text: &[u8]) -> Option<Frac>
     ensures { labelled text.now (fraction_in checker_of_128_bits) cursor.old ≡ option_map (λ x. (x, cursor.new)) result }
 {
     if !cursor.take(text) {
@@ -34,7 +54,7 @@ pub fn fraction_after(cursor: &mut Cursor<'_>, text: &[u8]) -> Option<Frac>
     fraction_in(cursor.word())
 }
 
-// The operation of a check that wasn't made.
+// The operation of a check that wasn't made. A run found it refused, so its numbers have 128 bits.
 fn refusal(cursor: &mut Cursor<'_>) -> Option<Refused>
     ensures { refusal_in cursor.old ≡ option_map (λ refused. (refused, cursor.new)) result }
 {
@@ -72,14 +92,25 @@ pub fn check_after(cursor: &mut Cursor<'_>, text: &[u8]) -> Option<bool>
 }
 
 /// A text, a number of steps, an objective, and the word of a check.
-pub fn read_head(cursor: &mut Cursor<'_>, text: &[u8]) -> Option<Head>
-    ensures { IsHeadRead text.now cursor.old cursor.new result }
+pub fn read_head<'a, T: Checks>(
+    alloc: Global,
+    cursor: &mut Cursor<'a>,
+    by: By,
+    text: &[u8],
+) -> Result<Option<Head<'a>>, NoMemory>
+    ensures { IfOk result (IsHeadRead (number_in T.checker by) text.now cursor.old cursor.new) }
 {
-    count_after(cursor, text, MAX_COUNT)?;
-    let objective = fraction_after(cursor, b" OBJECTIVE ")?;
-    let is_checked = check_after(cursor, b" ")?;
-    Some(Head {
+    let Some(_steps) = count_after(cursor, text, MAX_COUNT) else {
+        return Ok(None);
+    };
+    let Some(objective) = number_after::<T>(alloc, cursor, by, b" OBJECTIVE ")? else {
+        return Ok(None);
+    };
+    let Some(is_checked) = check_after(cursor, b" ") else {
+        return Ok(None);
+    };
+    Ok(Some(Head {
         objective,
         is_checked,
-    })
+    }))
 }

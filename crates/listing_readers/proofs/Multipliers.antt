@@ -161,11 +161,5 @@ module _ (of : List ℕ → Option ℚ) (sheet : Sheet) where
   abbrev unless_zero : Line × List ℕ → Parsed Line
   unless_zero got = if eq_ℚ (number_at 0 got.0) zero_ℚ then None else Some got
 
-  pub no_line : (k : ℕ) (old : List ℕ) → line_in of sheet (AnyNumber ∷ []) k old ≡ None → multiplier_in of sheet k old ≡ None
-  no_line k old none = ap (option_and_then unless_zero) none
-
-  pub zero_line : (k : ℕ) (old new : List ℕ) (line : Line) → line_in of sheet (AnyNumber ∷ []) k old ≡ Some (line, new) → eq_ℚ (number_at 0 line) zero_ℚ ≡ true → multiplier_in of sheet k old ≡ None
-  zero_line k old new line is none = ap (option_and_then unless_zero) is ∙ ap (λ b. if b then None else Some (line, new)) none
-
   pub some_line : (k : ℕ) (old new : List ℕ) (line : Line) → line_in of sheet (AnyNumber ∷ []) k old ≡ Some (line, new) → eq_ℚ (number_at 0 line) zero_ℚ ≡ false → multiplier_in of sheet k old ≡ Some (line, new)
   some_line k old new line is some = ap (option_and_then unless_zero) is ∙ ap (λ b. if b then None else Some (line, new)) some

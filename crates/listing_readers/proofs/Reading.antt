@@ -8,7 +8,7 @@ use Rattle.listing_definitions.specs.Report.{Line}
 use Rattle.question_definitions.specs.Answers.{Sheet}
 use Rattle.walk_definitions.specs.Words.{left_after}
 use Rattle.walk_definitions.specs.Tables.{line_head, line_of, table_in}
-use Rattle.walk_definitions.proofs.Lines.{prefixed, prefixed_none, whole_line, no_head, no_values, no_end, one_more, no_more, all_read, next_number}
+use Rattle.walk_definitions.proofs.Lines.{prefixed, prefixed_none, whole_line, one_more, no_more, all_read, next_number}
 use Rattle.listing_readers.specs.declared.tables.Numbers.{Numbers}
 use Rattle.listing_readers.specs.declared.tables.Shape.{Shape}
 use Rattle.listing_readers.specs.Tables.{slots_of, numbers_of, AreRead, IsLineRead, IsTableRead}
@@ -20,16 +20,6 @@ module _ (of : List ℕ → Option ℚ) (sheet : Sheet) (shape : Shape) where
       left_after (codes "\n") last ≡ Some new → IsLineRead of sheet shape k old new (Some numbers)
   line_read k old left last new numbers head read end =
       (line_of sheet k read.0, whole_line of sheet (slots_of shape sheet k) k old left read.0 last new head read.1 end, refl, read.2)
-
-  pub line_without_head : (k : ℕ) (old new : List ℕ) → left_after (line_head sheet k) old ≡ None → IsLineRead of sheet shape k old new None
-  line_without_head k old new head = no_head of sheet (slots_of shape sheet k) k old head
-
-  pub line_without_values : (k : ℕ) (old left last new : List ℕ) → left_after (line_head sheet k) old ≡ Some left → AreRead of shape (slots_of shape sheet k) left last None → IsLineRead of sheet shape k old new None
-  line_without_values k old left last new head none = no_values of sheet (slots_of shape sheet k) k old left head none
-
-  pub line_without_end : (k : ℕ) (old left last new : List ℕ) (numbers : Numbers) → left_after (line_head sheet k) old ≡ Some left → AreRead of shape (slots_of shape sheet k) left last (Some numbers) →
-      left_after (codes "\n") last ≡ None → IsLineRead of sheet shape k old new None
-  line_without_end k old left last new numbers head read none = no_end of sheet (slots_of shape sheet k) k old left read.0 last head read.1 none
 
   -- ---- a table
 

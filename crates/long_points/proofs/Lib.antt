@@ -2,3 +2,4 @@ pub mod Holds
 pub mod Orders
 pub mod Sums
 pub mod AtTheta
+pub mod RowSums

@@ -2,15 +2,13 @@
 use Rattle.std.proofs.Common.{◌≡◌, ℕ, zero, suc, ◌+◌, ◌<◌, List, [], ◌∷◌, length, get_or, drop, refl, sym, ap, ◌∙◌, pos, negsuc, arith, add-one}
 use Rattle.std.specs.Prelude.{ℤ, nat_abs, ◌==◌, IsTrue}
 use Rattle.std.proofs.Math.Seq.{drop-cons}
-use Rattle.exact_values.specs.Rational.{ℚ, whole, zero_ℚ, one_ℚ, ◌+ℚ◌, ◌-ℚ◌, ◌*ℚ◌}
-use Rattle.exact_values.specs.Sums.{sum_to, sum_up_to}
-use Rattle.exact_values.proofs.Ring.{by_ring2, by_ring3, by_ring4, by_ring5, ◌⊕◌, ◌⊖◌, ◌⊗◌, ◌≐◌, number}
+use Rattle.exact_values.specs.Rational.{ℚ, whole, zero_ℚ, one_ℚ, ◌+ℚ◌, ◌-ℚ◌, ◌*ℚ◌, neg_ℚ}
+use Rattle.exact_values.proofs.Ring.{by_ring1, by_ring2, by_ring4, by_ring5, ◌⊕◌, ◌⊖◌, ◌⊗◌, ◌≐◌, number, opposite}
 use Rattle.exact_values.proofs.Ring_laws.{zero-mul}
 use Rattle.lp_definitions.specs.declared.Entry.{Entry}
 use Rattle.lp_definitions.specs.LinearProgram.{LinearProgram, Vector, entry}
 use Rattle.check_definitions.specs.Steps.{sum_of}
-use Rattle.check_definitions.specs.Checks.{entry_products, row_products}
-use Rattle.certificate_laws.proofs.Products.{sum_of-all}
+use Rattle.check_definitions.specs.Checks.{entry_products}
 
 pub zero_top : (z : ℤ) → IsTrue (nat_abs z == 0) → whole z ≡ zero_ℚ
 zero_top (pos zero) e = refl
@@ -25,16 +23,10 @@ nothing_added s e v d t is none =
     ∙ ap (λ q. s +ℚ e *ℚ q) (sym none ∙ is)
     ∙ by_ring4 s e v d (λ s e v d. s ⊕ e ⊗ (v ⊗ d) ≐ s ⊕ e ⊗ v ⊗ d) refl
 
-pub none_added : (s e v d : ℚ) → e ≡ zero_ℚ → s ≡ s +ℚ e *ℚ v *ℚ d
-none_added s e v d none = by_ring3 s v d (λ s v d. s ≐ s ⊕ number (pos 0) ⊗ v ⊗ d) refl ∙ ap (λ e. s +ℚ e *ℚ v *ℚ d) (sym none)
-
-pub product_added : (s e v d t n new : ℚ) → t ≡ v *ℚ d → n ≡ e → new ≡ s +ℚ n *ℚ t → new ≡ s +ℚ e *ℚ v *ℚ d
-product_added s e v d t n new is is_n made = made ∙ (λ i. s +ℚ is_n i *ℚ is i) ∙ by_ring4 s e v d (λ s e v d. s ⊕ e ⊗ (v ⊗ d) ≐ s ⊕ e ⊗ v ⊗ d) refl
-
 -- ---- what is compared
 
-pub equation_compared : (total z d s a w t : ℚ) → w ≡ whole (negsuc 0) → a ≡ total *ℚ d → t ≡ z *ℚ d → s ≡ a +ℚ w *ℚ t → s ≡ (total -ℚ z) *ℚ d
-equation_compared total z d s a w t minus summed is made = made ∙ (λ i. summed i +ℚ minus i *ℚ is i) ∙ by_ring3 total z d (λ s z d. s ⊗ d ⊕ number (negsuc 0) ⊗ (z ⊗ d) ≐ (s ⊖ z) ⊗ d) refl
+pub opposite_made : (t a w s : ℚ) → a ≡ zero_ℚ → w ≡ whole (negsuc 0) → s ≡ a +ℚ w *ℚ t → s ≡ neg_ℚ t
+opposite_made t a w s none minus made = made ∙ (λ i. none i +ℚ minus i *ℚ t) ∙ by_ring1 t (λ t. number (pos 0) ⊕ number (negsuc 0) ⊗ t ≐ opposite t) refl
 
 pub cost_compared : (total y cost d a b s w t : ℚ) → a ≡ total *ℚ d → w ≡ one_ℚ → t ≡ y *ℚ d → b ≡ a +ℚ w *ℚ t → s ≡ b -ℚ cost *ℚ d → s ≡ (y -ℚ (cost -ℚ total)) *ℚ d
 cost_compared total y cost d a b s w t summed one is made taken =
@@ -54,23 +46,6 @@ slack_compared right z slack d e scale activity shown w a b c s u is_scale is_ac
 module _ (p : LinearProgram) (z : Vector) (i : ℕ) where
   abbrev pub terms : ℕ → ℚ
   terms j = entry p.matrix i j *ℚ z (p.rows + j)
-
-  pub row_begins : (s d : ℚ) → s ≡ zero_ℚ → s ≡ sum_up_to 0 terms *ℚ d
-  unfolding sum_to
-  row_begins s d none = none ∙ sym (zero-mul d)
-
-  pub row_goes_on : (j : ℕ) (s new d : ℚ) → s ≡ sum_up_to j terms *ℚ d → new ≡ s +ℚ entry p.matrix i (j + 1) *ℚ z (p.rows + (j + 1)) *ℚ d → new ≡ sum_up_to (j + 1) terms *ℚ d
-  unfolding sum_to
-  row_goes_on j s new d so_far made =
-      made ∙ ap (λ s. s +ℚ terms (j + 1) *ℚ d) so_far
-      ∙ by_ring3 (sum_up_to j terms) (terms (j + 1)) d (λ s t d. s ⊗ d ⊕ t ⊗ d ≐ (s ⊕ t) ⊗ d) refl
-      ∙ ap (λ k. (sum_up_to j terms +ℚ terms k) *ℚ d) (add-one j)
-      ∙ ap (λ k. sum_up_to k terms *ℚ d) (sym (add-one j))
-
-  pub row_ends : (j : ℕ) (s d : ℚ) → j ≡ p.cols → s ≡ sum_up_to j terms *ℚ d → s ≡ sum_of zero_ℚ (row_products p z i) *ℚ d
-  row_ends j s d all so_far =
-      so_far ∙ ap (λ n. sum_up_to n terms *ℚ d) all
-      ∙ ap (λ q. q *ℚ d) (sym (sum_of-all (λ j. record { left = entry p.matrix i j; right = z (p.rows + j) }) p.cols))
 
 -- ---- a column
 

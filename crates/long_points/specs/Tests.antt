@@ -7,13 +7,16 @@
 --     keep_test p q z w price k    a price of variable k asks for a limit at which both points stand, each in its own program
 --     not_below_by, not_above_by, at_by    what an order tells of a value and a limit, if the limit is there
 --     counted_by sense order       how the value compares with 0 as it counts where less is better
+--     rate_on row by i             a number stands on a row, and 0 on the others
+--     rates_on es i                the numbers of a column that stand on row i, added up
 --     UpTo test i                  the numbers from 1 to i pass
-use Rattle.std.specs.Prelude.{◌≡◌, ℕ, ◌+◌, ◌≤◌, Bool, true, false, ◌&&◌, Option, Some, None}
+use Rattle.std.specs.Prelude.{◌≡◌, ℕ, ◌+◌, ◌≤◌, Bool, true, false, ◌&&◌, nat_eq, if◌then◌else◌, List, [], ◌∷◌, Option, Some, None}
 use Rattle.std.specs.declared.cmp.Ordering.{Ordering}
 use Rattle.std.specs.declared.cmp.Ordering.TheVariants.{Less, Equal, Greater}
-use Rattle.exact_values.specs.Rational.{ℚ, zero_ℚ, ◌-ℚ◌, compare_ℚ}
+use Rattle.exact_values.specs.Rational.{ℚ, zero_ℚ, ◌+ℚ◌, ◌-ℚ◌, compare_ℚ}
 use Rattle.exact_values.specs.Tests.{eq_ℚ}
 use Rattle.lp_definitions.specs.LinearProgram.{LinearProgram, Vector, value_at, lower_of, upper_of, cost, for_min}
+use Rattle.lp_definitions.specs.declared.Entry.{Entry}
 use Rattle.lp_definitions.specs.declared.Sense.{Sense}
 use Rattle.lp_definitions.specs.declared.Sense.TheVariants.{Min, Max}
 use Rattle.check_definitions.specs.Steps.{sum_of}
@@ -65,3 +68,10 @@ counted_by Max Greater = Less
 
 abbrev pub UpTo : (ℕ → Bool) → ℕ → Type 0
 UpTo test i = (k : ℕ) → 1 ≤ k → k ≤ i → test k ≡ true
+
+abbrev pub rate_on : ℕ → ℚ → ℕ → ℚ
+rate_on row by i = if nat_eq row i then by else zero_ℚ
+
+abbrev pub rates_on : List Entry → ℕ → ℚ
+rates_on [] i = zero_ℚ
+rates_on (e ∷ es) i = rate_on e.row e.value i +ℚ rates_on es i

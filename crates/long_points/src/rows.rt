@@ -1,16 +1,18 @@
 // The equations of the rows.
-ghost use Rattle.std.specs.Prelude.{◌≡◌, ◌+◌, ◌↔◌, ℕ, List, IsTrue, IfOk, length};
-ghost use Rattle.exact_values.specs.Rational.{ℚ, whole, zero_ℚ, ◌+ℚ◌, ◌*ℚ◌};
+ghost use Rattle.std.specs.Prelude.{◌≡◌, ◌≤◌, ◌+◌, ◌↔◌, ℕ, List, All, IsTrue, IfOk, length};
+ghost use Rattle.exact_values.specs.Rational.{ℚ, whole, zero_ℚ, neg_ℚ, ◌+ℚ◌, ◌*ℚ◌};
+ghost use Rattle.exact_values.specs.Tests.{eq_ℚ};
 ghost use Rattle.lp_definitions.specs.LinearProgram.{IsRow, IsColumn, size, value_at, entry};
 ghost use Rattle.check_definitions.specs.Steps.{AllHold, sum_of};
 ghost use Rattle.check_definitions.specs.Checks.{row_products, equations};
 ghost use Rattle.long_vectors.specs.Vectors.{IsOver};
-ghost use Rattle.long_points.specs.Tests.{equation_test};
+ghost use Rattle.long_points.specs.Tests.{UpTo, rate_on, rates_on};
 
 use frac128::Frac;
 use integers::Integer;
-use long_programs::{number_on, top_of};
+use long_programs::top_of;
 use long_vectors::{Column, Sum};
+use lp_definitions::Entry;
 use lp_model::Lp;
 use std::alloc::{AllocError, Global};
 
@@ -24,55 +26,138 @@ pub fn column_top<'a>(lp: &Lp, column: &'a Column, j: u32) -> &'a Integer
     top_of(column, lp.rows + j)
 }
 
-// Adds the number of column `j` on row `i`, times the value of the column.
+// The opposite of a whole number.
+fn opposite(alloc: Global, top: &Integer) -> Result<Sum, AllocError>
+    ensures { IfOk result (λ sum. sum ≡ neg_ℚ (whole top.now)) }
+{
+    let mut sum = Sum::zero(alloc)?;
+    sum.add(alloc, Frac::whole(-1), top)?;
+    Ok(sum)
+}
+
+// The opposites of the values of the rows, times the denominator.
+fn opposites(alloc: Global, lp: &Lp, column: &Column) -> Result<Vec<Sum>, AllocError>
+    requires { length column.now.tops.items ≡ size lp.now.matrix }
+    ensures counted { IfOk result (λ sums. length sums.items ≡ lp.now.matrix.rows) }
+    ensures values { IfOk result (λ sums. (values : List ℚ) → IsOver values column.now → (i : ℕ) → IsRow lp.now.matrix i →
+        value_at sums.items i ≡ neg_ℚ (value_at values i *ℚ whole column.now.bottom)) }
+{
+    let _size = lp.number_of_variables();
+    let mut sums = Vec::new(alloc);
+    for i in 0..lp.rows {
+        let sum = opposite(alloc, top_of(column, i + 1))?;
+        sums.push(sum)?;
+    }
+    Ok(sums)
+}
+
+// Adds the product of a number on a row.
 fn add_number(
     alloc: Global,
-    sum: &mut Sum,
+    sums: &mut [Sum],
+    row: u32,
+    by: Frac,
+    top: &Integer,
+) -> Result<(), AllocError>
+    requires first { 1 ≤ row }
+    requires last { row ≤ length sums.old }
+    ensures { IfOk result (λ done. (i : ℕ) → 1 ≤ i → value_at sums.new i ≡ value_at sums.old i +ℚ rate_on row by i *ℚ whole top.now) }
+{
+    let sum = &mut sums[row as usize - 1];
+    sum.add(alloc, by, top)?;
+    Ok(())
+}
+
+// Adds the products of the numbers of a column, each to the sum of its row.
+fn add_numbers(
+    alloc: Global,
+    sums: &mut [Sum],
+    entries: &[Entry],
+    top: &Integer,
+) -> Result<(), AllocError>
+    requires { All (λ e. (1 ≤ e.row) × (e.row ≤ length sums.old)) entries.now }
+    ensures { IfOk result (λ done. (i : ℕ) → 1 ≤ i → value_at sums.new i ≡ value_at sums.old i +ℚ rates_on entries.now i *ℚ whole top.now) }
+{
+    for entry in entries {
+        add_number(alloc, sums, entry.row, entry.value, top)?;
+    }
+    Ok(())
+}
+
+// Adds the numbers of column `j`, times the value of the column.
+fn add_column(
+    alloc: Global,
+    sums: &mut [Sum],
     lp: &Lp,
     column: &Column,
-    i: u32,
     j: u32,
 ) -> Result<(), AllocError>
     requires column { IsColumn lp.now.matrix j }
     requires places { length column.now.tops.items ≡ size lp.now.matrix }
-    ensures { IfOk result (λ done. (values : List ℚ) → IsOver values column.now →
-        sum.new ≡ sum.old +ℚ entry lp.now.matrix i j *ℚ value_at values (lp.now.rows + j) *ℚ whole column.now.bottom) }
+    requires rows { length sums.old ≡ lp.now.matrix.rows }
+    ensures { IfOk result (λ done. (values : List ℚ) → IsOver values column.now → (i : ℕ) → 1 ≤ i →
+        value_at sums.new i ≡ value_at sums.old i +ℚ entry lp.now.matrix i j *ℚ value_at values (lp.now.rows + j) *ℚ whole column.now.bottom) }
 {
+    let _size = lp.number_of_variables();
     let top = column_top(lp, column, j);
     if top.size().is_zero() {
         return Ok(());
     }
-    let number = number_on(lp.column(j), i);
-    if number.is_zero() {
-        return Ok(());
-    }
-    sum.add(alloc, number, top)?;
+    add_numbers(alloc, sums, lp.column(j), top)?;
     Ok(())
 }
 
-// The sum of the numbers on row `i`, each times the value of its column, times the denominator.
-fn row_sum(alloc: Global, lp: &Lp, column: &Column, i: u32) -> Result<Sum, AllocError>
-    requires { length column.now.tops.items ≡ size lp.now.matrix }
-    ensures { IfOk result (λ sum. (values : List ℚ) → IsOver values column.now →
-        sum ≡ sum_of zero_ℚ (row_products lp.now (value_at values) i) *ℚ whole column.now.bottom) }
+// Adds the sum of each row, times the denominator.
+fn add_columns(alloc: Global, sums: &mut [Sum], lp: &Lp, column: &Column) -> Result<(), AllocError>
+    requires places { length column.now.tops.items ≡ size lp.now.matrix }
+    requires rows { length sums.old ≡ lp.now.matrix.rows }
+    ensures { IfOk result (λ done. (values : List ℚ) → IsOver values column.now → (i : ℕ) → 1 ≤ i →
+        value_at sums.new i ≡ value_at sums.old i +ℚ sum_of zero_ℚ (row_products lp.now (value_at values) i) *ℚ whole column.now.bottom) }
 {
-    let mut sum = Sum::zero(alloc)?;
     for j in 0..lp.cols {
-        add_number(alloc, &mut sum, lp, column, i, j + 1)?;
+        add_column(alloc, sums, lp, column, j + 1)?;
     }
-    Ok(sum)
+    Ok(())
 }
 
-// Whether the sum of row `i` is the value of row `i`.
-fn equation_holds(alloc: Global, lp: &Lp, column: &Column, i: u32) -> Result<bool, AllocError>
-    requires row { IsRow lp.now.matrix i }
-    requires places { length column.now.tops.items ≡ size lp.now.matrix }
-    ensures { IfOk result (λ holds. (values : List ℚ) → IsOver values column.now → holds ≡ equation_test lp.now (value_at values) i) }
+// Whether sum `i`, from 1, is 0.
+fn is_zero_at(sums: &[Sum], i: u32) -> bool
+    requires first { 1 ≤ i }
+    requires last { i ≤ length sums.now }
+    ensures { result ≡ eq_ℚ (value_at sums.now i) zero_ℚ }
 {
-    let _size = lp.number_of_variables();
-    let mut sum = row_sum(alloc, lp, column, i)?;
-    sum.add(alloc, Frac::whole(-1), top_of(column, i))?;
-    Ok(sum.sign().is_eq())
+    sums[i as usize - 1].sign().is_eq()
+}
+
+// Whether so many sums are 0.
+fn are_zero(sums: &[Sum], count: u32) -> bool
+    requires { count ≤ length sums.now }
+    ensures { IsTrue result ↔ UpTo (λ i. eq_ℚ (value_at sums.now i) zero_ℚ) count }
+{
+    for i in 0..count {
+        let is_zero = is_zero_at(sums, i + 1);
+        if !is_zero {
+            return false;
+        }
+    }
+    true
+}
+
+// Whether the equations hold, where the sums are still the opposites of the values of the rows.
+fn sums_vanish(
+    alloc: Global,
+    sums: &mut [Sum],
+    lp: &Lp,
+    column: &Column,
+) -> Result<bool, AllocError>
+    requires places { length column.now.tops.items ≡ size lp.now.matrix }
+    requires rows { length sums.old ≡ lp.now.matrix.rows }
+    ensures { IfOk result (λ holds. (values : List ℚ) → IsOver values column.now → (part : ℕ) →
+        ((i : ℕ) → IsRow lp.now.matrix i → value_at sums.old i ≡ neg_ℚ (value_at values i *ℚ whole column.now.bottom)) →
+        IsTrue holds ↔ AllHold (equations lp.now part (value_at values))) }
+{
+    add_columns(alloc, sums, lp, column)?;
+    Ok(are_zero(sums, lp.rows))
 }
 
 /// Whether a vector keeps the equations of the rows.
@@ -81,11 +166,7 @@ pub fn equations_hold(alloc: Global, lp: &Lp, column: &Column) -> Result<bool, A
     ensures { IfOk result (λ holds. (values : List ℚ) → IsOver values column.now → (part : ℕ) →
         IsTrue holds ↔ AllHold (equations lp.now part (value_at values))) }
 {
-    for i in 0..lp.rows {
-        let holds = equation_holds(alloc, lp, column, i + 1)?;
-        if !holds {
-            return Ok(false);
-        }
-    }
-    Ok(true)
+    let mut sums = opposites(alloc, lp, column)?;
+    let holds = sums_vanish(alloc, &mut sums, lp, column)?;
+    Ok(holds)
 }

@@ -13,27 +13,27 @@ solution2listing.py takes: what `esolver -O` of QSopt_ex writes, or JSON.
 It ends with 0 where the answer is attested; with 40 where its numbers don't prove it, 42 where an operation of a test doesn't fit 127 bits, 43
 where the listing is too long, other statuses of the checker as they are; with 64 for wrong use, 65 where a file is refused, 66 where it can't be
 read, 70 where there is no checker, 73 where a file can't be written."""
-from mps360.jobs.write import Job
 import json
-import os
 import pathlib
 import re
 import subprocess
 import sys
 import tempfile
 from fractions import Fraction
+
+from mps360 import at_hand, programs
+from mps360 import notes
 from mps360.cli import mps2job
 from mps360.cli import solution2listing
-from mps360 import at_hand, programs
 from mps360.cli.solution2listing import Ended
-from mps360.text import as_lines, as_text
-from mps360.output import command, make_folder, write_file
+from mps360.cli.words import taken
 from mps360.commands import here
 from mps360.errors import NoProgram
-from mps360 import notes
+from mps360.jobs.write import Job
 from mps360.listings.write import Answer
-from mps360.cli.words import taken
 from mps360.model import Model
+from mps360.output import command, make_folder, write_file
+from mps360.text import as_lines, as_text
 
 NAME = "attest"
 WRONG = 40

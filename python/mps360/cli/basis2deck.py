@@ -9,26 +9,28 @@ usage: basis2deck.py [OPTIONS] [-o DECK] [--names MAP] [--from WRITER] MODEL.mps
   --from WRITER    clp, esolver, lp_solve or glpsol, or activity: another program, which calls a row's limit upper where the row's activity
                    is at its upper limit. Needed where the file doesn't tell, and has a row of two limits
 
-Each other option is one of mps2job.py, and says how MODEL.mps is read: say here what was said there. The deck goes behind the data deck of the job, and INSERT between SETUP and PRIMAL (scripts/prove does all of it).
+Each other option is one of mps2job.py, and says how MODEL.mps is read: say here what was said there. The deck goes behind the data
+deck of the job, and INSERT between SETUP and PRIMAL (scripts/prove does all of it).
 
 A column that no line names stands where SETUP puts it: at its lower limit, or else at its upper one, or else it is free. Names that were
 shortened for the job are shortened here. What is placed otherwise than the file says, since a limit isn't there, is said on standard error:
 a basis is a place to begin, and none makes another problem. It ends with 0, with 64 for wrong use, 65 where a file is refused, 66 where it
 can't be read, 73 where DECK can't be written."""
-from mps360.jobs.write import Job, exact_job
-from mps360.model import Model
-from mps360.bases import Basis
 import os
 import sys
-from mps360.bases import WRITERS, deck_of, read_file
-from mps360.cli import mps2job
-from mps360.listings.read import NoNames, read_names
+
 from mps360 import errors
 from mps360 import mps
+from mps360.bases import Basis
+from mps360.bases import WRITERS, deck_of, read_file
+from mps360.cli import mps2job
 from mps360.cli.options import Parser, ending
-from mps360.output import command, write_file
-from mps360.commands import here
 from mps360.cli.words import joined
+from mps360.commands import here
+from mps360.jobs.write import Job, exact_job
+from mps360.listings.read import NoNames, read_names
+from mps360.model import Model
+from mps360.output import command, write_file
 
 NAME = "basis2deck.py"
 
@@ -62,8 +64,8 @@ def check_names(path: str, job: Job) -> None:
         raise Ended(66, f"can't read {path}: {getattr(cause, 'strerror', None) or cause}") from None
     except NoNames as cause:
         raise Ended(65, f"{path}: {cause}") from None
-    here = job.name_map()
-    if any(names.get(key, {}) != here[key] for key in ("rows", "columns")):
+    own = job.name_map()
+    if any(names.get(key, {}) != own[key] for key in ("rows", "columns")):
         raise Ended(65, f"{path} isn't the table of names of {job.model.name or 'this model'}, read in this way")
 
 

@@ -24,7 +24,7 @@ NAME.listing.part).
 A disk that is full, and a device that gives no more, end the batch: what met it has no answer and no line, and --resume runs it. Without
 --resume an earlier summary of OUT is kept, as summary-1.csv and so on.
 
-The proved program is used where it is built; else all run UNPROVED, compiled once, in a minute or two (MPS360_PROVED=1 refuses that).
+The proved program is used where it is built; else all run UNPROVED, compiled once, in about a minute (MPS360_PROVED=1 refuses that).
 
 Ends with 0 where each ended with an END line; 3 where one didn't; 64 for wrong use; 66 where there is no such folder or file, or
 nothing to run in it; 70 where no program or no solver can be had; 73 where OUT or standard output can't be written; 130 where it was interrupted."""
@@ -32,9 +32,7 @@ from __future__ import annotations
 
 import argparse
 import collections
-import csv
 import hashlib
-import itertools
 import json
 import os
 import pathlib
@@ -47,31 +45,29 @@ import sys
 import tempfile
 import threading
 import time
-from collections.abc import Callable, Iterable, Mapping, Sequence
+from collections.abc import Callable, Mapping, Sequence
 from concurrent.futures import FIRST_COMPLETED, ThreadPoolExecutor, wait
 from pathlib import Path
-from typing import Any, NoReturn, TextIO
+from typing import Any, NoReturn
 from mps360.listings.read import NUMBER
 from mps360 import programs, solvers
 from mps360.cli import mps2job
 from mps360.cli.route_options import solvers_of
-from mps360.text import as_text, guard
+from mps360.life import Life, keep_above
+from mps360.cli.words import taken
+from mps360.text import guard
 from mps360.commands import here
 from mps360.output import CantWrite, command
 from mps360.solver_names import not_installed
+from mps360.summary import NO_ROUTE, Record, Summary, as_record, for_a_sheet
 from mps360 import unproved
 
-Record = dict[str, Any]
 Process = subprocess.Popen[bytes]
 ENDINGS = (".job", ".mps", ".mps.gz", ".lp", ".lp.gz")
-OLD_COLUMNS = ("name", "file", "state", "status", "objective", "seconds", "proved", "end", "sum")
-COLUMNS = (*OLD_COLUMNS, "route", "proved_by", "notes")
-TEXT_COLUMNS = ("name", "file", "end", "route", "notes")
-NO_ROUTE = {"route": "", "proved_by": "", "notes": ""}
 # seconds that a child has to end by itself: after its own limit, and after a signal
 LATE, GRACE = 10.0, 5.0
 NO_END, REFUSED, CANT_READ, CANT_WRITE, INTERRUPTED, OPEN, OLD_OPEN = 124, 65, 66, 73, 130, 3, 1
-LINE_EACH, PATIENCE, MOST_SAID = 10, 0.2, 5
+LINE_EACH, PATIENCE, MOST_SAID = 10.0, 0.2, 5
 DONE = ("ended", "stopped", "refused")
 # statuses of a run whose job couldn't be read, or whose listing or punched deck couldn't be written: no answer, but the want of a device
 DEVICE_FAULTS = {24: "the job couldn't be read", 25: "the listing couldn't be written", 26: "the deck couldn't be punched"}
@@ -158,92 +154,15 @@ def files_of(options: argparse.Namespace) -> tuple[dict[str, Path], Path]:
     return named(paths), words[1] if len(words) == 2 else folder / "listings"
 
 
-# ---- the summary
-
-def for_a_sheet(text: object) -> str:
-    "text that no spreadsheet takes for a formula"
-    text = as_text(str(text))
-    return "'" + text if text[:1] in tuple("=+-@") else text
-
-
-class Summary:
-    "a line of summary.csv for each result as soon as it is there"
-    def __init__(self, out: Path) -> None:
-        self.path, self.json, self.records = out / "summary.csv", out / "summary.json", {}  # type: Path, Path, dict[str, Record]
-
-    def before(self) -> dict[str, dict[str, str]]:
-        "the records of an earlier batch; a line that isn't whole counts for nothing"
-        try:
-            with open(self.path, encoding="utf-8", newline="") as file:
-                return {line["name"]: NO_ROUTE | line for line in csv.DictReader(file) if all(line.get(key) is not None for key in OLD_COLUMNS)}
-        except FileNotFoundError:
-            return {}
-
-    def line(self, record: Record) -> Record:
-        "a record as a line of the table"
-        return {key: for_a_sheet(record[key]) if key in TEXT_COLUMNS else record[key] for key in COLUMNS}
-
-    def keep_earlier(self) -> Path | None:
-        "the summary of an earlier batch gets the next free number; the place where it is, None where there is none"
-        if not self.before():
-            return None
-        number = next(number for number in itertools.count(1) if not any(self.numbered(path, number).exists() for path in (self.path, self.json)))
-        for path in (self.path, self.json):
-            if path.exists():
-                os.replace(path, self.numbered(path, number))
-        return self.numbered(self.path, number)
-
-    @staticmethod
-    def numbered(path: Path, number: int) -> Path:
-        return path.with_name(f"{path.stem}-{number}{path.suffix}")
-
-    def begin(self, kept: Mapping[str, Record]) -> None:
-        "writes what is kept of an earlier batch"
-        self.records = dict(kept)
-        self.write_csv()
-
-    def write_csv(self) -> None:
-        "writes all records, in the order of their names"
-        self.replace(self.path, lambda file: self.write_lines(file, [self.records[name] for name in sorted(self.records)], head=True))
-
-    def write_lines(self, file: TextIO, records: Iterable[Record], head: bool = False) -> None:
-        "writes these records, below a head line where it is wanted"
-        out = csv.DictWriter(file, COLUMNS, lineterminator="\n")
-        if head:
-            out.writeheader()
-        out.writerows(map(self.line, records))
-
-    def add(self, record: Record) -> None:
-        "writes a record behind the others"
-        self.records[record["name"]] = record
-        with open(self.path, "a", encoding="utf-8", newline="") as file:
-            self.write_lines(file, [record])
-
-    def end(self, files: Mapping[str, Path]) -> None:
-        "both files whole, in the order of the names; summary.json says too what isn't done"
-        self.write_csv()
-        states = collections.Counter(record["state"] for record in self.records.values())
-        jobs = [{key: as_text(value) if isinstance(value, str) else value for key, value in record.items()}
-                for _, record in sorted(self.records.items())]
-        whole = {"files": len(files), "states": dict(sorted(states.items())), "not done": len(files) - len(self.records), "jobs": jobs}
-        self.replace(self.json, lambda file: file.write(json.dumps(whole, indent=1) + "\n"))
-
-    @staticmethod
-    def replace(path: Path, write: Callable[[TextIO], object]) -> None:
-        "writes a file whole, or leaves it as it was"
-        part = path.with_name(path.name + ".part")
-        with open(part, "w", encoding="utf-8", newline="") as file:
-            write(file)
-        os.replace(part, path)
-
-
-def as_record(line: Mapping[str, str], name: str, path: Path) -> Record:
-    "a record again of a line of summary.csv, for the file that it is of"
-    texts = {key: line[key][1:] if line[key][:1] == "'" else line[key] for key in ("end", "route", "notes")}
-    return {**line, "name": name, "file": str(path), **texts, "status": int(line["status"]) if line["status"] else None, "seconds": float(line["seconds"])}
-
-
 # ---- a run
+
+def copy(source: Path, target: Path) -> None:
+    "copies a file; OSError names the copy, which is what can't be written"
+    try:
+        shutil.copyfile(source, target)
+    except OSError as cause:
+        raise OSError(cause.errno, cause.strerror, str(target)) from None
+
 
 class Runs:
     "runs a file, and ends what is running where all is to end"
@@ -255,6 +174,7 @@ class Runs:
         self.lock, self.is_over = threading.Lock(), False
         self.processes: dict[int, Process] = {}
         self.running: dict[str, float] = {}
+        self.saying: dict[str, Path] = {}
 
     def sum_of(self, path: Path) -> str:
         "a checksum of a file, and of the words for MPS files where it is one"
@@ -327,9 +247,18 @@ class Runs:
             record |= {"state": "time limit", "end": f"stopped after {self.limit:g} s" if self.limit else "interrupted"}
         finally:
             del self.running[name]
+            self.saying.pop(name, None)
         if part.exists() and not part.stat().st_size:
             part.unlink()
         return {**record, "seconds": round(time.monotonic() - begun, 3)}
+
+    def waits_for(self, now: float) -> str:
+        "what the file does that runs the longest, as far as it tells; now is the time of time.monotonic"
+        begun, name = min(((begun, name) for name, begun in list(self.running.items())), default=(now, ""))
+        if not name:
+            return ""
+        told = last_line(self.saying.get(name)).removeprefix("solve: ")
+        return f", the longest since {now - begun:.0f} s: {name}{f' ({told})' if told else ''}"
 
     # ---- a job
 
@@ -339,7 +268,7 @@ class Runs:
         with open(path, "rb") as given, open(part, "wb") as printed:
             status = self.call([self.program], until, stdin=given, stdout=printed, stderr=subprocess.DEVNULL, cwd=folder)
         if punch.is_file():
-            shutil.copyfile(punch, self.out / f"{name}.punch")
+            copy(punch, self.out / f"{name}.punch")
         if status < 0:
             record["end"] = f"ended by signal {-status}"
             return
@@ -361,6 +290,7 @@ class Runs:
             words += ["--with", ",".join(self.solvers) or "none"]
         if until is not None:
             words += ["--seconds", f"{max(0.001, until - time.monotonic()):.3f}"]
+        self.saying[name] = folder / "said"
         with open(folder / "answer", "wb") as answer, open(folder / "said", "wb") as said:
             status = self.call([*words, str(path.resolve())], None if until is None else until + LATE, stdin=subprocess.DEVNULL, stdout=answer, stderr=said)
         told = (folder / "said").read_text(encoding="utf-8", errors="replace").strip()
@@ -378,7 +308,7 @@ class Runs:
         for path in kept.iterdir() if kept.is_dir() else ():
             is_cut = path.suffix == ".listing" and status in (NO_END, INTERRUPTED)
             if path.suffix in (".job", ".names", ".listing"):
-                shutil.copyfile(path, self.out / f"{name}{path.suffix}{'.part' if is_cut else ''}")
+                copy(path, self.out / f"{name}{path.suffix}{'.part' if is_cut else ''}")
 
     def take(self, name: str, record: Record, status: int, answer: bytes, told: str) -> None:
         "the record of a child's JSON"
@@ -402,6 +332,15 @@ class Runs:
             say(f"{name}: {note}")
         if len(run["notes"]) > MOST_SAID:
             say(f"{name}: {len(run['notes']) - MOST_SAID} notes more, which {name}.names has")
+
+
+def last_line(path: Path | None) -> str:
+    "the last whole line that a child has said so far; none where it has said nothing, or has ended"
+    try:
+        lines = path.read_bytes().decode("utf-8", "replace").split("\n")[:-1] if path else []
+    except OSError:
+        return ""
+    return lines[-1] if lines else ""
 
 
 def how_it_ended(listing: str) -> str:
@@ -458,9 +397,9 @@ class Lines:
             self.fault = cause
 
 
-def work_off(files: Mapping[str, Path], runs: Runs, summary: Summary, at_once: int, signals: Signals, lines: Lines) -> None:
+def work_off(files: Mapping[str, Path], runs: Runs, summary: Summary, at_once: int, signals: Signals, lines: Lines, life: Life) -> None:
     "runs what isn't done, and takes each result as it comes, until all are done or a signal came"
-    told = begun = time.monotonic()
+    begun = time.monotonic()
     total = len(files) + len(summary.records)
     with ThreadPoolExecutor(at_once) as pool:
         waiting = {pool.submit(runs.run, name, path) for name, path in files.items()}
@@ -472,16 +411,13 @@ def work_off(files: Mapping[str, Path], runs: Runs, summary: Summary, at_once: i
                     summary.add(record)
                     lines.tell(record)
                 now = time.monotonic()
-                if now - told >= LINE_EACH:
-                    told = now
-                    longest = min(((begun, name) for name, begun in list(runs.running.items())), default=None)
-                    waits = f", the longest since {now - longest[0]:.0f} s: {longest[1]}" if longest else ""
-                    say(f"{now - begun:.0f} s: {len(summary.records)} of {total} done, {len(runs.running)} running{waits}")
+                life.tick(now - begun, lambda: f"{len(summary.records)} of {total} done, {len(runs.running)} running{runs.waits_for(now)}")
         finally:
             for future in waiting:
                 future.cancel()
             if waiting:
                 runs.end()
+            life.clear()
 
 
 def check_words(options: argparse.Namespace) -> None:
@@ -497,7 +433,7 @@ def check_words(options: argparse.Namespace) -> None:
         raise Wrong(70, not_installed(missing))
 
 
-def batch(options: argparse.Namespace, signals: Signals) -> int:
+def batch(options: argparse.Namespace, signals: Signals, life: Life) -> int:
     "runs all, and gives the exit status"
     files, out = files_of(options)
     check_words(options)
@@ -514,7 +450,7 @@ def batch(options: argparse.Namespace, signals: Signals) -> int:
         if options.resume:
             say(f"{len(kept)} of {len(files)} are done already")
         signals.is_noted, lines = True, Lines()
-        work_off({name: path for name, path in files.items() if name not in kept}, runs, summary, options.at_once, signals, lines)
+        work_off({name: path for name, path in files.items() if name not in kept}, runs, summary, options.at_once, signals, lines, life)
         summary.end(files)
     except OSError as cause:
         raise Wrong(CANT_WRITE, f"can't write {cause.filename or out}: {cause.strerror}") from None
@@ -548,6 +484,7 @@ class Words(argparse.ArgumentParser):
 def main(words: list[str] | None = None) -> int:
     "the command; its status"
     words = sys.argv[1:] if words is None else words
+    errors = sys.stderr
     guard()
     if any(word in ("-h", "--help") for word in words):
         print(here(__doc__ or ""))
@@ -559,11 +496,17 @@ def main(words: list[str] | None = None) -> int:
     parser.add_argument("--with", dest="solvers", type=solvers_of)
     parser.add_argument("--old-codes", action="store_true")
     parser.add_argument("--resume", action="store_true")
-    parser.add_argument("--mps2job", default="")
     parser.add_argument("--out")
     parser.add_argument("words", nargs="+")
+    life = Life("mps360-batch", LINE_EACH, errors, most=LINE_EACH)
+    keep_above(life)
     try:
-        return batch(parser.parse_args(words), Signals())
+        # (its value begins with --, which argparse takes for a word of its own)
+        words, converting = taken(words, "--mps2job")
+    except ValueError as cause:
+        parser.error(str(cause))
+    try:
+        return batch(parser.parse_args(words, argparse.Namespace(mps2job=converting or "")), Signals(), life)
     except Wrong as cause:
         say(cause)
         return cause.status

@@ -5,8 +5,9 @@ usage: listing2html.py [--names MAP] [-o PAGE.html] JOB LISTING
   --names MAP   the table of names that mps2job.py wrote: names come as they were, and the objective's constant is said
   -o PAGE.html  where the page goes; without it to standard output
 
-The page has each verdict in a sentence, the plan and the rows as tables with decimals and exact fractions, prices with the intervals of
-RANGE beside them, a ray as the rows that conflict, a direction as what grows, and parametric runs as plots; the listing stands at its end.
+The page has each verdict in a sentence, a picture of what limits the plan, the plan and the rows as tables with decimals and exact
+fractions, prices with the intervals of RANGE beside them, a ray as the sum of the limits that conflict, a direction as what grows, and
+parametric runs as plots; the listing stands at its end. Units come from remarks of the job, as "* UNITS FLOUR: kg" (docs/PAGE.md).
 It ends with 0, with 64 for wrong use, 65 where the text isn't a listing, or is one of another job, 66 where a file can't be read, 73
 where the page can't be written."""
 import hashlib
@@ -59,7 +60,7 @@ def main(words: list[str] | None = None) -> int:
     try:
         page = Page(job, listing, names, Origin(now(), options.job, checksum))
         text = page.whole()
-    except (NoListing, OtherJob, ZeroDivisionError, TypeError, ValueError) as cause:
+    except (NoListing, OtherJob, LookupError, ZeroDivisionError, TypeError, ValueError) as cause:
         say(f"no page of this: {cause}")
         return 65
     if not page.has_constant:

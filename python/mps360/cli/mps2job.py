@@ -42,6 +42,7 @@ from mps360.jobs.write import exact_job
 from mps360.numbers import number
 from mps360.output import command, write_file
 from mps360.commands import here
+from mps360.reading import INFINITY, Reading
 
 Refuse = Callable[[str], NoReturn]
 
@@ -79,9 +80,9 @@ def parsed_options(words: list[str], refuse: Refuse = wrong_use) -> argparse.Nam
     return parser.parse_args(words)
 
 
-def reading_of(options: argparse.Namespace, refuse: Refuse = wrong_use) -> mps.Reading:
+def reading_of(options: argparse.Namespace, refuse: Refuse = wrong_use) -> Reading:
     "how the options have a file read"
-    infinity = mps.INFINITY
+    infinity = INFINITY
     if options.infinity is not None:
         try:
             infinity = Fraction(number(options.infinity))
@@ -89,7 +90,7 @@ def reading_of(options: argparse.Namespace, refuse: Refuse = wrong_use) -> mps.R
             refuse(f"--infinity: {cause}")
         if infinity <= 0:
             refuse("--infinity is more than 0")
-    return mps.Reading(form=options.form or "either", numbers="round" if options.round else "exact", doubles=options.doubles, relax=options.relax,
+    return Reading(form=options.form or "either", numbers="round" if options.round else "exact", doubles=options.doubles, relax=options.relax,
                             marker_upper=options.marker_upper, negative_up=options.negative_up, blank_set=options.blank_set,
                             constant=options.constant or "minus", infinity=infinity, sense=options.sense, objective=options.objective,
                             rhs_set=options.rhs, range_set=options.ranges, bound_set=options.bounds)

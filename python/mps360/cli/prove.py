@@ -99,18 +99,18 @@ def outcome_of(options: argparse.Namespace, job: Job, program: Tool, life: Life)
     try:
         return way.run()
     except OSError as cause:
-        raise Ended(70, f"can't run {program.command[0]}: {cause.strerror}")
+        raise Ended(70, f"can't run {program.command[0]}: {cause.strerror}") from None
     except runs.NoAnswer as cause:
-        raise Ended(cause.status, *cause.lines, str(cause))
+        raise Ended(cause.status, *cause.lines, str(cause)) from None
     except NoBasis as cause:
-        raise Ended(70, str(cause))
+        raise Ended(70, str(cause)) from None
     finally:
         life.clear()
 
 
 def prove(options: argparse.Namespace, passed: list[str]) -> int:
     "the whole; the exit status"
-    life = Life(NAME, options.life)
+    life = Life(NAME, options.life, seconds=options.seconds)
     job = basis2deck.read_job(options.model, passed)
     program = solve.program_of(options)
     for sentence in job.said if options.keep else job.said_without(job.of_table):

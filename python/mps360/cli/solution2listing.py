@@ -19,25 +19,25 @@ Each other option is one of mps2job.py, which reads the file: what it changes, l
 Prices that aren't there, a name that the model hasn't, a decimal number, a number past 128 bits are refused, with the place. It ends with 0,
 with 64 for wrong use, 65 where a file is refused, 66 where it can't be read, 73 where one can't be written."""
 import argparse
-import pathlib
-from typing import NoReturn
-from collections.abc import Callable
-from fractions import Fraction
-from mps360.jobs.write import Job, exact_job
-from mps360.listings.write import Answer
 import json
 import os
+import pathlib
 import sys
-from mps360.cli import mps2job
-from mps360.listings.write import Refused
-from mps360.model import Model
+from collections.abc import Callable
+from typing import NoReturn
+
 from mps360 import errors
 from mps360 import mps
-from mps360.solutions import NoSolution, read_file
+from mps360.cli import mps2job
 from mps360.cli.mps2job import say
-from mps360.output import command, write_file
-from mps360.commands import here
 from mps360.cli.words import taken
+from mps360.commands import here
+from mps360.jobs.write import Job, exact_job
+from mps360.listings.write import Answer
+from mps360.listings.write import Refused
+from mps360.model import Model
+from mps360.output import command, write_file
+from mps360.solutions import NoSolution, read_file
 
 NAME = "solution2listing.py"
 
@@ -135,12 +135,12 @@ def check_places(*paths: pathlib.Path | str | None) -> None:
         raise Ended(64, "the files of this call are different files")
 
 
-def put(job: Job, listing: str, options: argparse.Namespace, say: Callable[[str], object]) -> None:
+def put(job: Job, listing: str, options: argparse.Namespace, tell: Callable[[str], object]) -> None:
     "the job, its table of names and the listing go where they are wanted; what was changed is said"
     if job.renamed and not options.names:
         raise Ended(64, "names were shortened; say by --names MAP where the table of names goes")
     for sentence in job.said:
-        say(sentence)
+        tell(sentence)
     write_file(options.job, job.text)
     if options.names:
         write_file(options.names, json.dumps(job.name_map(), indent=1) + "\n")

@@ -124,12 +124,12 @@ class Model:
                 self.take_names(options.names)
         except (OSError, ValueError) as cause:
             what = options.model if isinstance(cause, OSError) and cause.filename != options.names else options.names
-            raise Ended(66, f"can't read {what}: {getattr(cause, 'strerror', None) or cause}")
+            raise Ended(66, f"can't read {what}: {getattr(cause, 'strerror', None) or cause}") from None
         except NoNames as cause:
-            raise Ended(65, f"{options.names}: {cause}")
+            raise Ended(65, f"{options.names}: {cause}") from None
         self.checksum = hashlib.sha256(content).hexdigest()
         if is_job(content):
-            if word := next((word for word in MODEL_WORDS if getattr(options, MODEL_WORDS[word]) is not None), None):
+            if word := next((word for word, name in MODEL_WORDS.items() if getattr(options, name) is not None), None):
                 raise Ended(64, f"{word} goes with an MPS file, and {options.model} is a job")
             if passed:
                 raise Ended(64, f"{passed[0]} is a word for an MPS file, and {options.model} is a job")
@@ -151,14 +151,14 @@ class Model:
             file = ("model.mps.gz" if content.startswith(b"\x1f\x8b") else "model.mps") if self.path == "-" else os.path.basename(self.path)
             job = self.converted = exact_job(model, words.ranging, model.name or file)
         except errors.Refused as cause:
-            raise Ended(65, *f"{self.path}: {cause}".split("\n"))
+            raise Ended(65, *f"{self.path}: {cause}".split("\n")) from None
         for sentence in model.warned:
             say(sentence)
         self.notes, self.job, self.ranging = list(job.said) if options.keep else job.said_without(job.of_table, job.of_listing), job.text.encode("ascii"), words.ranging
         if options.basis:
             self.take_basis(options, job)
-        table = job.name_map()
-        self.names, self.table = names_of(table), (json.dumps(table, indent=1) + "\n").encode()
+        names = job.name_map()
+        self.names, self.table = names_of(names), (json.dumps(names, indent=1) + "\n").encode()
 
     def take_basis(self, options: argparse.Namespace, job: Job) -> None:
         "the basis that is handed in"
@@ -167,7 +167,7 @@ class Model:
             self.basis = basis2deck.read_basis(options.basis, job.file, options.writer)
         except basis2deck.Ended as ended:
             status, words = ended.args
-            raise Ended(status, *words.split("\n"))
+            raise Ended(status, *words.split("\n")) from None
         self.notes += self.basis.said
 
     def ran(self, attempt: runs.Attempt) -> None:
@@ -188,7 +188,7 @@ class Answer:
             self.listing = parse(self.text)
             self.objective = as_text(self.objective_of(self.listing["reports"]))
         except (NoListing, OtherJob) as cause:
-            raise Ended(70, f"what the program printed isn't the listing of this job: {cause}")
+            raise Ended(70, f"what the program printed isn't the listing of this job: {cause}") from None
         if not name_back(self.listing, model.names):
             model.notes.append("the objective or its right-hand side isn't that of the table of names: no constant is added")
         self.result = tables.result_of(self.listing)
@@ -458,7 +458,7 @@ def program_of(options: argparse.Namespace) -> at_hand.Tool:
     try:
         program = at_hand.solver_program(options.program)
     except errors.NoProgram as cause:
-        raise Ended(70, str(cause))
+        raise Ended(70, str(cause)) from None
     if program.kind == "unproved" and not program.prepare:
         at_hand.say_unproved(at_hand.PROGRAM)
     return program
@@ -469,7 +469,7 @@ def checker_of(options: argparse.Namespace) -> Callable[[], at_hand.Tool | None]
     try:
         return at_hand.checker_finder(options.checker)
     except errors.NoProgram as cause:
-        raise Ended(70, str(cause))
+        raise Ended(70, str(cause)) from None
 
 
 def outcome_of(options: argparse.Namespace, model: Model, program: at_hand.Tool, alive: life.Life) -> routes.Outcome:
@@ -483,11 +483,11 @@ def outcome_of(options: argparse.Namespace, model: Model, program: at_hand.Tool,
             way.begin_at(model.basis, os.path.basename(options.basis))
         return way.run()
     except OSError as cause:
-        raise Ended(70, f"can't run {cause.filename or program.command[0]}: {cause.strerror}")
+        raise Ended(70, f"can't run {cause.filename or program.command[0]}: {cause.strerror}") from None
     except runs.NoAnswer as cause:
-        raise Ended(cause.status, str(cause))
+        raise Ended(cause.status, str(cause)) from None
     except NoBasis as cause:
-        raise Ended(70, str(cause))
+        raise Ended(70, str(cause)) from None
     finally:
         alive.clear()
 
@@ -512,7 +512,7 @@ def solve(options: argparse.Namespace, passed: list[str]) -> int:
     keep(options, f"{stem}.job", model.job)
     if model.table:
         keep(options, f"{stem}.names", model.table)
-    outcome = outcome_of(options, model, program_of(options), life.Life(NAME, options.life))
+    outcome = outcome_of(options, model, program_of(options), life.Life(NAME, options.life, seconds=options.seconds))
     attempt = outcome.attempt
     model.ran(attempt)
     keep(options, f"{stem}.job", model.job)

@@ -1,14 +1,13 @@
-"""Runs a job, or attests a listing, unproved: compiles the program as its sources stand, keeps it beside them for the next run, and says
-how far it is.
+"""Runs a job, or attests a listing, unproved: compiles the program as its sources stand, keeps it for later runs, and says how far it is.
 
 usage: unproved.py [--make N]               the job is read from standard input; ends with the run's status, or 70 where there is no answer
        unproved.py --program mps360check    the same by the checker of listings: the listing is the file LISTING in the present folder
        unproved.py [--program NAME] --compile     compiles alone, optimised, and prints the program's path
 
-The parts of the first time, as measured of mps360 on one free processor: rt reads all crates and lowers them (40 seconds), LLVM compiles
-(15 seconds, optimised 50). The program NAME that comes of it is kept in crates/NAME/out/unproved under the checksum of the sources,
-and later runs begin at once. rt try would compile with a sanitizer besides, and stop after a minute; it has the last word only where
-its module can't be had, and of mps360 alone, since it doesn't show a program the files of the present folder."""
+The parts of the first time: Rattle reads all crates and lowers them, by one processor, and LLVM compiles what the program reaches, by up
+to four. The program NAME that comes of it is kept under the checksum of the sources, in mps360/unproved/NAME of the user's cache
+(XDG_CACHE_HOME, or ~/.cache), and later runs begin at once, in each clone with these sources. Of other sources the last three programs
+stay, and those that ran in the last day."""
 import os
 import re
 import shutil
@@ -28,27 +27,27 @@ LONG_RUN = 10
 def run(name: str, program: str, words: list[str], job: BinaryIO | None = None) -> int:
     "runs the program; its status"
     begun = time.monotonic()
-    ended = subprocess.run([program, *words], stdin=job)
+    ended = subprocess.run([program, *words], stdin=job, check=False)
     if time.monotonic() - begun > LONG_RUN and os.path.basename(program) != "fast":
         option = "" if name == RUNS else f"--program {name} "
-        say(name, f"it ran for {time.monotonic() - begun:.0f} s; scripts/unproved.py {option}--compile makes an optimised program, in a minute or two: some 30 times as fast")
+        say(name, f"it ran for {time.monotonic() - begun:.0f} s; scripts/unproved.py {option}--compile makes an optimised program, in about half a minute: some 30 times as fast")
     if ended.returncode < 0:
         raise NoAnswer(f"the unproved program was ended by signal {-ended.returncode}, so there is no answer; scripts/build.sh builds the proved one")
     return ended.returncode
 
 
-def told(answer: Answered) -> int:
+def told(answered: Answered) -> int:
     "the answer of rt try"
     try:
-        sys.stdout.buffer.write(answer.listing)
+        sys.stdout.buffer.write(answered.listing)
         sys.stdout.flush()
     except CantWrite:
         # (as the program ends where its listing can't be written)
         getattr(sys.stdout, "give_up")()
         return 25
-    if re.search(rb"^BCDOUT  ", answer.listing, re.M):
+    if re.search(rb"^BCDOUT  ", answered.listing, re.M):
         say(RUNS, "this unproved run keeps no punched deck; the program that scripts/build.sh builds does")
-    return answer.status
+    return answered.status
 
 
 def own_words(words: list[str]) -> tuple[str, bool, list[str]] | None:
@@ -64,7 +63,7 @@ def answer(name: str, words: list[str]) -> int:
     if program:
         say(name, f"running UNPROVED, by the program that was compiled of these sources before; {PROVES}")
         return run(name, program, words)
-    say(name, f"running UNPROVED, which takes about a minute the first time, to compile; {PROVES}")
+    say(name, f"running UNPROVED, which takes about half a minute the first time, to compile; {PROVES}")
     with tempfile.NamedTemporaryFile(prefix="mps360-job-") as job:
         if not words:
             shutil.copyfileobj(sys.stdin.buffer, job)

@@ -1,14 +1,14 @@
 "What the reports of a listing mean: what a SETUP took, verdicts with their rays and directions, parametric runs."
 from collections.abc import Iterator, Mapping, Sequence
-from typing import Any
-from mps360.jobs.selection import LinearProgram
-import re
 from fractions import Fraction
+from typing import Any
+
+from mps360.commands import DOCUMENTS
+from mps360.explain.stops import MOST_SHOWN, PLACES, more_than
+from mps360.jobs.selection import LinearProgram
 from mps360.listings.follow import UNKNOWN, Followed, ListingEnds, Told
 from mps360.listings.made import OtherJob
 from mps360.listings.read import Line, Listing
-from mps360.commands import DOCUMENTS
-from mps360.explain.stops import MOST_SHOWN, PLACES, more_than
 from mps360.pages.parametric import value_at
 
 
@@ -103,6 +103,7 @@ def does_nothing(setup: Setup) -> bool:
 
 
 def setup_lines(setup: Setup) -> Iterator[str]:
+    "what SETUP selects, in words"
     problem, free = setup.problem, [name for name, kind in setup.problem.rows.items() if kind == "N"]
     sense = setup.options.sense
     if setup.verb == "SETUP":
@@ -185,6 +186,7 @@ def explain_direction(direction: list[Line]) -> None:
 
 
 def explain_verdict(report: Told, program: LinearProgram | None) -> None:
+    "a verdict in words, and what its ray or its direction says"
     if report["by"] in ("paraobj", "pararhs"):
         print(f"At XPARAM, where {report['by'].upper()} begins, there is no best plan, so there are no intervals.")
     if report["verdict"] == "infeasible" and "ray" in report:
@@ -194,7 +196,8 @@ def explain_verdict(report: Told, program: LinearProgram | None) -> None:
             print(f": so these limits conflict. One of them has to give way, by {-total[0]} over its factor at least.")
     elif report["verdict"] == "infeasible":
         name = f" ({program.names[report['crossed'] - 1]})" if program else ""
-        print(f"No plan keeps all limits: variable {report['crossed']}{name} has a lower limit above its upper one. A negative UP leaves the\nlower limit at 0; look at its bounds and ranges.")
+        print(f"No plan keeps all limits: variable {report['crossed']}{name} has a lower limit above its upper one. A negative UP leaves the\n"
+              "lower limit at 0; look at its bounds and ranges.")
     elif report["verdict"] == "unbounded":
         print("The objective has no bound. From the activities of the table one may go along the direction as far as one likes:\n")
         explain_direction(report["direction"])
@@ -218,6 +221,7 @@ def explain_change(before: list[Line], now: list[Line]) -> None:
 
 
 def explain_interval(interval: Told, before: list[Line]) -> None:
+    "an interval of a parametric run in words, and what changed at its beginning"
     lines, first, last = interval["lines"], *(Fraction(interval[end]) for end in ("from", "to"))
     constant, there = (value_at(lines, Fraction(theta)) for theta in (0, 1))
     rate = there - constant

@@ -40,7 +40,8 @@ MOST_SHOWN = 30
 
 
 def fault_entries() -> Iterator[tuple[str, dict[str, str]]]:
-    path = next(path for path in (programs.TOP / "examples/faults/INDEX", programs.TOP / "faults/INDEX") if path.exists())
+    "the faults that are known, each by its name with its entries"
+    path = [path for path in (programs.TOP / "examples/faults/INDEX", programs.TOP / "faults/INDEX") if path.exists()][0]
     for block in re.sub(r"^#.*\n", "", path.read_text(), flags=re.M).strip().split("\n\n"):
         name, *lines = block.split("\n")
         yield name, dict(line[2:].split(" ", 1) for line in lines)
@@ -281,7 +282,7 @@ def misplaced(card: str, section: str) -> Any:
             continue
         has_numbers = section in ("COLUMNS", "RHS", "RANGES", "BOUNDS") or section == "ROWS" and is_combination(card)
         if has_numbers and decks.NUMBER.match(found[0]):
-            number = min((4, 6), key=lambda number: abs(FIELDS[number - 1][0] - first))
+            number = 4 if abs(FIELDS[3][0] - first) <= abs(FIELDS[5][0] - first) else 6
             start, end = FIELDS[number - 1]
             if len(found[0]) > end - start + 1:
                 return f"the number {found[0]} has {len(found[0])} characters, and field {number} has {end - start + 1} columns: shorten it"

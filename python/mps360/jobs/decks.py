@@ -1,5 +1,5 @@
 """Decks of problems and of revisions, read by the rules of docs/DECKS.md: the problem that a deck, fixed or free, describes, or its first fault."""
-from collections.abc import Callable, Collection, Iterator, Sequence
+from collections.abc import Callable, Iterator, Sequence
 from typing import Any, NamedTuple
 import copy
 import functools
@@ -35,9 +35,9 @@ class Fields(NamedTuple):
 class DeckFault(Exception):
     """a deck that has a fault: its number, the place of its card in the deck, from 0, what follows on the line, and for an unknown row the names
     of those that are known there"""
-    def __init__(self, number: int, place: int | None = None, more: str = "", known: Sequence[str] | None = None) -> None:
-        super().__init__(number)
-        self.number, self.place, self.more, self.known = number, place, more, known
+    def __init__(self, fault: int, place: int | None = None, more: str = "", known: Sequence[str] | None = None) -> None:
+        super().__init__(fault)
+        self.number, self.place, self.more, self.known = fault, place, more, known
 
 
 def number(text: str) -> Fraction:
@@ -52,7 +52,7 @@ class Written(Fraction):
     "a number as a card has it: its value, and its text"
     text: str
 
-    def __new__(cls, text: str) -> "Written":
+    def __new__(cls, text: str) -> "Written":  # pylint: disable=signature-differs
         self = super().__new__(cls, number(text))
         self.text = text.strip()
         return self
@@ -100,9 +100,9 @@ def words_of(card: str) -> list[tuple[int, str]]:
     return [(found.start() + 1, found[0]) for found in re.finditer("[^ ]+", card)]
 
 
-def action_on(card: str, is_free: bool) -> tuple[str, str] | None:
+def action_on(card: str, has_words: bool) -> tuple[str, str] | None:
     "the word and the name on an action card of a revision; None on another card"
-    if not is_free:
+    if not has_words:
         return (card[1:].split(" ")[0], card[14:22].rstrip()) if re.match(r" [^ ]{3}", card) else None
     words = [word for _, word in words_of(card)]
     return (words[0], words[1] if len(words) > 1 else "") if words[0] in ACTIONS and len(words) <= 2 else None

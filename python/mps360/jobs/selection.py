@@ -27,8 +27,8 @@ class Fault(Exception):
 
 class VerbFault(Exception):
     "a statement that can't be done, with the number of its fault, what follows on its line, and the lines after that"
-    def __init__(self, number: int, more: str = "", lines: Sequence[str] = ()) -> None:
-        super().__init__(number)
+    def __init__(self, fault: int, more: str = "", lines: Sequence[str] = ()) -> None:
+        super().__init__(fault)
         self.more, self.lines = more, lines
 
 
@@ -306,8 +306,7 @@ class Run:
         problem = self.read_deck(old.revised if old else Problem, self.deck())
         problem.name = self.cells.get("XPBNAME", problem.name)
         self.problems[problem.name], self.last, self.setup, self.mark = problem, problem.name, None, None
-        counts = len(problem.rows), len(problem.columns), problem.entries()
-        self.lines.append("{:<7} {:<8} ROWS {} COLUMNS {} ENTRIES {}".format(verb, problem.name, *counts))
+        self.lines.append(f"{verb:<7} {problem.name:<8} ROWS {len(problem.rows)} COLUMNS {len(problem.columns)} ENTRIES {problem.entries()}")
 
     def punch(self) -> None:
         "BCDOUT"

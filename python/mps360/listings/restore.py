@@ -88,6 +88,7 @@ class Table:
 # ---- the reports
 
 def restore(reports: list[Report], table: Table) -> None:
+    "puts the reports into the file's rows and columns, in place"
     for report in reports:
         kind = report["report"]
         if kind == "solution":

@@ -5,13 +5,13 @@ point and the prices, the ray or the direction that are handed in. Nothing is so
 
 Only jobs as mps2job.py makes them: one PRIMAL, and SOLUTION. STEPS is 0, since no steps are known, and AT says where a value stands among its
 limits, since no basis is known."""
-from mps360.jobs.write import Job
-from mps360.model import of_set
 from dataclasses import dataclass, field
 from fractions import Fraction
 from math import lcm
 
+from mps360.jobs.write import Job
 from mps360.model import Sums
+from mps360.model import of_set
 from mps360.numbers import text_of
 
 GREATEST = 2 ** 127 - 1

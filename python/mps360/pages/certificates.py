@@ -15,7 +15,7 @@ from mps360.pages.subject import Naming, Subject
 from mps360.text import as_text
 
 CUT = "The listing is cut off here: what proves it isn't all there."
-MOST_NAMED, MOST_TERMS, MOST_COLUMNS = 6, 6, 200
+MOST_NAMED, MOST_TERMS, MOST_OPEN, MOST_COLUMNS = 6, 6, 12, 200
 
 
 @dataclass(frozen=True)
@@ -86,28 +86,34 @@ class Conflict:
 
     def html(self) -> Iterator[Html]:
         "the sum, line by line, and what it says"
-        forms, parts = self.sums() if self.subject.has_entries else ([], {})
-        by_number = {id(one.line): (one, terms) for one, terms in zip(self.taken, forms or [{}] * len(self.taken))}
+        forms, parts = self.sums()
+        by_line = {id(one.line): (one, terms) for one, terms in zip(self.taken, forms)}
         name, total = self.subject.naming.name_cell, self.total
 
         def of(shown: Callable[[Taken, dict[int, Fraction]], str]) -> Callable[[Line], str]:
-            return lambda line: shown(*by_number[id(line)])
+            return lambda line: shown(*by_line[id(line)])
 
         heads = [Head("Limit of", name), Head("Factor", lambda line: number(line["multiplier"])), Head("Its limit", of(lambda one, _: one.words), "text"),
-                 Head("Factor times limit", of(lambda one, _: affine(*one.times)))]
-        foot = ["Sum", "", "", affine(*total)]
-        if forms:
-            heads.append(Head("Factor times activity", of(lambda _, terms: self.named(terms)), "text"))
-            foot.append("0, whatever the plan")
+                 Head("Factor times limit", of(lambda one, _: affine(*one.times))),
+                 Head("Factor times activity", of(lambda _, terms: self.named(terms)), "text")]
+        foot = ["Sum", "", "", affine(*total), "0, whatever the plan"]
         if self.past is None:
             heads.append(Head("Alone it must give way by", of(lambda one, _: fraction(abs(total[0] / one.factor)))))
             foot.append("")
-        yield paragraph("Take each of these limits times its factor: in each line factor times activity is at most factor times limit. Added up, the activities "
-                        "give 0, whatever the plan.")
+        yield paragraph("Take each of these limits times its factor: in each line factor times activity is at most factor times limit. Added up, the "
+                        "activities give 0, whatever the plan.")
         yield table("The sum that proves it", heads, [one.line for one in self.taken], foot=foot)
         yield self.conclusion()
-        if 1 < len(parts) <= MOST_COLUMNS:
-            yield folded("The left sides, column by column", self.by_column(parts))
+        yield from self.columns(parts)
+
+    def columns(self, parts: dict[int, list[tuple[Taken, Fraction]]]) -> Iterator[Html]:
+        "that the activities add up to 0 in each column; folded where there are many columns, left out where there are too many"
+        if len(parts) <= MOST_OPEN:
+            yield self.by_column(parts)
+        elif len(parts) <= MOST_COLUMNS:
+            yield folded(f"The activities, column by column: {len(parts)} columns", self.by_column(parts))
+        else:
+            yield paragraph(f"The activities add up to 0 in each of {len(parts)} columns, too many for a page.", class_="soft")
 
     def named(self, terms: dict[int, Fraction]) -> Html:
         "a sum of columns by their names"
@@ -121,11 +127,11 @@ class Conflict:
         return paragraph("But by these limits the sum is at most ", said(str(total[0])), ", and 0 isn't: so no plan keeps all of them.")
 
     def by_column(self, parts: dict[int, list[tuple[Taken, Fraction]]]) -> Html:
-        "for each column the factors times its entries, which add up to 0"
+        "for each column the factors times its entries, with the row or the column that each is of: they add up to 0"
         def added(line: Line) -> Html:
             return combined([(f"({self.subject.name(one.place)})", value) for one, value in parts[line["number"]]], MOST_TERMS, with_one=True)
         lines = [{"number": column, "name": self.subject.column_name(column)} for column in sorted(parts)]
-        return table("Factor times entry, by row", [Head("Column", lambda line: str(line["name"])), Head("Added up", added, "text"),
+        return table("The activities, column by column: factor times entry", [Head("Column", lambda line: str(line["name"])), Head("Added up", added, "text"),
                                                     Head("Sum", lambda line: number("0"))], lines)
 
 
@@ -158,12 +164,17 @@ def unlimited(subject: Subject, line: Line) -> str:
     return "it has no limit" if limits == (None, None) else "it has no upper limit" if rises else "it has no lower limit"
 
 
+def step_of(lines: Sequence[Line], row: int) -> str:
+    "the change of a row for each unit of the way; OtherJob where the direction hasn't got it"
+    step = next((line["direction"] for line in lines if line["number"] == row + 1), None)
+    if step is None:
+        raise OtherJob("the direction lacks the objective")
+    return str(step)
+
+
 def change_of(lines: Sequence[Line], subject: Subject, row: int) -> Html:
-    """how the change of a row for each unit of the way adds up of those of the columns, each entry times the change; nothing where that are too many,
-    or the job's entries aren't the file's"""
+    "how the change of a row for each unit of the way adds up of those of the columns, each entry times the change; nothing where that are too many"
     m = subject.program.m
-    if not subject.has_entries:
-        return Html("")
-    moving = [(line, Fraction(line["direction"]), subject.columns[line["number"] - 1 - m].get(row, Fraction(0))) for line in lines[m:]]
+    moving = [(line, Fraction(line["direction"]), subject.columns[line["number"] - 1 - m].get(row, Fraction(0))) for line in lines if line["number"] > m]
     terms = [(f"· {step if step > 0 else f'({step})'} ({line['name']})", entry) for line, step, entry in moving if step and entry]
     return joined([combined(terms, MOST_NAMED, with_one=True), " = "]) if 1 < len(terms) <= MOST_NAMED else Html("")

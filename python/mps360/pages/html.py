@@ -85,9 +85,10 @@ class Page:
         most, more = ("greatest", "more") if self.sense == "MAX" else ("least", "less")
         if kind == "optimal":
             total = report.get("objective_with_constant", report["objective"])
-            sums = [" That is ", said(report["objective"]), " and the constant ", said(report["objective_constant"]), "."] if total != report["objective"] else []
-            return joined([f"The {most} value of {name} is ", said(total), unit_span(unit), f": the plan below reaches it, and no plan that keeps all limits has "
-                           f"{more}.", *sums])
+            parts = [f"The {most} value of {name} is ", said(total), unit_span(unit), f": the plan below reaches it, and no plan that keeps all limits has {more}."]
+            if total != report["objective"]:
+                parts += [" That is ", said(report["objective"]), " and the constant ", said(report["objective_constant"]), "."]
+            return joined(parts)
         if kind == "unbounded":
             return joined([f"There is no best plan: {name} {'grows' if self.sense == 'MAX' else 'falls'} without end."])
         if "crossed" in report:
@@ -119,7 +120,7 @@ class Page:
     def change(self, subject: Subject, report: Verdict) -> Html:
         "by how much each unit of the way changes the objective"
         row = subject.program.objective
-        step = next(line["direction"] for line in report["direction"] if line["number"] == row + 1)
+        step = certificates.step_of(report["direction"], row)
         name = as_text(subject.objective)
         return paragraph(f"Each unit changes {name} by ", certificates.change_of(report["direction"], subject, row), said(step),
                          unit_span(self.naming.unit(subject.objective)), ". A row or a bound that should stop this is missing, or MIN stands for MAX.")
@@ -206,7 +207,7 @@ class Page:
                 Html(f'<meta http-equiv="Content-Security-Policy" content="{POLICY}">'), tag("title", title), Html(f"<style>{STYLE}</style>")]
         tools = Html('<a class="skip" href="#page">To the page</a>\n') + "".join(
             f'<input class="tools" type="checkbox" id="{key}"> <label class="tools" for="{key}">{words}</label>\n' for key, words in SWITCHES)
-        main = tag("main", tag("h1", title), self.origin.box(has_claims), *parts, *self.end(), self.notes_box(), *self.proved(), id="page")
+        main = tag("main", tag("h1", title), self.origin.box(has_claims), *parts, *self.end(), self.notes_box(), tag("section", *self.proved(), class_="end"), id="page")
         return f'<!DOCTYPE html>\n<html lang="en"><head>{joined(head)}</head>\n<body>\n{tools}{main}\n</body></html>\n'
 
     def proved(self) -> Iterator[Html]:

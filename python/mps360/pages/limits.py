@@ -128,7 +128,7 @@ def more_words(more: int) -> str:
 def picture(uses: Sequence[Use]) -> Html:
     "the bars one below the other"
     farthest = min(FARTHEST, max([Fraction(1), *(use.share for use in uses if use.share is not None)]))
-    parts = [part for k, use in enumerate(uses) for part in bar(use, k * TALL, farthest)]
+    parts = [part for k, use in enumerate(uses) for part in bar_of(use, k * TALL, farthest)]
     label = "; ".join(f"{as_text(use.name)}: {use.words}{price_words(use)}" for use in uses)
     return tag("svg", *parts, width="100%", height=str(len(uses) * TALL), role="img", aria_label=f"What limits the plan. {label}")
 
@@ -143,7 +143,7 @@ def across(share: Fraction) -> str:
     return f"{float(100 * share * BARS):.2f}%"
 
 
-def bar(use: Use, top: int, farthest: Fraction) -> Iterator[Html]:
+def bar_of(use: Use, top: int, farthest: Fraction) -> Iterator[Html]:
     "the words of one limit, its bar and its price"
     name, height = as_text(use.name), {"y": str(top + BAR_AT), "height": str(BAR_TALL)}
     yield tag("text", tag("title", name), tag("tspan", shortened(name, MOST_LETTERS), class_="name"), x="0", y=str(top + TEXT_AT))

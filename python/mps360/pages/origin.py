@@ -7,12 +7,13 @@ from dataclasses import dataclass
 from datetime import datetime, timezone
 from typing import Literal
 
+from mps360.commands import called
 from mps360.pages.markup import Html, joined, paragraph, tag
 from mps360.provenance import Provenance
 from mps360.version import version
 
 State = Literal["PROVED", "UNPROVED", "NO VERDICT"]
-UNKNOWN = "this page can't see which program printed the listing. mps360check JOB LISTING says whether its numbers prove what it says."
+UNKNOWN = f"this page can't see which program printed the listing. {called('mps360check')} JOB LISTING says whether its numbers prove what it says."
 NOTHING = "the listing has no verdict, so nothing is claimed of the problem."
 
 
@@ -32,7 +33,7 @@ class Origin:
     @classmethod
     def of(cls, provenance: Provenance, file: str) -> Origin:
         "of what the routes came to, for this file"
-        solver = f", with {provenance.solver_words}" if provenance.solver else ""
+        solver = f" ({provenance.solver_words})" if provenance.version else ""
         name = "mps360check" if provenance.by_checker else "mps360"
         program = f"another program in place of {name}" if provenance.kind == "other" else f"{name}, {version()}"
         return cls(now(), "standard input" if file == "-" else file, provenance.file_sha256 or "", provenance.kind == "proved",
@@ -48,7 +49,8 @@ class Origin:
         def line(text: str, sum_: str) -> tuple[Html, ...]:
             return joined([text]), *([tag("span", f"SHA-256 {sum_}", class_="sum")] if sum_ else [])
         if self.route or self.tried:
-            yield "Route", (*([joined([self.route])] if self.route else []), *(joined([f"tried too: {words}"]) for words in self.tried))
+            tried = "tried too" if self.route else "tried"
+            yield "Route", (*([joined([self.route])] if self.route else []), *(joined([f"{tried}: {words}"]) for words in self.tried))
         if self.file:
             yield "File", line(self.file, self.file_sha256)
         if self.program:
@@ -61,7 +63,8 @@ class Origin:
         words = NOTHING if state == "NO VERDICT" else self.who
         lines = [part for name, parts in self.items() for part in (tag("dt", name), *(tag("dd", line) for line in parts))]
         said = paragraph(tag("strong", state), f": {words}")
-        return tag("section", said, tag("dl", *lines), class_=f"origin {'proved' if state == 'PROVED' else 'unproved'}", aria_label="Where this answer comes from")
+        kind = "proved" if state == "PROVED" else "unproved"
+        return tag("section", said, tag("dl", *lines), class_=f"origin {kind}", aria_label="Where this answer comes from")
 
 
 def lowered(sentence: str) -> str:

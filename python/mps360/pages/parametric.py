@@ -1,7 +1,7 @@
 "The best value over the parameter of a parametric run: its breakpoints, and pictures of it in letters and in SVG."
 from __future__ import annotations
 
-from collections.abc import Callable, Iterable, Sequence
+from collections.abc import Callable, Iterable, Iterator, Sequence
 from fractions import Fraction
 from xml.sax.saxutils import escape
 
@@ -13,6 +13,7 @@ Point = tuple[Fraction, Fraction]       # a parameter and the best value there
 WIDTH, HEIGHT = 61, 17
 # of the picture: its width, and of its labels the width of a letter, as wide as those of usual fonts are, and the height of a row
 WHOLE, LETTER, ROW = 640, 7, 18
+WIDE, TALL, LEFT, TOP = 520, 300, 90, 40        # of the plot in it: its size, and its corner
 MOST_LETTERS, MOST_ROWS = 12, 8
 PASTS = {"ends": "the run ends at {}", "infeasible": "no plan past {}", "unbounded": "no bound past {}"}
 
@@ -124,27 +125,31 @@ def labelled(points: Sequence[Point], across: Sequence[float]) -> list[tuple[str
     return labels
 
 
-def in_svg(report: Parametric, points: Sequence[Point]) -> str:
-    "the picture in SVG, with the exact values as titles of the points"
-    wide, tall, left, top = 520, 300, 90, 40
-    place, low, high = scaled(points, wide, tall)
-    spots = [(left + float(across), top + float(down)) for across, down in (place(*point) for point in points)]
-    labels = labelled(points, [x for x, _ in spots])
-    below = top + tall + ROW * (1 + max(row for _, _, row in labels))
-    missing = len(points) - len(labels)
+def svg_text(x: float, y: float, words: str, anchor: str = "middle") -> str:
+    "a text in the picture, with its middle, or another point, there"
+    return f'<text x="{x:.1f}" y="{y:.1f}" text-anchor="{anchor}">{escape(as_text(words))}</text>'
 
-    def text(x: float, y: float, words: str, anchor: str = "middle") -> str:
-        return f'<text x="{x:.1f}" y="{y:.1f}" text-anchor="{anchor}">{escape(as_text(words))}</text>'
 
-    parts = [f'<svg xmlns="http://www.w3.org/2000/svg" viewBox="0 0 {WHOLE} {below + 80}" font-family="sans-serif" font-size="12">',
-             f'<rect width="{WHOLE}" height="{below + 80}" fill="white"/>', text(320, 20, title(report)),
-             f'<path d="M{left} {top}V{top + tall}H{left + wide}" fill="none" stroke="black"/>',
-             f'<polyline points="{" ".join(f"{x:.1f},{y:.1f}" for x, y in spots)}" fill="none" stroke="navy" stroke-width="2"/>']
+def svg_marks(points: Sequence[Point], spots: Sequence[tuple[float, float]], floor: int) -> Iterator[str]:
+    "the line through the points, a dot for each with its exact numbers as a title, and its tick on the axis"
+    yield f'<polyline points="{" ".join(f"{x:.1f},{y:.1f}" for x, y in spots)}" fill="none" stroke="navy" stroke-width="2"/>'
     for (theta, value), (x, y) in zip(points, spots):
-        parts += [f'<circle cx="{x:.1f}" cy="{y:.1f}" r="4" fill="navy"><title>{theta}: {value}</title></circle>',
-                  f'<path d="M{x:.1f} {top + tall}v5" stroke="black"/>']
-    parts += [text(x, top + tall + ROW * (row + 1), words) for words, x, row in labels]
-    parts += [text(left - 8, float(place(points[0][0], value)[1]) + top + 4, rounded(value), "end") for value in dict.fromkeys((low, high))]
-    parts += [text(320, below + 25, "the parameter theta" + (f" ({missing} labels left out: see the titles of the points)" if missing else "")),
-              text(320, below + 50, how_it_ends(report)), "</svg>"]
+        yield f'<circle cx="{x:.1f}" cy="{y:.1f}" r="4" fill="navy"><title>{theta}: {value}</title></circle>'
+        yield f'<path d="M{x:.1f} {floor}v5" stroke="black"/>'
+
+
+def in_svg(report: Parametric, points: Sequence[Point]) -> str:
+    "the picture in SVG"
+    place, low, high = scaled(points, WIDE, TALL)
+    spots = [(LEFT + float(across), TOP + float(down)) for across, down in (place(*point) for point in points)]
+    labels = labelled(points, [x for x, _ in spots])
+    floor = TOP + TALL
+    below = floor + ROW * (1 + max(row for _, _, row in labels))
+    left_out = f" ({len(points) - len(labels)} labels left out: see the titles of the points)" if len(labels) < len(points) else ""
+    parts = [f'<svg xmlns="http://www.w3.org/2000/svg" viewBox="0 0 {WHOLE} {below + 80}" font-family="sans-serif" font-size="12">',
+             f'<rect width="{WHOLE}" height="{below + 80}" fill="white"/>', svg_text(320, 20, title(report)),
+             f'<path d="M{LEFT} {TOP}V{floor}H{LEFT + WIDE}" fill="none" stroke="black"/>', *svg_marks(points, spots, floor)]
+    parts += [svg_text(x, floor + ROW * (row + 1), words) for words, x, row in labels]
+    parts += [svg_text(LEFT - 8, float(place(points[0][0], value)[1]) + TOP + 4, rounded(value), "end") for value in dict.fromkeys((low, high))]
+    parts += [svg_text(320, below + 25, f"the parameter theta{left_out}"), svg_text(320, below + 50, how_it_ends(report)), "</svg>"]
     return "\n".join(parts) + "\n"

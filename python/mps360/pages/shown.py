@@ -76,9 +76,11 @@ def affine(constant: Fraction, rate: Fraction) -> Html:
 
 def term(factor: Fraction, name: str, is_first: bool, with_one: bool) -> Html:
     "a term of a sum of names, with the sign before it; with_one says whether a factor of 1 is shown"
+    is_one = abs(factor) == 1 and not with_one
+    if is_first and not is_one:
+        return joined([fraction(factor), " ", name])
     sign = ("−" if factor < 0 else "") if is_first else " − " if factor < 0 else " + "
-    size = "" if abs(factor) == 1 and not with_one else joined([fraction(abs(factor)), " "])
-    return joined([sign, size, name])
+    return joined([sign, name] if is_one else [sign, fraction(abs(factor)), " ", name])
 
 
 def combined(terms: Sequence[tuple[str, Fraction]], most: int, with_one: bool = False) -> Html:

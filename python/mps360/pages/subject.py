@@ -62,15 +62,12 @@ class Subject:
         "the objective's name"
         return self.name(self.program.objective)
 
-    @property
-    def has_entries(self) -> bool:
-        "whether the job's entries are the file's: not where its long numbers were dealt out on several rows"
-        return self.naming.moved is None
-
     @functools.cached_property
-    def columns(self) -> list[dict[int, Fraction]]:
-        "the entries of each column by the numbers of rows"
-        return self.program.columns
+    def columns(self) -> dict[int, dict[int, Fraction]]:
+        """from the numbers of columns among the columns to their entries by the numbers of rows. Sums of combinations are entries, so these are the
+        file's, also where a job has long numbers dealt out; columns that were added for that are left out"""
+        added = self.naming.moved.added if self.naming.moved else frozenset()
+        return {k: entries for k, entries in enumerate(self.program.columns) if self.program.names[self.program.m + k] not in added}
 
     def in_columns(self, places: Iterable[int]) -> dict[int, dict[int, Fraction]]:
         "each of these variables as a sum of columns: the factors by the columns' numbers among the columns"
@@ -78,7 +75,7 @@ class Subject:
         for place, terms in wanted.items():
             if place >= self.program.m:
                 terms[place - self.program.m] = Fraction(1)
-        for column, entries in enumerate(self.columns):
+        for column, entries in self.columns.items():
             for row, value in entries.items():
                 if value and row in wanted:
                     wanted[row][column] = value

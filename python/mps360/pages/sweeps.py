@@ -5,6 +5,7 @@ from collections.abc import Iterator, Mapping
 from dataclasses import dataclass
 from fractions import Fraction
 
+from mps360.listings.made import OtherJob
 from mps360.listings.read import Interval, Line, Parametric
 from mps360.pages import certificates, plots
 from mps360.pages.markup import Head, Html, folded, joined, paragraph, table, tag
@@ -41,6 +42,8 @@ class Sweep:
         what, where = ("row", "the objective") if self.report["by"] == "paraobj" else ("set", "the rows' limits")
         yield tag("h2", f"Parametric run: theta times the {what} {as_text(self.report['change'])} is added to {where}")
         intervals = self.intervals
+        if len({len(part["lines"]) for part in intervals}) > 1:
+            raise OtherJob("the intervals have other rows and columns")
         if intervals:
             count = f"{len(intervals)} intervals" if len(intervals) > 1 else "one interval"
             yield paragraph("Theta goes from ", said(intervals[0]["from"]), " to ", said(intervals[-1]["to"]),
@@ -122,8 +125,9 @@ class Sweep:
     def change(self, subject: Subject) -> Html:
         "by how much each unit of the way changes the objective with its part of the change row"
         program, lines = subject.program, self.report["direction"]
-        step = next(Fraction(line["direction"]) for line in lines if line["number"] == program.objective + 1)
-        rate = next((Fraction(line["direction"]) for line in lines[:program.m] if line["name"] == self.report["change"]), Fraction(0))
+        step = Fraction(certificates.step_of(lines, program.objective))
+        rows = [line for line in lines if line["number"] <= program.m]
+        rate = next((Fraction(line["direction"]) for line in rows if line["name"] == self.report["change"]), Fraction(0))
         more = "more" if self.sense == "MAX" else "less"
         return paragraph(joined([f"Each unit changes {as_text(subject.objective)} + θ {as_text(self.report['change'])} by ", affine(step, rate)]),
                          f", which is {more} than 0 for every theta past ", said(self.report["at"]), ". A row or a bound that should stop this is missing.")

@@ -44,7 +44,8 @@ def between(near: Near, low: str, high: str) -> Cell:
 
 def heads_of(kind: str, naming: Naming, price: Head | None, middle: Sequence[Head], near: Near, ranging: Sequence[Head]) -> list[Head]:
     "the heads of a table: name, activity and price come first, which a narrow screen shows"
-    first = [Head(kind, naming.name_cell), Head("Activity", of("activity")), *([price] if price else []), Head("Stands", lambda line: place(line["at"]), "text")]
+    prices = [price] if price else []
+    first = [Head(kind, naming.name_cell), Head("Activity", of("activity")), *prices, Head("Stands", lambda line: place(line["at"]), "text")]
     return [*first, *middle, *(ranging if near else [])]
 
 

@@ -7,13 +7,14 @@ use Rattle.listing_answers.proofs.ParametricRunFacts.{parametric_run_opened, par
 use Rattle.listing_answers.proofs.answer.answer_to_parametric_run.Goals as goal
 
 pub read_opening-requires-clause-asked : goal.read_opening-requires-clause-asked
-read_opening-requires-clause-asked c = record { lawful = c.requires.lawful; no_change = c.requires.no_change; serves = c.requires.serves }
+read_opening-requires-clause-asked g c = record { lawful = c.requires.lawful; no_change = c.requires.no_change; serves = c.requires.serves }
 
 pub read_run-requires-clause-asked : goal.read_run-requires-clause-asked
-read_run-requires-clause-asked c = record { lawful = c.requires.lawful; no_change = c.requires.no_change; serves = c.requires.serves }
+read_run-requires-clause-asked g c = record { lawful = c.requires.lawful; no_change = c.requires.no_change; serves = c.requires.serves }
 
 pub returns-in_err-mark : goal.returns-in_err-mark
-returns-in_err-mark c limit =
+returns-in_err-mark g c limit =
+    let C = g.T.Checks.checker in
     let sheet = sheet_view c.args.sheet in
     let parametric_run = parametric_run_of limit c.args.request.now in
     let old = c.args.cursor.now in
@@ -21,10 +22,11 @@ returns-in_err-mark c limit =
     let ahead = c.take_parametric_run_head.new.cursor in
     let head = ap (left_after (parametric_run_head parametric_run)) (sym start) ∙ c.take_parametric_run_head.ensures limit in
     let missing : left_after (parametric_run_head parametric_run) old ≡ None = head ∙ ap (λ b. taken b ahead) c.if-not-take_parametric_run_head.true in
-    parametric_run_opening_stops sheet parametric_run old missing c.in_err-mark.field-0.0 c.read_opening.new.cursor c.from_residual.result (c.in_err-mark.ensures limit) c.from_residual.ensures.1
+    parametric_run_opening_stops C sheet parametric_run old missing c.in_err-mark.field-0.0 c.read_opening.new.cursor c.from_residual.result (c.in_err-mark.ensures limit) c.from_residual.ensures.1
 
 pub returns-then-not-take_parametric_run_head : goal.returns-then-not-take_parametric_run_head
-returns-then-not-take_parametric_run_head c limit =
+returns-then-not-take_parametric_run_head g c limit =
+    let C = g.T.Checks.checker in
     let sheet = sheet_view c.args.sheet in
     let parametric_run = parametric_run_of limit c.args.request.now in
     let old = c.args.cursor.now in
@@ -32,10 +34,11 @@ returns-then-not-take_parametric_run_head c limit =
     let ahead = c.take_parametric_run_head.new.cursor in
     let head = ap (left_after (parametric_run_head parametric_run)) (sym start) ∙ c.take_parametric_run_head.ensures limit in
     let missing : left_after (parametric_run_head parametric_run) old ≡ None = head ∙ ap (λ b. taken b ahead) c.if-not-take_parametric_run_head.true in
-    parametric_run_opened sheet parametric_run old missing c.in_ok-mark.mark c.read_opening.new.cursor (c.in_ok-mark.ensures limit)
+    parametric_run_opened C sheet parametric_run old missing c.in_ok-mark.mark c.read_opening.new.cursor (c.in_ok-mark.ensures limit)
 
 pub returns-in_err-last : goal.returns-in_err-last
-returns-in_err-last c limit =
+returns-in_err-last g c limit =
+    let C = g.T.Checks.checker in
     let sheet = sheet_view c.args.sheet in
     let parametric_run = parametric_run_of limit c.args.request.now in
     let old = c.args.cursor.now in
@@ -43,10 +46,11 @@ returns-in_err-last c limit =
     let ahead = c.take_parametric_run_head.new.cursor in
     let head = ap (left_after (parametric_run_head parametric_run)) (sym start) ∙ c.take_parametric_run_head.ensures limit in
     let stands : left_after (parametric_run_head parametric_run) old ≡ Some ahead = head ∙ ap (λ b. taken b ahead) c.if-not-take_parametric_run_head.false in
-    parametric_run_stops sheet parametric_run old ahead stands c.in_err-last.field-0.0 c.read_run.new.cursor c.from_residual-in_err-last.result (c.in_err-last.ensures limit) c.from_residual-in_err-last.ensures.1
+    parametric_run_stops C sheet parametric_run old ahead stands c.in_err-last.field-0.0 c.read_run.new.cursor c.from_residual-in_err-last.result (c.in_err-last.ensures limit) c.from_residual-in_err-last.ensures.1
 
 pub returns : goal.returns
-returns c limit =
+returns g c limit =
+    let C = g.T.Checks.checker in
     let sheet = sheet_view c.args.sheet in
     let parametric_run = parametric_run_of limit c.args.request.now in
     let old = c.args.cursor.now in
@@ -54,4 +58,4 @@ returns c limit =
     let ahead = c.take_parametric_run_head.new.cursor in
     let head = ap (left_after (parametric_run_head parametric_run)) (sym start) ∙ c.take_parametric_run_head.ensures limit in
     let stands : left_after (parametric_run_head parametric_run) old ≡ Some ahead = head ∙ ap (λ b. taken b ahead) c.if-not-take_parametric_run_head.false in
-    parametric_ran sheet parametric_run old ahead stands c.in_ok-last.last c.read_run.new.cursor (c.in_ok-last.ensures limit)
+    parametric_ran C sheet parametric_run old ahead stands c.in_ok-last.last c.read_run.new.cursor (c.in_ok-last.ensures limit)

@@ -1,21 +1,21 @@
 use Rattle.std.proofs.Common.{map, length, ap, sym, ◌∙◌}
 use Rattle.lp_definitions.specs.LinearProgram.{size, numbers_from}
-use Rattle.walk_definitions.specs.Checkers.{checker_of_128_bits}
-use Rattle.walk_definitions.specs.Words.{fraction_in}
 use Rattle.walk_definitions.specs.Tables.{pair_slots, table_in}
 use Rattle.listing_readers.specs.declared.tables.Numbers.{Numbers}
 use Rattle.listing_readers.specs.declared.tables.Shape.TheVariants.{Pair}
 use Rattle.listing_words.specs.Read.{sheet_view}
+use Rattle.listing_claims.specs.Numbers.{number_in}
 use Rattle.listing_answers.proofs.Tables.{column_is, column_length, lines_counted}
 use Rattle.listing_answers.proofs.claims.read_pair.Goals as goal
 
 pub returns : goal.returns
-returns c =
+returns g c =
+    let of = number_in g.T.Checks.checker c.args.by in
     let sheet = sheet_view c.args.sheet in
     let read = rw c.in-Some.is at c.in_ok-numbers.ensures in
     let numbers = c.in-Some.numbers.items in
-    let table = ap (λ n. table_in (fraction_in checker_of_128_bits) sheet pair_slots (numbers_from 1 n) c.args.cursor.now) (sym c.number_of_variables-count.ensures.size) ∙ read.1 in
-    let places = lines_counted sheet pair_slots c.args.cursor.now read.0 c.table.new.cursor table in
+    let table = ap (λ n. table_in of sheet pair_slots (numbers_from 1 n) c.args.cursor.now) (sym c.number_of_variables-count.ensures.size) ∙ read.1 in
+    let places = lines_counted of sheet pair_slots c.args.cursor.now read.0 c.table.new.cursor table in
     let point = column_is Pair (λ n. n.first) numbers read.0 c.in_ok-point.point.items read.2 (c.in_ok-point.ensures ∙ ap (map (λ (n : Numbers). n.first)) c.deref.ensures.value) in
     let direction = column_is Pair (λ n. n.second) numbers read.0 c.in_ok-direction.direction.items read.2 (c.in_ok-direction.ensures ∙ ap (map (λ (n : Numbers). n.second)) c.deref-2.ensures.value) in (
       read.0,

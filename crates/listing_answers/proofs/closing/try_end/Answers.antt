@@ -1,15 +1,17 @@
-use Rattle.std.proofs.Common.{Option, Some, refl, ap, sym, subst, ◌∙◌}
-use Rattle.exact_values.specs.Rational.{ℚ}
+use Rattle.std.proofs.Common.{Some, refl, ap, sym, ◌∙◌}
 use Rattle.listing_definitions.specs.Report.{EndsAt}
-use Rattle.listing_answers.specs.Closings.{IsEndRead, end_in}
+use Rattle.listing_claims.specs.Numbers.{number_in}
+use Rattle.listing_answers.specs.Closings.{end_in}
 use Rattle.listing_answers.proofs.closing.try_end.Goals as goal
 
-pub returns-in_err-value : goal.returns-in_err-value
-returns-in_err-value c =
+pub returns-in_default : goal.returns-in_default
+returns-in_default g c =
+    let of = number_in g.T.Checks.checker c.args.by in
     let start = c.new-ahead.ensures ∙ c.left.ensures in
-    subst (λ (r : Option ℚ). IsEndRead c.args.cursor.now c.args.cursor.now r) (sym c.from_residual.ensures) (ap end_in (sym start) ∙ c.in_err-value.ensures (λ t after. Some (EndsAt t, after)), refl)
+    (ap (end_in of) (sym start) ∙ (rw c.in_default.is at c.in_ok-value.ensures) (λ t after. Some (EndsAt t, after)), refl)
 
 pub returns : goal.returns
-returns c =
+returns g c =
+    let of = number_in g.T.Checks.checker c.args.by in
     let start = c.new-ahead.ensures ∙ c.left.ensures in
-    ap end_in (sym start) ∙ c.in_ok-value.ensures (λ t after. Some (EndsAt t, after))
+    ap (end_in of) (sym start) ∙ (rw c.in-Some.is at c.in_ok-value.ensures) (λ t after. Some (EndsAt t, after))

@@ -1,22 +1,22 @@
 use Rattle.std.proofs.Common.{map, length, ap, sym, ◌∙◌}
 use Rattle.lp_definitions.specs.LinearProgram.{size, numbers_from}
-use Rattle.walk_definitions.specs.Checkers.{checker_of_128_bits}
-use Rattle.walk_definitions.specs.Words.{fraction_in}
 use Rattle.walk_definitions.specs.Tables.{part_slots, table_in}
 use Rattle.listing_readers.specs.declared.tables.Numbers.{Numbers}
 use Rattle.listing_readers.specs.declared.tables.Shape.TheVariants.{Part}
 use Rattle.listing_words.specs.Read.{sheet_view}
+use Rattle.listing_claims.specs.Numbers.{number_in}
 use Rattle.listing_answers.proofs.Tables.{column_is, column_length, lines_counted}
 use Rattle.listing_answers.proofs.intervals.read_columns.Goals as goal
 
 pub returns : goal.returns
-returns c =
+returns g c =
+    let of = number_in g.T.Checks.checker c.args.by in
     let sheet = sheet_view c.args.sheet in
     let n = size sheet.lp.matrix in
     let read = rw c.in-Some.is at c.in_ok-numbers.ensures in
     let numbers = c.in-Some.numbers.items in
-    let table = ap (λ n. table_in (fraction_in checker_of_128_bits) sheet part_slots (numbers_from 1 n) c.args.cursor.now) (sym c.number_of_variables-count.ensures.size) ∙ read.1 in
-    let places = lines_counted sheet part_slots c.args.cursor.now read.0 c.table.new.cursor table in
+    let table = ap (λ n. table_in of sheet part_slots (numbers_from 1 n) c.args.cursor.now) (sym c.number_of_variables-count.ensures.size) ∙ read.1 in
+    let places = lines_counted of sheet part_slots c.args.cursor.now read.0 c.table.new.cursor table in
     let value = column_is Part (λ n. n.first) numbers read.0 c.in_ok-firsts.field-0.items read.2 (c.in_ok-firsts.ensures ∙ ap (map (λ (n : Numbers). n.first)) c.deref.ensures.value) in
     let value_rate = column_is Part (λ n. n.second) numbers read.0 c.in_ok-seconds.field-0.items read.2 (c.in_ok-seconds.ensures ∙ ap (map (λ (n : Numbers). n.second)) c.deref-2.ensures.value) in
     let price = column_is Part (λ n. n.third) numbers read.0 c.in_ok-thirds.field-0.items read.2 (c.in_ok-thirds.ensures ∙ ap (map (λ (n : Numbers). n.third)) c.deref-3.ensures.value) in

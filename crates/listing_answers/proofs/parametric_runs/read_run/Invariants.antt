@@ -1,6 +1,5 @@
 use Rattle.std.proofs.Common.{◌+◌, ℕ, drop}
 use Rattle.parametric_request.specs.Asking.{parametric_run_of}
-use Rattle.walk_definitions.specs.Checkers.{checker_of_128_bits}
 use Rattle.walk_definitions.specs.Reading.{run_in}
 use Rattle.listing_words.specs.Read.{sheet_view}
 use Rattle.listing_answers.proofs.Runs.{IsRunSoFar}
@@ -8,6 +7,6 @@ use Rattle.listing_answers.proofs.parametric_runs.read_run.Given as goal
 
 -- what is left decides the whole; each interval has taken a byte of room
 abbrev pub invariant-loop-index : goal.invariant-loop-index
-invariant-loop-index l =
-    (limit : ℕ) → IsRunSoFar (sheet_view l.fn.sheet) (parametric_run_of limit l.fn.request) (run_in checker_of_128_bits (sheet_view l.fn.sheet) (parametric_run_of limit l.fn.request) l.fn.cursor 1 l.fn.request.from l.fn.cursor)
+invariant-loop-index g l =
+    (limit : ℕ) → IsRunSoFar g.T.Checks.checker (sheet_view l.fn.sheet) (parametric_run_of limit l.fn.request) (run_in g.T.Checks.checker (sheet_view l.fn.sheet) (parametric_run_of limit l.fn.request) l.fn.cursor 1 l.fn.request.from l.fn.cursor)
     (drop l.index l.fn.cursor) (l.index + 1) l.last l.cursor

@@ -1,0 +1,37 @@
+//! Numbers that are made from a seed, and what is compared of a long one.
+
+use naturals::Natural;
+use std::alloc::{AllocError, Global};
+
+/// A prime of 61 bits, by which a long number's remainder is what the tables have of it.
+const PRIME: u128 = 2305843009213693951;
+
+// The next word of a sequence (G. Marsaglia, Xorshift RNGs, 2003).
+fn next(state: u64) -> u64 {
+    let mut word = state;
+    word ^= word << 13;
+    word ^= word >> 7;
+    word ^= word << 17;
+    word
+}
+
+/// The number of so many words of the sequence that a seed begins; of seed 0 each word has all its bits set.
+pub fn number(alloc: Global, seed: u64, words: usize) -> Result<Natural, AllocError> {
+    let mut state = seed;
+    let mut limbs = Vec::new(alloc);
+    for _ in 0..words {
+        state = next(state);
+        limbs.push(if seed == 0 { u64::MAX } else { state })?;
+    }
+    Ok(Natural::from_limbs(limbs))
+}
+
+/// The number's remainder by the prime.
+pub fn residue(number: &Natural) -> u64 {
+    let mut rest: u128 = 0;
+    for limb in number.limbs().iter().rev() {
+        let word = (rest % PRIME) << 64 | *limb as u128;
+        rest = word % PRIME;
+    }
+    rest.min(u64::MAX as u128) as u64
+}
