@@ -1,5 +1,5 @@
 -- Multipliers and the limits that they meet.
-use Rattle.std.proofs.Common.{◌≡◌, ◌⊎◌, inl, inr, ℕ, zero, suc, ◌+◌, ◌<◌, ◌≤◌, List, [], ◌∷◌, Bool, true, false, not, cond, refl, sym, ap, ap₂, subst, ◌∙◌, pos, arith, add-one, Option, Some, None}
+use Rattle.std.proofs.Common.{◌≡◌, ◌⊎◌, inl, inr, ℕ, zero, suc, ◌+◌, ◌<◌, ◌≤◌, ◌∷◌, Bool, true, false, not, cond, refl, sym, ap, ◌∙◌, pos, arith, add-one, Option, Some, None}
 use Rattle.std.specs.Prelude.{ℤ, ◌*ℤ◌, ◌||◌, is_some, option_map, unwrap_or}
 use Rattle.std.specs.declared.cmp.Ordering.{Ordering}
 use Rattle.std.specs.declared.cmp.Ordering.TheVariants.{Less, Equal, Greater}
@@ -13,8 +13,8 @@ use Rattle.exact_values.proofs.Tests_laws.{same_from_test, apart_from_eq_fails}
 use Rattle.lp_definitions.specs.LinearProgram.{LinearProgram, Vector, IsVariable, size, numbers_from, lower_of, upper_of}
 use Rattle.lp_definitions.specs.Solutions.{limit_against}
 use Rattle.lp_laws.proofs.Rays.{limit_of_positive, limit_of_negative}
-use Rattle.check_definitions.specs.Steps.{AllHold, sum_of, product_of}
-use Rattle.check_definitions.specs.Checks.{multiplied, multiplied_among, limit_product, ray_limits}
+use Rattle.check_definitions.specs.Steps.{AllHold, product_of}
+use Rattle.check_definitions.specs.Checks.{multiplied_among, limit_product, ray_limits}
 use Rattle.certificate_laws.proofs.Meaning.{meets_if_held, sum_of_met}
 use Rattle.long_vectors.specs.declared.values.Value.{Value}
 use Rattle.long_vectors.specs.Vectors.{IsValue}

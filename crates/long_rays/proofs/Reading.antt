@@ -1,12 +1,12 @@
 -- The steps of rays and directions, number by number.
-use Rattle.std.proofs.Common.{◌≡◌, ℕ, ◌+◌, List, Bool, true, false, not, Option, Some, None, refl, sym, ap, ◌∙◌, pos}
+use Rattle.std.proofs.Common.{◌≡◌, ◌+◌, List, Bool, true, false, not, Option, Some, None, refl, sym, ap, ◌∙◌, pos}
 use Rattle.std.specs.Prelude.{is_some, is_none, option_map}
 use Rattle.exact_values.specs.Rational.{ℚ, zero_ℚ, one_ℚ, ◌+ℚ◌, ◌-ℚ◌, ◌*ℚ◌}
 use Rattle.exact_values.proofs.Ring_laws.{zero-add}
 use Rattle.lp_laws.proofs.Entries.{sum_from_is}
 use Rattle.certificate_laws.proofs.Products.{sum_of-entries}
 use Rattle.exact_values.proofs.Ring.{by_ring3, ◌⊕◌, ◌⊖◌, ◌⊗◌, ◌≐◌, number}
-use Rattle.lp_definitions.specs.LinearProgram.{LinearProgram, Vector, column}
+use Rattle.lp_definitions.specs.LinearProgram.{LinearProgram, Vector}
 use Rattle.lp_definitions.specs.declared.Entry.{Entry}
 use Rattle.check_definitions.specs.Steps.{sum_steps, sum_of}
 use Rattle.check_definitions.specs.Checks.{ray_column, free_to_move, column_products, entry_products}

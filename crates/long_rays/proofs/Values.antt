@@ -1,16 +1,14 @@
 -- Numbers of a vector, compared.
-use Rattle.std.proofs.Common.{◌≡◌, ℕ, zero, suc, ◌+◌, List, refl, sym, ap, ◌∙◌, pos, negsuc, add-one, Option, Some, None}
+use Rattle.std.proofs.Common.{◌≡◌, ℕ, ◌+◌, refl, sym, ap, ◌∙◌, pos, negsuc, add-one, Option, Some, None}
 use Rattle.std.specs.Prelude.{ℤ, ◌*ℤ◌, option_map}
-use Rattle.std.specs.declared.cmp.Ordering.{Ordering}
 use Rattle.exact_values.specs.Rational.{ℚ, whole, zero_ℚ, one_ℚ, compare_ℚ, ◌+ℚ◌, ◌-ℚ◌, ◌*ℚ◌}
 use Rattle.exact_values.specs.Sums.{sum_to, sum_up_to}
 use Rattle.exact_values.specs.Tests.{is_less}
 use Rattle.exact_values.proofs.Order.{zero_below_one}
-use Rattle.exact_values.proofs.Ring.{by_ring1, by_ring2, by_ring3, by_ring4, by_ring5, ◌⊕◌, ◌⊖◌, ◌⊗◌, ◌≐◌, number}
+use Rattle.exact_values.proofs.Ring.{by_ring2, by_ring3, by_ring4, by_ring5, ◌⊕◌, ◌⊖◌, ◌⊗◌, ◌≐◌, number}
 use Rattle.exact_values.proofs.Ring_laws.{whole-mul, zero-mul}
-use Rattle.lp_definitions.specs.LinearProgram.{LinearProgram, Vector, IsVariable, value_at, lower_of, upper_of, objective_value, with_change_row}
+use Rattle.lp_definitions.specs.LinearProgram.{LinearProgram, Vector, IsVariable, lower_of, upper_of, objective_value, with_change_row}
 use Rattle.check_definitions.specs.Checks.{is_crossed}
-use Rattle.certificate_laws.proofs.Products.{sum_of-all}
 use Rattle.long_vectors.specs.declared.values.Value.{Value}
 use Rattle.long_vectors.specs.Vectors.{IsValue}
 use Rattle.long_programs.specs.declared.programs.ChangeAt.{ChangeAt}

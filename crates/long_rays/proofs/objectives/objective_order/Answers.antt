@@ -1,7 +1,6 @@
 use Rattle.std.proofs.Common.{ap, sym, ◌∙◌, ◌≡◌}
 use Rattle.exact_values.specs.Rational.{whole, zero_ℚ, compare_ℚ, ◌+ℚ◌, ◌*ℚ◌}
 use Rattle.exact_values.proofs.Order.{mul-positive}
-use Rattle.lp_definitions.specs.declared.Sense.{Sense}
 use Rattle.lp_definitions.specs.LinearProgram.{LinearProgram, value_at, for_min}
 use Rattle.long_points.specs.Tests.{counted_by}
 use Rattle.long_points.proofs.Orders.{counted_is}

@@ -1,4 +1,4 @@
-use Rattle.std.proofs.Common.{◌≡◌, ℕ, ◌+◌, ap, sym, ◌∙◌, rules}
+use Rattle.std.proofs.Common.{◌≡◌, ℕ, ap, sym, ◌∙◌, rules}
 use Rattle.exact_values.specs.Rational.{ℚ, whole, zero_ℚ, compare_ℚ, ◌*ℚ◌}
 use Rattle.exact_values.specs.Sums.{sum_up_to}
 use Rattle.lp_definitions.specs.LinearProgram.{LinearProgram, value_at}

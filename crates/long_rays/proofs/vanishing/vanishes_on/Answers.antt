@@ -1,4 +1,4 @@
-use Rattle.std.proofs.Common.{◌≡◌, ◌+◌, ap, sym, ◌∙◌, List, length}
+use Rattle.std.proofs.Common.{◌+◌, ap, sym, ◌∙◌, List, length}
 use Rattle.exact_values.specs.Rational.{whole, zero_ℚ, ◌+ℚ◌, ◌*ℚ◌}
 use Rattle.exact_values.specs.Tests.{is_equal, eq_ℚ}
 use Rattle.lp_definitions.specs.declared.Entry.{Entry}
