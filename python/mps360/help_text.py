@@ -8,10 +8,14 @@ after the first and their continuations indented; a line of two blanks begins a 
 in lines that are indented further. A form too may have two blanks or more and what it means."""
 from __future__ import annotations
 
+import os
 import re
+import subprocess
 import textwrap
 from collections.abc import Iterator
 from dataclasses import dataclass
+
+from mps360 import commands
 
 WIDTH = 79
 MOST_TERM = 20
@@ -135,3 +139,25 @@ def wide_of(parts: list[Part], at: int) -> int:
     while last + 1 < len(parts) and isinstance(parts[last + 1], Row):
         last += 1
     return max([len(row.term) for row in parts[first:last + 1] if isinstance(row, Row) and len(row.term) <= MOST_TERM] or [MOST_TERM])
+
+
+def named(name: str, text: str) -> str:
+    "the head of a command's module with the names that the commands have here"
+    def is_called(found: re.Match[str]) -> str:
+        return os.path.basename(commands.called(found[0]))
+    text = re.sub(rf"^(usage: |       ){re.escape(name)}\b(?!\.)", lambda found: found[1] + os.path.basename(commands.called(name)), text, flags=re.M)
+    if commands.IS_INSTALLED:
+        text = re.sub(r"\b(?<!scripts/)[a-z0-9_]+\.py\b|\b(?<!-)(?:attest|explain|prove|solve)(?= --help)", is_called, text)
+    return commands.here(text)
+
+
+def shown(name: str, text: str) -> str:
+    "what --help says"
+    return wrapped(named(name, text)) + "\n\n--help says this, --version of which commit it is."
+
+
+def version(name: str) -> str:
+    "what --version says: of which commit the commands are, and whether there is a proved program"
+    asked = subprocess.run([os.path.join(commands.TOP, "mps360" if commands.IS_INSTALLED else "scripts/mps360"), "--version"], check=False,
+                           stdout=subprocess.PIPE, stdin=subprocess.DEVNULL, text=True)
+    return f"{os.path.basename(commands.called(name))} {asked.stdout.strip().removeprefix('mps360 ')}"

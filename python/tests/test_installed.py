@@ -97,7 +97,7 @@ def test_install(tmp_path):
     assert pages and all(pathlib.Path(page).exists() for page in pages), f"mps360 --help names documents that are installed: {pages}"
     for name in ("mps360", "mps360check"):
         page = prefix / f"share/man/man1/{name}.1"
-        assert page.read_bytes().startswith(f".TH {name.upper()} 1\n".encode()), f"the manual page {name}.1 is there"
+        assert page.read_bytes().startswith(f".TH {name.upper()} 1 ".encode()), f"the manual page {name}.1 is there"
         if shutil.which("man"):
             ended = call("man", page, env={**os.environ, "MANWIDTH": "80"})
             assert ended.returncode == 0 and not ended.stderr and b"EXIT STATUS" in ended.stdout, (f"the manual page {name}.1 can be read", ended)
@@ -109,7 +109,7 @@ def check_completion(folder, prefix):
         script = prefix / "share/bash-completion/completions" / command
         option = ("--r", "--resume") if command == "mps360-batch" else ("--v", "--version")
         for word, wanted in (("f", "first.job"), option):
-            lines = f"cd {folder}; source {script}; COMP_WORDS=({command} {word}); COMP_CWORD=1; _{command.replace('-', '_')}; echo ${{COMPREPLY[@]}}"
+            lines = f"cd {folder}; source {script}; COMP_WORDS=({command} {word}); COMP_CWORD=1; _mps360_of_{command.replace('-', '_')}; echo ${{COMPREPLY[@]}}"
             ended = call("bash", "-c", lines)
             assert ended.stdout.decode() == wanted + "\n", (f"completion of {command} {word}", ended)
 

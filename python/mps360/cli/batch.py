@@ -56,7 +56,6 @@ from mps360.cli.route_options import solvers_of
 from mps360.life import Life, keep_above
 from mps360.cli.words import taken
 from mps360.text import guard
-from mps360.commands import here
 from mps360.output import CantWrite, command
 from mps360.solver_names import not_installed
 from mps360.summary import NO_ROUTE, Record, Summary, as_record, for_a_sheet
@@ -486,9 +485,6 @@ def main(words: list[str] | None = None) -> int:
     words = sys.argv[1:] if words is None else words
     errors = sys.stderr
     guard()
-    if any(word in ("-h", "--help") for word in words):
-        print(here(__doc__ or ""))
-        return 0
     parser = Words(add_help=False, allow_abbrev=False)
     parser.add_argument("-j", dest="at_once", type=positive(int), default=1)
     parser.add_argument("--time-limit", type=positive(float))
