@@ -1,8 +1,8 @@
 #!/usr/bin/env python3
 """Checks a VIPR certificate of a linear program (VER 1.0, and of VER 1.1 what
 has all multipliers), by a reading of the format of its own: that its solution
-keeps each constraint, that each derived constraint follows by its multipliers, and
-that the last one proves what RTP states.
+keeps each constraint, that each derived constraint follows by its multipliers,
+and that the last one proves what RTP states.
 
 usage: check_vipr.py CERTIFICATE
            CERTIFICATE may be gzipped; - is standard input
