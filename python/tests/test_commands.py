@@ -1,10 +1,13 @@
 "Each command says what it is in lines of 79 columns, with each option that it takes; manual pages and completions are made of that."
 import argparse
+import functools
 import importlib
+import pathlib
 import re
 import shutil
 import subprocess
 import sys
+import tempfile
 
 import places
 import pytest
@@ -48,9 +51,17 @@ def parser_of(module):
     raise AssertionError(f"{module}: no parser read the words")
 
 
-@pytest.fixture(scope="module")
+@functools.lru_cache(maxsize=None)
 def all_commands():
     return {command.name: command for command in manuals.commands_of(places.TOP / "scripts", "")}
+
+
+@functools.lru_cache(maxsize=None)
+def written():
+    "the folder of the pages and completions, which goes when the tests end"
+    folder = tempfile.TemporaryDirectory(prefix="mps360-")
+    manuals.write(list(all_commands().values()), pathlib.Path(folder.name), "mps360 of a test")
+    return folder
 
 
 @pytest.mark.parametrize("file", [*FILES, "unproved.py", "build.sh", "install.sh", "program.sh"])
@@ -71,9 +82,9 @@ def test_names_that_are_installed():
 
 
 @pytest.mark.parametrize("name", PARSED)
-def test_help_has_each_option(name, all_commands):
+def test_help_has_each_option(name):
     parser = parser_of(PARSED[name])
-    command = all_commands.get(name) or all_commands[f"mps360-{name}"]
+    command = all_commands().get(name) or all_commands()[f"mps360-{name}"]
     taken = {word: action for action in parser._actions for word in action.option_strings}
     told = {word: option for option in command.options for word in option.words}
     # (solve, prove and basis2deck hand on words of mps2job; solve --serve is read before its parser)
@@ -86,9 +97,9 @@ def test_help_has_each_option(name, all_commands):
             assert told[word].choices == list(map(str, action.choices)), f"{name} {word}: its values"
 
 
-def test_shared_words(all_commands):
+def test_shared_words():
     values = {}
-    for command in all_commands.values():
+    for command in all_commands().values():
         for option in command.options:
             for word in option.words:
                 values.setdefault(word, set()).add(option.value)
@@ -96,28 +107,38 @@ def test_shared_words(all_commands):
     assert all(re.fullmatch(r"--[a-z][a-z0-9-]*|-[jo]", word) for word in values)
 
 
-def test_pages_and_completions(tmp_path):
-    subprocess.run([sys.executable, places.TOP / "packaging/manuals.py", places.TOP / "scripts", tmp_path], check=True, timeout=300)
-    pages = sorted(path.name for path in (tmp_path / "share/man/man1").iterdir())
+def test_pages_and_completions():
+    share = pathlib.Path(written().name, "share")
+    pages = sorted(path.name for path in (share / "man/man1").iterdir())
     assert pages == sorted(f"{name}.1" for name in FILES.values())
     for page in pages:
-        text = (tmp_path / "share/man/man1" / page).read_text()
+        text = (share / "man/man1" / page).read_text()
         assert all(f".SH {title}\n" in text for title in ("NAME", "SYNOPSIS", "DESCRIPTION", "EXIT STATUS")), page
         if shutil.which("man"):
-            ended = subprocess.run(["man", "--warnings", "-l", tmp_path / "share/man/man1" / page], capture_output=True, timeout=60, check=False)
+            ended = subprocess.run(["man", "--warnings", "-l", share / "man/man1" / page], capture_output=True, timeout=60, check=False)
             assert ended.returncode == 0 and not ended.stderr, (page, ended.stderr)
     for shell, path in (("bash", "bash-completion/completions/mps360-solve"), ("zsh", "zsh/site-functions/_mps360"), ("fish", "fish/vendor_completions.d/mps360-solve.fish")):
         if shutil.which(shell):
-            subprocess.run([shell, "-n", tmp_path / "share" / path], check=True, timeout=60)
+            subprocess.run([shell, "-n", share / path], check=True, timeout=60)
 
 
 def test_completion_in_bash(tmp_path):
     "what bash offers: options, the values of one, files"
-    subprocess.run([sys.executable, places.TOP / "packaging/manuals.py", places.TOP / "scripts", tmp_path], check=True, timeout=300)
     for words, wanted in ((("mps2job", "--neg"), "--negative-up"), (("mps2job", "--negative-up", "f"), "free"), (("mps360-solve", "--only", "b"), "basis"),
                           (("mps360-solve", "diet"), "diet.mps")):
         (tmp_path / "diet.mps").touch()
-        script = f"source share/bash-completion/completions/{words[0]}; COMP_WORDS=({' '.join(words)}); COMP_CWORD={len(words) - 1}; " \
+        script = f"source {written().name}/share/bash-completion/completions/{words[0]}; COMP_WORDS=({' '.join(words)}); COMP_CWORD={len(words) - 1}; " \
                  f"$(complete -p {words[0]} | sed 's/.*-F \\([^ ]*\\) .*/\\1/'); echo \"${{COMPREPLY[@]}}\""
         ended = subprocess.run(["bash", "-c", script], cwd=tmp_path, capture_output=True, text=True, timeout=60, check=True)
         assert ended.stdout.strip() == wanted, (words, ended)
+
+
+def test_what_packages_are_made_of():
+    "the files are there, and the scripts can be read; dev/check.sh builds no package"
+    packaging = places.TOP / "packaging"
+    for name in ("build_packages.sh", "try_packages.sh", "../scripts/install.sh"):
+        subprocess.run(["bash", "-n", packaging / name], check=True, timeout=60)
+    assert {path.name for path in (packaging / "debian").iterdir()} >= {"control", "copyright", "rules", "source"}
+    control = (packaging / "debian/control").read_text()
+    assert control.count("\n@STATE@\n") == 2 and control.count("@SHORT@") == 2
+    assert all((places.TOP / "scripts" / file).exists() for file in FILES)
