@@ -50,7 +50,7 @@ from concurrent.futures import FIRST_COMPLETED, ThreadPoolExecutor, wait
 from pathlib import Path
 from typing import Any, NoReturn
 from mps360.listings.read import NUMBER
-from mps360 import programs, solvers
+from mps360 import at_hand, programs, solvers
 from mps360.cli import mps2job
 from mps360.cli.route_options import solvers_of
 from mps360.life import Life, keep_above
@@ -357,7 +357,7 @@ def a_program() -> tuple[str, bool]:
         raise Wrong(70, "no proved program is there; scripts/build.sh proves and builds it, in some 25 minutes")
     say("running UNPROVED; scripts/build.sh proves and builds the program, in some 25 minutes")
     try:
-        return unproved.kept("mps360") or unproved.make(optimised=True), False
+        return at_hand.kept_program("mps360") or unproved.make(optimised=True), False
     except unproved.Answered:
         raise Wrong(70, "no unproved program can be had of rt, so only scripts/mps360 runs jobs, one by one") from None
     except unproved.NoAnswer as cause:
