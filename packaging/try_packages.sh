@@ -91,11 +91,15 @@ mps360-batch -j 2 models >batch 2>/dev/null && [ "$(wc -l <models/listings/summa
 mps2job -o glass.job --names glass.names $examples/glass.mps 2>/dev/null && mps360 glass.job 2>/dev/null | listing2json --names glass.names | grep -q '"doors"' || fail "mps2job, listing2json"
 mps360-explain $examples/conflict.job >explained 2>/dev/null && [ -s explained ] || fail "mps360-explain"
 mps360-plot $examples/paraobj.listing >plotted && [ -s plotted ] || fail "mps360-plot"
+# (the package for Python runs no unproved program that isn't named)
 python3 -c '
-import mps360
-answer = mps360.solve(mps360.read_mps("/usr/share/doc/mps360/examples/glass.mps"))
-assert (answer.status, answer.objective) == ("optimal", 36), answer
-print("Python:", answer.objective, answer.proved)' || fail "the package for Python"
+import os, mps360
+trial = "/usr/libexec/mps360/program.unproved"
+program = trial if os.path.exists(trial) else None
+model = mps360.read_mps("/usr/share/doc/mps360/examples/glass.mps")
+answer = mps360.solve(model, program=program)
+assert (answer.status, answer.objective, answer.proved) == ("optimal", 36, not program), answer
+print("Python:", answer.objective, "proved" if answer.proved else "not proved")' || fail "the package for Python"
 for command in $(ls /usr/bin | grep -E '^(mps360|mps2job|listing2|basis2deck|free_deck|solution2|vipr2|check_vipr)'); do
     "$command" --help | grep -q usage || fail "$command --help"
     # (a minimal Debian may leave out manual pages as they are unpacked)
