@@ -4,7 +4,7 @@ to such pages.
 
 usage: documents.py FOLDER
 
-It needs python3-markdown. It ends with 0, with 64 for wrong use, 66 where the folder can't be read."""
+It needs python3-markdown. Links to what isn't in the folder leave their words. It ends with 0, with 64 for wrong use, 66 where the folder can't be read."""
 import html
 import re
 import sys
@@ -33,13 +33,18 @@ def link(target: str) -> str:
     return re.sub(r"\.md(?=#|$)", ".html", target)
 
 
-def page_of(text: str, name: str) -> str:
-    "the page of a document"
+def page_of(text: str, place: Path) -> str:
+    "the page of a document; a link to a file that isn't installed, as to a source, leaves its words"
     from markdown import markdown
     body = markdown(text, extensions=["tables", "fenced_code", "toc", "sane_lists"], extension_configs={"toc": {"slugify": anchor}}, output_format="html")
     body = re.sub(r'(?<= )(href|src)="([^"]+)"', lambda found: f'{found[1]}="{link(found[2])}"', body)
+    def is_there(target: str) -> bool:
+        path = place.parent / target.split("#")[0]
+        return bool(re.match(r"[a-z]+:|#", target)) or path.exists() or path.suffix == ".html" and path.with_suffix(".md").exists()
+
+    body = re.sub(r'<a href="([^"]+)">(.*?)</a>', lambda found: found[0] if is_there(found[1]) else found[2], body, flags=re.S)
     heading = re.search(r"^# (.+)$", text, re.M)
-    return PAGE.format(title=html.escape(heading[1] if heading else name), body=body)
+    return PAGE.format(title=html.escape(heading[1] if heading else place.stem), body=body)
 
 
 def main(words: list[str]) -> int:
@@ -55,7 +60,7 @@ def main(words: list[str]) -> int:
         print(f"documents.py: there is no folder {folder}", file=sys.stderr)
         return 66
     for path in sorted(folder.rglob("*.md")):
-        path.with_suffix(".html").write_text(page_of(path.read_text(encoding="utf-8"), path.stem), encoding="utf-8")
+        path.with_suffix(".html").write_text(page_of(path.read_text(encoding="utf-8"), path), encoding="utf-8")
     return 0
 
 
