@@ -105,7 +105,9 @@ def page(command: Command, version: str, others: Sequence[Command]) -> str:
     for usage in (part for part in command.parts if isinstance(part, Usage)):
         name, _, rest = usage.form.partition(" ")
         lines += [".TP" if usage.text else ".PP", f".B {roff(name)}", *([f"{roff(rest)}"] if rest else []), *([".br", roff(usage.text)] if usage.text else [])]
-    tables, ends, described = [], [], []
+    tables: list[list[str]] = []
+    ends: list[list[str]] = []
+    described: list[list[str]] = []
     for part, of_table in zip(command.parts, rows_and_heads(command.parts)):
         is_status = isinstance(part, Row) and part.term[0].isdigit() or isinstance(part, Paragraph) and of_table and ENDS.search(part.text)
         if isinstance(part, Paragraph):

@@ -87,8 +87,8 @@ def test_help_has_each_option(name):
     command = all_commands().get(name) or all_commands()[f"mps360-{name}"]
     taken = {word: action for action in parser._actions for word in action.option_strings}
     told = {word: option for option in command.options for word in option.words}
-    # (solve, prove and basis2deck hand on words of mps2job; solve --serve is read before its parser)
-    handed_on = {"--max", "--min", "--ranging", "--serve"} if name == "solve" else set()
+    # (what is read before the parser, or handed on to mps2job)
+    handed_on = {"solve": {"--max", "--min", "--ranging", "--serve"}, "mps360-batch": {"--mps2job"}}.get(name, set())
     assert set(told) - {"--help", "--version"} - handed_on == set(taken), (name, set(told) ^ set(taken))
     for word, action in taken.items():
         takes_value = action.nargs != 0
