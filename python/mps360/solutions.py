@@ -16,9 +16,10 @@ from mps360.files import unzipped
 from mps360.listings.write import Answer
 from mps360.model import Model
 from mps360.model import Sums
+from mps360.numbers import MOST_DIGITS
 
-FRACTION = re.compile(r"[+-]?[0-9]{1,4000}(?:/[0-9]{1,4000})?")
-DECIMAL = re.compile(r"[+-]?(?:[0-9]+\.?[0-9]*|\.[0-9]+)(?:[eE][+-]?[0-9]+)?")
+FRACTION = re.compile(r"[+-]?[0-9]+(?:/[0-9]+)?")
+DECIMAL = re.compile(r"[+-]?(?:[0-9]+(?:\.[0-9]*)?|\.[0-9]+)(?:[eE][+-]?[0-9]+)?")
 MOST_BYTES = 300_000_000
 SECTIONS = {"VARS:": "columns", "REDUCED COST:": "reduced", "PI:": "prices", "SLACK:": "slack"}
 KEYS = {"optimal": {"columns", "prices", "reduced", "objective"}, "infeasible": {"ray", "column_ray", "crossed"},
@@ -42,6 +43,8 @@ def number(word: str) -> Fraction:
         raise NoSolution(f"{word[:40]} is a decimal number, which may be rounded: an exact one is whole, or a fraction such as -7/3. {OF_FLOATS}")
     if not FRACTION.fullmatch(word) or re.search(r"/0+$", word):
         raise NoSolution(f"{word[:40]!r} isn't a number, whole or a fraction such as -7/3")
+    if any(len(part) > MOST_DIGITS for part in word.lstrip("+-").split("/")):
+        raise NoSolution(f"{word[:40]}.. has more than {MOST_DIGITS:,} digits above or below the line")
     return Fraction(word)
 
 
