@@ -17,6 +17,7 @@ from mps360.listings.write import Answer
 from mps360.model import Model
 from mps360.model import Sums
 from mps360.numbers import MOST_DIGITS
+from mps360.text import short_text
 
 FRACTION = re.compile(r"[+-]?[0-9]+(?:/[0-9]+)?")
 DECIMAL = re.compile(r"[+-]?(?:[0-9]+(?:\.[0-9]*)?|\.[0-9]+)(?:[eE][+-]?[0-9]+)?")
@@ -103,7 +104,7 @@ def check_objective(told: Fraction | None, columns: dict[str, Fraction], model: 
     sums = Sums(model)
     worth = sum((value * sums.of(name).get(model.objective, Fraction(0)) for name, value in columns.items()), Fraction(0))
     if told not in (worth, worth + model.constant):
-        raise NoSolution(f"the objective is said to be {told}, and by the activities it is {worth}: a solution of another model, or of one that its "
+        raise NoSolution(f"the objective is said to be {short_text(told)}, and by the activities it is {short_text(worth)}: a solution of another model, or of one that its "
                          "solver reads otherwise")
 
 

@@ -36,7 +36,7 @@ from mps360.jobs.write import Job
 from mps360.listings.write import Answer
 from mps360.model import Model
 from mps360.output import command, make_folder, write_file
-from mps360.text import as_lines, as_text
+from mps360.text import as_lines, as_text, marked_decimal, short_text
 
 NAME = "attest"
 REFUSED = {WRONG: "its numbers don't prove it", 41: "it can't be attested", UNCHECKED: checkers.OUT_OF_127_BITS, 43: "its listing has more than 64,000,000 bytes"}
@@ -120,7 +120,14 @@ def outcome(listing: str, model: Model) -> str:
     changed = notes.after_verdict(model)
     if verdict != "OPTIMAL":
         return verdict + changed + MEANS.get(verdict, ", the listing has no verdict")
-    return f"OPTIMAL{changed}, objective {objective}" + (f", {Fraction(objective) + model.constant} with the file's constant" if model.constant else "")
+    value = Fraction(objective)
+    return f"OPTIMAL{changed}, objective {said_of(value)}" + (f", {said_of(value + model.constant)} with the file's constant" if model.constant else "")
+
+
+def said_of(value: Fraction) -> str:
+    "a number; where it is long, its first digits and its decimal value"
+    text = short_text(value)
+    return text if text == str(value) else f"{text}, {marked_decimal(value)}"
 
 
 def kept(folder: str, job: Job, listing: str, others: tuple[str, str]) -> None:
