@@ -8,7 +8,7 @@ from dataclasses import dataclass
 from fractions import Fraction
 from typing import Any
 
-from oracle.rules import GREATEST, Refused, add, multiply, subtract
+from oracle.rules import GREATEST, Refused, add, multiply
 from oracle.selecting import LinearProgram
 
 MOST_LISTING, MOST_STATEMENTS = 64_000_000, 100_000
@@ -38,9 +38,9 @@ class Checker:
     def subtract(self, x: Fraction, y: Fraction) -> Fraction:
         return self.add(x, -y)
 
-    def takes(self, is_checked: bool) -> bool:
-        "whether a verdict may be printed with this word"
-        return is_checked or not self.asks_checked
+    def takes(self, says_checked: bool) -> bool:
+        "whether a verdict may be printed with the word CHECKED, or with the other one"
+        return says_checked or not self.asks_checked
 
 
 OF_128_BITS = Checker(GREATEST, None, add, multiply, True)

@@ -80,7 +80,7 @@ NOT_TAKEN = (
     ({**PLAN, "objective": 35}, "the objective is said to be 35"),
     ({**PLAN, "ray": {}}, "an answer optimal has no 'ray'"),
     ({**PLAN, "columns": {"doors": "9" * 100_001, "windows": 0}}, "columns: doors: " + "9" * 40 + ".. has more than 100,000 digits above or below the line"),
-    ({"answer": "optimal", "columns": {"doors": "9" * 100_000}, "prices": {}}, "a number of TOTAL_PR has more than 100,000 digits above or below the line"),
+    ({"answer": "optimal", "columns": {"doors": "9" * 100_000}, "prices": {}}, "a number of R0000001 has more than 100,000 digits above or below the line"),
     ({"answer": "infeasible"}, "has a 'ray', or the variable that is 'crossed'"),
     ({"answer": "infeasible", "crossed": {"row": "doors"}}, "the model has no row 'doors'"),
     ({"answer": "best"}, '"answer" is to be'),

@@ -5,15 +5,15 @@ be too long for it mps360long, which reads numbers of any length; then the line 
 usage: attest [--keep FOLDER] [--program FILE] [..] MODEL.mps SOLUTION
 
   --keep FOLDER   the job, its listing and the table of names stay in FOLDER
-  --program FILE  another program than scripts/mps360check and scripts/mps360long: it gets the job on standard input, and the listing in the file LISTING of the
-                  present folder. What it says isn't called attested
+  --program FILE  another program than scripts/mps360check and scripts/mps360long: it gets the job on standard input, and the listing in the file
+                  LISTING of the present folder. What it says isn't called attested
 
 Each other option is one of mps2job.py, which reads the file: what it changes, leaves out or chooses is said on standard error. SOLUTION is what
 solution2listing.py takes: what `esolver -O` of QSopt_ex writes, or JSON.
 
-It ends with 0 where the answer is attested; with 40 where its numbers don't prove it, 42 where a number doesn't fit 127 bits and mps360long isn't at
-hand, or where one has more than 100,000 digits above or below the line, 43 where the listing is too long, other statuses of the checker as they are; with 64 for wrong use, 65 where a file is refused, 66 where it can't be
-read, 70 where there is no checker, 73 where a file can't be written."""
+It ends with 0 where the answer is attested; with 40 where its numbers don't prove it, or don't fit 127 bits while no mps360long is at hand, 42 where an
+operation of a test doesn't, 43 where the listing is too long, other statuses of the checker as they are; with 64 for wrong use, 65 where a file is
+refused, 66 where it can't be read, 70 where there is no checker, 73 where a file can't be written."""
 from __future__ import annotations
 
 import json
