@@ -97,6 +97,12 @@ if command -v python3 >/dev/null; then
     else
         echo "check: no fresh proved program mps360check; no altered listing is attested"
     fi
+    if scripts/program.sh --fresh mps360long >/dev/null; then
+        python3 python/tests/given_answers.py --proved python/tests/data/long_listings.jsonl || fail "mps360long says otherwise of a listing with long numbers"
+        python3 python/tests/altered_listings.py --long --proved --jobs 0 40 || fail "mps360long says otherwise of an altered listing than its rules"
+    else
+        echo "check: no fresh proved program mps360long; no listing with long numbers is attested"
+    fi
 fi
 
 [ "$failed" -eq 0 ] && echo "check: ok${missing:+, but without $missing}"

@@ -48,8 +48,8 @@ if [ "${1:-}" = --fresh ]; then
     shift
 fi
 name=${1:-mps360}
-if [[ $# -gt 1 || ! $name =~ ^mps360(check)?$ ]]; then
-    echo "usage: program.sh --sum | [--fresh] [mps360 | mps360check]" >&2
+if [[ $# -gt 1 || ! $name =~ ^mps360(check|long)?$ ]]; then
+    echo "usage: program.sh --sum | [--fresh] [mps360 | mps360check | mps360long]" >&2
     exit 64
 fi
 program=$top/crates/$name/out/$name
@@ -62,7 +62,7 @@ is_fresh() {
 # the program of an installed package, where it was built of these sources: install.sh leaves their checksum beside it
 same_sources_installed() {
     local command home file=program sum=
-    [ "$name" = mps360 ] || file=check
+    [ "$name" = mps360 ] || file=${name#mps360}
     command=$(readlink -f "$(type -P mps360)" 2>/dev/null) || command=/
     for home in "$(dirname "$command")" /usr/local/libexec/mps360 /usr/libexec/mps360; do
         if [ -x "$home/$file" ] && [ -r "$home/sources" ]; then

@@ -9,7 +9,9 @@ import sys
 from collections.abc import Callable, Iterator
 from typing import Any
 
-CANT_WRITE, INTERRUPTED = 73, 130
+CANT_WRITE, INTERRUPTED, REFUSED = 73, 130, 65
+# what Python says of a number that it makes no text of
+TOO_LONG = "Exceeds the limit ("
 OUT, ERRORS = "to standard output", "to standard error"
 CLOSED = "it is closed"
 Main = Callable[[list[str] | None], int]
@@ -156,6 +158,11 @@ def command(name: str) -> Callable[[Main], Main]:
                 except KeyboardInterrupt:
                     tell(errors, f"{name}: interrupted")
                     return INTERRUPTED
+                except ValueError as cause:
+                    if not str(cause).startswith(TOO_LONG):
+                        raise
+                    tell(errors, f"{name}: a number that comes of what is read has more than {sys.get_int_max_str_digits():,} digits")
+                    return REFUSED
         return checked
     return of
 

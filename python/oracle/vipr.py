@@ -27,7 +27,11 @@ from dataclasses import dataclass, field
 from fractions import Fraction
 
 MOST_BYTES = 1_000_000_000
-NUMBER = re.compile(r"[+-]?[0-9]{1,4000}(?:/[0-9]{1,4000})?|[+-]?(?:[0-9]{1,4000}\.?[0-9]{0,4000}|\.[0-9]{1,4000})(?:[eE][+-]?[0-9]{1,3})?")
+DIGITS = "[0-9]{1,100000}"
+NUMBER = re.compile(rf"[+-]?{DIGITS}(?:/{DIGITS})?|[+-]?(?:{DIGITS}(?:\.(?:{DIGITS})?)?|\.{DIGITS})(?:[eE][+-]?[0-9]{{1,3}})?")
+# (where Python has a limit on the digits of a number)
+if hasattr(sys, "set_int_max_str_digits"):
+    sys.set_int_max_str_digits(0)
 SENSES = ("E", "L", "G")
 
 

@@ -80,14 +80,15 @@ NOT_TAKEN: tuple[tuple[Any, ...], ...] = (
     ({"answer": "optimal", "columns": {}}, "'prices' is missing, and it isn't made up"),
     ({**PLAN, "objective": 35}, "the objective is said to be 35"),
     ({**PLAN, "ray": {}}, "an answer optimal has no 'ray'"),
-    ({**PLAN, "columns": {"doors": str(2 ** 127), "windows": 0}, "objective": str(3 * 2 ** 127)}, "doesn't fit 128 bits"),
+    ({**PLAN, "columns": {"doors": "9" * 100_001, "windows": 0}}, "columns: doors: " + "9" * 40 + ".. has more than 100,000 digits above or below the line"),
+    ({"answer": "optimal", "columns": {"doors": "9" * 100_000}, "prices": {}}, "a number of R0000001 has more than 100,000 digits above or below the line"),
     ({"answer": "infeasible"}, "has a 'ray', or the variable that is 'crossed'"),
     ({"answer": "infeasible", "crossed": {"row": "doors"}}, "the model has no row 'doors'"),
     ({"answer": "best"}, '"answer" is to be'),
     ('{"answer": "optimal", "columns": {"doors": 1, "doors": 2}}', "'doors' stands twice"),
     ('{"answer": NaN}', "NaN is a decimal number"),
     ("{" * 100_000, "it isn't JSON"),
-    ('{"answer": "optimal", "columns": {"doors": ' + "9" * 5000 + "}}", "it isn't"),
+    ('{"answer": "optimal", "columns": {"doors": ' + "9" * 5000 + "}}", "'prices' is missing"),
 )
 
 

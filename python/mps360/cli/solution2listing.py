@@ -16,7 +16,7 @@ Each other option is one of mps2job.py, which reads the file: what it changes, l
   - JSON, {"answer": "optimal", "columns": {..}, "prices": {..}}, or with "infeasible" and "ray", or "unbounded", "columns" and "direction":
     docs/COMING_FROM_MPS.md has each key. Numbers are whole, or texts such as "-7/3".
 
-Prices that aren't there, a name that the model hasn't, a decimal number, a number past 128 bits are refused, with the place. It ends with 0,
+Prices that aren't there, a name that the model hasn't, a decimal number, a number of more than 100,000 digits above or below the line are refused, with the place. It ends with 0,
 with 64 for wrong use, 65 where a file is refused, 66 where it can't be read, 73 where one can't be written."""
 import argparse
 import json

@@ -21,7 +21,7 @@ usage: solve [--json | --csv | --html FILE] [--basis FILE [--from WRITER]] [--wi
   --names MAP    where MODEL is a job: the table of names that mps2job.py wrote for it
   --life S       the first line of life on standard error after S seconds (5), the next after twice as long each time; 0 for none
   --program FILE  another program than scripts/mps360: it gets the job on standard input. What it prints is called unproved
-  --checker FILE  another checker than scripts/mps360check
+  --checker FILE  another checker than scripts/mps360check and scripts/mps360long
   --serve        answers many requests in one process: a JSON object on each line of standard input, a reply on each line of standard output
                  (docs/PYTHON.md has them)
 
@@ -465,10 +465,10 @@ def program_of(options: argparse.Namespace) -> at_hand.Tool:
     return program
 
 
-def checker_of(options: argparse.Namespace) -> Callable[[], at_hand.Tool | None]:
-    "finds the checker of listings, where it is needed"
+def checkers_of(options: argparse.Namespace) -> at_hand.Checkers:
+    "the checkers of listings, found where they are needed"
     try:
-        return at_hand.checker_finder(options.checker)
+        return at_hand.checkers_at_hand(options.checker)
     except errors.NoProgram as cause:
         raise Ended(70, str(cause)) from None
 
@@ -479,7 +479,7 @@ def outcome_of(options: argparse.Namespace, model: Model, program: at_hand.Tool,
     try:
         if not model.converted:
             return routes.Outcome(runs.run_alone(model.job, program, seconds=options.seconds, begun=options.begun, observer=observer), [], program)
-        way = routes.Routes(model.converted, program, plan_of(options), checker_of(options), observer)
+        way = routes.Routes(model.converted, program, plan_of(options), checkers_of(options), observer)
         if model.basis:
             way.begin_at(model.basis, os.path.basename(options.basis))
         return way.run()
