@@ -1,20 +1,19 @@
 -- What is taken of a listing for an answer: a parametric run that isn't broken ends at the last value, and nothing is cut off at a limit.
-use Rattle.std.proofs.Common.{◌≡◌, ℕ, ◌+◌, Bool, true, false, List, [], ◌∷◌, Option, Some, None, refl, subst, codes, nat_eq}
-use Rattle.std.specs.Prelude.{if◌then◌else◌, ◌&&◌, is_some}
+use Rattle.std.proofs.Common.{◌≡◌, ℕ, ◌+◌, Bool, true, false, List, [], ◌∷◌, Option, Some, None, subst, codes, nat_eq}
+use Rattle.std.specs.Prelude.{if◌then◌else◌}
 use Rattle.exact_values.specs.Rational.{ℚ}
 use Rattle.exact_values.specs.Tests.{eq_ℚ}
 use Rattle.exact_values.proofs.Tests_laws.{same_from_test}
-use Rattle.check_definitions.specs.declared.Verdict.{Verdict}
-use Rattle.check_definitions.specs.declared.Verdict.TheVariants.{Checked, Failed, Unchecked}
+use Rattle.check_definitions.specs.declared.Verdict.TheVariants.{Checked}
 use Rattle.check_definitions.specs.Steps.{in_turn}
 use Rattle.check_definitions.proofs.Passing.{both_checked, holds_if_checked}
 use Rattle.listing_definitions.specs.declared.Solver.{Solver}
 use Rattle.listing_definitions.specs.Report.{ParametricInterval, ChainEnd, EndsAt, UnboundedPast, InfeasiblePast}
 use Rattle.question_definitions.specs.Answers.{Sheet, Changing, Row, Set, parametric_solver, ParametricRun, OfPath, OfParametricRun, PathEnd, Reached, ParametricRunEnd, Opening, Chained, ParametricRunLimit}
 use Rattle.walk_definitions.specs.Checkers.{Checker}
-use Rattle.walk_definitions.specs.Words.{Parsed, left_after, fraction_in, form_in}
+use Rattle.walk_definitions.specs.Words.{left_after}
 use Rattle.walk_definitions.specs.Tests.{asked, interval_test, close_test}
-use Rattle.walk_definitions.specs.Reading.{Judged, Right, Fails, Refuses, by_verdict, tested_or, tested_by, judged_map, Claim, interval_in, close_in, parametric_run_head, Run, onward, part_in, run_in, parametric_run_in, judged}
+use Rattle.walk_definitions.specs.Reading.{Judged, Right, Fails, Refuses, tested_by, judged_map, Claim, interval_in, close_in, parametric_run_head, Run, onward, part_in, run_in, parametric_run_in, judged}
 use Rattle.walk_laws.specs.Proved.{IsTaken}
 use Rattle.walk_laws.proofs.Rightly.{OnRight, on_map, on_any, on_tested}
 use Rattle.one_story_laws.proofs.Ends.{IsLast}

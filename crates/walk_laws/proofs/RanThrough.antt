@@ -3,7 +3,7 @@ use Rattle.std.proofs.Common.{◌≡◌, ℕ, List, [], refl}
 use Rattle.std.specs.Prelude.{Option, Some, None, Ok}
 use Rattle.lp_definitions.specs.LinearProgram.{LinearProgram}
 use Rattle.selection_definitions.specs.Selection.{selected}
-use Rattle.listing_definitions.specs.Report.{PathVerdict, Check, Solved, Parametric}
+use Rattle.listing_definitions.specs.Report.{PathVerdict, Solved, Parametric}
 use Rattle.question_definitions.specs.Answers.{Sheet, Changing, Row, Set, changing_name, parametric_solver, ParametricRun, OfParametricRun, ParametricRunEnd, Opening, Chained, ParametricRunLimit}
 use Rattle.answer_definitions.specs.ParametricRuns.{sheet_at}
 use Rattle.run_definitions.specs.State.{Present, present_basis, path_of, gone_through, State, choice_of}

@@ -10,7 +10,7 @@ use Rattle.check_definitions.specs.Steps.{in_turn}
 use Rattle.check_definitions.proofs.Passing.{both_checked, holds_if_checked}
 use Rattle.listing_definitions.specs.declared.Solver.{Solver}
 use Rattle.listing_definitions.specs.Report.{PathVerdict, OptimalAt, CrossedAt, InfeasibleBy, UnboundedBy, Check}
-use Rattle.question_definitions.specs.Answers.{Basis, Sheet, parametric_solver, ParametricRun, OfPath, OfParametricRun, PathEnd, Reached, PathLimit, PricesWrong, ParametricRunEnd, Opening, Chained, ParametricRunLimit}
+use Rattle.question_definitions.specs.Answers.{Basis, Sheet, parametric_solver, ParametricRun, OfPath, OfParametricRun, PathEnd, Reached, ParametricRunEnd, Opening, Chained}
 use Rattle.answer_definitions.specs.ParametricRuns.{sheet_at}
 use Rattle.walk_definitions.specs.Checkers.{Checker}
 use Rattle.walk_definitions.specs.Words.{Parsed, left_after, fraction_in, form_in}
