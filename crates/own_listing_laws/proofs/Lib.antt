@@ -13,6 +13,7 @@ mod Openly
 mod Openings
 mod Paced
 mod Own
+mod Rightly
 mod Keeping
 mod Closing
 mod Parts

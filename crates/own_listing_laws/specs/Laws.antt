@@ -2,24 +2,25 @@
 --     IsNotWrong found             what is found isn't that a line is wrong
 --     ReadsBack                    what is printed of a linear program is read back
 --     TestsPass                    its tests never fail
+--     JudgedRight                  what is printed with the word CHECKED is judged right
 --     NeverWrong                   the listing of a run isn't found wrong
-use Rattle.std.specs.Prelude.{◌≡◌, ℕ, false, List, ◌++◌, Option, Some}
+use Rattle.std.specs.Prelude.{◌≡◌, ℕ, true, false, List, [], ◌++◌, Option, Some}
 use Rattle.exact_values.specs.Rational.{ℚ}
 use Rattle.frac128.specs.Operations.{TermsFit}
 use Rattle.lp_definitions.specs.LinearProgram.{LinearProgram, IsLinearProgram}
 use Rattle.lp_definitions.specs.Basis.{Tableau}
-use Rattle.simplex_definitions.specs.Path.{EndsOptimal, EndsAt}
+use Rattle.simplex_definitions.specs.Path.{EndsOptimal, EndsAt, last_of}
 use Rattle.simplex_definitions.specs.Chain.{Part}
 use Rattle.simplex_laws.specs.Laws.{IsNonsingularBasis}
 use Rattle.certificate_check.specs.Results.{IsNotFailed}
 use Rattle.listing_definitions.specs.declared.Mark.TheVariants.{Optimal}
 use Rattle.listing_definitions.specs.declared.Mark.{Mark}
 use Rattle.listing_definitions.specs.declared.Solver.{Solver}
-use Rattle.listing_definitions.specs.Report.{PathVerdict, Check, SolutionLines, ParametricInterval, ChainEnd, Chain, Report}
+use Rattle.listing_definitions.specs.Report.{PathVerdict, OptimalAt, Check, Checked, SolutionLines, ParametricInterval, ChainEnd, Chain, Report}
 use Rattle.listing_definitions.specs.Text.{verdict_text, solution_text, interval_text, chain_end_text, chain_text}
 use Rattle.listing_definitions.specs.Ending.{Ending}
 use Rattle.listing_definitions.specs.Listing.{listing}
-use Rattle.question_definitions.specs.Answers.{Basis, Sheet, changing_name, parametric_solver, ParametricRun, OfParametricRun, Reached}
+use Rattle.question_definitions.specs.Answers.{Basis, Sheet, changing_name, parametric_solver, ParametricRun, OfPath, OfSolution, OfParametricRun, Reached}
 use Rattle.answer_definitions.specs.Verdicts.{IsSolvedBy}
 use Rattle.answer_definitions.specs.Sections.{IsSolutionOf, solution_lines}
 use Rattle.answer_definitions.specs.ParametricRuns.{interval_of, IsChained}
@@ -28,12 +29,12 @@ use Rattle.answer_definitions.specs.Real.{linear_programming}
 use Rattle.run_definitions.specs.Answer.{IsJobRun}
 use Rattle.walk_definitions.specs.Checkers.{checker_of_128_bits}
 use Rattle.walk_definitions.specs.Words.{fraction_in}
-use Rattle.walk_definitions.specs.Tests.{verdict_test, solution_test}
+use Rattle.walk_definitions.specs.Tests.{point_of, verdict_test, solution_test}
 use Rattle.walk_definitions.specs.Tables.{begins_table_line}
-use Rattle.walk_definitions.specs.Reading.{Judged, Fails, verdict_in, solution_in, interval_in, close_in, judged}
-use Rattle.walk_definitions.specs.Walker.{Found, Wrong}
+use Rattle.walk_definitions.specs.Reading.{Judged, Right, Fails, verdict_in, solution_in, interval_in, close_in, judged}
+use Rattle.walk_definitions.specs.Walker.{Found, Wrong, settles}
 use Rattle.walk_definitions.specs.Found.{Comes}
-use Rattle.own_listing_laws.specs.Fitting.{LinesFit, VerdictFits, CheckFits, IntervalsFit, EndFits, ReportsFit, StopFits}
+use Rattle.own_listing_laws.specs.Fitting.{SlacksFit, LinesFit, VerdictFits, CheckFits, IntervalsFit, EndFits, ReportsFit, StopFits}
 use Rattle.own_listing_laws.specs.Printed.{IsReadable, IsPrinted, IsEndOf}
 
 -- the path has ended optimal at a basis
@@ -79,6 +80,30 @@ pub record TestsPass : Type 0 where
   pub run : (sheet : Sheet) (s : Basis) (parametric_run : ParametricRun) (bases : List Basis) (intervals : List ParametricInterval) (end : ChainEnd) (after : List ℕ) → IsLinearProgram sheet.lp → ChangesFreely sheet parametric_run.changing →
       IsNonsingularBasis sheet.lp s → IsChained sheet s parametric_run bases intervals end → IntervalsFit intervals → EndFits end → begins_table_line after ≡ false →
       IsNoFailure (judged checker_of_128_bits (OfParametricRun parametric_run) sheet (chain_text (parametric_solver parametric_run.changing) (chain_of parametric_run intervals end) ++ after))
+
+-- The path of a solving verb has ended optimal after these bases, its check was made, and these are the lines of SOLUTION at the last of them.
+-- No difference is refused by which a slack is tested, and the numbers that are printed fit.
+pub record IsShownChecked (solver : Solver) (sheet : Sheet) (s : Basis) (limit : Option ℕ) (bases : List Basis) (steps : ℕ) (objective : ℚ) (lines : SolutionLines) : Type 0 where
+  pub lawful : IsLinearProgram sheet.lp
+  pub nonsingular : IsNonsingularBasis sheet.lp (last_of s bases)
+  pub solved : IsSolvedBy solver sheet s limit (Reached bases (OptimalAt steps objective) Checked)
+  pub shown : IsSolutionOf sheet (last_of s bases) lines
+  pub slacks : SlacksFit sheet lines
+  pub rows : LinesFit lines.rows
+  pub columns : LinesFit lines.columns
+
+-- What a run prints with the word CHECKED is judged right where its numbers fit: no test fails, and no operation of one is refused.
+pub record JudgedRight : Type 0 where
+  -- the verdict of a path
+  pub verdict : (solver : Solver) (sheet : Sheet) (s : Basis) (limit : Option ℕ) (bases : List Basis) (verdict : PathVerdict) (after : List ℕ) → IsSolvedBy solver sheet s limit (Reached bases verdict Checked) →
+      VerdictFits verdict → begins_table_line after ≡ false → judged checker_of_128_bits (OfPath solver limit) sheet (verdict_text solver verdict Checked ++ after) ≡ Right (Reached [] verdict Checked) after
+  -- SOLUTION under OPTIMAL, after an optimal verdict
+  pub solution : (solver : Solver) (sheet : Sheet) (s : Basis) (limit : Option ℕ) (bases : List Basis) (steps : ℕ) (objective : ℚ) (lines : SolutionLines) (after : List ℕ) →
+      IsShownChecked solver sheet s limit bases steps objective lines → judged checker_of_128_bits (OfSolution Optimal) sheet (solution_text Optimal lines ++ after) ≡ Right lines after
+  -- and it settles that verdict, wherever it stands
+  pub settled : (solver : Solver) (sheet : Sheet) (s : Basis) (limit : Option ℕ) (bases : List Basis) (steps : ℕ) (objective : ℚ) (lines : SolutionLines) (rest : List ℕ) →
+      IsShownChecked solver sheet s limit bases steps objective lines →
+      settles checker_of_128_bits (record { rest = rest; objective = objective; check = Checked }) (point_of sheet lines sheet.lp.objective) ≡ true
 
 -- The listing of a job's run is never found wrong by the walk, where its fractions have 128 bits and the counts of an overflow's evidence
 -- have 32: it is attested, or a line of it can't be attested, or an operation of a test is refused.
