@@ -14,6 +14,7 @@ mod Openings
 mod Paced
 mod Own
 mod Rightly
+mod Onward
 mod Keeping
 mod Closing
 mod Parts

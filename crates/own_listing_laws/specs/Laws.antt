@@ -3,8 +3,9 @@
 --     ReadsBack                    what is printed of a linear program is read back
 --     TestsPass                    its tests never fail
 --     JudgedRight                  what is printed with the word CHECKED is judged right
+--     WalksOn                      and the walk goes on past it
 --     NeverWrong                   the listing of a run isn't found wrong
-use Rattle.std.specs.Prelude.{◌≡◌, ℕ, true, false, List, [], ◌++◌, Option, Some}
+use Rattle.std.specs.Prelude.{◌≡◌, ◌⊎◌, ℕ, true, false, List, [], ◌++◌, Option, Some, None}
 use Rattle.exact_values.specs.Rational.{ℚ}
 use Rattle.frac128.specs.Operations.{TermsFit}
 use Rattle.lp_definitions.specs.LinearProgram.{LinearProgram, IsLinearProgram}
@@ -17,22 +18,26 @@ use Rattle.listing_definitions.specs.declared.Mark.TheVariants.{Optimal}
 use Rattle.listing_definitions.specs.declared.Mark.{Mark}
 use Rattle.listing_definitions.specs.declared.Solver.{Solver}
 use Rattle.listing_definitions.specs.Report.{PathVerdict, OptimalAt, Check, Checked, SolutionLines, ParametricInterval, ChainEnd, Chain, Report}
-use Rattle.listing_definitions.specs.Text.{verdict_text, solution_text, interval_text, chain_end_text, chain_text}
+use Rattle.listing_definitions.specs.Text.{report_text, verdict_text, solution_text, interval_text, chain_end_text, chain_text}
 use Rattle.listing_definitions.specs.Ending.{Ending}
 use Rattle.listing_definitions.specs.Listing.{listing}
-use Rattle.question_definitions.specs.Answers.{Basis, Sheet, changing_name, parametric_solver, ParametricRun, OfPath, OfSolution, OfParametricRun, Reached}
+use Rattle.question_definitions.specs.Answers.{PathEnd, Basis, Sheet, changing_name, parametric_solver, ParametricRun, OfPath, OfSolution, OfParametricRun, Reached}
 use Rattle.answer_definitions.specs.Verdicts.{IsSolvedBy}
 use Rattle.answer_definitions.specs.Sections.{IsSolutionOf, solution_lines}
 use Rattle.answer_definitions.specs.ParametricRuns.{interval_of, IsChained}
 use Rattle.soundness_laws.specs.ParametricRuns.{ChangesFreely}
 use Rattle.answer_definitions.specs.Real.{linear_programming}
+use Rattle.run_definitions.specs.State.{Present}
+use Rattle.run_definitions.specs.Moves.{StatementOutcome}
+use Rattle.run_definitions.specs.Verbs.{asks}
 use Rattle.run_definitions.specs.Answer.{IsJobRun}
 use Rattle.walk_definitions.specs.Checkers.{checker_of_128_bits}
 use Rattle.walk_definitions.specs.Words.{fraction_in}
+use Rattle.walk_definitions.specs.Forms.{is_open_stop}
 use Rattle.walk_definitions.specs.Tests.{point_of, verdict_test, solution_test}
 use Rattle.walk_definitions.specs.Tables.{begins_table_line}
 use Rattle.walk_definitions.specs.Reading.{Judged, Right, Fails, verdict_in, solution_in, interval_in, close_in, judged}
-use Rattle.walk_definitions.specs.Walker.{Found, Wrong, settles}
+use Rattle.walk_definitions.specs.Walker.{Walker, Found, Wrong, follows, passed, pending_after, settles, walk_move}
 use Rattle.walk_definitions.specs.Found.{Comes}
 use Rattle.own_listing_laws.specs.Fitting.{SlacksFit, LinesFit, VerdictFits, CheckFits, IntervalsFit, EndFits, ReportsFit, StopFits}
 use Rattle.own_listing_laws.specs.Printed.{IsReadable, IsPrinted, IsEndOf}
@@ -104,6 +109,20 @@ pub record JudgedRight : Type 0 where
   pub settled : (solver : Solver) (sheet : Sheet) (s : Basis) (limit : Option ℕ) (bases : List Basis) (steps : ℕ) (objective : ℚ) (lines : SolutionLines) (rest : List ℕ) →
       IsShownChecked solver sheet s limit bases steps objective lines →
       settles checker_of_128_bits (record { rest = rest; objective = objective; check = Checked }) (point_of sheet lines sheet.lp.objective) ≡ true
+
+-- The walk goes on past a verdict with the word CHECKED, where nothing is pending, and past the SOLUTION that settles an optimal one: at the
+-- question of such a statement nothing is open, nothing is refused, and what is due is right. Bases are the run's; the walk's present is
+-- any.
+pub record WalksOn : Type 0 where
+  -- no report is taken for a stop that can't be attested
+  pub report : (report : Report) (more : List ℕ) → is_open_stop (report_text report ++ more) ≡ false
+  pub verdict : (w : Walker) (present : Present) (go : PathEnd → StatementOutcome) (solver : Solver) (sheet : Sheet) (s : Basis) (limit : Option ℕ) (bases : List Basis) (verdict : PathVerdict) (after : List ℕ) →
+      w.pending ≡ None → w.rest ≡ verdict_text solver verdict Checked ++ after → IsSolvedBy solver sheet s limit (Reached bases verdict Checked) → VerdictFits verdict → begins_table_line after ≡ false →
+      walk_move checker_of_128_bits w (asks (OfPath solver limit) sheet present go) ≡ follows (record (passed after 1 w) { pending = pending_after w.rest verdict Checked }) (go (Reached [] verdict Checked))
+  -- where that verdict is pending, or was settled before
+  pub solution : (w : Walker) (present : Present) (go : SolutionLines → StatementOutcome) (solver : Solver) (sheet : Sheet) (s : Basis) (limit : Option ℕ) (bases : List Basis) (steps : ℕ) (objective : ℚ) (lines : SolutionLines) (at after : List ℕ) →
+      (w.pending ≡ None) ⊎ (w.pending ≡ Some (record { rest = at; objective = objective; check = Checked })) → w.rest ≡ solution_text Optimal lines ++ after → IsShownChecked solver sheet s limit bases steps objective lines →
+      walk_move checker_of_128_bits w (asks (OfSolution Optimal) sheet present go) ≡ follows (record (passed after 1 w) { pending = None }) (go lines)
 
 -- The listing of a job's run is never found wrong by the walk, where its fractions have 128 bits and the counts of an overflow's evidence
 -- have 32: it is attested, or a line of it can't be attested, or an operation of a test is refused.
