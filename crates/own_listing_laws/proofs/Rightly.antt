@@ -1,5 +1,5 @@
 -- What a run prints with the word CHECKED is judged right, and its SOLUTION settles its optimal verdict.
-use Rattle.std.proofs.Common.{◌≡◌, ℕ, ◌+◌, ◌<◌, ◌≤◌, true, false, List, [], ◌++◌, length, Option, refl, sym, ap, ap₂, subst, ◌∙◌, arith}
+use Rattle.std.proofs.Common.{◌≡◌, ℕ, ◌+◌, ◌<◌, ◌≤◌, true, false, List, [], ◌++◌, length, Option, sym, ap, ap₂, subst, ◌∙◌, arith}
 use Rattle.exact_values.specs.Rational.{ℚ}
 use Rattle.frac128.specs.declared.Op.TheVariants.{Sub}
 use Rattle.frac128.specs.Operations.{refuses}
@@ -22,8 +22,8 @@ use Rattle.answer_definitions.specs.Sections.{solution_lines}
 use Rattle.walk_definitions.specs.Checkers.{checker_of_128_bits}
 use Rattle.walk_definitions.specs.Tables.{begins_table_line}
 use Rattle.walk_definitions.specs.Tests.{point_of, verdict_test, solution_test}
-use Rattle.walk_definitions.specs.Reading.{Judged, Right, by_verdict, tested, judged_map, judged, Claim}
-use Rattle.walk_definitions.specs.Walker.{Pending, settles}
+use Rattle.walk_definitions.specs.Reading.{Right, by_verdict, tested, judged_map, judged, Claim}
+use Rattle.walk_definitions.specs.Walker.{settles}
 use Rattle.own_listing_laws.specs.Fitting.{LinesFit, VerdictFits}
 use Rattle.own_listing_laws.specs.Laws.{IsShownChecked, JudgedRight}
 use Rattle.own_listing_laws.proofs.Claims.{verdict_read}
