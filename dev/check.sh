@@ -72,7 +72,10 @@ if command -v python3 >/dev/null; then
     [ "$python" != none ] || missing="pytest (apt-get install python3-pytest; dev/plain_tests.py ran the tests); "
     if command -v mypy >/dev/null; then
         # (what mypy keeps between runs goes to the room: nothing of it stays)
-        (cd python && mypy --no-error-summary --cache-dir="$room/mypy" mps360 oracle ../dev/*.py ../dev/bench/*.py) || fail "types of python/mps360, python/oracle or dev"
+        (cd python && mypy --no-error-summary --cache-dir="$room/mypy" mps360 oracle ../dev/*.py ../dev/bench/*.py ../packaging/*.py) || fail "types of python/mps360, python/oracle, dev or packaging"
+        # (of the tests what they annotate, and what can be told without)
+        (cd python && MYPYPATH=.:tests:../dev:../dev/bench mypy --config-file= --explicit-package-bases --ignore-missing-imports --follow-imports=silent \
+            --no-error-summary --cache-dir="$room/mypy-of-tests" tests/*.py) || fail "types of python/tests"
     else
         missing="${missing}mypy (apt-get install mypy): no types were checked; "
     fi
@@ -93,6 +96,12 @@ if command -v python3 >/dev/null; then
         python3 python/tests/random_jobs.py --attest 0 100 || fail "the checker says otherwise of a job's own listing than its rules"
     else
         echo "check: no fresh proved program mps360check; no altered listing is attested"
+    fi
+    if scripts/program.sh --fresh mps360long >/dev/null; then
+        python3 python/tests/given_answers.py --proved python/tests/data/long_listings.jsonl || fail "mps360long says otherwise of a listing with long numbers"
+        python3 python/tests/altered_listings.py --long --proved --jobs 0 40 || fail "mps360long says otherwise of an altered listing than its rules"
+    else
+        echo "check: no fresh proved program mps360long; no listing with long numbers is attested"
     fi
 fi
 

@@ -1,10 +1,10 @@
 #!/usr/bin/env bash
 # Compares the listings (and the punched decks) beside the jobs of examples/ with the program's, and with those that
-# python/oracle/listing.py works out; and what examples/INDEX says of each listing with the checker's answer, and with that which
+# python/oracle/listing.py works out; and what examples/INDEX says of each listing with the answers of both checkers, and with those that
 # python/oracle/attesting.py works out.
 # usage: examples.sh [--expected | --unproved]
 # --expected: with what is worked out alone, so that no program is needed. --unproved: the programs as they stand, built once, where no
-# proved ones are; of mps360 the listings alone. Where no proved mps360check is, that is said, and it isn't asked. Ends with 1 where
+# proved ones are; of mps360 the listings alone. Where a checker isn't proved, that is said, and it isn't asked. Ends with 1 where
 # something differs, with 70 where there is no program mps360 to compare with.
 set -u
 case ${1:-} in
@@ -20,11 +20,13 @@ case ${1:-} in
 esac
 cd "$(dirname "$0")/.." || exit 1
 exec python3 - "${1:-}" <<'PYTHON'
-import pathlib, subprocess, sys, tempfile
+import functools, pathlib, subprocess, sys, tempfile
 sys.path.insert(0, "python")
 from mps360 import programs
 from oracle import attesting as expected_attesting
+from oracle.claims import OF_128_BITS, OF_ANY_LENGTH
 
+RULES = {"mps360check": OF_128_BITS, "mps360long": OF_ANY_LENGTH}
 JOBS = {path.stem: path for path in sorted(pathlib.Path("examples").glob("*.job"))}
 
 
@@ -85,15 +87,17 @@ def by_program(program):
 
 
 failed = differing({name: worked_out(path) for name, path in JOBS.items()}, "its listing or punched deck isn't the one that is worked out")
-failed += misjudged(attested(expected_attesting.attest), "by oracle/attesting.py it is")
+for name, by in RULES.items():
+    failed += misjudged(attested(functools.partial(expected_attesting.attest, by=by)), f"by oracle/attesting.py, as {name}, it is")
 if sys.argv[1] != "--expected":
-    try:
-        checker = programs.checker_program(sys.argv[1] == "--unproved")
-        wrong = misjudged(attested(by_program(checker)), "the checker says")
-        print(f"{len(JOBS) - len(wrong)} listings of examples are attested, or aren't, as they are to be, {len(wrong)} otherwise")
-        failed += wrong
-    except programs.NoProgram as cause:
-        print(f"examples.sh: no listing is attested: {cause}")
+    for name in RULES:
+        try:
+            checker = programs.checker_program(sys.argv[1] == "--unproved", name)
+            wrong = misjudged(attested(by_program(checker)), f"{name} says")
+            print(f"{len(JOBS) - len(wrong)} listings of examples are attested by {name}, or aren't, as they are to be, {len(wrong)} otherwise")
+            failed += wrong
+        except programs.NoProgram as cause:
+            print(f"examples.sh: no listing is attested by {name}: {cause}")
     try:
         wrong = differing(of_program(sys.argv[1] == "--unproved"), "the program's listing or punched deck is another")
     except programs.NoProgram as cause:

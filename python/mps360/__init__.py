@@ -7,6 +7,7 @@
 
 docs/PYTHON.md has the whole. Each name is imported where it is first asked for, so that a command loads what it needs alone."""
 import importlib
+import sys
 from typing import TYPE_CHECKING
 
 if TYPE_CHECKING:
@@ -25,6 +26,11 @@ PLACES = {
     "mps360.model": ("Model",), "mps360.routes": ("Tried",),
 }
 WHERE = {name: place for place, names in PLACES.items() for name in names}
+# The numbers of an answer have up to numbers.MOST_DIGITS digits above and below the line, and what comes of several has more. Python makes no number of
+# more than 4,300 digits, and no text of one, unless its limit is raised, for the whole process.
+MOST_MADE_DIGITS = 1_000_000
+if hasattr(sys, "set_int_max_str_digits") and 0 < sys.get_int_max_str_digits() < MOST_MADE_DIGITS:
+    sys.set_int_max_str_digits(MOST_MADE_DIGITS)
 __all__ = ["Answer", "Attestation", "Basis", "CantRun", "Column", "Error", "Interval", "Life", "Model", "NoListing", "NoProgram", "Ray", "Refused", "Row",
            "Solution", "Tried", "attest", "prove", "read_basis", "read_mps", "read_solution", "solve"]
 

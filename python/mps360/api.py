@@ -10,10 +10,11 @@ from dataclasses import dataclass, field
 from fractions import Fraction
 from typing import BinaryIO, Literal, NamedTuple
 
-from mps360 import at_hand, bases, long_answers, mps, runs, solutions
+from mps360 import at_hand, bases, checkers, long_answers, mps, runs, solutions
 from mps360.answer import Answer, Ray, answer_of
-from mps360.at_hand import Tool
+from mps360.at_hand import Checkers, Tool
 from mps360.bases import Basis
+from mps360.checkers import ATTESTED, Said
 from mps360.errors import CantRun, Error, NoProgram, Refused
 from mps360.jobs.write import Job, exact_job
 from mps360.listings import write
@@ -27,8 +28,8 @@ Source = str | os.PathLike[str] | BinaryIO
 Form = Literal["either", "free", "fixed"]
 Numbers = Literal["exact", "round", "refuse"]
 READS = {"exact": "exact", "round": "round", "refuse": "job"}
-ATTESTED, NO_END = 0, 124
-WHY = {40: "its numbers don't prove it", 41: "it can't be attested", 42: "an operation of its test doesn't fit 127 bits", 43: "its listing is too long",
+NO_END = 124
+WHY = {40: "its numbers don't prove it", 41: "it can't be attested", 42: checkers.OUT_OF_127_BITS, 43: "its listing is too long",
        NO_END: "the checker had no end in time"}
 
 
@@ -52,7 +53,7 @@ class Solution:
 @dataclass(frozen=True)
 class Attestation:
     """what the checker of listings says of an answer: attested, or why not, with the line of the listing. proved: the checker is the proved one; code is its
-    exit status"""
+    exit status, and checker its name: mps360check, mps360long, which reads numbers of any length, or empty where another one was named"""
     attested: bool
     proved: bool
     code: int
@@ -60,6 +61,7 @@ class Attestation:
     line: int | None
     job: str
     listing: str
+    checker: str = ""
 
 
 # ---- reading
@@ -132,12 +134,9 @@ def proved(file: str | None) -> Tool:
     return tool
 
 
-def checker_for(file: str | None) -> Callable[[], Tool | None]:
-    "finds the checker that is named, or the proved one; None where there is none. NoProgram where the one that is named can't be run"
-    find = at_hand.checker_finder(file)
-    if file is not None:
-        return find
-    return lambda: tool if (tool := find()) and tool.kind == "proved" else None
+def checkers_for(file: str | None) -> Checkers:
+    "the checker that is named, or the proved ones. NoProgram where the one that is named can't be run"
+    return at_hand.checkers_at_hand(file, lambda name: tool if (tool := at_hand.listing_checker(name)) and tool.kind == "proved" else None)
 
 
 def job_for(model: Model, ranging: bool) -> Job:
@@ -158,11 +157,11 @@ def check_basis(basis: Basis, model: Model) -> None:
         raise Refused(f"{basic} rows and columns are basic, and these are to be {len(model.rows)}, as many as there are rows")
 
 
-def ended(model: Model, plan: Plan, basis: Basis | None, ranging: bool, tools: tuple[Tool, Callable[[], Tool | None]], on_life: Callable[[Life], None] | None) -> Answer:
+def ended(model: Model, plan: Plan, basis: Basis | None, ranging: bool, tools: tuple[Tool, Checkers], on_life: Callable[[Life], None] | None) -> Answer:
     "goes through the routes"
-    job, (program, find_checker) = job_for(model, ranging), tools
+    job, (program, there) = job_for(model, ranging), tools
     observer = runs.Observer(tick=lambda seconds, waits: on_life(Life(seconds, waits())) if on_life else None)
-    routes = Routes(job, program, plan, find_checker, observer)
+    routes = Routes(job, program, plan, there, observer)
     if basis is not None:
         check_basis(basis, model)
         routes.begin_at(basis, "the basis")
@@ -187,12 +186,12 @@ def solve(model: Model, *, ranging: bool = False, basis: Basis | None = None, wi
     again while a program runs. NoProgram where there is none; Refused where a job can't hold the model; CantRun where a program can't be run or gives no answer;
     NoListing where what it prints isn't this job's listing."""
     plan = Plan(solvers=None if with_ is None else tuple(with_), seconds=seconds)
-    return ended(model, plan, basis, ranging, (proved(program), checker_for(checker)), on_life)
+    return ended(model, plan, basis, ranging, (proved(program), checkers_for(checker)), on_life)
 
 
 def prove(model: Model, basis: Basis, *, ranging: bool = False, seconds: float | None = None, program: str | None = None) -> Answer:
     "INSERT of this basis and PRIMAL, and no other route: status stopped, with its STOP line, where these come to no verdict. Refused where the basis isn't of this model"
-    return ended(model, Plan(solvers=(), only="basis", seconds=seconds), basis, ranging, (proved(program), lambda: None), None)
+    return ended(model, Plan(solvers=(), only="basis", seconds=seconds), basis, ranging, (proved(program), Checkers()), None)
 
 
 # ---- attesting
@@ -214,34 +213,49 @@ def solution_of(answer: Answer | Solution) -> write.Answer:
 
 def attest(model: Model, answer: Answer | Solution, *, seconds: float | None = None, checker: str | None = None) -> Attestation:
     """what the proved checker of listings says of an exact answer, or the checker that is named: nothing is solved, and nothing of the answer is changed.
-    NoProgram where there is no checker; Refused where the answer isn't of this model's names, or a number of it doesn't fit."""
-    tool = checker_for(checker)()
-    if tool is None:
+    NoProgram where there is no checker; Refused where the answer isn't of this model's names, or a number of it has more digits than any checker reads."""
+    there = checkers_for(checker)
+    if not (there.short or there.long):
         raise NoProgram(f"no proved checker of listings is there; {at_hand.PROVES}. Another one is named by checker=FILE")
     job, found = job_for(model, False), solution_of(answer)
     try:
         listing = long_answers.listing_of(job, found)
     except (KeyError, write.Refused) as cause:
         raise Refused(f"the model has no {cause}" if isinstance(cause, KeyError) else str(cause)) from None
-    return attestation(tool, job, listing, seconds)
+    return attestation(there, job, listing, seconds)
 
 
-def attestation(tool: Tool, job: Job, listing: str, seconds: float | None) -> Attestation:
-    "runs the checker"
+def asked(tool: Tool, job: Job, listing: str, until: float | None) -> Said:
+    "what a checker says, until a time of time.monotonic"
     with Processes() as processes:
         try:
             process = processes.start(tool.command, job.text.encode("ascii"), files={"LISTING": listing.encode("latin-1")})
         except OSError as cause:
             raise CantRun(f"can't run {tool.command[0]}: {cause.strerror}") from None
-        over = processes.wait([process], None if seconds is None else time.monotonic() + seconds)
+        over = processes.wait([process], until)
         process.end()
-        said, code = process.printed().decode("latin-1"), process.status if over and process.status is not None else NO_END
-    words = said.split()
-    if (code == ATTESTED) != said.startswith("ATTESTED "):
-        raise CantRun(f"{tool.command[0]} ended with {code} and gave no answer: {said[:60]!r}")
-    line = int(words[2]) if words[1:2] == ["LINE"] and words[2].isdigit() else None
-    why = None if code == ATTESTED else WHY.get(code, f"the checker ended with {code}: {said[:60].strip()}")
-    return Attestation(code == ATTESTED, tool.kind == "proved" and code == ATTESTED, code, why, line, job.text, listing)
+        said = Said(process.status if over and process.status is not None else NO_END, process.printed().decode("latin-1"))
+    if said.status != NO_END and not said.is_answer:
+        raise CantRun(f"{tool.command[0]} ended with {said.status} and gave no answer: {said.text[:60]!r}")
+    return said
+
+
+def attestation(there: Checkers, job: Job, listing: str, seconds: float | None) -> Attestation:
+    "what the checkers say"
+    until, text = None if seconds is None else time.monotonic() + seconds, listing.encode("latin-1")
+    found = checkers.in_turn(there, text, lambda tool: asked(tool, job, listing, until))
+    assert found is not None
+    tool, said = found
+    is_attested = said.status == ATTESTED
+    return Attestation(is_attested, tool.kind == "proved" and is_attested, said.status, why_not(tool, said, text), said.line, job.text, listing,
+                       "" if tool.kind == "other" else tool.name)
+
+
+def why_not(tool: Tool, said: Said, listing: bytes) -> str | None:
+    "why a listing isn't attested; None where it is"
+    if said.status == ATTESTED:
+        return None
+    return checkers.limit_met(tool, said, listing) or WHY.get(said.status, f"the checker ended with {said.status}: {said.text[:60].strip()}")
 
 
 __all__ = ["Answer", "Attestation", "Basis", "Error", "Life", "Model", "Solution", "attest", "prove", "read_basis", "read_mps", "read_solution", "solve"]

@@ -1,10 +1,11 @@
-"""The program that solves and the checker of listings that are at hand: which file, and whether it is proved.
+"""The program that solves and the checkers of listings that are at hand: which file, and whether it is proved.
 
-    program = solver_program()        NoProgram where there is none
-    checker = listing_checker()       None where none is at hand
-    find = checker_finder(FILE)       the same, where it is called
+    program = solver_program()             NoProgram where there is none
+    checker = listing_checker(NAME)        mps360check, or mps360long, which reads numbers of any length; None where it isn't at hand
+    checkers = checkers_at_hand(FILE)      both, each found where it is first asked for, or the one that is named
 
-Nothing is compiled here: of the unproved ones those count that were compiled before of the same sources, by scripts/mps360 or scripts/mps360check."""
+Nothing is compiled here: of the unproved ones those count that were compiled before of the same sources, by scripts/mps360, scripts/mps360check or
+scripts/mps360long."""
 from __future__ import annotations
 
 import functools
@@ -19,7 +20,7 @@ from mps360 import programs
 from mps360.errors import NoProgram
 
 Kind = Literal["proved", "unproved", "other"]
-PROGRAM, CHECKER = "mps360", "mps360check"
+PROGRAM, CHECKER, LONG_CHECKER = "mps360", "mps360check", "mps360long"
 PROVES = "scripts/build.sh proves and builds it, in some 25 minutes"
 
 
@@ -102,16 +103,39 @@ def solver_program(file: str | None = None) -> Tool:
     return Tool((command,), "unproved", (command, "--make", "2"))
 
 
-def checker_finder(file: str | None = None) -> Callable[[], Tool | None]:
-    "finds the checker of listings that is named, or else listing_checker, where it is called and once; NoProgram at once where the named one can't be run"
-    tool = named(file, CHECKER) if file else None
-    return functools.lru_cache(maxsize=1)(lambda: tool or listing_checker())
+Finder = Callable[[], Tool | None]
 
 
-def listing_checker() -> Tool | None:
-    "the proved checker of listings, or an unproved one that is compiled already; None where there is neither"
-    proved = proved_program(CHECKER)
+class Checkers:
+    "the checkers of listings: the one of 127 bits, and the one of any length. Each is found where it is first asked for; None is no checker"
+
+    def __init__(self, find: Finder = lambda: None, find_long: Finder = lambda: None) -> None:
+        self.find, self.find_long = find, find_long
+
+    @functools.cached_property
+    def short(self) -> Tool | None:
+        "mps360check, or the checker that is named, which is asked whatever the length of a number"
+        return self.find()
+
+    @functools.cached_property
+    def long(self) -> Tool | None:
+        "mps360long; None also where another checker is named"
+        return self.find_long()
+
+
+def checkers_at_hand(file: str | None = None, find: Callable[[str], Tool | None] | None = None) -> Checkers:
+    "the checker that is named, alone; or those that a finder finds by their names, listing_checker where no finder is given. NoProgram where the named one can't be run"
+    if file:
+        tool = named(file, CHECKER)
+        return Checkers(lambda: tool)
+    by_name = find or listing_checker
+    return Checkers(functools.partial(by_name, CHECKER), functools.partial(by_name, LONG_CHECKER))
+
+
+def listing_checker(name: str = CHECKER) -> Tool | None:
+    "the proved checker of listings of this name, or an unproved one that is compiled already; None where there is neither"
+    proved = proved_program(name)
     if proved:
-        return Tool((proved,), "proved", name=CHECKER)
-    kept = None if os.environ.get("MPS360_PROVED") else kept_program(CHECKER)
-    return Tool((kept,), "unproved", name=CHECKER) if kept else None
+        return Tool((proved,), "proved", name=name)
+    kept = None if os.environ.get("MPS360_PROVED") else kept_program(name)
+    return Tool((kept,), "unproved", name=name) if kept else None

@@ -9,7 +9,9 @@ import sys
 from collections.abc import Callable, Iterator
 from typing import Any
 
-CANT_WRITE, INTERRUPTED = 73, 130
+CANT_WRITE, INTERRUPTED, REFUSED = 73, 130, 65
+# what Python says of a number that it makes no text of
+TOO_LONG = "Exceeds the limit ("
 OUT, ERRORS = "to standard output", "to standard error"
 CLOSED = "it is closed"
 Main = Callable[[list[str] | None], int]
@@ -122,17 +124,30 @@ def keep_number(number: int) -> None:
             os.close(opened)
 
 
+def is_told(name: str, module: str, words: list[str]) -> bool:
+    "whether the words ask what the command is, or which; that is told, as the head of its module has it"
+    if "-h" in words or "--help" in words:
+        from mps360 import help_text
+        print(help_text.shown(name, sys.modules[module].__doc__ or ""))
+    elif "--version" in words:
+        from mps360 import help_text
+        print(help_text.version(name))
+    else:
+        return False
+    return True
+
+
 def command(name: str) -> Callable[[Main], Main]:
     """of the main of a command, which takes the words behind its name and gives its status: the same, with each write to standard output and
     standard error checked to the last byte. CantWrite, from there or from write_file, ends it with CANT_WRITE and one line on standard error; so
-    does Ctrl-C, where the command doesn't meet it itself, with INTERRUPTED."""
+    does Ctrl-C, where the command doesn't meet it itself, with INTERRUPTED. --help and --version are answered here."""
     def of(main: Main) -> Main:
         @functools.wraps(main)
         def checked(words: list[str] | None = None) -> int:
             with checked_streams() as (out, errors):
                 try:
                     try:
-                        return main(words)
+                        return 0 if is_told(name, main.__module__, sys.argv[1:] if words is None else words) else main(words)
                     finally:
                         out.flush()
                         errors.flush()
@@ -143,6 +158,11 @@ def command(name: str) -> Callable[[Main], Main]:
                 except KeyboardInterrupt:
                     tell(errors, f"{name}: interrupted")
                     return INTERRUPTED
+                except ValueError as cause:
+                    if not str(cause).startswith(TOO_LONG):
+                        raise
+                    tell(errors, f"{name}: a number that comes of what is read has more than {sys.get_int_max_str_digits():,} digits")
+                    return REFUSED
         return checked
     return of
 

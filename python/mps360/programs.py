@@ -1,6 +1,7 @@
 """Runs jobs, and attests listings, for the other scripts: by the proved program where it is fresh, else all jobs unproved, built once
 (`rt try --cases`)."""
 from collections.abc import Mapping
+import os
 import pathlib
 import re
 import shutil
@@ -17,7 +18,7 @@ UNPROVED = ".unproved"
 
 def installed_program(name: str, ending: str = "") -> str | None:
     "the path of the program of this name that is installed beside these modules, proved, or with the ending .unproved of a trial package; else None"
-    installed = COMMANDS / ({"mps360": "program", "mps360check": "check"}[name] + ending)
+    installed = COMMANDS / ({"mps360": "program", "mps360check": "check", "mps360long": "long"}[name] + ending)
     return str(installed) if installed.exists() else None
 
 
@@ -30,16 +31,21 @@ def proved_program(name: str = "mps360", may_be_built: bool = True) -> str | Non
     return found.stdout.strip() if found.returncode == 0 else None
 
 
-def checker_program(is_unproved: bool = False) -> str:
-    "the path of the checker of listings: the proved one, or where there is none and an unproved one is wanted, that which is compiled of its sources"
-    program = proved_program("mps360check")
+def may_be_compiled(name: str) -> bool:
+    "whether the sources of a program are here, and an unproved run isn't refused"
+    return (TOP / "crates" / name).is_dir() and not os.environ.get("MPS360_PROVED")
+
+
+def checker_program(is_unproved: bool = False, name: str = "mps360check") -> str:
+    "the path of a checker of listings: the proved one, or where there is none and an unproved one is wanted, that which is compiled of its sources"
+    program = proved_program(name)
     if program:
         return program
     if not is_unproved:
-        raise NoProgram("no proved program mps360check is there (scripts/build.sh builds it)")
+        raise NoProgram(f"no proved program {name} is there (scripts/build.sh builds it)")
     from mps360 import unproved
     try:
-        return unproved.make("mps360check", optimised=True)
+        return unproved.make(name, optimised=True)
     except unproved.NoAnswer as cause:
         raise NoProgram(str(cause)) from None
 

@@ -5,7 +5,7 @@
 1. a basis that is handed in: INSERT and PRIMAL
 2. PRIMAL from the opening basis, for a few seconds; where there are two processors it goes on beside all that follows
 3. a basis of each solver, as it is there: INSERT and PRIMAL
-4. esolver's exact answer, attested by the checker of listings
+4. esolver's exact answer, attested by the checker of listings, or by the one without a limit on the length of numbers
 5. PRIMAL from the opening basis, to its end
 
 No solver is believed: a verdict is that of the program, or of the checker. What comes to no verdict ends as PRIMAL did."""
@@ -26,8 +26,9 @@ from mps360.solver_names import EXACT_SOLVER, NAMES, NoBasis, not_installed
 
 # what only a basis or another solver needs is loaded where one is asked: most runs end before
 if TYPE_CHECKING:
-    from mps360.at_hand import Tool
+    from mps360.at_hand import Checkers, Tool
     from mps360.bases import Basis
+    from mps360.checkers import Said
     from mps360.jobs.write import Job
     from mps360.plain import Plain
     from mps360.solvers import Request, Solver
@@ -102,9 +103,9 @@ class Routes:
     "the routes of one job, which mps360.jobs.write made of a model"
     processes: Processes   # while it runs
 
-    def __init__(self, job: Job, program: Tool, plan: Plan, find_checker: Callable[[], Tool | None] = lambda: None, observer: Observer | None = None) -> None:
-        "find_checker finds the checker of listings, once a route needs it"
-        self.job, self.program, self.plan, self.find_checker, self.observer = job, program, plan, find_checker, observer or Observer()
+    def __init__(self, job: Job, program: Tool, plan: Plan, checkers: Checkers | None = None, observer: Observer | None = None) -> None:
+        "the checkers of listings are found once a route needs them; None is none"
+        self.job, self.program, self.plan, self.checkers, self.observer = job, program, plan, checkers, observer or Observer()
         self.given: tuple[Basis, str] | None = None
         self.tried: list[tuple[float, Tried]] = []   # each with the time when it began
         self.opening: Attempt | None = None     # PRIMAL from the opening basis, while it runs
@@ -113,11 +114,6 @@ class Routes:
         self.first_basis = ""                   # the first basis that a solver gave, as a basis file of the plain model
         self.begun = time.monotonic()
         self.plain: Plain | None = None
-
-    @functools.cached_property
-    def checker(self) -> Tool | None:
-        "the checker of listings; None where there is none"
-        return self.find_checker()
 
     def begin_at(self, basis: Basis, words: str) -> None:
         "hands in a basis of the model, which comes first; words are what it is called, as a file's name"
@@ -144,8 +140,7 @@ class Routes:
     def outcome(self, attempt: Attempt) -> Outcome:
         "what the routes came to; those that were tried stand in the order in which they began"
         routes = [tried for _, tried in sorted(self.tried, key=lambda pair: pair[0])]
-        tool = self.checker if attempt.by_checker and self.checker else self.program
-        return Outcome(attempt, routes, tool, attempt.solver.version if attempt.solver and not attempt.interrupted else "")
+        return Outcome(attempt, routes, attempt.checker or self.program, attempt.solver.version if attempt.solver and not attempt.interrupted else "")
 
     def stopped(self) -> Outcome:
         "what stands at an interruption"
@@ -358,17 +353,17 @@ class Routes:
         solver = next((one for one in self.those_asked if one.name == EXACT_SOLVER), None)
         if solver is None:
             return
-        words = f"{solver.title}'s exact answer, attested by the checker"
-        attempt = self.running = Attempt(words, self.job.text, solver=solver, by_checker=True, status=0)
+        what = f"{solver.title}'s exact answer"
+        attempt = self.running = Attempt(f"{what}, attested by the checker", self.job.text, solver=solver, by_checker=True, status=0)
         try:
-            if self.checker is None:
+            if self.checkers is None or not (self.checkers.short or self.checkers.long):
                 raise NoBasis("no checker of listings is at hand (scripts/build.sh builds it)")
             self.observer.going(f"asking {solver.title} for an exact answer")
             request = self.asked(functools.partial(solver.ask_exactly, self.plain_form(), self.processes, self.first_basis), solver)
             attempt.written = request.written()
             attempt.listing = self.listing_of(attempt.written).encode("latin-1")
             attempt.basis = request.exact_basis()
-            self.attest(attempt)
+            attempt.words = f"{what}, attested by {self.attested(attempt)}"
             attempt.seconds = time.monotonic() - attempt.begun
         except (NoBasis, Refused, OSError, solutions.NoSolution, write.Refused) as cause:
             self.fails(attempt, f"no exact answer of {solver.title}: {first_line(cause)}")
@@ -383,15 +378,24 @@ class Routes:
         plain = self.plain_form()
         return listing_of(self.job, plain.answer_back(solutions.read_bytes(text.encode("latin-1"), plain.model)))
 
-    def attest(self, attempt: Attempt) -> None:
-        "asks the checker of listings; NoBasis where it doesn't attest"
-        assert self.checker is not None
-        process = self.processes.start(self.checker.command, attempt.job.encode("latin-1"), files={"LISTING": attempt.listing}, tell=self.observer.heard)
+    def attested(self, attempt: Attempt) -> str:
+        "asks the checkers of listings; what the one is called that attests. NoBasis where none does"
+        from mps360 import checkers
+        assert self.checkers is not None
+        found = checkers.in_turn(self.checkers, attempt.listing, lambda checker: self.said_by(checker, attempt))
+        assert found is not None
+        attempt.checker, said = found
+        if not said.is_answer or said.status != checkers.ATTESTED:
+            raise NoBasis(f"{checkers.title(attempt.checker)} of listings says {said.text.strip()[:60] or 'nothing'} and ends with {said.status}")
+        return checkers.title(attempt.checker)
+
+    def said_by(self, checker: Tool, attempt: Attempt) -> Said:
+        "what a checker says of the attempt's listing; NoBasis where no time is left for it"
+        from mps360.checkers import Said
+        process = self.processes.start(checker.command, attempt.job.encode("latin-1"), files={"LISTING": attempt.listing}, tell=self.observer.heard)
         if not self.wait(process, self.left(), lambda: "waits for the checker of listings"):
             raise NoBasis("the checker of listings had no end in the time that was left")
-        said = process.printed().decode("latin-1")
-        if process.status != 0 or not said.startswith("ATTESTED "):
-            raise NoBasis(f"the checker of listings says {said.strip()[:60] or 'nothing'} and ends with {process.status}")
+        return Said(NO_END if process.status is None else process.status, process.printed().decode("latin-1"))
 
     def best_of(self) -> Attempt:
         """what stands where no route decides: an attempt with a verdict whose listing isn't whole, or PRIMAL from the opening basis, or the first one.

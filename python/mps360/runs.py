@@ -69,6 +69,7 @@ class Attempt:
     seconds: float = 0.0
     why: str | None = None                      # why its listing isn't whole
     by_checker: bool = False
+    checker: Tool | None = None                 # that attested it
     interrupted: bool = False
 
     @property

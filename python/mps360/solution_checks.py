@@ -10,6 +10,7 @@ from fractions import Fraction
 
 from mps360.listings.write import Answer
 from mps360.model import Model, Sums
+from mps360.text import short_text
 
 ZERO = Fraction(0)
 Limits = tuple[Fraction | None, Fraction | None]
@@ -54,9 +55,9 @@ def infeasible_points(sheet: Sheet) -> Iterator[str]:
     for kind, name, (lower, upper) in sheet.limits():
         value = point[kind, name]
         if lower is not None and value < lower:
-            yield f"the {kind} {name} has the activity {value}, below its lower limit {lower}"
+            yield f"the {kind} {name} has the activity {short_text(value)}, below its lower limit {short_text(lower)}"
         if upper is not None and value > upper:
-            yield f"the {kind} {name} has the activity {value}, above its upper limit {upper}"
+            yield f"the {kind} {name} has the activity {short_text(value)}, above its upper limit {short_text(upper)}"
 
 
 def optimal(sheet: Sheet) -> Iterator[str]:
@@ -68,16 +69,16 @@ def optimal(sheet: Sheet) -> Iterator[str]:
         reduced[column] = sheet.left_over(column, entries.get(model.objective, ZERO), answer.prices)
         told = answer.reduced.get(column, ZERO) if answer.reduced is not None else reduced[column]
         if told != reduced[column]:
-            yield f"the column {column} has the reduced cost {told}, and by the prices it is {reduced[column]}"
+            yield f"the column {column} has the reduced cost {short_text(told)}, and by the prices it is {short_text(reduced[column])}"
     point = sheet.with_rows(answer.columns)
     for kind, name, (lower, upper) in sheet.limits():
         price, value = answer.prices.get(name, ZERO) if kind == "row" else reduced[name], point[kind, name]
         which, limit = ("lower", lower) if (price > 0) == (model.sense == "MIN") else ("upper", upper)
         what = "shadow price" if kind == "row" else "reduced cost"
         if price and limit is None:
-            yield f"the {kind} {name} has the {what} {price}, which is for its {which} limit, and it has none"
-        elif price and value != limit:
-            yield f"the {kind} {name} has the {what} {price}, which is for its {which} limit {limit}, and its activity is {value}"
+            yield f"the {kind} {name} has the {what} {short_text(price)}, which is for its {which} limit, and it has none"
+        elif price and limit is not None and value != limit:
+            yield f"the {kind} {name} has the {what} {short_text(price)}, which is for its {which} limit {short_text(limit)}, and its activity is {short_text(value)}"
 
 
 def infeasible(sheet: Sheet) -> Iterator[str]:
@@ -86,7 +87,7 @@ def infeasible(sheet: Sheet) -> Iterator[str]:
     if answer.crossed:
         kind, name = answer.crossed
         lower, upper = model.row_limits(name) if kind == "row" else model.column_limits(name)
-        shown = ["none" if limit is None else str(limit) for limit in (lower, upper)]
+        shown = ["none" if limit is None else short_text(limit) for limit in (lower, upper)]
         if lower is None or upper is None or lower <= upper:
             yield f"the {kind} {name} has the lower limit {shown[0]}, which isn't above its upper limit {shown[1]}"
         return
@@ -95,16 +96,16 @@ def infeasible(sheet: Sheet) -> Iterator[str]:
         left = sheet.left_over(column, ZERO, answer.ray)
         factors["column", column] = left if answer.column_ray is None else answer.column_ray.get(column, ZERO)
         if factors["column", column] != left:
-            yield f"the column {column} has the factor {factors['column', column]}, and by the factors of the rows it is {left}"
+            yield f"the column {column} has the factor {short_text(factors['column', column])}, and by the factors of the rows it is {short_text(left)}"
     total = ZERO
     for kind, name, (lower, upper) in sheet.limits():
         factor = factors[kind, name]
         which, limit = ("upper", upper) if factor > 0 else ("lower", lower)
         if factor and limit is None:
-            yield f"the {kind} {name} has the factor {factor}, which is for its {which} limit, and it has none"
+            yield f"the {kind} {name} has the factor {short_text(factor)}, which is for its {which} limit, and it has none"
         total += factor * (limit or ZERO)
     if total >= 0:
-        yield f"the limits, each times its factor, add up to {total}, which isn't less than 0"
+        yield f"the limits, each times its factor, add up to {short_text(total)}, which isn't less than 0"
 
 
 def unbounded(sheet: Sheet) -> Iterator[str]:
@@ -116,7 +117,7 @@ def unbounded(sheet: Sheet) -> Iterator[str]:
         change = direction[kind, name]
         which, limit = ("upper", upper) if change > 0 else ("lower", lower)
         if change and limit is not None:
-            yield f"the {kind} {name} changes by {change} along the direction, and has the {which} limit {limit}"
+            yield f"the {kind} {name} changes by {short_text(change)} along the direction, and has the {which} limit {short_text(limit)}"
     change = direction["row", str(model.objective)]
     if (change <= 0) if model.sense == "MAX" else (change >= 0):
-        yield f"the objective {model.objective} changes by {change} along the direction, which isn't {'more' if model.sense == 'MAX' else 'less'} than 0"
+        yield f"the objective {model.objective} changes by {short_text(change)} along the direction, which isn't {'more' if model.sense == 'MAX' else 'less'} than 0"

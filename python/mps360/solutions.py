@@ -16,9 +16,11 @@ from mps360.files import unzipped
 from mps360.listings.write import Answer
 from mps360.model import Model
 from mps360.model import Sums
+from mps360.numbers import MOST_DIGITS
+from mps360.text import short_text
 
-FRACTION = re.compile(r"[+-]?[0-9]{1,4000}(?:/[0-9]{1,4000})?")
-DECIMAL = re.compile(r"[+-]?(?:[0-9]+\.?[0-9]*|\.[0-9]+)(?:[eE][+-]?[0-9]+)?")
+FRACTION = re.compile(r"[+-]?[0-9]+(?:/[0-9]+)?")
+DECIMAL = re.compile(r"[+-]?(?:[0-9]+(?:\.[0-9]*)?|\.[0-9]+)(?:[eE][+-]?[0-9]+)?")
 MOST_BYTES = 300_000_000
 SECTIONS = {"VARS:": "columns", "REDUCED COST:": "reduced", "PI:": "prices", "SLACK:": "slack"}
 KEYS = {"optimal": {"columns", "prices", "reduced", "objective"}, "infeasible": {"ray", "column_ray", "crossed"},
@@ -42,6 +44,8 @@ def number(word: str) -> Fraction:
         raise NoSolution(f"{word[:40]} is a decimal number, which may be rounded: an exact one is whole, or a fraction such as -7/3. {OF_FLOATS}")
     if not FRACTION.fullmatch(word) or re.search(r"/0+$", word):
         raise NoSolution(f"{word[:40]!r} isn't a number, whole or a fraction such as -7/3")
+    if any(len(part) > MOST_DIGITS for part in word.lstrip("+-").split("/")):
+        raise NoSolution(f"{word[:40]}.. has more than {MOST_DIGITS:,} digits above or below the line")
     return Fraction(word)
 
 
@@ -100,7 +104,7 @@ def check_objective(told: Fraction | None, columns: dict[str, Fraction], model: 
     sums = Sums(model)
     worth = sum((value * sums.of(name).get(model.objective, Fraction(0)) for name, value in columns.items()), Fraction(0))
     if told not in (worth, worth + model.constant):
-        raise NoSolution(f"the objective is said to be {told}, and by the activities it is {worth}: a solution of another model, or of one that its "
+        raise NoSolution(f"the objective is said to be {short_text(told)}, and by the activities it is {short_text(worth)}: a solution of another model, or of one that its "
                          "solver reads otherwise")
 
 

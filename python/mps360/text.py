@@ -8,6 +8,8 @@ from decimal import Decimal, localcontext
 from fractions import Fraction
 
 DIGITS, MOST_DIGITS = 7, 15
+# digits of a whole number: more aren't shown at once, so many of them are
+MOST_SHOWN, FIRST_SHOWN = 30, 12
 FORMULA_SIGNS = tuple("=+-@＝＋－＠'")
 # all that a terminal may obey or leave out: the control characters, and those that turn the direction of writing or have no width
 UNSEEN = re.compile("[\x00-\x1f\x7f-\x9f\u200b-\u200f\u2028-\u202e\u2060-\u2069\ufeff\ud800-\udfff]")
@@ -47,6 +49,18 @@ def guard() -> None:
 
 
 # ---- numbers, and cells of a spreadsheet
+
+def cut(whole: str) -> str:
+    "a whole number, or where it has too many digits the first of them and how many there are"
+    sign, digits = ("-", whole[1:]) if whole.startswith("-") else ("", whole)
+    return whole if len(digits) <= MOST_SHOWN else f"{sign}{digits[:FIRST_SHOWN]}… ({counted(len(digits), 'digit')})"
+
+
+def short_text(value: Fraction) -> str:
+    "a fraction for a sentence: where it is long the first digits above and below the line, and how many there are"
+    text = str(value)
+    return text if len(text) <= MOST_SHOWN else "/".join(cut(part) for part in text.split("/"))
+
 
 def decimal_of(number: Fraction | str) -> tuple[str, bool]:
     "the decimal number of a fraction, and whether that is its exact value; what isn't has at least 7 correct digits"

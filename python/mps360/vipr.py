@@ -18,7 +18,7 @@ from mps360.listings.follow import follow
 from mps360.listings.read import Line, Parser, Report, Solution, Verdict
 from mps360.listings.write import Answer
 from mps360.model import Limits, Model
-from mps360.numbers import text_of
+from mps360.numbers import MOST_DIGITS, text_of
 from mps360.text import counted
 
 Sum = dict[int, Fraction]
@@ -27,7 +27,8 @@ SET = "LIMITS"
 MOST_COUNT = 10 ** 7
 OPPOSITE = {"L": "G", "G": "L", "E": "E"}
 ENDING = {"E": "_fixed", "G": "_lower", "L": "_upper"}
-VALUE = re.compile(r"[+-]?(?:\d{1,4000}/\d*[1-9]\d*|(?:\d{1,4000}\.?\d{0,4000}|\.\d{1,4000})(?:[eE][+-]?\d{1,3})?)", re.A)
+DIGITS = rf"\d{{1,{MOST_DIGITS}}}"
+VALUE = re.compile(rf"[+-]?(?:{DIGITS}/(?=0*[1-9]){DIGITS}|(?:{DIGITS}(?:\.(?:{DIGITS})?)?|\.{DIGITS})(?:[eE][+-]?\d{{1,3}})?)", re.A)
 READABLE = re.compile(r"[A-Za-z_][!-$&-z|~]*")
 COMMENT = "% written by listing2vipr.py of mps360: the linear program of a listing's report, and the proof that the report gives"
 
@@ -410,10 +411,8 @@ def claims_of(job: str, listing: str, table: Mapping[str, Mapping[str, str]] | N
             raise NoClaim(f"line {line}: what begins there isn't the job's, or its numbers don't prove it: {cause}") from None
         if report["report"] == "verdict":
             pending = (line, report) if report["verdict"] == "optimal" else None
-            if not report["checked"] and not pending:
-                raise NoClaim(f"line {line}: its test met a number too large (UNCHECKED)")
-        if found and pending and (not pending[1]["checked"] or found.bounds != (Fraction(pending[1]["objective"]),) * 2):
-            raise NoClaim(f"line {pending[0]}: it is UNCHECKED, or the SOLUTION of line {line} has another objective")
+        if found and pending and found.bounds != (Fraction(pending[1]["objective"]),) * 2:
+            raise NoClaim(f"line {pending[0]}: the SOLUTION of line {line} has another objective")
         if found or report["report"] == "verdict" and report["verdict"] == "unbounded":
             yield Claim(line, found)
 

@@ -1,14 +1,18 @@
 """Says whether the numbers of a listing prove what it says of a job, and all else in it is what the job prints: worked out apart from the
 program, over Python's exact fractions, without a path and without a basis. A script, tested and not proved.
 
-usage: dev/oracle attesting JOB LISTING       it prints one line, and ends with its status
-       dev/oracle attesting --as-program      takes them as the program mps360check does: the job on standard input, and the listing from
-                                               the file LISTING of the present folder
+usage: dev/oracle attesting [--long] JOB LISTING       it prints one line, and ends with its status
+       dev/oracle attesting [--long] --as-program      takes them as the programs do: the job on standard input, and the listing from the file
+                                                       LISTING of the present folder
+
+By the rules of mps360check, whose numbers have 127 bits; with --long by those of mps360long, which reads numbers of up to 100,000 digits above and
+below the line.
 
   0 ATTESTED n REPORTS   all of it
  40 WRONG LINE n         what is due at line n isn't of its form, or fails a test
  41 OPEN LINE n          line n can't be attested: RANGE, PUNCH or INSERT, a stop whose cause needs a path, an optimum without SOLUTION
- 42 UNCHECKED LINE n     an operation of a test doesn't fit 127 bits
+ 42 UNCHECKED LINE n     an operation of a test, or of the linear program that is needed for it, doesn't fit 127 bits; with --long one of the linear
+                        program, or a number is too long
  43 LONG LISTING         of more than 64,000,000 bytes
  64 wrong use; 66 a file can't be read; as the program: STOP 4 WORDS, with 4, and STOP 27 LISTING FAULT, with 27"""
 from __future__ import annotations
@@ -19,11 +23,12 @@ from collections.abc import Callable, Sequence
 from fractions import Fraction
 from typing import Any, TypeVar
 
-from oracle.claims import (ATTESTED, Changing, Claim, DEFAULTS, DEMAND_OF, Found, LONG, Listing, MOST_LISTING, MOST_STATEMENTS, Misses, OPEN, Sheet,
-                           UNCHECKED, WRONG, ask, check_direction, check_equations, check_interval, check_optimal, check_prices, cost, count,
-                           for_min, fraction, has_form, is_checked, is_open_stop, ray_sum, read_code, shown, total, worth_of)
+from oracle.claims import (ATTESTED, Changing, Checker, Claim, DEFAULTS, DEMAND_OF, Found, LONG, Listing, MOST_LISTING, MOST_STATEMENTS, Misses,
+                           OF_128_BITS, OF_ANY_LENGTH, OPEN, Reader, Sheet, UNCHECKED, WRONG, ask, check_direction, check_equations, check_interval,
+                           check_optimal, check_prices, cost, count, for_min, has_form, is_checked, is_open_stop, ray_sum, read_code, shown, total,
+                           worth_of)
 from oracle.deck_rules import BasisDeck, DataDeck, Problem, RevisionDeck
-from oracle.rules import Argument, Program, Refused, Statement, Stop, cut, is_skipped, name_field, subtract, word_of
+from oracle.rules import Argument, Program, Refused, Statement, Stop, cut, is_skipped, name_field, word_of
 from oracle.selecting import LinearProgram, SelectionFault
 
 
@@ -37,8 +42,8 @@ class Walk:
     "goes through a job's statements, and takes from the listing what is due at each"
     card: int
 
-    def __init__(self, job: bytes, listing: bytes) -> None:
-        self.listing, self.reports = Listing(listing.decode("latin-1")), 0
+    def __init__(self, job: bytes, listing: bytes, by: Checker = OF_128_BITS) -> None:
+        self.listing, self.reports, self.by = Listing(listing.decode("latin-1")), 0, by
         # an optimum whose SOLUTION hasn't come yet, and its line
         self.pending: tuple[int, Claim] | None = None
         self.cards: list[str] = []
@@ -231,13 +236,16 @@ class Walk:
 
     def claim(self, verb: str, lp: LinearProgram, kinds: Sequence[str]) -> Claim:
         "a verdict of one of these kinds, read"
-        words, sheet = (self.listing.peek() or "").split(" "), Sheet(lp)
+        words, reader = (self.listing.peek() or "").split(" "), Reader(self.by)
+        sheet = Sheet(lp, reader)
         ask(len(words) > 5 and words[0] == verb and words[1] in kinds and words[2] == "STEPS")
         kind, steps, end = words[1], count(words[3]), words[4]
         if kind == "INFEASIBLE" and end == "RAY":
             word = is_checked(words[5:])
             self.listing.take()
-            return Claim(kind, word, ray=sheet.ray(self.listing))
+            ray = sheet.ray(self.listing)
+            reader.refuse_long()
+            return Claim(kind, word, ray=ray)
         word = is_checked(words[6:])
         if kind == "INFEASIBLE":
             ask(end == "CROSSED" and steps == 0)
@@ -246,18 +254,17 @@ class Walk:
             self.listing.take()
             return Claim(kind, word, crossed=crossed - 1)
         ask(end == "OBJECTIVE")
-        objective = fraction(words[5])
+        objective = reader.fraction(words[5])
         self.listing.take()
-        if kind == "OPTIMAL":
-            return Claim(kind, word, objective=objective)
-        point, direction = sheet.table(self.listing, 0, 0)
+        point, direction = ([], []) if kind == "OPTIMAL" else sheet.table(self.listing, 0, 0)
+        reader.refuse_long()
         return Claim(kind, word, objective=objective, point=point, direction=direction)
 
     def tested_claim(self, verb: str, lp: LinearProgram, kinds: Sequence[str], made: Callable[[], LinearProgram]) -> Claim:
         "a verdict that passes its test in a linear program, which is made once the verdict is read"
         line, claim = self.listing.line(), self.claim(verb, lp, kinds)
         lp = made()
-        claim.test(lp)
+        claim.test(self.by, lp)
         self.met(line, lp, claim)
         return claim
 
@@ -298,14 +305,15 @@ class Walk:
             return
         if self.pending:
             first, claim = self.pending
-            if claim.objective != claimed.objective or not claim.is_checked:
+            if claim.objective != claimed.objective or not self.by.takes(claim.is_checked):
                 raise Found(WRONG, first)
             self.pending = None
         self.met(line, lp, claimed)
 
     def tested_solution(self, lp: LinearProgram) -> Claim:
         "the tables of SOLUTION, which are read and tested"
-        listing, sheet = self.listing, Sheet(lp)
+        listing, reader, by = self.listing, Reader(self.by), self.by
+        sheet = Sheet(lp, reader)
         ask(listing.take() == f"SOLUTION {self.mark}")
         point, prices, slacks = [], [], []
         for k in range(sheet.size + 1):
@@ -318,19 +326,20 @@ class Walk:
             words = sheet.values(listing.take(), k)
             ask(len(words) == 6)
             read_code(words[0])
-            point.append(fraction(words[1]))
+            point.append(reader.fraction(words[1]))
             if k < lp.m:
-                slacks.append(fraction(words[2]))
+                slacks.append(reader.fraction(words[2]))
             else:
-                ask(words[2] == str(cost(lp, lp.columns[k - lp.m])))
+                ask(words[2] == str(cost(by, lp, lp.columns[k - lp.m])))
             ask(words[3:5] == [shown(lp.lower[k]), shown(lp.upper[k])])
-            prices.append(fraction(words[5]))
-        check_equations(lp, point)
-        check_prices(lp, prices)
+            prices.append(reader.fraction(words[5]))
+        reader.refuse_long()
+        check_equations(by, lp, point)
+        check_prices(by, lp, prices)
         for right, value, slack in zip(lp.rhs, point, slacks):
-            ask(subtract(right, value) == slack)
+            ask(by.subtract(right, value) == slack)
         if self.mark == "OPTIMAL":
-            check_optimal(lp, point, prices)
+            check_optimal(by, lp, point, prices)
         return Claim("OPTIMAL", True, objective=point[lp.objective], point=point, prices=prices)
 
     def is_by_basis(self, text: str, has_count: bool = False) -> bool:
@@ -405,9 +414,9 @@ class Walk:
         self.open_stop()
         self.clear_mark()
         if verb == "PARAOBJ":
-            changing = Changing(lp, row=lp.row_names.index(change))
+            changing = Changing(self.by, lp, row=lp.row_names.index(change))
         else:
-            changing = Changing(lp, shift=[problem.rhs[change].get(name, Fraction(0)) for name in lp.row_names])
+            changing = Changing(self.by, lp, shift=[problem.rhs[change].get(name, Fraction(0)) for name in lp.row_names])
         head = f"{verb} FROM {cells['XPARAM']} CHANGE {change}"
         if self.listing.peek() != head:
             return self.read(lambda: self.opening(verb, changing))
@@ -419,51 +428,70 @@ class Walk:
 
     def chain(self, verb: str, changing: Changing) -> None:
         "the intervals of a parametric run, each tested at both ends"
-        listing, sheet, last, most, number = self.listing, Sheet(changing.lp), self.cells["XPARAM"], self.cells["XPARMAX"], 0
+        listing, last, most, number = self.listing, self.cells["XPARAM"], self.cells["XPARMAX"], 0
         listing.take()
         while (listing.peek() or "").startswith("INTERVAL "):
             number += 1
-            words = listing.take().split(" ")
+            words, reader = listing.take().split(" "), Reader(self.by)
             ask(len(words) == 6 and words[:5] == ["INTERVAL", str(number), "FROM", str(last), "TO"])
-            end = fraction(words[5])
-            columns = sheet.table(listing, None, 0, 0, 0, 0)
+            end = reader.fraction(words[5])
+            columns = Sheet(changing.lp, reader).table(listing, None, 0, 0, 0, 0)
+            reader.refuse_long()
             check_interval(changing, number == 1, last, end, most, columns)
             last = end
         ask(number)
-        self.closing(verb, changing, sheet, last, most)
+        self.closing(verb, changing, last, most)
         self.cells["XPARAM"] = last
 
-    def closing(self, verb: str, changing: Changing, sheet: Sheet, last: Fraction, most: Fraction) -> None:
+    def closing(self, verb: str, changing: Changing, last: Fraction, most: Fraction) -> None:
         "the last line of a parametric run, with the test of what it says lies past the end"
-        line, lp = self.listing.take(), changing.lp
-        if line == f"{verb} ENDS AT {most}":
-            ask(last == most)
+        text, _, word = self.listing.take().rpartition(" ")
+        reader = Reader(self.by)
+        end = reader.fraction(word)
+        if text == f"{verb} ENDS AT":
+            reader.refuse_long()
+            ask(end == last == most)
             return
-        ask(line == f"{verb} {'UNBOUNDED' if verb == 'PARAOBJ' else 'INFEASIBLE'} PAST {last}" and last < most)
+        ask(text == f"{verb} {'UNBOUNDED' if verb == 'PARAOBJ' else 'INFEASIBLE'} PAST")
+        sheet = Sheet(changing.lp, reader)
         if changing.row is not None:
             point, direction = sheet.table(self.listing, 0, 0)
-            check_direction(lp, point, direction)
-            ask(worth_of(changing.at(last), direction) <= 0 and for_min(lp, direction[changing.row]) < 0)
-            return
-        ray = sheet.ray(self.listing)
-        ask(ray_sum(changing.at(last), ray) <= 0)
-        ask(total(Fraction(0), zip(ray, changing.shift or ())) < 0)
+            reader.refuse_long()
+            ask(end == last < most)
+            self.unbounded_past(changing, last, point, direction)
+        else:
+            ray = sheet.ray(self.listing)
+            reader.refuse_long()
+            ask(end == last < most)
+            self.infeasible_past(changing, last, ray)
+
+    def unbounded_past(self, changing: Changing, last: Fraction, point: list[Fraction], direction: list[Fraction]) -> None:
+        "a direction that keeps all limits, along which the objective doesn't get worse at the last parameter, and better past it"
+        lp, row = changing.lp, changing.row
+        assert row is not None
+        check_direction(self.by, lp, point, direction)
+        ask(worth_of(self.by, changing.at(last), direction) <= 0 and for_min(lp, direction[row]) < 0)
+
+    def infeasible_past(self, changing: Changing, last: Fraction, ray: list[Fraction]) -> None:
+        "a ray whose limits add up to no more than 0 at the last parameter, and to less past it"
+        ask(ray_sum(self.by, changing.at(last), ray) <= 0)
+        ask(total(self.by, Fraction(0), zip(ray, changing.shift or ())) < 0)
 
 
-def attest(job: bytes, listing: bytes) -> tuple[int, str]:
-    "the status, and the line that is printed"
+def attest(job: bytes, listing: bytes, by: Checker = OF_128_BITS) -> tuple[int, str]:
+    "the status, and the line that is printed, by a checker"
     if len(listing) > MOST_LISTING:
         return LONG, "LONG LISTING"
     try:
-        Walk(job, listing).run()
+        Walk(job, listing, by).run()
     except Found as found:
         word = {ATTESTED: "ATTESTED {} REPORTS", WRONG: "WRONG LINE {}", OPEN: "OPEN LINE {}", UNCHECKED: "UNCHECKED LINE {}"}[found.status]
         return found.status, word.format(found.number)
     raise AssertionError("a walk has an end")
 
 
-def as_program(words: list[str]) -> tuple[int, str]:
-    "the status, and the line that is printed, as the program has them"
+def as_program(words: list[str], by: Checker) -> tuple[int, str]:
+    "the status, and the line that is printed, as the programs have them"
     if words:
         return 4, "STOP 4 WORDS"
     job = sys.stdin.buffer.read()
@@ -471,13 +499,14 @@ def as_program(words: list[str]) -> tuple[int, str]:
         listing = pathlib.Path("LISTING").read_bytes()
     except OSError:
         return 27, "STOP 27 LISTING FAULT"
-    return attest(job, listing)
+    return attest(job, listing, by)
 
 
 def main(words: list[str]) -> int:
     "the command; its status"
+    by, words = (OF_ANY_LENGTH, words[1:]) if words[:1] == ["--long"] else (OF_128_BITS, words)
     if words[:1] == ["--as-program"]:
-        status, line = as_program(words[1:])
+        status, line = as_program(words[1:], by)
         print(line)
         return status
     if len(words) != 2 or words[0].startswith("-"):
@@ -488,7 +517,7 @@ def main(words: list[str]) -> int:
     except OSError as cause:
         print(f"oracle attesting: can't read {cause.filename}: {cause.strerror}", file=sys.stderr)
         return 66
-    status, line = attest(job, listing)
+    status, line = attest(job, listing, by)
     print(line)
     return status
 

@@ -1,26 +1,52 @@
-"What a listing claims, as it is read and as the checks test it, with plain operations of 128 bits."
+"What a listing claims, as it is read and as the checks test it: by a checker of 128 bits, or by one of any length."
 from __future__ import annotations
 
+import operator
 import re
-from collections.abc import Iterable, Sequence
+from collections.abc import Callable, Iterable, Sequence
 from dataclasses import dataclass
 from fractions import Fraction
 from typing import Any
 
-from oracle.rules import GREATEST, add, multiply, subtract
+from oracle.rules import GREATEST, Refused, add, multiply
 from oracle.selecting import LinearProgram
 
 MOST_LISTING, MOST_STATEMENTS = 64_000_000, 100_000
 ATTESTED, WRONG, OPEN, UNCHECKED, LONG = 0, 40, 41, 42, 43
 DEFAULTS = {"XPARAM": Fraction(0)}
 DEMAND_OF = {"INFEASIBLE": "XDONFS", "UNBOUNDED": "XDOUNB"}
-# more than a fraction of 128 bits has
-MOST_DIGITS = 100
-FRACTION = r"-?\d+(?:/\d+)?"
+# a count has no more
+MOST_COUNT_DIGITS = 20
+# a fraction as it is written, but for lowest terms
+FRACTION = re.compile(r"-?(0|[1-9]\d*)(?:/([1-9]\d*))?", re.ASCII)
 OPERATIONS = ("ADD", "SUB", "MUL", "DIV")
 # stops whose cause needs a path, a basis or a device: # is a count, / a fraction, ! an operation
 OPEN_STOPS = ("STOP 16 ITERATION LIMIT # CARD #", "STOP 24 READ FAULT", "STOP 26 PUNCH FAULT", "STOP 28 MEMORY", "STOP 10 VERB FAULT 15 CARD #",
               "STOP 10 VERB FAULT 16 CARD # VARIABLE #", "STOP 20 OVERFLOW F# ! / / P # Q # I # J # TERM # THETA / CARD #")
+
+
+@dataclass(frozen=True)
+class Checker:
+    """what a checker does otherwise than another: how great the terms of a number may be that it reads, and by which operations it tests; from how many
+    digits above or below the line on a number isn't read for its value; whether CHECKED alone may stand with a verdict. None is without an end."""
+    greatest: int | None
+    most_digits: int | None
+    add: Callable[[Fraction, Fraction], Fraction]
+    multiply: Callable[[Fraction, Fraction], Fraction]
+    asks_checked: bool
+
+    def subtract(self, x: Fraction, y: Fraction) -> Fraction:
+        return self.add(x, -y)
+
+    def takes(self, says_checked: bool) -> bool:
+        "whether a verdict may be printed with the word CHECKED, or with the other one"
+        return says_checked or not self.asks_checked
+
+
+OF_128_BITS = Checker(GREATEST, None, add, multiply, True)
+OF_ANY_LENGTH = Checker(None, 100_000, operator.add, operator.mul, False)
+# more digits than a fraction of 128 bits has
+LONGER_THAN_128_BITS = 40
 
 
 class Found(Exception):
@@ -68,18 +94,41 @@ class Listing:
         return self.at == len(self.lines) and not self.has_part
 
 
+class Reader:
+    "reads the numbers of a report, and knows whether one was too long to be read"
+    def __init__(self, checker: Checker) -> None:
+        self.checker, self.has_long = checker, False
+
+    def fraction(self, word: str) -> Fraction:
+        "a fraction as it is written in lowest terms. One that is too long may stand wherever another may, and is taken for 1"
+        found = FRACTION.fullmatch(word)
+        ask(found)
+        assert found is not None
+        top, bottom = found[1], found[2] or "1"
+        digits, checker = max(len(top), len(bottom)), self.checker
+        if checker.most_digits is not None and top != "0" and digits > checker.most_digits:
+            self.has_long = True
+            return Fraction(1)
+        ask(checker.greatest is None or digits < LONGER_THAN_128_BITS)
+        below = int(bottom)
+        value = Fraction(int(top), below)
+        ask(value.denominator == below and word[:2] != "-0" and found[2] != "1")
+        ask(checker.greatest is None or max(value.numerator, below) <= checker.greatest)
+        return -value if word[0] == "-" else value
+
+    def refuse_long(self) -> None:
+        "Refused where a number was too long"
+        if self.has_long:
+            raise Refused
+
+
 def fraction(word: str) -> Fraction:
-    "a fraction as it is written in lowest terms, of 128 bits"
-    ask(len(word) <= MOST_DIGITS and re.fullmatch(FRACTION, word, re.ASCII))
-    parts = word.split("/")
-    ask(len(parts) == 1 or int(parts[1]))
-    value = Fraction(int(parts[0]), int(parts[1]) if len(parts) == 2 else 1)
-    ask(str(value) == word and abs(value.numerator) <= GREATEST and value.denominator <= GREATEST)
-    return value
+    "a fraction of 128 bits, as a run prints it, whatever the checker"
+    return Reader(OF_128_BITS).fraction(word)
 
 
 def count(word: str, most: int = 2 ** 32 - 1) -> int:
-    ask(len(word) <= MOST_DIGITS and re.fullmatch(r"0|[1-9]\d*", word, re.ASCII) and int(word) <= most)
+    ask(len(word) <= MOST_COUNT_DIGITS and re.fullmatch(r"0|[1-9]\d*", word, re.ASCII) and int(word) <= most)
     return int(word)
 
 
@@ -121,8 +170,8 @@ def shown(value: Fraction | None) -> str:
 
 class Sheet:
     "a linear program whose table lines are read"
-    def __init__(self, lp: LinearProgram) -> None:
-        self.lp, self.size = lp, lp.m + lp.n
+    def __init__(self, lp: LinearProgram, reader: Reader) -> None:
+        self.lp, self.size, self.reader = lp, lp.m + lp.n, reader
 
     def head(self, k: int) -> str:
         return f"{k + 1:5} {self.lp.names[k]:<8} "
@@ -138,7 +187,7 @@ class Sheet:
         for k in range(self.size):
             words = self.values(listing.take(), k)
             ask(len(words) == len(kinds))
-            lines.append([read_code(word) if kind is None else fraction(word) for kind, word in zip(kinds, words)])
+            lines.append([read_code(word) if kind is None else self.reader.fraction(word) for kind, word in zip(kinds, words)])
         return [list(column) for column in zip(*lines)] if lines else [[] for _ in kinds]
 
     def ray(self, listing: Listing) -> list[Fraction]:
@@ -150,7 +199,7 @@ class Sheet:
                 continue
             words = self.values(listing.take(), k)
             ask(len(words) == 1)
-            ray[k] = fraction(words[0])
+            ray[k] = self.reader.fraction(words[0])
             ask(ray[k])
         ask(not re.match(r" *\d+ ", listing.peek() or ""))
         return ray
@@ -161,21 +210,21 @@ def read_code(word: str) -> str:
     return word
 
 
-# ---- the sums of the checks, with plain operations of 128 bits
+# ---- the sums of the checks
 
-def total(start: Fraction, products: Iterable[tuple[Fraction, Fraction]]) -> Fraction:
+def total(by: Checker, start: Fraction, products: Iterable[tuple[Fraction, Fraction]]) -> Fraction:
     for x, y in products:
-        start = add(start, multiply(x, y))
+        start = by.add(start, by.multiply(x, y))
     return start
 
 
-def check_equations(lp: LinearProgram, point: Sequence[Fraction]) -> None:
+def check_equations(by: Checker, lp: LinearProgram, point: Sequence[Fraction]) -> None:
     rows: list[list[tuple[Fraction, Fraction]]] = [[] for _ in range(lp.m)]
     for j, entries in enumerate(lp.columns):
         for i, value in entries:
             rows[i].append((value, point[lp.m + j]))
     for i, products in enumerate(rows):
-        ask(total(Fraction(0), products) == point[i])
+        ask(total(by, Fraction(0), products) == point[i])
 
 
 def check_limits(lp: LinearProgram, point: Sequence[Fraction]) -> None:
@@ -183,29 +232,29 @@ def check_limits(lp: LinearProgram, point: Sequence[Fraction]) -> None:
         ask((lower is None or value >= lower) and (upper is None or value <= upper))
 
 
-def cost(lp: LinearProgram, entries: list[tuple[int, Fraction]]) -> Fraction:
+def cost(by: Checker, lp: LinearProgram, entries: list[tuple[int, Fraction]]) -> Fraction:
     "the cost of a column"
     own = dict(entries)
     if not lp.change:
         return own.get(lp.objective, Fraction(0))
     row, theta = lp.change
-    return add(own.get(lp.objective, Fraction(0)), multiply(theta, own.get(row, Fraction(0))))
+    return by.add(own.get(lp.objective, Fraction(0)), by.multiply(theta, own.get(row, Fraction(0))))
 
 
-def check_prices(lp: LinearProgram, prices: Sequence[Fraction]) -> None:
+def check_prices(by: Checker, lp: LinearProgram, prices: Sequence[Fraction]) -> None:
     for j, entries in enumerate(lp.columns):
-        worth = cost(lp, entries)
-        ask(subtract(worth, total(Fraction(0), ((prices[i], value) for i, value in entries))) == prices[lp.m + j])
+        worth = cost(by, lp, entries)
+        ask(by.subtract(worth, total(by, Fraction(0), ((prices[i], value) for i, value in entries))) == prices[lp.m + j])
 
 
 def for_min(lp: LinearProgram, price: Fraction) -> Fraction:
     return price if lp.sense == "MIN" else -price
 
 
-def check_optimal(lp: LinearProgram, point: Sequence[Fraction], prices: Sequence[Fraction]) -> None:
-    check_equations(lp, point)
+def check_optimal(by: Checker, lp: LinearProgram, point: Sequence[Fraction], prices: Sequence[Fraction]) -> None:
+    check_equations(by, lp, point)
     check_limits(lp, point)
-    check_prices(lp, prices)
+    check_prices(by, lp, prices)
     for k, price in enumerate(prices):
         ask(not price or point[k] == (lp.lower if for_min(lp, price) > 0 else lp.upper)[k])
 
@@ -215,34 +264,34 @@ def check_crossed(lp: LinearProgram, k: int) -> None:
     ask(lower is not None and upper is not None and lower > upper)
 
 
-def ray_sum(lp: LinearProgram, ray: Sequence[Fraction]) -> Fraction:
+def ray_sum(by: Checker, lp: LinearProgram, ray: Sequence[Fraction]) -> Fraction:
     "the sum of the multipliers, each times its limit, after the tests of the columns and of the limits"
     for j, entries in enumerate(lp.columns):
-        ask(total(ray[lp.m + j], ((ray[i], value) for i, value in entries)) == 0)
+        ask(total(by, ray[lp.m + j], ((ray[i], value) for i, value in entries)) == 0)
     whole = Fraction(0)
     for k, factor in enumerate(ray):
         if factor:
             limit = (lp.upper if factor > 0 else lp.lower)[k]
             if limit is None:
                 raise Misses
-            whole = add(whole, multiply(factor, limit))
+            whole = by.add(whole, by.multiply(factor, limit))
     return whole
 
 
-def check_direction(lp: LinearProgram, point: Sequence[Fraction], direction: Sequence[Fraction]) -> None:
+def check_direction(by: Checker, lp: LinearProgram, point: Sequence[Fraction], direction: Sequence[Fraction]) -> None:
     "a feasible point, and a direction that keeps all limits"
-    check_equations(lp, point)
+    check_equations(by, lp, point)
     check_limits(lp, point)
-    check_equations(lp, direction)
-    for k, by in enumerate(direction):
-        ask(not by or (lp.lower if by < 0 else lp.upper)[k] is None)
+    check_equations(by, lp, direction)
+    for k, moves in enumerate(direction):
+        ask(not moves or (lp.lower if moves < 0 else lp.upper)[k] is None)
 
 
-def worth_of(lp: LinearProgram, direction: Sequence[Fraction]) -> Fraction:
+def worth_of(by: Checker, lp: LinearProgram, direction: Sequence[Fraction]) -> Fraction:
     "what the objective gains along a direction, counted for MIN"
     worth = direction[lp.objective]
     if lp.change:
-        worth = add(worth, multiply(lp.change[1], direction[lp.change[0]]))
+        worth = by.add(worth, by.multiply(lp.change[1], direction[lp.change[0]]))
     return for_min(lp, worth)
 
 
@@ -250,24 +299,24 @@ def worth_of(lp: LinearProgram, direction: Sequence[Fraction]) -> Fraction:
 
 class Changing:
     "the linear programs of a parametric run: the objective with theta times a row, or the limits with theta times the rows' shifts"
-    def __init__(self, lp: LinearProgram, row: int | None = None, shift: Sequence[Fraction] | None = None) -> None:
-        self.lp, self.row, self.shift = lp, row, shift
+    def __init__(self, by: Checker, lp: LinearProgram, row: int | None = None, shift: Sequence[Fraction] | None = None) -> None:
+        self.by, self.lp, self.row, self.shift = by, lp, row, shift
 
     def at(self, theta: Fraction) -> LinearProgram:
         "the linear program at a parameter"
         if self.row is not None:
             return self.lp.with_(change=(self.row, theta))
         lower, upper = list(self.lp.lower), list(self.lp.upper)
-        for i, by in enumerate(self.shift or ()):
+        for i, moves in enumerate(self.shift or ()):
             for limits in (lower, upper):
                 limit = limits[i]
                 if limit is not None:
-                    limits[i] = add(limit, multiply(theta, by))
+                    limits[i] = self.by.add(limit, self.by.multiply(theta, moves))
         return self.lp.with_(lower=lower, upper=upper)
 
-
-def along(theta: Fraction, values: list[Fraction], rates: list[Fraction]) -> list[Fraction]:
-    return [add(value, multiply(theta, rate)) for value, rate in zip(values, rates)]
+    def along(self, theta: Fraction, values: list[Fraction], rates: list[Fraction]) -> list[Fraction]:
+        "the values at a parameter, each with theta times its rate"
+        return [self.by.add(value, self.by.multiply(theta, rate)) for value, rate in zip(values, rates)]
 
 
 def check_interval(changing: Changing, is_first: bool, first: Fraction, last: Fraction, most: Fraction, columns: list[list[Any]]) -> None:
@@ -277,8 +326,8 @@ def check_interval(changing: Changing, is_first: bool, first: Fraction, last: Fr
     ends = []
     for theta in (first, last):
         lp = changing.at(theta)
-        point, prices = along(theta, columns[1], columns[2]), along(theta, columns[3], columns[4])
-        check_optimal(lp, point, prices)
+        point, prices = changing.along(theta, columns[1], columns[2]), changing.along(theta, columns[3], columns[4])
+        check_optimal(changing.by, lp, point, prices)
         ends.append((lp, point, prices))
     for _, _, prices in ends:
         for k, price in enumerate(prices):
@@ -300,16 +349,16 @@ class Claim:
     direction: Sequence[Fraction] = ()
     prices: Sequence[Fraction] | None = None
 
-    def test(self, lp: LinearProgram) -> None:
+    def test(self, by: Checker, lp: LinearProgram) -> None:
         "the test of its proof; an optimal one is tested at SOLUTION"
         if self.kind == "OPTIMAL":
             return
         if self.crossed is not None:
             check_crossed(lp, self.crossed)
         elif self.kind == "INFEASIBLE":
-            ask(ray_sum(lp, self.ray) < 0)
+            ask(ray_sum(by, lp, self.ray) < 0)
         else:
-            check_direction(lp, self.point, self.direction)
-            ask(worth_of(lp, self.direction) < 0)
+            check_direction(by, lp, self.point, self.direction)
+            ask(worth_of(by, lp, self.direction) < 0)
             ask(self.objective == self.point[lp.objective])
-        ask(self.is_checked)
+        ask(by.takes(self.is_checked))

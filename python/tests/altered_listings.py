@@ -3,9 +3,10 @@
 them. Whatever it attests of an altered listing may differ from the listing that was altered only in what isn't attested (AT codes, counts of
 steps) or in numbers that prove the same; and each optimum and each conflict that it attests is checked again as a VIPR certificate.
 
-usage: altered_listings.py [--proved | --unproved | --program FILE] [--jobs] [--keep FOLDER] [FIRST [COUNT]]
+usage: altered_listings.py [--long] [--proved | --unproved | --program FILE] [--jobs] [--keep FOLDER] [FIRST [COUNT]]
        listings FIRST, FIRST + 1, ..; 0 and 300 where nothing is said, each as it is and with ten alterations
 
+  --long           by the rules of mps360long, which reads numbers of any length, and in place of mps360check
   --proved         the proved program mps360check is to say the same of each
   --unproved       the same of the program as it stands, built once, where no proved one is
   --program FILE   the same of another program: it takes the job on standard input and the listing from the file LISTING in the present folder,
@@ -28,7 +29,7 @@ from oracle import attesting
 from oracle import listing as expected_listing
 from oracle import rules
 from oracle import vipr
-from oracle.claims import ATTESTED, OPEN, UNCHECKED
+from oracle.claims import ATTESTED, OF_128_BITS, OF_ANY_LENGTH, OPEN, UNCHECKED
 
 ALTERATIONS = 10
 PRINTABLE = "".join(map(chr, range(32, 127)))
@@ -59,7 +60,7 @@ def made_at_random(seed):
 
 def other_number(chance, word):
     number = chance.choice((f"-{word}", word[1:] or "0", str(int(word.split("/")[0]) + chance.choice((-1, 1))), "0", "1", f"{word}0", f"{word}/2", f"0{word}",
-                            str(2 ** 127 - chance.randint(0, 1)), f"{chance.randint(-9, 9)}", f"{chance.randint(-9, 9)}/{chance.randint(1, 9)}"))
+                            str(2 ** 127 - chance.randint(0, 1)), word + "7" * chance.choice((40, 100, 100_000)), f"1/{'3' * 60}", f"{chance.randint(-9, 9)}", f"{chance.randint(-9, 9)}/{chance.randint(1, 9)}"))
     return number.replace("--", "")
 
 
@@ -185,9 +186,9 @@ class Follower(attesting.Walk):
         self.proofs += claim.kind == "INFEASIBLE" or claim.prices is not None
 
 
-def is_proved_again(job, listing):
+def is_proved_again(job, listing, by):
     "whether each optimum and each conflict that is attested is one by its certificate too, as the package writes it and the oracle checks it"
-    follower = Follower(job, listing)
+    follower = Follower(job, listing, by)
     try:
         follower.run()
     except attesting.Found:
@@ -201,16 +202,16 @@ def is_proved_again(job, listing):
     return len(claims) == follower.proofs and said == ["infeasible" if bounds is None else f"optimal, the objective is {bounds[0]}" for bounds in ends]
 
 
-def faults(job, listing, original, checker):
-    """the status, and what is wrong about what is said of a listing; original is the listing that was altered, None where this is as the job prints
+def faults(job, listing, original, checker, by):
+    """the status, and what is wrong about what is said of a listing by the rules of a checker, and by the program that is asked; original is the listing that was altered, None where this is as the job prints
     it, and () where it is the job that was altered"""
-    status, line = attesting.attest(job, listing)
+    status, line = attesting.attest(job, listing, by)
     told = []
     if original is None and status not in (ATTESTED, OPEN, UNCHECKED):
         told.append(f"the job's own listing: {line}")
     if original and status == ATTESTED and list(claims(listing)) != list(claims(original)):
         told.append("an altered claim is attested")
-    if status == ATTESTED and not is_proved_again(job, listing):
+    if status == ATTESTED and not is_proved_again(job, listing, by):
         told.append("what is attested isn't so by its certificate")
     if checker and (answer := programs.attested_by(checker, job, listing)) != (status, line + "\n"):
         told.append(f"the program says {answer[1].strip()[:60]!r}, status {answer[0]}, and by the rules it is {line!r}, status {status}")
@@ -218,10 +219,11 @@ def faults(job, listing, original, checker):
 
 
 def options_of(words):
-    "whether a program is asked and which one, whether jobs are altered, the folder, the first number and the count; None where the words are no use of this"
+    """whether a program is asked and which one, whether jobs are altered and the rules are those of long numbers, the folder, the first number and the
+    count; None where the words are no use of this"""
     words, named = list(words), {"--program": None, "--keep": None}
-    has_jobs = "--jobs" in words
-    words = [word for word in words if word != "--jobs"]
+    flags = {flag for flag in ("--jobs", "--long") if flag in words}
+    words = [word for word in words if word not in flags]
     for name in named:
         if name in words:
             at = words.index(name)
@@ -233,14 +235,14 @@ def options_of(words):
     numbers = [word for word in words if word not in asked]
     if len(asked) > 1 or len(numbers) > 2 or any(not word.isdigit() for word in numbers):
         return None
-    return asked, named["--program"], has_jobs, named["--keep"], *([int(word) for word in numbers] + [0, 300][len(numbers):])
+    return asked, named["--program"], flags, named["--keep"], *([int(word) for word in numbers] + [0, 300][len(numbers):])
 
 
-def program_of(asked, file):
+def program_of(asked, file, is_long):
     "the program that is asked, if one is"
     if file:
         return str(pathlib.Path(file).resolve())
-    return programs.checker_program(asked == ["--unproved"]) if asked else None
+    return programs.checker_program(asked == ["--unproved"], "mps360long" if is_long else "mps360check") if asked else None
 
 
 def main(words):
@@ -248,9 +250,10 @@ def main(words):
     if options is None:
         print(__doc__)
         return 0 if words in (["-h"], ["--help"]) else 64
-    asked, file, has_jobs, keep, first, count = options
+    asked, file, flags, keep, first, count = options
+    has_jobs, by = "--jobs" in flags, OF_ANY_LENGTH if "--long" in flags else OF_128_BITS
     try:
-        checker = program_of(asked, file)
+        checker = program_of(asked, file, "--long" in flags)
     except programs.NoProgram as cause:
         print(f"altered_listings.py: {cause}", file=sys.stderr)
         return 70
@@ -261,7 +264,7 @@ def main(words):
         tried = [((), job, listing, None), *((kinds, job, text, listing) for kinds, text in (altered(chance, listing) for _ in range(ALTERATIONS)))]
         tried += [((altered_job,), *altered_job(chance, job, listing), ()) for _ in range(ALTERATIONS * has_jobs)]
         for place, (kinds, given, text, original) in enumerate(tried):
-            status, told = faults(given, text, original, checker)
+            status, told = faults(given, text, original, checker, by)
             statuses[status] += 1
             for sentence in told:
                 wrong += 1

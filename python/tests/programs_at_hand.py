@@ -13,11 +13,11 @@ def solver(folder):
     return command(folder, "oracle-program", "listing --punch PUNCH")
 
 
-def checker(folder):
-    "a checker of listings, of the job on standard input and the file LISTING"
-    if "MPS360_CHECKER" in os.environ:
+def checker(folder, words=""):
+    "a checker of listings, of the job on standard input and the file LISTING; with the word --long by the rules of mps360long"
+    if "MPS360_CHECKER" in os.environ and not words:
         return os.environ["MPS360_CHECKER"]
-    return command(folder, "oracle-checker", "attesting --as-program")
+    return command(folder, f"oracle-checker{words}", f"attesting {words} --as-program")
 
 
 def command(folder, name, words):

@@ -8,7 +8,7 @@ usage: random_jobs.py [--unproved | --itself] [--no-parametric] [--no-revise] [-
                       [FIRST [COUNT]]
        random_jobs.py [--unproved | --itself] --decks [--no-free] [--no-combinations] [FIRST [COUNT]]
        random_jobs.py [--unproved | --itself] --sums [FIRST [COUNT]]
-       random_jobs.py [--unproved | --itself] --attest [--decks | --sums] [..] [FIRST [COUNT]]
+       random_jobs.py [--unproved | --itself] --attest [--long] [--decks | --sums] [..] [FIRST [COUNT]]
        jobs FIRST, FIRST + 1, ..; 0 and 300 where nothing is said
 
 It prints how many differ, and the first of them whole; ends with 1 where one does, with 70 where there is no program. --unproved: the
@@ -17,9 +17,9 @@ DUAL, PUNCH and INSERT; --no-free: fixed decks alone; --no-faults: no card is ch
 and its revision alone, both written out, and in each job a card of one of them is changed. --sums: CONVERT and SETUP alone, with numbers so
 large or so small that many a sum of a selection doesn't fit, and the run ends with 20; where several don't, the line may show any, and the
 program shows the first, as the script does. --itself: no program runs; what oracle/listing.py says is checked by the meaning of the words,
-where a job is small enough (python/oracle/every_basis.py). --attest: the checker of listings, mps360check, is compared with
-python/oracle/attesting.py on the listing of each job, from most of which what can't be attested is left out; none may be found wrong. With
---itself no program runs. python/tests/altered_listings.py alters listings."""
+where a job is small enough (python/oracle/every_basis.py). --attest: the checker of listings, mps360check, or with --long mps360long, is
+compared with python/oracle/attesting.py on the listing of each job, from most of which what can't be attested is left out; none may be found
+wrong. With --itself no program runs. python/tests/altered_listings.py alters listings."""
 import collections, random, re, sys
 import places
 from mps360 import programs
@@ -28,6 +28,7 @@ from oracle import attesting
 from oracle import decks as expected_decks
 from oracle import every_basis
 from oracle import listing as expected_listing
+from oracle.claims import OF_128_BITS, OF_ANY_LENGTH
 
 
 def number(chance):
@@ -414,14 +415,14 @@ def job_to_attest(seed, is_parametric, revises, has_bases, has_free, has_faults,
     return job(seed, is_parametric, revises, False, has_free, has_faults, has_combinations).replace(statements("RANGE")[0] + "\n", "")
 
 
-def attest(jobs, program):
+def attest(jobs, program, by):
     "how often each answer came to the jobs' own listings, and for each job of which another is given than is worked out, or WRONG, the two"
     answers, wrong = collections.Counter(), {}
     for name, text in jobs.items():
         run = expected_listing.Run(text)
         run.run()
         job, listing = text.encode("latin-1"), ("\n".join(run.lines) + "\n").encode("latin-1")
-        status, line = attesting.attest(job, listing)
+        status, line = attesting.attest(job, listing, by)
         said = programs.attested_by(program, job, listing) if program else (status, line + "\n")
         answers[line.split(" ")[0]] += 1
         if said != (status, line + "\n") or status in (attesting.WRONG, attesting.LONG):
@@ -431,12 +432,13 @@ def attest(jobs, program):
 
 def attest_all(jobs, modes):
     "the same, told; the status with which this ends"
+    is_long = "--long" in modes
     try:
-        program = None if "--itself" in modes else programs.checker_program("--unproved" in modes)
+        program = None if "--itself" in modes else programs.checker_program("--unproved" in modes, "mps360long" if is_long else "mps360check")
     except programs.NoProgram as cause:
         print(f"random_jobs.py: {cause}", file=sys.stderr)
         return 70
-    answers, wrong = attest(jobs, program)
+    answers, wrong = attest(jobs, program, OF_ANY_LENGTH if is_long else OF_128_BITS)
     print(f"{len(jobs)} listings, {len(wrong)} answers differ; {', '.join(f'{n} {word}' for word, n in sorted(answers.items()))}")
     for name, told in list(wrong.items())[:1]:
         print(f"job {name}:\n{told}", file=sys.stderr)
@@ -447,9 +449,9 @@ PARTS = ("--no-parametric", "--no-revise", "--no-bases", "--no-free", "--no-faul
 
 
 def main(words):
-    modes = {word for word in words if word in ("--unproved", "--itself", "--decks", "--sums", "--attest", *PARTS)}
+    modes = {word for word in words if word in ("--unproved", "--itself", "--decks", "--sums", "--attest", "--long", *PARTS)}
     numbers = [word for word in words if word not in modes]
-    if any(not word.isdigit() for word in numbers) or len(numbers) > 2 or {"--unproved", "--itself"} <= modes or {"--decks", "--sums"} <= modes:
+    if any(not word.isdigit() for word in numbers) or len(numbers) > 2 or {"--unproved", "--itself"} <= modes or {"--decks", "--sums"} <= modes or "--long" in modes and "--attest" not in modes:
         print(__doc__)
         return 0 if words in (["-h"], ["--help"]) else 64
     first, count = [int(word) for word in numbers] + [0, 300][len(numbers):]

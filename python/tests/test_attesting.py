@@ -1,5 +1,5 @@
 """What the reading of the rules apart (oracle/attesting.py) says of listings that were altered by hand, as worked out by the rules, of one-line listings of
-refused jobs, and of listings altered at random; and the proved checker mps360check, where it is fresh."""
+refused jobs, and of listings altered at random; and the proved checkers mps360check and mps360long, where they are fresh."""
 import functools
 import subprocess
 
@@ -12,15 +12,27 @@ from calls import call, called
 from mps360 import programs
 from oracle import attesting as expected_attesting
 from oracle import listing as expected_listing
+from oracle.claims import OF_128_BITS, OF_ANY_LENGTH
 
 EXAMPLES, KNOWN = places.EXAMPLES, places.DATA
 GREATEST = 2 ** 127 - 1
 
 
+RULES = {"mps360check": OF_128_BITS, "mps360long": OF_ANY_LENGTH}
+
+
 @functools.cache
-def checker():
-    "the proved checker of listings, or None"
-    return programs.proved_program("mps360check")
+def checker(name="mps360check"):
+    "the proved checker of listings of this name, or None"
+    return programs.proved_program(name)
+
+
+def check_both(job, listing, wanted, wanted_long):
+    "what is said of a listing by the rules of mps360check, and by those of mps360long; and by these programs, where they are proved and fresh"
+    for (name, by), answer in zip(RULES.items(), (wanted, wanted_long)):
+        assert expected_attesting.attest(job, listing, by)[1] == answer, name
+        if checker(name):
+            assert programs.attested_by(checker(name), job, listing) == (STATUS[answer.split(" ")[0]], answer + "\n"), f"the program {name}"
 
 
 def changed_lines(text, *changes):
@@ -29,7 +41,8 @@ def changed_lines(text, *changes):
     return text
 
 
-# ---- listings altered by hand: a job, what is changed of its listing (the old text and the new one; None is the end of it), and the answer
+# ---- listings altered by hand: a job, what is changed of its listing (the old text and the new one; None is the end of it), and the answer of mps360check; where
+# mps360long has another one, that too
 
 STORE, CONFLICT, ENDLESS = EXAMPLES / "store", EXAMPLES / "conflict", EXAMPLES / "endless"
 TWO, ONE, LAMPS, DAIRY = KNOWN / "paraobj-two-intervals", KNOWN / "pararhs-infeasible-past", EXAMPLES / "paraobj", EXAMPLES / "pararhs"
@@ -52,7 +65,8 @@ CASES = (
     (STORE, (("OBJECTIVE 0", "OBJECTIVE " + "9" * 5000),), "WRONG LINE 4"),
     (STORE, (("STEPS 0", "STEPS 4294967296"),), "WRONG LINE 4"),
     (STORE, (("STEPS 0", "STEPS 00"),), "WRONG LINE 4"),
-    (STORE, (("CHECKED", "UNCHECKED MUL 1 1"),), "WRONG LINE 4"),
+    (STORE, (("CHECKED", "UNCHECKED MUL 1 1"),), "WRONG LINE 4", "ATTESTED 5 REPORTS"),
+    (STORE, (("CHECKED", f"UNCHECKED MUL 1 {GREATEST + 1}"),), "WRONG LINE 4"),
     (STORE, (("FLOUR    LL", "FLOUR    XX"),), "WRONG LINE 5"),
     (STORE, (("FLOUR    LL 0", "FLOUR    LL 1"),), "WRONG LINE 5"),
     (STORE, (("LL 0 3 0", "LL 0 3/1 0"),), "WRONG LINE 5"),
@@ -88,7 +102,7 @@ CASES = (
     (CONFLICT, ((RAY, RAY + " junk\n"),), "WRONG LINE 8"),
     (CONFLICT, (("END 1", "END 0"),), "WRONG LINE 8"),
     (CONFLICT, (("END 1", "STOP 28 MEMORY"),), "OPEN LINE 8"),
-    (CONFLICT, (("RAY CHECKED", "RAY UNCHECKED ADD 1 2"),), "WRONG LINE 4"),
+    (CONFLICT, (("RAY CHECKED", "RAY UNCHECKED ADD 1 2"),), "WRONG LINE 4", "ATTESTED 4 REPORTS"),
     (KNOWN / "infeasible-ray", (("HIGH     1", "HIGH     2"),), "WRONG LINE 3"),
     (ENDLESS, (), "ATTESTED 4 REPORTS"),
     (ENDLESS, (("OBJECTIVE 200", "OBJECTIVE 201"),), "WRONG LINE 4"),
@@ -198,17 +212,17 @@ PARARHS ENDS AT {FAR}
 END 0
 """
 REFUSED = (
-    (WIDE, WIDE_LISTING, "UNCHECKED LINE 4"),
-    (WIDE, WIDE_LISTING.replace("8 CHECKED", "8 UNCHECKED MUL 1 2"), "UNCHECKED LINE 4"),
+    (WIDE, WIDE_LISTING, "UNCHECKED LINE 4", "WRONG LINE 4"),
+    (WIDE, WIDE_LISTING.replace("8 CHECKED", "8 UNCHECKED MUL 1 2"), "UNCHECKED LINE 4", "WRONG LINE 4"),
     (RANGED, BEGUN + "SETUP   T        MIN\nEND 0\n", "UNCHECKED LINE 2"),
     (RANGED, BEGUN, "UNCHECKED LINE 2"),
     (RANGED, BEGUN + "STOP 20 OVERFLOW F13 SUB 999999999000000000000000000 1/10000000000000000000 P 0 Q 0 I 2 J 0 TERM 0 THETA 0 CARD 3\nBASIS NONE\nWAY NONE\n",
      "OPEN LINE 2"),
-    (SWEPT, SWEPT_LISTING, "UNCHECKED LINE 3"),
+    (SWEPT, SWEPT_LISTING, "UNCHECKED LINE 3", "ATTESTED 3 REPORTS"),
     (SWEPT, SWEPT_LISTING.replace("LOW      LL", "LOW      ZZ"), "WRONG LINE 3"),
     (SWEPT, SWEPT_LISTING.replace(f"TO {FAR}", "TO 1"), "WRONG LINE 3"),
-    (SWEPT, SWEPT_LISTING.replace("ENDS AT", "ENDS OF"), "UNCHECKED LINE 3"),
-    (SWEPT, SWEPT_LISTING[:SWEPT_LISTING.index("PARARHS")] + "PARARHS INFEASIBLE STEPS 0 RAY CHECKED\n    2 LOW      -1\nEND 1\n", "UNCHECKED LINE 3"),
+    (SWEPT, SWEPT_LISTING.replace("ENDS AT", "ENDS OF"), "UNCHECKED LINE 3", "WRONG LINE 3"),
+    (SWEPT, SWEPT_LISTING[:SWEPT_LISTING.index("PARARHS")] + "PARARHS INFEASIBLE STEPS 0 RAY CHECKED\n    2 LOW      -1\nEND 1\n", "UNCHECKED LINE 3", "WRONG LINE 3"),
     ("", "STOP 8 CONTROL FAULT 1 CARD 0\n", "ATTESTED 0 REPORTS"),
     ("", "STOP 8 CONTROL FAULT 1 CARD 1\n", "WRONG LINE 1"),
     ("\t\n", "STOP 13 CARD FAULT 4 CARD 1\n", "ATTESTED 0 REPORTS"),
@@ -259,11 +273,17 @@ def printed(job):
 
 
 def cases():
-    "a job and its listing, and the answer to them"
-    for place, changes, wanted in CASES:
-        yield place.with_suffix(".job").read_text(), changed(place.with_suffix(".listing").read_text(), changes), wanted
-    for place, in_job, changes, wanted in JOBS:
-        yield changed(place.with_suffix(".job").read_text(), in_job), changed(place.with_suffix(".listing").read_text(), changes), wanted
+    "a job and its listing, and the answers of both checkers to them"
+    for job, listing, *wanted in of_one_answer():
+        yield job, listing, wanted[0], wanted[-1]
+
+
+def of_one_answer():
+    "the same, with one answer where both give it"
+    for place, changes, *wanted in CASES:
+        yield place.with_suffix(".job").read_text(), changed(place.with_suffix(".listing").read_text(), changes), *wanted
+    for place, in_job, changes, *wanted in JOBS:
+        yield changed(place.with_suffix(".job").read_text(), in_job), changed(place.with_suffix(".listing").read_text(), changes), *wanted
     yield from REFUSED
     for plan in (("4", "0"), ("0", "4"), ("3/2", "5/2")):
         yield EITHER, EITHER_LISTING.format(*plan), "ATTESTED 4 REPORTS"
@@ -293,24 +313,19 @@ def test_the_line_of_a_refused_job(name):
     "it is attested, and with another card it is wrong"
     job, stop = REFUSED_JOBS[name]
     for line, wanted in ((stop, "ATTESTED 0 REPORTS"), (stop + "0", "WRONG LINE 1")):
-        listing = line.encode() + b"\n"
-        assert expected_attesting.attest(job, listing)[1] == wanted, f"{name}: {line}"
-        if checker():
-            assert programs.attested_by(checker(), job, listing) == (STATUS[wanted.split(" ")[0]], wanted + "\n"), f"mps360check: {name}: {line}"
+        check_both(job, line.encode() + b"\n", wanted, wanted)
 
 
 # (by numbers: pytest puts a test's name into the environment, which holds no long text)
 @pytest.mark.parametrize("number", range(len(BY_HAND)))
 def test_listings_altered_by_hand(number):
-    job, listing, wanted = BY_HAND[number]
-    assert expected_attesting.attest(job.encode(), listing.encode())[1] == wanted
-    if checker():
-        assert programs.attested_by(checker(), job.encode(), listing.encode()) == (STATUS[wanted.split(" ")[0]], wanted + "\n"), "mps360check"
+    job, listing, *wanted = BY_HAND[number]
+    check_both(job.encode(), listing.encode(), *wanted)
 
 
 @pytest.mark.parametrize("words, wanted", (((), (27, b"STOP 27 LISTING FAULT\n")), (("word",), (4, b"STOP 4 WORDS\n"))))
 def test_wrong_use_of_a_checker(words, wanted):
-    for command in ([str(places.ORACLE), "attesting", "--as-program"], *([[checker()]] if checker() else [])):
+    for command in ([str(places.ORACLE), "attesting", "--as-program"], *([found] for name in RULES if (found := checker(name)))):
         ended = call(*command, *words, stdin=subprocess.DEVNULL, cwd="/")
         assert (ended.returncode, ended.stdout) == wanted, ended
 
@@ -323,7 +338,7 @@ def test_the_reading_apart_as_a_program(tmp_path, job, listing, wanted):
 
 
 @pytest.mark.parametrize("words, status", (
-    (("0", "16"), 0), (("--jobs", "0", "8"), 0), (("--proved", "--unproved"), 64), (("--program",), 64), (("--keep",), 64), (("x",), 64)))
+    (("0", "16"), 0), (("--jobs", "0", "8"), 0), (("--long", "0", "10"), 0), (("--proved", "--unproved"), 64), (("--program",), 64), (("--keep",), 64), (("x",), 64)))
 def test_altered_listings(words, status):
     assert called(altered_listings, *words)[0] == status
 
@@ -331,11 +346,12 @@ def test_altered_listings(words, status):
 def test_altered_listings_with_a_program(tmp_path):
     import programs_at_hand
     assert called(altered_listings, "--program", programs_at_hand.checker(tmp_path), "--jobs", "0", "2")[0] == 0
+    assert called(altered_listings, "--long", "--program", programs_at_hand.checker(tmp_path, "--long"), "--jobs", "0", "2")[0] == 0
 
 
 @pytest.mark.parametrize("words, status", (
     (("--attest", "--itself", "0", "20"), 0), (("--attest", "--itself", "--decks", "0", "20"), 0), (("--attest", "--unproved", "--itself"), 64),
-    (("--attest", "x"), 64)))
+    (("--attest", "x"), 64), (("--attest", "--long", "--itself", "0", "10"), 0), (("--long", "--itself"), 64)))
 def test_listings_of_random_jobs(words, status):
     ended = called(random_jobs, *words)
     assert ended[0] == status and (status or " 0 answers differ" in ended[1]), ended

@@ -44,12 +44,19 @@ class Told:
             raise KeyboardInterrupt
 
 
-def run(folder, plan, *, opening="overflow", inserted="answers", checker=None, told=None, begin=None):
+STATUS = {"ATTESTED": 0, "WRONG": 40, "OPEN": 41, "UNCHECKED": 42}
+
+
+def says(folder, name, answer):
+    "a stand-in for a checker that answers so; None where there is no answer"
+    return answer and at_hand.Tool((fakes.program(folder, name, fakes.CHECKER, answer=answer, status=STATUS[answer.split(" ", maxsplit=1)[0]]),), "other", name=name)
+
+
+def run(folder, plan, *, opening="overflow", inserted="answers", checker=None, long_checker=None, told=None, begin=None):
     "the outcome of the routes with a stand-in for the program"
     program = fakes.program(folder, "program", fakes.PROGRAM, opening=opening, inserted=inserted)
-    status = 0 if checker and checker.startswith("ATTESTED") else 40
-    attests = checker and at_hand.Tool((fakes.program(folder, "checker", fakes.CHECKER, answer=checker, status=status),), "other")
-    way = routes.Routes(job(), at_hand.Tool((program,), "other"), plan, lambda: attests, (told or Told()).observer())
+    there = at_hand.Checkers(lambda: says(folder, "mps360check", checker), lambda: says(folder, "mps360long", long_checker))
+    way = routes.Routes(job(), at_hand.Tool((program,), "other"), plan, there, (told or Told()).observer())
     if begin:
         way.begin_at(begin, "model.bas")
     return way.run()
@@ -102,6 +109,15 @@ def test_the_exact_answer_is_attested(tmp_path):
     lines = outcome.attempt.lines()
     assert "PRIMAL OPTIMAL STEPS 0 OBJECTIVE 36 CHECKED" in lines and any(line.split()[1:4] == ["P2", "UL", "12"] for line in lines)
     assert outcome.attempt.basis is not None and outcome.attempt.basis.columns == {"doors": "BS", "windows": "BS"}
+
+
+@pytest.mark.parametrize("checker, wanted", [("UNCHECKED LINE 5", "mps360long"), (None, "mps360long"), ("ATTESTED 5 REPORTS", "mps360check")])
+def test_the_checker_of_any_length_is_asked_where_the_other_has_no_answer(tmp_path, checker, wanted):
+    with fakes.only_path(tmp_path):
+        fakes.program(tmp_path, "esolver", ESOLVER, solution=SOLUTION, deck=GOOD_DECK)
+        outcome = run(tmp_path, plan(solvers=("esolver",), only="exact"), checker=checker, long_checker="ATTESTED 5 REPORTS")
+    assert outcome.attempt.by_checker and outcome.status == 0 and outcome.tool.name == wanted
+    assert outcome.routes[-1].words == "esolver's exact answer, attested by the checker" + (" mps360long" if wanted == "mps360long" else "")
 
 
 @pytest.mark.parametrize("checker, words", [("WRONG LINE 9", "the checker of listings says WRONG LINE 9 and ends with 40"), (None, "no checker of listings is at hand")])

@@ -1,7 +1,8 @@
 """Runs a job, or attests a listing, unproved: compiles the program as its sources stand, keeps it for later runs, and says how far it is.
 
 usage: unproved.py [--make N]               the job is read from standard input; ends with the run's status, or 70 where there is no answer
-       unproved.py --program mps360check    the same by the checker of listings: the listing is the file LISTING in the present folder
+       unproved.py --program mps360check    the same by a checker of listings, mps360check or mps360long: the listing is the file LISTING in the
+                                            present folder
        unproved.py [--program NAME] --compile     compiles alone, optimised, and prints the program's path
 
 The parts of the first time: Rattle reads all crates and lowers them, by one processor, and LLVM compiles what the program reaches, by up
@@ -18,7 +19,7 @@ import tempfile
 import time
 from typing import BinaryIO
 
-from mps360.unproved import ATTESTS, PROVES, RUNS, Answered, NoAnswer, crate_of, kept, make, say
+from mps360.unproved import ATTESTS, ATTESTS_LONG, PROVES, RUNS, Answered, NoAnswer, crate_of, kept, make, say
 from mps360.output import CantWrite, command
 
 LONG_RUN = 10
@@ -54,7 +55,7 @@ def own_words(words: list[str]) -> tuple[str, bool, list[str]] | None:
     "the program's name, whether it is compiled alone, and the words that it gets; None where the words are no use of this"
     name, words = (words[1], words[2:]) if words[:1] == ["--program"] and len(words) > 1 else (RUNS, words)
     is_made = name == RUNS and words[:1] != [] and words[0].startswith("--make")
-    return (name, words == ["--compile"], words if is_made else []) if name in (RUNS, ATTESTS) and (is_made or words in ([], ["--compile"])) else None
+    return (name, words == ["--compile"], words if is_made else []) if name in (RUNS, ATTESTS, ATTESTS_LONG) and (is_made or words in ([], ["--compile"])) else None
 
 
 def answer(name: str, words: list[str]) -> int:
@@ -78,12 +79,9 @@ def main(words: list[str] | None = None) -> int:
     "the command; its status"
     words = sys.argv[1:] if words is None else words
     signal.signal(signal.SIGTERM, lambda *_: sys.exit(143))
-    if words and words[0] in ("-h", "--help"):
-        print(__doc__)
-        return 0
     own = own_words(words)
     if own is None:
-        print(f"usage: unproved.py [--make N | --program {ATTESTS}] | [--program NAME] --compile", file=sys.stderr)
+        print(f"usage: unproved.py [--make N | --program {ATTESTS} | --program {ATTESTS_LONG}] | [--program NAME] --compile", file=sys.stderr)
         return 64
     name, is_compiled_alone, words = own
     try:

@@ -11,6 +11,7 @@ from fractions import Fraction
 from typing import TYPE_CHECKING, Any, Literal, NoReturn, TypedDict, Union
 
 from mps360.errors import Error
+from mps360.numbers import MOST_DIGITS
 
 if TYPE_CHECKING:
     from mps360.listings.restore import Table
@@ -31,8 +32,7 @@ SOLUTION = (("rows", "SECTION 1 - ROWS", "NUMBER ROW AT ACTIVITY SLACK LOWER UPP
             ("columns", "SECTION 2 - COLUMNS", "NUMBER COLUMN AT ACTIVITY COST LOWER UPPER REDUCED", COLUMN))
 PART = ("at", "value", "value_rate", "price", "price_rate")
 PLACES = ("BS", "LL", "UL", "FR", "EQ", "**")
-# (of no more digits than Python makes numbers of)
-NUMBER = r"-?\d{1,4000}(?:/[1-9]\d{0,3999})?"
+NUMBER = rf"-?\d{{1,{MOST_DIGITS}}}(?:/[1-9]\d{{0,{MOST_DIGITS - 1}}})?"
 MAY_BE_NONE = ("lower", "upper", "limit_low", "limit_high", "cost_low", "cost_high", "factor_low", "factor_high")
 COUNTS = re.compile(r"(CONVERT|REVISE ) (.{8}) ROWS (\d{1,20}) COLUMNS (\d{1,20}) ENTRIES (\d{1,20})$")
 PUNCHED = re.compile(r"(BCDOUT|PUNCH )  (.{8}) CARDS (\d{1,20})$")

@@ -1,7 +1,7 @@
 """Writes the listing of a job whose answer is known from elsewhere: reports, numbers and end as the job's program prints them, with the
 point and the prices, the ray or the direction that are handed in. Nothing is solved, and nothing of the answer is checked here.
 
-    listing_of(JOB, Answer(..))     of a job of mps_file the listing as text; Refused says what an answer lacks, or which number of it doesn't fit
+    listing_of(JOB, Answer(..))     of a job of mps_file the listing as text; Refused says what an answer lacks, or which number of it is too long
 
 Only jobs as mps2job.py makes them: one PRIMAL, and SOLUTION. STEPS is 0, since no steps are known, and AT says where a value stands among its
 limits, since no basis is known."""
@@ -12,9 +12,8 @@ from math import lcm
 from mps360.jobs.write import Job
 from mps360.model import Sums
 from mps360.model import of_set
-from mps360.numbers import text_of
+from mps360.numbers import GREATEST_OF_128_BITS, MOST_DIGITS, is_readable, is_short, text_of
 
-GREATEST = 2 ** 127 - 1
 HEADS = ("NUMBER ROW AT ACTIVITY SLACK LOWER UPPER DUAL", "NUMBER COLUMN AT ACTIVITY COST LOWER UPPER REDUCED")
 STATUS = {"optimal": 0, "infeasible": 1, "unbounded": 2}
 ZERO = Fraction(0)
@@ -46,11 +45,6 @@ def code(lower: Fraction | None, upper: Fraction | None, value: Fraction) -> str
     if value not in (lower, upper):
         return "BS"
     return "EQ" if lower == upper else "LL" if value == lower else "UL"
-
-
-def fits(value: Fraction) -> bool:
-    "whether a number is one of the program's, of 127 bits"
-    return abs(value.numerator) <= GREATEST and value.denominator <= GREATEST
 
 
 class Writer:
@@ -85,7 +79,7 @@ class Writer:
         "Refused where a sum doesn't fit over the least common denominator"
         common = lcm(x.denominator, y.denominator)
         parts = x.numerator * (common // x.denominator), y.numerator * (common // y.denominator)
-        if any(abs(part) > GREATEST for part in (*parts, sum(parts))) or not fits(x + y):
+        if any(abs(part) > GREATEST_OF_128_BITS for part in (*parts, sum(parts))) or not is_short(x + y):
             raise Refused("a limit made of a right-hand side and a range, or a sum of a combination's parts, doesn't fit 128 bits")
 
     def check_sums(self) -> None:
@@ -115,9 +109,9 @@ class Writer:
         return [want - sum((multipliers[row] * entry for row, entry in entries.items()), ZERO) for want, entries in zip(wanted, self.columns)]
 
     def number(self, k: int, value: Fraction) -> str:
-        "a number of a variable as text; Refused where it doesn't fit"
-        if not fits(value):
-            raise Refused(f"a number of {self.names[k]} doesn't fit 128 bits")
+        "a number of a variable as text; Refused where no checker reads it"
+        if not is_readable(value):
+            raise Refused(f"a number of {self.names[k]} has more than {MOST_DIGITS:,} digits above or below the line")
         return str(value)
 
     def table_line(self, k: int, *words: str) -> None:

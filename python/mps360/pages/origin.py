@@ -34,7 +34,7 @@ class Origin:
     def of(cls, provenance: Provenance, file: str) -> Origin:
         "of what the routes came to, for this file"
         solver = f" ({provenance.solver_words})" if provenance.version else ""
-        name = "mps360check" if provenance.by_checker else "mps360"
+        name = provenance.checker if provenance.by_checker else "mps360"
         program = f"another program in place of {name}" if provenance.kind == "other" else f"{name}, {version()}"
         return cls(now(), "standard input" if file == "-" else file, provenance.file_sha256 or "", provenance.kind == "proved",
                    lowered(provenance.page_sentence()), f"{provenance.route}{solver}" if provenance.has_verdict or not provenance.routes else "",

@@ -6,21 +6,15 @@ from collections.abc import Sequence
 from fractions import Fraction
 
 from mps360.pages.markup import Html, content, folded, joined, tag
-from mps360.text import counted, marked_decimal
+from mps360.text import MOST_SHOWN, cut, marked_decimal
 
-# digits of a whole number: more aren't shown at once, so many of them are; letters of a fraction that may stand in one line
-MOST_DIGITS, FIRST_DIGITS, LONG = 30, 12, 24
-
-
-def cut(whole: str) -> str:
-    "a whole number, or where it has too many digits the first of them and how many there are"
-    sign, digits = ("-", whole[1:]) if whole.startswith("-") else ("", whole)
-    return whole if len(digits) <= MOST_DIGITS else f"{sign}{digits[:FIRST_DIGITS]}… ({counted(len(digits), 'digit')})"
+# letters of a fraction that may stand in one line
+LONG = 24
 
 
 def is_long(text: str) -> bool:
     "whether a fraction's text has a number of too many digits"
-    return any(len(part.lstrip("-")) > MOST_DIGITS for part in text.split("/"))
+    return any(len(part.lstrip("-")) > MOST_SHOWN for part in text.split("/"))
 
 
 def exact(text: str) -> Html:
