@@ -72,7 +72,7 @@ if command -v python3 >/dev/null; then
     [ "$python" != none ] || missing="pytest (apt-get install python3-pytest; dev/plain_tests.py ran the tests); "
     if command -v mypy >/dev/null; then
         # (what mypy keeps between runs goes to the room: nothing of it stays)
-        (cd python && mypy --no-error-summary --cache-dir="$room/mypy" mps360 oracle ../dev/*.py ../dev/bench/*.py) || fail "types of python/mps360, python/oracle or dev"
+        (cd python && mypy --no-error-summary --cache-dir="$room/mypy" mps360 oracle ../dev/*.py ../dev/bench/*.py ../packaging/*.py) || fail "types of python/mps360, python/oracle, dev or packaging"
     else
         missing="${missing}mypy (apt-get install mypy): no types were checked; "
     fi

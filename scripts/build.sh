@@ -1,9 +1,14 @@
 #!/usr/bin/env bash
-# Proves every crate below the programs mps360 and mps360check, or below the one that is named, and builds them. The first time
-# that takes some 25 minutes on four processors for mps360, and more for both; what is proved stays so, and later runs prove only
-# what changed.
-# usage: scripts/build.sh [NAME]     a line for each crate, and in the end each program's path; ends with 64 for wrong use, 70 where
-# one can't be built, 73 where standard output can't be written
+# Proves every crate below the programs mps360 and mps360check, or below the
+# one that is named, and builds them. The first time that takes some 25 minutes
+# on four processors for mps360, and more for both; what is proved stays so,
+# and later runs prove only what changed.
+#
+# usage: scripts/build.sh [NAME]
+#
+# It prints a line for each crate, and in the end each program's path. It ends
+# with 64 for wrong use, 70 where one can't be built, 73 where standard output
+# can't be written.
 set -eu
 # a write that fails is no answer
 trap '' PIPE
@@ -13,7 +18,7 @@ cant_write() {
 }
 case ${1:-} in
     -h | --help)
-        sed -n '2,6s/^# //p' "$0" 2>/dev/null || cant_write
+        sed -n '2,/^set/{/^set/d;s/^# \{0,1\}//p}' "$0" 2>/dev/null || cant_write
         exit 0
         ;;
 esac

@@ -1,10 +1,18 @@
 #!/usr/bin/env bash
-# Prints the path of a proved program: the one that was built here, where no source, definition or proof is newer than it, or one
-# that is installed and was built of the same sources.
-# usage: program.sh [--fresh] [NAME]     NAME is mps360, where none is given, or mps360check, the checker of listings
-#        program.sh --sum                prints the checksum of the sources here, definitions and proofs among them
-# Where there is none it is built first (scripts/build.sh); with --fresh nothing is built. Ends with 1 where there is none, with 64
-# for wrong use, 73 where standard output can't be written.
+# Prints the path of a proved program: the one that was built here, where no
+# source, definition or proof is newer than it, or one that is installed and was
+# built of the same sources.
+#
+# usage: program.sh [--fresh] [NAME]
+#            NAME is mps360, where none is given, or mps360check, the checker of
+#            listings
+#        program.sh --sum
+#            prints the checksum of the sources here, definitions and proofs
+#            among them
+#
+# Where there is none it is built first (scripts/build.sh); with --fresh nothing
+# is built. It ends with 1 where there is none, with 64 for wrong use, 73 where
+# standard output can't be written.
 set -eu
 # a write that fails is no answer
 trap '' PIPE
@@ -14,7 +22,7 @@ cant_write() {
 }
 case ${1:-} in
     -h | --help)
-        sed -n '2,7s/^# //p' "$0" 2>/dev/null || cant_write
+        sed -n '2,/^set/{/^set/d;s/^# \{0,1\}//p}' "$0" 2>/dev/null || cant_write
         exit 0
         ;;
 esac

@@ -4,7 +4,7 @@ import re
 
 # the repository, or the folder where the commands are installed
 TOP = os.path.dirname(os.path.dirname(os.path.dirname(os.path.realpath(__file__))))
-IS_INSTALLED = os.path.exists(os.path.join(TOP, "program"))
+IS_INSTALLED = any(os.path.exists(os.path.join(TOP, name)) for name in ("program", "program.unproved"))
 DOCUMENTS = os.path.join(os.path.dirname(os.path.dirname(TOP)), "share/doc/mps360") if IS_INSTALLED else "docs"
 # commands that are installed by another name than that of the file without its ending
 INSTALLED = {"attest": "mps360-attest", "explain": "mps360-explain", "plot_parametric.py": "mps360-plot", "prove": "mps360-prove", "solve": "mps360-solve"}

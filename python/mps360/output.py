@@ -124,17 +124,30 @@ def keep_number(number: int) -> None:
             os.close(opened)
 
 
+def is_told(name: str, module: str, words: list[str]) -> bool:
+    "whether the words ask what the command is, or which; that is told, as the head of its module has it"
+    if "-h" in words or "--help" in words:
+        from mps360 import help_text
+        print(help_text.shown(name, sys.modules[module].__doc__ or ""))
+    elif "--version" in words:
+        from mps360 import help_text
+        print(help_text.version(name))
+    else:
+        return False
+    return True
+
+
 def command(name: str) -> Callable[[Main], Main]:
     """of the main of a command, which takes the words behind its name and gives its status: the same, with each write to standard output and
     standard error checked to the last byte. CantWrite, from there or from write_file, ends it with CANT_WRITE and one line on standard error; so
-    does Ctrl-C, where the command doesn't meet it itself, with INTERRUPTED."""
+    does Ctrl-C, where the command doesn't meet it itself, with INTERRUPTED. --help and --version are answered here."""
     def of(main: Main) -> Main:
         @functools.wraps(main)
         def checked(words: list[str] | None = None) -> int:
             with checked_streams() as (out, errors):
                 try:
                     try:
-                        return main(words)
+                        return 0 if is_told(name, main.__module__, sys.argv[1:] if words is None else words) else main(words)
                     finally:
                         out.flush()
                         errors.flush()

@@ -1,11 +1,19 @@
 #!/usr/bin/env python3
-"""Checks a VIPR certificate (VER 1.0, and of VER 1.1 what has all multipliers) of a linear program, by a reading of the format of its own: that
-its solution keeps each constraint, that each derived constraint follows by its multipliers, and that the last one proves what RTP states.
+"""Checks a VIPR certificate of a linear program (VER 1.0, and of VER 1.1 what
+has all multipliers), by a reading of the format of its own: that its solution
+keeps each constraint, that each derived constraint follows by its multipliers,
+and that the last one proves what RTP states.
 
-usage: check_vipr.py CERTIFICATE      CERTIFICATE may be gzipped; - is standard input
+usage: check_vipr.py CERTIFICATE
+           CERTIFICATE may be gzipped; - is standard input
+       check_vipr.py --help | --version
 
-It prints what is proved, infeasible or the objective's bounds, and ends with 0; with 1 where something isn't so, with the place. Derivations
-by other means than multipliers (lin), as branching needs them, are refused. 65: it isn't such a certificate; 66: it can't be read."""
+It prints what is proved, infeasible or the objective's bounds. Derivations by
+other means than multipliers (lin), as branching needs them, are refused.
+
+It ends with 0; with 1 where something isn't so, with the place; with 64 for
+wrong use, 65 where the file isn't such a certificate, 66 where it can't be
+read, 73 where standard output can't be written."""
 from __future__ import annotations
 
 import errno
@@ -294,6 +302,8 @@ def main(words: list[str]) -> int:
     "the command; its status"
     if words and words[0] in ("-h", "--help"):
         return printed(__doc__ or "")
+    if words == ["--version"]:
+        return printed("check_vipr.py, of VIPR certificates of VER 1.0 and 1.1")
     if len(words) != 1:
         say("one certificate is due; --help says what there is")
         return 64

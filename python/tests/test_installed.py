@@ -5,7 +5,7 @@ import shutil
 
 import places
 import pytest
-from house import (CHECKER, STATUSES, STUB, call, check_checker, check_made, example, make_house, make_jobs, model_and_solution, put_program, with_rt, without_rt)
+from house import (CHECKER, DIET, EXAMPLES, STATUSES, STUB, call, check_checker, check_made, example, make_house, make_jobs, model_and_solution, put_program, with_rt, without_rt)
 
 COMMANDS = ["mps360", "mps360check", "mps360-attest", "mps360-batch", "mps360-explain", "mps360-plot", "mps2job", "listing2json"]
 COMMANDS += [command for script, command in (("listing2html.py", "listing2html"), ("solve", "mps360-solve"), ("basis2deck.py", "basis2deck"),
@@ -97,7 +97,7 @@ def test_install(tmp_path):
     assert pages and all(pathlib.Path(page).exists() for page in pages), f"mps360 --help names documents that are installed: {pages}"
     for name in ("mps360", "mps360check"):
         page = prefix / f"share/man/man1/{name}.1"
-        assert page.read_bytes().startswith(f".TH {name.upper()} 1\n".encode()), f"the manual page {name}.1 is there"
+        assert page.read_bytes().startswith(f".TH {name.upper()} 1 ".encode()), f"the manual page {name}.1 is there"
         if shutil.which("man"):
             ended = call("man", page, env={**os.environ, "MANWIDTH": "80"})
             assert ended.returncode == 0 and not ended.stderr and b"EXIT STATUS" in ended.stdout, (f"the manual page {name}.1 can be read", ended)
@@ -109,7 +109,7 @@ def check_completion(folder, prefix):
         script = prefix / "share/bash-completion/completions" / command
         option = ("--r", "--resume") if command == "mps360-batch" else ("--v", "--version")
         for word, wanted in (("f", "first.job"), option):
-            lines = f"cd {folder}; source {script}; COMP_WORDS=({command} {word}); COMP_CWORD=1; _{command.replace('-', '_')}; echo ${{COMPREPLY[@]}}"
+            lines = f"cd {folder}; source {script}; COMP_WORDS=({command} {word}); COMP_CWORD=1; _mps360_of_{command.replace('-', '_')}; echo ${{COMPREPLY[@]}}"
             ended = call("bash", "-c", lines)
             assert ended.stdout.decode() == wanted + "\n", (f"completion of {command} {word}", ended)
 
@@ -166,3 +166,44 @@ def test_the_installed_checker(tmp_path):
     for env in (without_rt(), {**without_rt(), "MPS360_UNPROVED": "1"}):
         ended = call(home / "mps360-attest", *model_and_solution(tmp_path), env=env, cwd="/")
         assert (ended.returncode, ended.stdout) == (0, b"attested: OPTIMAL, objective 9\n"), ended
+
+
+def test_an_installed_program_of_the_same_sources(tmp_path):
+    "where nothing is built, a clone runs the installed program that was built of its sources, and no other"
+    house, prefix = tmp_path / "house", tmp_path / "prefix"
+    make_house(house)
+    put_programs(house)
+    assert call(house / "scripts/install.sh", prefix).returncode == 0
+    for name in ("mps360", "mps360check"):
+        (house / "crates" / name / "out" / name).unlink()
+    env = without_rt()
+    env["PATH"] = f"{prefix / 'bin'}:{env['PATH']}"
+    for words, file in (((), "program"), (("mps360check",), "check")):
+        ended = call(house / "scripts/program.sh", "--fresh", *words, env=env)
+        assert (ended.returncode, ended.stdout.decode().strip()) == (0, str(prefix / "libexec/mps360" / file)), ended
+    (house / "crates.txt").write_text((house / "crates.txt").read_text() + "more:\n")
+    assert call(house / "scripts/program.sh", "--fresh", env=env).returncode == 1, "a program of other sources isn't taken"
+
+
+def test_a_trial_package(tmp_path):
+    "programs that are unproved are installed as such, and no answer of theirs is called proved"
+    house, prefix = tmp_path / "house", tmp_path / "prefix"
+    make_house(house)
+    (house / "module").touch()
+    env = with_rt(house)
+    for name, stub in (("mps360", STUB), ("mps360check", CHECKER)):
+        (house / "made").write_text(stub.format(house))
+        assert call(house / "scripts/unproved.py", "--program", name, "--compile", env=env).returncode == 0
+    ended = call(house / "scripts/install.sh", "--unproved", prefix, env=env)
+    assert ended.returncode == 0, ended
+    home = prefix / "libexec/mps360"
+    assert not (home / "program").exists() and not (home / "check").exists()
+    (house / "model.mps").write_text(DIET)
+    for command, words, status in (("mps360", [EXAMPLES / "first.job"], 0), ("mps360-solve", [house / "model.mps"], 0), ("mps360-batch", ["--out", tmp_path / "out", house / "model.mps"], 0),
+                                   ("mps360check", [EXAMPLES / "store.job", EXAMPLES / "store.listing"], 0)):
+        ended = call(prefix / "bin" / command, *words, env=without_rt(), cwd=tmp_path)
+        assert ended.returncode == status and b"UNPROVED" in ended.stderr and b"proved by the program" not in ended.stdout + ended.stderr, ended
+        ended = call(prefix / "bin" / command, *words, env={**without_rt(), "MPS360_PROVED": "1"}, cwd=tmp_path)
+        assert ended.returncode == 70, ended
+    ended = call(prefix / "bin/mps360-solve", "--version", env=without_rt())
+    assert ended.stdout.startswith(b"mps360-solve ") and b"no proved program" in ended.stdout, ended

@@ -83,7 +83,7 @@ def test_listings_worked_out_by_hand():
 def test_minutes():
     "how long scripts/build.sh takes is the same everywhere"
     told = {}
-    for path in [programs.TOP / "README.md", *sorted((programs.TOP / "docs").glob("*.md")), *sorted(SCRIPTS.iterdir()), *sorted((SCRIPTS / "share").iterdir())]:
+    for path in [programs.TOP / "README.md", *sorted((programs.TOP / "docs").glob("*.md")), *sorted(SCRIPTS.iterdir())]:
         if path.is_file():
             for found in re.finditer(r"build\.sh[^.\n]{0,80}?(?:some|about) (\d+)(?: minutes)?|first time takes (?:some|about) (\d+) minutes", path.read_text()):
                 told.setdefault(found[1] or found[2], []).append(path.name)

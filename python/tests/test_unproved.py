@@ -1,6 +1,8 @@
 "Where no proved program is there: jobs run, and listings are attested, unproved; a program that was compiled is kept until a source changes."
 import io
+import os
 import shutil
+import subprocess
 import time
 import unittest.mock
 
@@ -125,3 +127,53 @@ def test_the_unproved_checker(tmp_path):
     assert ended.returncode == 0 and ended.stdout.startswith(b"not proved, since the checker ran unproved; it attests: OPTIMAL, objective 9\n"), \
         ("attest unproved", ended)
     (house / "module").unlink()
+
+
+def test_several_at_once(tmp_path):
+    "three runs begin at once: one compiles, the others wait for it"
+    house, jobs = made(tmp_path)
+    (house / "module").touch()
+    (house / "made").write_text(STUB.format(house))
+    runs = [subprocess.Popen([house / "scripts/mps360", jobs / "first.job"], stdout=subprocess.PIPE, stderr=subprocess.PIPE, env=with_rt(house)) for _ in range(3)]
+    for run in runs:
+        listing, said = run.communicate(timeout=120)
+        assert (run.returncode, listing) == (0, example("first")), said
+    assert (house / "tried").read_text() == "once\n", "the kit is called once"
+
+
+def test_whose_program_runs(tmp_path):
+    "a kept program that others may write isn't run, nor one of another's"
+    house, jobs = made(tmp_path)
+    (house / "module").touch()
+    (house / "made").write_text(STUB.format(house))
+    call(house / "scripts/mps360", jobs / "first.job", env=with_rt(house))
+    program = next((house / "cache").glob("mps360/unproved/mps360/*/program"))
+    assert program.stat().st_mode & 0o777 == 0o700 and program.parent.stat().st_mode & 0o777 == 0o700
+    program.write_text("#!/bin/sh\necho END 0\n")
+    program.chmod(0o777)
+    ended = call(house / "scripts/mps360", jobs / "first.job", env=with_rt(house))
+    assert ended.stdout == example("first"), ended
+    with unittest.mock.patch("os.geteuid", lambda: os.getuid() + 1):
+        assert not unproved.is_own(program)
+
+
+def test_old_programs_go(tmp_path):
+    "of other sources the three stay that ran last, and what ran in the last day"
+    now = time.time()
+    for name, days in (("used", 9), ("a", 0.5), ("b", 2), ("c", 3), ("d", 4), ("e", 5)):
+        (tmp_path / name).mkdir()
+        os.utime(tmp_path / name, (now, now - days * 86_400))
+    unproved.drop_old(tmp_path, tmp_path / "used")
+    assert sorted(path.name for path in tmp_path.iterdir()) == ["a", "b", "c", "used"]
+    for name in "abc":
+        os.utime(tmp_path / name)
+    for name in "fg":
+        (tmp_path / name).mkdir()
+    unproved.drop_old(tmp_path, tmp_path / "used")
+    assert len(list(tmp_path.iterdir())) == 6, "each ran today"
+
+
+def test_where_programs_are_kept(tmp_path):
+    for cache, wanted in ((str(tmp_path), tmp_path), ("relative", tmp_path / "home/.cache"), ("", tmp_path / "home/.cache")):
+        with unittest.mock.patch.dict(os.environ, {"XDG_CACHE_HOME": cache, "HOME": str(tmp_path / "home")}):
+            assert unproved.place_of("mps360") == wanted / "mps360/unproved/mps360"

@@ -30,7 +30,6 @@ from mps360.cli import solution2listing
 from mps360.cli.solution2listing import Ended
 from mps360.checkers import UNCHECKED, WRONG, Said
 from mps360.cli.words import taken
-from mps360.commands import here
 from mps360.errors import NoProgram
 from mps360.jobs.write import Job
 from mps360.listings.write import Answer
@@ -165,9 +164,6 @@ def run(words: list[str]) -> int:
 def main(words: list[str] | None = None) -> int:
     "the command; its status"
     words = sys.argv[1:] if words is None else words
-    if any(word in ("-h", "--help") for word in words):
-        print(here(__doc__ or ""))
-        return 0
     try:
         return run(words)
     except Ended as end:

@@ -26,7 +26,6 @@ from mps360.bases import WRITERS, deck_of, read_file
 from mps360.cli import mps2job
 from mps360.cli.options import Parser, ending
 from mps360.cli.words import joined
-from mps360.commands import here
 from mps360.jobs.write import Job, exact_job
 from mps360.listings.read import NoNames, read_names
 from mps360.model import Model
@@ -88,9 +87,6 @@ def same_file(path: str, other: str | None) -> bool:
 def main(words: list[str] | None = None) -> int:
     "the command; its status"
     words = sys.argv[1:] if words is None else words
-    if any(word in ("-h", "--help") for word in words):
-        print(here(__doc__ or ""))
-        return 0
     parser = Parser(ending(say))
     parser.add_argument("-o", dest="deck")
     parser.add_argument("--names")

@@ -50,13 +50,12 @@ from concurrent.futures import FIRST_COMPLETED, ThreadPoolExecutor, wait
 from pathlib import Path
 from typing import Any, NoReturn
 from mps360.listings.read import NUMBER
-from mps360 import programs, solvers
+from mps360 import at_hand, programs, solvers
 from mps360.cli import mps2job
 from mps360.cli.route_options import solvers_of
 from mps360.life import Life, keep_above
 from mps360.cli.words import taken
 from mps360.text import guard
-from mps360.commands import here
 from mps360.output import CantWrite, command
 from mps360.solver_names import not_installed
 from mps360.summary import NO_ROUTE, Record, Summary, as_record, for_a_sheet
@@ -358,7 +357,7 @@ def a_program() -> tuple[str, bool]:
         raise Wrong(70, "no proved program is there; scripts/build.sh proves and builds it, in some 25 minutes")
     say("running UNPROVED; scripts/build.sh proves and builds the program, in some 25 minutes")
     try:
-        return unproved.kept("mps360") or unproved.make(optimised=True), False
+        return at_hand.kept_program("mps360") or unproved.make(optimised=True), False
     except unproved.Answered:
         raise Wrong(70, "no unproved program can be had of rt, so only scripts/mps360 runs jobs, one by one") from None
     except unproved.NoAnswer as cause:
@@ -486,9 +485,6 @@ def main(words: list[str] | None = None) -> int:
     words = sys.argv[1:] if words is None else words
     errors = sys.stderr
     guard()
-    if any(word in ("-h", "--help") for word in words):
-        print(here(__doc__ or ""))
-        return 0
     parser = Words(add_help=False, allow_abbrev=False)
     parser.add_argument("-j", dest="at_once", type=positive(int), default=1)
     parser.add_argument("--time-limit", type=positive(float))

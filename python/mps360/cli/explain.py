@@ -20,7 +20,6 @@ from typing import Literal
 from mps360 import mps, programs
 from mps360.cli import mps2job
 from mps360.cli.words import joined
-from mps360.commands import here
 from mps360.errors import Refused
 from mps360.explain import explain
 from mps360.explain.stops import MOST_SHOWN, more_than
@@ -107,9 +106,6 @@ def texts_of(given: list[bytes], files: list[str], passed: list[str]) -> tuple[s
 def answered(words: list[str]) -> int:
     "the command"
     guard()
-    if words and words[0] in ("-h", "--help"):
-        print(here(__doc__ or ""))
-        return 0
     passed, files = [word for word in joined(words) if re.match("-.", word)], [word for word in joined(words) if not re.match("-.", word)]
     if not 1 <= len(files) <= 2 or files == ["-", "-"]:
         print("usage: explain JOB [LISTING]; one of them may be -, which is standard input", file=sys.stderr)

@@ -16,7 +16,6 @@ from mps360.jobs import decks
 from mps360.text import guard
 from mps360.jobs.decks import ACTIONS, BOUNDS, FIELDS, NAMES, VALUED, DeckFault, is_skipped
 from mps360.output import command
-from mps360.commands import here
 
 MEANS = {3: "an unknown row type", 8: "a number is faulty", 10: "an unknown bound type", 20: "something stands where a fixed card is to be blank",
          25: "no card of this section has so many words", 26: "a name of more than 8 bytes", 27: "a number of more than 12 bytes"}
@@ -201,9 +200,6 @@ def main(words: list[str] | None = None) -> int:
     "the command; its status"
     words = sys.argv[1:] if words is None else words
     guard()
-    if words and words[0] in ("-h", "--help"):
-        print(here(__doc__ or ""))
-        return 0
     is_free = words[:1] != ["--fixed"]
     words = words if is_free else words[1:]
     if len(words) > 1 or any(re.match("-.", word) for word in words):

@@ -18,7 +18,6 @@ from mps360.pages.html import Page
 from mps360.pages.origin import Origin, now
 from mps360.cli.options import Parser, ending
 from mps360.output import command, write_file
-from mps360.commands import here
 
 NAME = "listing2html.py"
 
@@ -39,9 +38,6 @@ def read_text(path: str) -> tuple[str, str]:
 def main(words: list[str] | None = None) -> int:
     "the command; its status"
     words = sys.argv[1:] if words is None else words
-    if any(word in ("-h", "--help") for word in words):
-        print(here(__doc__ or ""))
-        return 0
     parser = Parser(ending(say), allow_abbrev=True)
     parser.add_argument("--names")
     parser.add_argument("-o", dest="page")

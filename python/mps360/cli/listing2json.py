@@ -19,7 +19,6 @@ from mps360.listings.read import NoListing, NoNames, name_back, parse, read_name
 from mps360.listings.tables import TABLES, add_decimals, document, json_text, write_solution, write_table
 from mps360.cli.options import Parser, ending
 from mps360.output import command
-from mps360.commands import here
 from mps360 import notes
 
 OTHER_OBJECTIVE = "the objective or its right-hand side isn't that of the table of names; no constant is added"
@@ -36,9 +35,6 @@ def say(message: str) -> None:
 def main(words: list[str] | None = None) -> int:
     "the command; its status"
     words = sys.argv[1:] if words is None else words
-    if any(word in ("-h", "--help") for word in words):
-        print(here(__doc__ or ""))
-        return 0
     parser = Parser(ending(say), allow_abbrev=True)
     kind = parser.add_mutually_exclusive_group()
     kind.add_argument("--csv", action="store_true")

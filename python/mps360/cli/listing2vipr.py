@@ -20,7 +20,6 @@ from mps360.listings.read import NoListing
 from mps360.vipr import Certificate, NoClaim, claims_of, lines_of
 from mps360.cli.options import Parser, ending
 from mps360.output import command, write_file
-from mps360.commands import here
 
 NAME = "listing2vipr.py"
 
@@ -62,9 +61,6 @@ def say(message: str) -> None:
 def main(words: list[str] | None = None) -> int:
     "the command; its status"
     words = sys.argv[1:] if words is None else words
-    if any(word in ("-h", "--help") for word in words):
-        print(here(__doc__ or ""))
-        return 0
     options = parsed_options(words)
     try:
         job, listing = (pathlib.Path(path).read_bytes().decode("latin-1") for path in (options.job, options.listing))

@@ -41,7 +41,6 @@ from mps360.cli.options import Parser
 from mps360.jobs.write import exact_job
 from mps360.numbers import number
 from mps360.output import command, write_file
-from mps360.commands import here
 from mps360.reading import INFINITY, Reading
 
 Refuse = Callable[[str], NoReturn]
@@ -108,9 +107,6 @@ def check_places(options: argparse.Namespace) -> None:
 def main(words: list[str] | None = None) -> int:
     "the command; its status"
     words = sys.argv[1:] if words is None else words
-    if any(word in ("-h", "--help") for word in words):
-        print(here(__doc__ or ""))
-        return 0
     options = parsed_options(words)
     check_places(options)
     try:

@@ -15,7 +15,6 @@ from mps360.listings.read import NoListing, parse
 from mps360.pages.parametric import NoRun, in_letters, in_svg, points_of
 from mps360.cli.options import Parser, ending
 from mps360.output import command, write_file
-from mps360.commands import here
 
 NAME = "plot_parametric.py"
 
@@ -29,9 +28,6 @@ def say(message: str) -> None:
 def main(words: list[str] | None = None) -> int:
     "the command; its status"
     words = sys.argv[1:] if words is None else words
-    if any(word in ("-h", "--help") for word in words):
-        print(here(__doc__ or ""))
-        return 0
     guard()
     parser = Parser(ending(say), allow_abbrev=True)
     parser.add_argument("--svg", action="store_true")

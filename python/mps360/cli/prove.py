@@ -2,11 +2,11 @@
 last line, on standard error, says what is proved and by which route. solve finds such a route by itself; this one asks whom it is told to, and
 prints the listing.
 
-usage: prove [--basis FILE [--from WRITER] | --with SOLVER[,SOLVER..]] [--keep FOLDER] [--seconds S] [--life S] [--program FILE] [..] MODEL.mps
+usage: prove [--basis FILE [--from WRITER] | --with SOLVER,..] [--keep FOLDER] [--seconds S] [--life S] [--program FILE] [..] MODEL.mps
 
   --basis FILE    a basis of this model that clp -basisOut, esolver -b, lp_solve -wbas, glpsol -w or another program wrote
   --from WRITER   which program wrote it, where the file doesn't tell (basis2deck.py --help has more)
-  --with SOLVER   highs, clp, esolver, lp_solve or glpsol is asked for a basis, where it is installed; of several each next one where the basis of
+  --with SOLVER,..  highs, clp, esolver, lp_solve or glpsol is asked for a basis, where it is installed; of several each next one where the basis of
                   the one before comes to nothing
   --keep FOLDER   the job, its listing (which is what is proved), the table of names and the solver's basis stay in FOLDER
   --seconds S     ends the solver, or a run of the program, after S seconds; without it none is ended
@@ -38,7 +38,6 @@ from mps360.cli.words import joined
 from mps360.jobs.write import Job
 from mps360.life import FIRST, Life
 from mps360.model import Model
-from mps360.commands import here
 from mps360.output import command
 from mps360.solver_names import NoBasis
 
@@ -154,9 +153,6 @@ def options_of(words: Sequence[str]) -> tuple[argparse.Namespace, list[str]]:
 def main(words: list[str] | None = None) -> int:
     "the command; its status"
     words = sys.argv[1:] if words is None else words
-    if any(word in ("-h", "--help") for word in words):
-        print(here(__doc__ or ""))
-        return 0
     life = Life(NAME)
     options, passed = options_of(words)
     signal.signal(signal.SIGTERM, solve.interrupt)

@@ -7,7 +7,7 @@ usage: solution2listing.py [OPTIONS] -o JOB --listing LISTING [--names MAP] MODE
   -o JOB             where the job goes
   --listing LISTING  where the listing goes; without it to standard output
   --names MAP        where the table of names goes, as JSON for listing2json.py; needed where names were shortened
-  --vipr CERTIFICATE a VIPR certificate of the solution goes there, and no job and no listing is made: the solution's numbers, and those of the
+  --vipr CERTIFICATE  a VIPR certificate of the solution goes there, and no job and no listing is made: the solution's numbers, and those of the
                      file, may be of any length. What its numbers don't prove is refused
 
 Each other option is one of mps2job.py, which reads the file: what it changes, leaves out or chooses is said on standard error. SOLUTION is
@@ -31,7 +31,6 @@ from mps360 import mps
 from mps360.cli import mps2job
 from mps360.cli.mps2job import say
 from mps360.cli.words import taken
-from mps360.commands import here
 from mps360.jobs.write import Job, exact_job
 from mps360.listings.write import Answer
 from mps360.listings.write import Refused
@@ -172,9 +171,6 @@ def run(words: list[str]) -> int:
 def main(words: list[str] | None = None) -> int:
     "the command; its status"
     words = sys.argv[1:] if words is None else words
-    if any(word in ("-h", "--help") for word in words):
-        print(here(__doc__ or ""))
-        return 0
     try:
         return run(words)
     except Ended as end:

@@ -1,6 +1,6 @@
 """Solves an MPS file or a CPLEX LP file, or runs a job, and says the answer in the names of the file, with decimals beside the exact fractions.
 
-usage: solve [--json | --csv | --html FILE] [--basis FILE [--from WRITER]] [--with SOLVER,..|none] [--only ROUTE] [--seconds S] [--names MAP]
+usage: solve [--json | --csv | --html FILE] [--basis FILE [--from WRITER]] [--with SOLVER,..|none] [--only primal|basis|exact] [--seconds S] [--names MAP]
              [--keep FOLDER] [--write-basis FILE] [--solution FILE] [--life S] [--max | --min] [--ranging] [..] MODEL
        solve --serve [--program FILE] [--checker FILE]
 
@@ -12,15 +12,16 @@ usage: solve [--json | --csv | --html FILE] [--basis FILE [--from WRITER]] [--wi
   --keep FOLDER  the job, its listing (which is what is proved) and the table of names stay in FOLDER
   --with SOLVER,..    who may be asked for a basis where PRIMAL has no end in 5 s or a number doesn't fit, of highs, clp, esolver, glpsol and
                  lp_solve, in this order; none for nobody. Without it those that are installed
-  --only ROUTE   primal (from the opening basis), basis (of a solver), or exact (esolver's exact answer, attested by the checker), alone
+  --only primal|basis|exact  that route alone: from the opening basis, from the basis of a solver, or esolver's exact answer, attested by the checker
   --seconds S    bounds all of it; without it PRIMAL goes on until it ends
-  --processors N how many may be used; from 2 on PRIMAL goes on while a solver is asked. Without it those that are there
+  --processors N  how many may be used; from 2 on PRIMAL goes on while a solver is asked. Without it those that are there
   --write-basis FILE  the basis of the answer goes to FILE, as an MPS basis file, which clp, esolver and others begin at
-  --solution FILE     the solution goes to FILE as glpsol -w writes one, or by --solution-form highs as HiGHS does
+  --solution FILE     the solution goes to FILE as glpsol -w writes one
+  --solution-form glpsol|highs  as which solver it is written
   --names MAP    where MODEL is a job: the table of names that mps2job.py wrote for it
   --life S       the first line of life on standard error after S seconds (5), the next after twice as long each time; 0 for none
-  --program FILE another program than scripts/mps360: it gets the job on standard input. What it prints is called unproved
-  --checker FILE another checker than scripts/mps360check and scripts/mps360long
+  --program FILE  another program than scripts/mps360: it gets the job on standard input. What it prints is called unproved
+  --checker FILE  another checker than scripts/mps360check and scripts/mps360long
   --serve        answers many requests in one process: a JSON object on each line of standard input, a reply on each line of standard output
                  (docs/PYTHON.md has them)
 
@@ -54,7 +55,7 @@ from mps360 import at_hand, errors, life, mps, notes, routes, runs
 from mps360.cli.route_options import add_routes, check_routes, plan_of
 from mps360.cli.words import joined
 from mps360.provenance import Provenance
-from mps360.commands import called, here
+from mps360.commands import called
 from mps360.jobs.write import Job, exact_job
 from mps360.listings.made import OtherJob, check_made
 from mps360.output import command, make_folder, write_file
@@ -544,9 +545,6 @@ class Words(argparse.ArgumentParser):
 def main(words: list[str] | None = None) -> int:
     "the command; its status"
     words = sys.argv[1:] if words is None else words
-    if any(word in ("-h", "--help") for word in words):
-        print(here(__doc__ or ""))
-        return 0
     if "--serve" in words:
         from mps360.cli.serve import main as serve
         return serve(words)

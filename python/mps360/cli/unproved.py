@@ -79,9 +79,6 @@ def main(words: list[str] | None = None) -> int:
     "the command; its status"
     words = sys.argv[1:] if words is None else words
     signal.signal(signal.SIGTERM, lambda *_: sys.exit(143))
-    if words and words[0] in ("-h", "--help"):
-        print(__doc__)
-        return 0
     own = own_words(words)
     if own is None:
         print(f"usage: unproved.py [--make N | --program {ATTESTS} | --program {ATTESTS_LONG}] | [--program NAME] --compile", file=sys.stderr)

@@ -25,7 +25,6 @@ from mps360.long_answers import listing_of
 from mps360.vipr import NoCertificate, Wrong, check, model_of, read
 from mps360.cli.options import Parser, ending
 from mps360.output import command
-from mps360.commands import here
 
 NAME = "vipr2listing.py"
 MOST_BYTES = 1_000_000_000
@@ -80,9 +79,6 @@ def run(words: list[str]) -> int:
 def main(words: list[str] | None = None) -> int:
     "the command; its status"
     words = sys.argv[1:] if words is None else words
-    if any(word in ("-h", "--help") for word in words):
-        print(here(__doc__ or ""))
-        return 0
     try:
         return run(words)
     except Ended as end:
