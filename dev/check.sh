@@ -73,6 +73,9 @@ if command -v python3 >/dev/null; then
     if command -v mypy >/dev/null; then
         # (what mypy keeps between runs goes to the room: nothing of it stays)
         (cd python && mypy --no-error-summary --cache-dir="$room/mypy" mps360 oracle ../dev/*.py ../dev/bench/*.py ../packaging/*.py) || fail "types of python/mps360, python/oracle, dev or packaging"
+        # (of the tests what they annotate, and what can be told without)
+        (cd python && MYPYPATH=.:tests:../dev:../dev/bench mypy --config-file= --explicit-package-bases --ignore-missing-imports --follow-imports=silent \
+            --no-error-summary --cache-dir="$room/mypy-of-tests" tests/*.py) || fail "types of python/tests"
     else
         missing="${missing}mypy (apt-get install mypy): no types were checked; "
     fi

@@ -1,5 +1,6 @@
 "plot_parametric.py on parametric runs that were worked out by hand, its labels, and names of strangers in it."
 import re
+from typing import Any
 import xml.dom.minidom
 
 import places
@@ -27,7 +28,7 @@ def drawn_points(told):
     return tuple((int(line.split()[0]), int(line.split()[1])) for line in told.partition("change a unit\n")[2].splitlines()[:-1])
 
 
-RUNS = [(places.DATA / f"{name}.listing", (), tuple(points), end) for name, (*points, end) in PARAMETRIC.items()]
+RUNS: list[tuple[Any, ...]] = [(places.DATA / f"{name}.listing", (), tuple(points), end) for name, (*points, end) in PARAMETRIC.items()]
 RUNS += [(places.EXAMPLES / f"{name}.listing", *wanted) for name, *wanted in EXAMPLE_PARAMETRIC]
 
 

@@ -49,7 +49,7 @@ def called(name, *words):
 
 PARTS = parts_of(KEPT / "made-09.txt")
 # as QSopt_ex prints it
-OBJECTIVE = re.search(r"Value = (\S+)", PARTS["esolver solution"])[1]
+OBJECTIVE = re.findall(r"Value = (\S+)", PARTS["esolver solution"])[0]
 OPENING = f"OPTIMAL, objective {OBJECTIVE}, by PRIMAL from the opening basis in "
 
 

@@ -2,6 +2,7 @@
 import json
 import subprocess
 import sys
+from typing import Any
 
 import places
 import programs_at_hand
@@ -19,7 +20,7 @@ NONE = FILE.replace("HOURS 4 ORDER 1", "HOURS 4 ORDER 13")
 RAY = {"answer": "infeasible", "ray": {"HOURS": 3, "ORDER": -1}, "column_ray": {"X": -2}}
 CROSSED = FILE.replace(" UP BND X 3", " UP BND X 3\n LO BND X 5")
 
-CASES = (
+CASES: tuple[tuple[Any, ...], ...] = (
     (FILE, BEST, {}, None),
     (FILE, BEST, {"columns": {"X": 3, "Y": 2}}, "the row HOURS has the activity 5, above its upper limit 4"),
     (FILE, BEST, {"columns": {}}, "the row ORDER has the activity 0, below its lower limit 1"),

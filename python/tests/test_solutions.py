@@ -3,6 +3,7 @@ import json
 import os
 import shutil
 import subprocess
+from typing import Any
 
 import places
 import programs_at_hand
@@ -36,16 +37,16 @@ BOUNDS
 ENDATA
 """
 ESOLVER = "status = OPTIMAL\nstatus OPTIMAL\n\tValue = 36\nVARS:\ndoors = 2\nwindows = 6\nREDUCED COST:\nPI:\nplant_2 = 3/2\nplant_3 = 1\nSLACK:\nplant_1 = 2\n"
-PLAN = {"answer": "optimal", "objective": "36", "columns": {"doors": 2, "windows": "6"}, "prices": {"plant_2": "3/2", "plant_3": 1}}
+PLAN: dict[str, Any] = {"answer": "optimal", "objective": "36", "columns": {"doors": 2, "windows": "6"}, "prices": {"plant_2": "3/2", "plant_3": 1}}
 # a model without a plan, and one without a bound
 TIGHT = MODEL.replace(" plant_3 18\n", " plant_3 18\n").replace(" L plant_1\n", " G plant_1\n").replace("plant_1 4 ", "plant_1 7 ")
 LOOSE = MODEL.replace(" L plant_", " N plant_")
 CROSSED = MODEL.replace(" UP doors 1e30\n", " UP doors -1\n LO doors 0\n")
-RAYS = {"answer": "infeasible", "ray": {"plant_1": -3, "plant_3": 1}}
+RAYS: dict[str, Any] = {"answer": "infeasible", "ray": {"plant_1": -3, "plant_3": 1}}
 # three times plant_1 at least 21, and plant_3 at most 18: 2 windows at most -3, and windows at least 0
 RAYS_WHOLE = {**RAYS, "column_ray": {"windows": -2}}
-DIRECTION = {"answer": "unbounded", "columns": {"doors": 1}, "direction": {"windows": "1/2"}}
-TAKEN = (
+DIRECTION: dict[str, Any] = {"answer": "unbounded", "columns": {"doors": 1}, "direction": {"windows": "1/2"}}
+TAKEN: tuple[tuple[Any, ...], ...] = (
     (MODEL, ESOLVER, "ATTESTED 5 REPORTS"),
     (MODEL, PLAN, "ATTESTED 5 REPORTS"),
     (MODEL, {**PLAN, "reduced": {}}, "ATTESTED 5 REPORTS"),
@@ -61,7 +62,7 @@ TAKEN = (
     (LOOSE, DIRECTION, "ATTESTED 4 REPORTS"),
     (MODEL, DIRECTION, "WRONG LINE 4"),
 )
-NOT_TAKEN = (
+NOT_TAKEN: tuple[tuple[Any, ...], ...] = (
     (ESOLVER.replace("doors = 2", "doors = 2.0"), "line 5: 2.0 is a decimal number"),
     (ESOLVER.replace("doors = 2", "door = 2"), "line 5: the model has no column 'door'"),
     (ESOLVER.replace("windows = 6", "doors = 6"), "line 6: the column 'doors' stands twice"),

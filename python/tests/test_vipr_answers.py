@@ -4,12 +4,13 @@ import random
 import shutil
 import subprocess
 import sys
+from typing import Any
 
 import places
 import pytest
 from test_solvers import GLASS
 
-BEST = {"answer": "optimal", "columns": {"doors": 2, "windows": 6}, "prices": {"P2": "3/2", "P3": 1}}
+BEST: dict[str, Any] = {"answer": "optimal", "columns": {"doors": 2, "windows": 6}, "prices": {"P2": "3/2", "P3": 1}}
 CROSSED = GLASS.replace("ENDATA", "BOUNDS\n LO U doors 3\n UP U doors 2\nENDATA")
 NO_PLAN = GLASS.replace("B P1 4", "B P1 -4")
 

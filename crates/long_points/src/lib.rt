@@ -9,7 +9,7 @@ mod rows;
 mod slacks;
 
 pub use keeping::{End, all_prices_keep};
-pub use limits::{both, feasible, limits_hold, optimal, prices_stand};
-pub use prices::reduced_costs_hold;
-pub use rows::equations_hold;
+pub use limits::{asked_by, both, counted, feasible, limits_hold, optimal, prices_stand, sign_of};
+pub use prices::{column_sum, reduced_costs_hold};
+pub use rows::{column_top, equations_hold};
 pub use slacks::slacks_hold;

@@ -1,0 +1,92 @@
+// Numbers of any length, read and tested.
+ghost use Rattle.std.specs.Prelude.{◌≡◌};
+
+use crate::claim_tests::{test_claim, test_opening};
+use crate::closing_tests::test_close;
+use crate::long_words::is_longer;
+use listing_claims::{Checks, Claim, Closing, Part, Printed, Stop};
+use listing_definitions::Mark;
+use listing_tables::Sheet;
+use listing_words::Number;
+use long_numbers::is_number;
+use long_solutions::{test_interval, test_solution};
+use lp_model::{Lp, NoMemory};
+use parametric_request::ParametricRequest;
+use std::alloc::Global;
+
+/// A number with more digits above or below the line isn't read for its value.
+const MOST_DIGITS: usize = 100_000;
+
+/// Reads each number of up to 100,000 digits above and below the line, and refuses no operation on them.
+pub struct OfAnyLength;
+
+impl Checks for OfAnyLength {
+    ghost use Rattle.walk_definitions.specs.Checkers.{checker_of_any_length};
+
+    ghost checker = { checker_of_any_length };
+
+    fn read<'a>(alloc: Global, word: &'a [u8]) -> Result<Option<Number<'a>>, NoMemory> {
+        if OfAnyLength::is_long(word) {
+            return Ok(None);
+        }
+        if !is_number(alloc, word)? {
+            return Ok(None);
+        }
+        Ok(Some(Number::new(word)))
+    }
+
+    fn has_limit() -> bool {
+        true
+    }
+
+    fn is_long(word: &[u8]) -> bool {
+        is_longer(word, MOST_DIGITS)
+    }
+
+    fn takes(_is_checked: bool) -> bool {
+        true
+    }
+
+    fn test_claim(alloc: Global, lp: &Lp, claim: &Claim<'_>) -> Result<(), Stop> {
+        test_claim(alloc, lp, claim)
+    }
+
+    fn test_opening(
+        alloc: Global,
+        sheet: Sheet<'_>,
+        request: &ParametricRequest,
+        claim: &Claim<'_>,
+    ) -> Result<(), Stop> {
+        test_opening(alloc, sheet, request, claim)
+    }
+
+    fn test_solution(
+        alloc: Global,
+        sheet: Sheet<'_>,
+        mark: Mark,
+        printed: &Printed<'_>,
+    ) -> Result<(), Stop> {
+        test_solution(alloc, sheet, mark, printed)
+    }
+
+    fn test_interval(
+        alloc: Global,
+        sheet: Sheet<'_>,
+        request: &ParametricRequest,
+        is_first: bool,
+        from: &Number<'_>,
+        part: &Part<'_>,
+    ) -> Result<(), Stop> {
+        test_interval(alloc, sheet, request, is_first, from, part)
+    }
+
+    fn test_close(
+        alloc: Global,
+        sheet: Sheet<'_>,
+        request: &ParametricRequest,
+        last: &Number<'_>,
+        closing: &Closing<'_>,
+    ) -> Result<(), Stop> {
+        test_close(alloc, sheet, request, last, closing)
+    }
+}

@@ -1,0 +1,117 @@
+// The tests of what a verdict claims.
+ghost use Rattle.std.specs.Prelude.{◌≡◌, IfOk};
+ghost use Rattle.exact_values.specs.Rational.{ℚ};
+ghost use Rattle.lp_definitions.specs.LinearProgram.{IsLinearProgram};
+ghost use Rattle.parametric_request.specs.Asking.{changing_of};
+ghost use Rattle.walk_definitions.specs.Checkers.{checker_of_any_length};
+ghost use Rattle.listing_words.specs.Read.{sheet_view};
+ghost use Rattle.listing_claims.specs.Asked.{IsAskedOf};
+ghost use Rattle.listing_claims.specs.Claims.{Fits, claim_test, opening_test};
+ghost use Rattle.listing_claims.specs.Passing.{Judges};
+ghost use Rattle.long_vectors.specs.Vectors.{IsValue};
+ghost use Rattle.long_programs.specs.Programs.{program_of, IsChangeIn, IsPlain};
+ghost use Rattle.long_solutions.specs.Answers.{Answers};
+ghost use Rattle.long_solutions.specs.Lines.{IsNumber};
+
+use crate::directions::pair_holds;
+use crate::rays::ray_holds;
+use listing_claims::{Claim, Stop};
+use listing_tables::Sheet;
+use long_programs::{ProgramAt, as_it_is, change_of, fraction_value, own_theta};
+use long_rays::limits_cross;
+use long_solutions::judged;
+use long_vectors::Value;
+use lp_model::Lp;
+use parametric_request::ParametricRequest;
+use std::alloc::{AllocError, Global};
+
+// Whether a claim of the linear program at theta passes. An optimal one is tested where SOLUTION shows it.
+fn claim_holds(
+    alloc: Global,
+    at: &ProgramAt<'_>,
+    theta: &Value,
+    claim: &Claim<'_>,
+) -> Result<bool, AllocError>
+    requires change { IsChangeIn at.now.lp.now at.now.change }
+    requires plain { IsPlain at.now.lp.now at.now.change }
+    requires number { IsNumber theta.now }
+    requires fits { Fits at.now.lp.now claim.now }
+    ensures { IfOk result (λ holds. (x : ℚ) → IsValue x theta.now → Answers holds (claim_test checker_of_any_length (program_of at.now.lp.now at.now.change x) claim.now)) }
+{
+    match claim {
+        Claim::Optimal(_) => Ok(true),
+        Claim::Crossed(k) => {
+            let crosses = limits_cross(at.lp, *k);
+            Ok(crosses)
+        }
+        Claim::Infeasible(ray) => {
+            let shown = ray_holds(alloc, at, theta, ray)?;
+            Ok(shown)
+        }
+        Claim::Unbounded(objective, pair) => {
+            let goes_on = pair_holds(alloc, at, theta, objective, pair)?;
+            Ok(goes_on)
+        }
+    }
+}
+
+// Whether a claim of a linear program passes.
+fn own_claim_holds(alloc: Global, lp: &Lp, claim: &Claim<'_>) -> Result<bool, AllocError>
+    requires { Fits lp.now claim.now }
+    ensures { IfOk result (λ holds. Answers holds (claim_test checker_of_any_length lp.now claim.now)) }
+{
+    let at = as_it_is(lp);
+    let theta = own_theta(alloc, lp)?;
+    let holds = claim_holds(alloc, &at, &theta, claim)?;
+    Ok(holds)
+}
+
+/// Tests a claim of a linear program.
+pub fn test_claim(alloc: Global, lp: &Lp, claim: &Claim<'_>) -> Result<(), Stop>
+    requires { Fits lp.now claim.now }
+    ensures { Judges (claim_test checker_of_any_length lp.now claim.now) result }
+{
+    match own_claim_holds(alloc, lp, claim) {
+        Ok(holds) => judged(holds),
+        Err(_) => Err(Stop::NoMemory),
+    }
+}
+
+// Whether a claim of the linear program at the first value of a parametric run passes.
+fn opening_holds(
+    alloc: Global,
+    sheet: Sheet<'_>,
+    request: &ParametricRequest,
+    claim: &Claim<'_>,
+) -> Result<bool, AllocError>
+    requires asked { IsAskedOf sheet request.now }
+    requires fits { Fits sheet.lp.now claim.now }
+    ensures { IfOk result (λ holds. Answers holds (opening_test checker_of_any_length (sheet_view sheet.entry) (changing_of request.now.name request.now.change)
+        request.now.from claim.now)) }
+{
+    let at = ProgramAt {
+        lp: sheet.lp,
+        change: change_of(request),
+    };
+    let theta = fraction_value(alloc, request.from)?;
+    let holds = claim_holds(alloc, &at, &theta, claim)?;
+    Ok(holds)
+}
+
+/// Tests the claim of a parametric run's opening.
+pub fn test_opening(
+    alloc: Global,
+    sheet: Sheet<'_>,
+    request: &ParametricRequest,
+    claim: &Claim<'_>,
+) -> Result<(), Stop>
+    requires asked { IsAskedOf sheet request.now }
+    requires fits { Fits sheet.lp.now claim.now }
+    ensures { Judges (opening_test checker_of_any_length (sheet_view sheet.entry) (changing_of request.now.name request.now.change)
+        request.now.from claim.now) result }
+{
+    match opening_holds(alloc, sheet, request, claim) {
+        Ok(holds) => judged(holds),
+        Err(_) => Err(Stop::NoMemory),
+    }
+}

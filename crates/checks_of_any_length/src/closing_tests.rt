@@ -1,0 +1,163 @@
+// The tests of how a parametric run closes.
+ghost use Rattle.std.specs.Prelude.{◌≡◌, ◌&&◌, [], ◌∷◌, IfOk, length};
+ghost use Rattle.exact_values.specs.Rational.{ℚ};
+ghost use Rattle.exact_values.specs.Tests.{eq_ℚ, lt_ℚ};
+ghost use Rattle.lp_definitions.specs.LinearProgram.{size};
+ghost use Rattle.check_definitions.specs.Steps.{in_turn};
+ghost use Rattle.listing_claims.specs.Claims.{IsPairOf};
+ghost use Rattle.parametric_request.specs.Asking.{Serves, changing_of};
+ghost use Rattle.walk_definitions.specs.Checkers.{checker_of_any_length};
+ghost use Rattle.walk_definitions.specs.Tests.{asked};
+ghost use Rattle.listing_words.specs.Read.{sheet_view};
+ghost use Rattle.listing_claims.specs.Asked.{IsAskedOf};
+ghost use Rattle.listing_claims.specs.Closings.{ClosingFits, unbounded_test, infeasible_test, closing_test};
+ghost use Rattle.listing_claims.specs.Passing.{Judges};
+ghost use Rattle.long_vectors.specs.Vectors.{IsValue};
+ghost use Rattle.long_solutions.specs.Answers.{Answers};
+
+use crate::directions::past_pair_holds;
+use crate::rays::past_ray_holds;
+use frac128::Frac;
+use listing_claims::{Closing, Pair, Stop};
+use listing_tables::Sheet;
+use listing_words::Number;
+use long_points::both;
+use long_solutions::{compare_values, compare_with_fraction, judged};
+use long_vectors::{Value, value_of};
+use parametric_request::{Change, ParametricRequest};
+use std::alloc::{AllocError, Global};
+
+// Whether a number is the last end, and the last value.
+fn ends_at(alloc: Global, value: &Value, last: &Value, most: Frac) -> Result<bool, AllocError>
+    ensures { IfOk result (λ holds. (t l : ℚ) → IsValue t value.now → IsValue l last.now → holds ≡ (eq_ℚ t l && eq_ℚ t most)) }
+{
+    let order = compare_values(alloc, value, last)?;
+    let most_order = compare_with_fraction(alloc, value, most)?;
+    let same = order.is_eq();
+    let ends = most_order.is_eq();
+    Ok(both(same, ends))
+}
+
+// Whether a number is the last end, before the last value.
+fn goes_past(alloc: Global, value: &Value, last: &Value, most: Frac) -> Result<bool, AllocError>
+    ensures { IfOk result (λ holds. (t l : ℚ) → IsValue t value.now → IsValue l last.now → holds ≡ (eq_ℚ t l && lt_ℚ t most)) }
+{
+    let order = compare_values(alloc, value, last)?;
+    let most_order = compare_with_fraction(alloc, value, most)?;
+    let same = order.is_eq();
+    let goes_on = most_order.is_lt();
+    Ok(both(same, goes_on))
+}
+
+// Whether a run ends at its last value.
+fn end_holds(
+    alloc: Global,
+    value: &Number<'_>,
+    last: &Value,
+    most: Frac,
+) -> Result<bool, AllocError>
+    ensures { IfOk result (λ holds. (l : ℚ) → IsValue l last.now → Answers holds (in_turn (asked (eq_ℚ value.now l) ∷ asked (eq_ℚ value.now most) ∷ []))) }
+{
+    let own = value_of(alloc, value)?;
+    let holds = ends_at(alloc, &own, last, most)?;
+    Ok(holds)
+}
+
+// Whether a run of the objective closes so that past a value there is no best point.
+fn unbounded_holds(
+    alloc: Global,
+    sheet: Sheet<'_>,
+    request: &ParametricRequest,
+    last: &Value,
+    value: &Number<'_>,
+    pair: &Pair<'_>,
+) -> Result<bool, AllocError>
+    requires serves { Serves sheet.problem.now sheet.lp.now request.now }
+    requires pair { IsPairOf sheet.lp.now pair.now }
+    ensures { IfOk result (λ holds. (l : ℚ) → IsValue l last.now → Answers holds (unbounded_test checker_of_any_length (sheet_view sheet.entry)
+        (changing_of request.now.name request.now.change) request.now.to l value.now pair.now.point.items pair.now.direction.items)) }
+{
+    match &request.change {
+        Change::Row(row) => {
+            let theta = value_of(alloc, value)?;
+            let past = goes_past(alloc, &theta, last, request.to)?;
+            let shown = past_pair_holds(alloc, sheet.lp, *row, &theta, pair)?;
+            Ok(both(past, shown))
+        }
+        Change::Set(_) => Ok(false),
+    }
+}
+
+// Whether a run of the right-hand side closes so that past a value no point is feasible.
+fn infeasible_holds(
+    alloc: Global,
+    sheet: Sheet<'_>,
+    request: &ParametricRequest,
+    last: &Value,
+    value: &Number<'_>,
+    ray: &[Number<'_>],
+) -> Result<bool, AllocError>
+    requires serves { Serves sheet.problem.now sheet.lp.now request.now }
+    requires places { length ray.now ≡ size sheet.lp.now.matrix }
+    ensures { IfOk result (λ holds. (l : ℚ) → IsValue l last.now → Answers holds (infeasible_test checker_of_any_length (sheet_view sheet.entry)
+        (changing_of request.now.name request.now.change) request.now.to l value.now ray.now)) }
+{
+    match &request.change {
+        Change::Row(_) => Ok(false),
+        Change::Set(shift) => {
+            let theta = value_of(alloc, value)?;
+            let past = goes_past(alloc, &theta, last, request.to)?;
+            let shown = past_ray_holds(alloc, sheet.lp, shift, &theta, ray)?;
+            Ok(both(past, shown))
+        }
+    }
+}
+
+// Whether a run closes so whose last interval ends at a value.
+fn closing_holds(
+    alloc: Global,
+    sheet: Sheet<'_>,
+    request: &ParametricRequest,
+    last: &Number<'_>,
+    closing: &Closing<'_>,
+) -> Result<bool, AllocError>
+    requires serves { Serves sheet.problem.now sheet.lp.now request.now }
+    requires fits { ClosingFits sheet.lp.now closing.now }
+    ensures { IfOk result (λ holds. Answers holds (closing_test checker_of_any_length (sheet_view sheet.entry) (changing_of request.now.name request.now.change)
+        request.now.to last.now closing.now)) }
+{
+    let end = value_of(alloc, last)?;
+    match closing {
+        Closing::At(value) => {
+            let ends = end_holds(alloc, value, &end, request.to)?;
+            Ok(ends)
+        }
+        Closing::Unbounded(value, pair) => {
+            let goes_on = unbounded_holds(alloc, sheet, request, &end, value, pair)?;
+            Ok(goes_on)
+        }
+        Closing::Infeasible(value, ray) => {
+            let shown = infeasible_holds(alloc, sheet, request, &end, value, ray)?;
+            Ok(shown)
+        }
+    }
+}
+
+/// Tests how a parametric run closes whose last interval ends at a value.
+pub fn test_close(
+    alloc: Global,
+    sheet: Sheet<'_>,
+    request: &ParametricRequest,
+    last: &Number<'_>,
+    closing: &Closing<'_>,
+) -> Result<(), Stop>
+    requires asked { IsAskedOf sheet request.now }
+    requires fits { ClosingFits sheet.lp.now closing.now }
+    ensures { Judges (closing_test checker_of_any_length (sheet_view sheet.entry) (changing_of request.now.name request.now.change)
+        request.now.to last.now closing.now) result }
+{
+    match closing_holds(alloc, sheet, request, last, closing) {
+        Ok(holds) => judged(holds),
+        Err(_) => Err(Stop::NoMemory),
+    }
+}

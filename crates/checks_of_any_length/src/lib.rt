@@ -1,0 +1,11 @@
+//! The checker that reads numbers of any length and refuses no operation on them.
+#![tactic(auto)]
+
+mod any_length;
+mod claim_tests;
+mod closing_tests;
+mod directions;
+mod long_words;
+mod rays;
+
+pub use any_length::OfAnyLength;

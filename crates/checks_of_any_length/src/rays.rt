@@ -1,0 +1,92 @@
+// The multipliers that show that no point is feasible.
+ghost use Rattle.std.specs.Prelude.{◌≡◌, ◌↔◌, ℕ, IsTrue, IfOk, length};
+ghost use Rattle.exact_values.specs.Rational.{ℚ};
+ghost use Rattle.lp_definitions.specs.LinearProgram.{size, value_at};
+ghost use Rattle.problem_definitions.specs.Problem.{Problem};
+ghost use Rattle.question_definitions.specs.Answers.{Changing};
+ghost use Rattle.check_definitions.specs.Steps.{AllHold};
+ghost use Rattle.check_definitions.specs.Checks.{infeasible_steps};
+ghost use Rattle.walk_definitions.specs.Checkers.{checker_of_any_length};
+ghost use Rattle.walk_definitions.specs.Tests.{infeasible_past};
+ghost use Rattle.long_vectors.specs.Vectors.{IsValue};
+ghost use Rattle.long_programs.specs.Programs.{program_of, IsChangeIn};
+ghost use Rattle.answer_definitions.specs.ParametricRuns.{family_of};
+ghost use Rattle.simplex_definitions.specs.RhsRun.{rhs_family};
+ghost use Rattle.long_solutions.specs.Answers.{Answers};
+ghost use Rattle.checks_of_any_length.specs.Orders.{negative_by, at_most_by};
+
+use frac128::Frac;
+use listing_words::Number;
+use long_points::both;
+use long_programs::{ChangeAt, ProgramAt};
+use long_rays::{limits_order, ray_vanishes, shift_order};
+use long_vectors::{Value, column_of};
+use lp_model::Lp;
+use std::alloc::{AllocError, Global};
+use std::cmp::Ordering;
+
+// Whether a sum is there and is negative.
+fn is_negative(order: Option<Ordering>) -> bool
+    ensures { result ≡ negative_by order }
+{
+    match order {
+        Some(Ordering::Less) => true,
+        _ => false,
+    }
+}
+
+// Whether a sum is there and isn't positive.
+fn is_at_most(order: Option<Ordering>) -> bool
+    ensures { result ≡ at_most_by order }
+{
+    match order {
+        Some(Ordering::Less) => true,
+        Some(Ordering::Equal) => true,
+        _ => false,
+    }
+}
+
+/// Whether multipliers show that no point is feasible at theta.
+pub fn ray_holds(
+    alloc: Global,
+    at: &ProgramAt<'_>,
+    theta: &Value,
+    ray: &[Number<'_>],
+) -> Result<bool, AllocError>
+    requires change { IsChangeIn at.now.lp.now at.now.change }
+    requires places { length ray.now ≡ size at.now.lp.now.matrix }
+    ensures { IfOk result (λ holds. (x : ℚ) → IsValue x theta.now → IsTrue holds ↔ AllHold (infeasible_steps (program_of at.now.lp.now at.now.change x) (value_at ray.now))) }
+{
+    let column = column_of(alloc, ray)?;
+    let vanishes = ray_vanishes(alloc, at.lp, &column)?;
+    let order = limits_order(alloc, at, &column, theta)?;
+    let contradicts = is_negative(order);
+    Ok(both(vanishes, contradicts))
+}
+
+/// Whether multipliers show that no point is feasible past theta.
+pub fn past_ray_holds(
+    alloc: Global,
+    lp: &Lp,
+    shift: &[Frac],
+    theta: &Value,
+    ray: &[Number<'_>],
+) -> Result<bool, AllocError>
+    requires shifts { length shift.now ≡ lp.now.matrix.rows }
+    requires places { length ray.now ≡ size lp.now.matrix }
+    ensures { IfOk result (λ holds. (x : ℚ) → (problem : Problem ℕ) → (changing : Changing) → IsValue x theta.now → rhs_family lp.now shift.now x ≡ family_of (record { problem = problem; lp = lp.now }) changing x →
+        Answers holds (infeasible_past checker_of_any_length (record { problem = problem; lp = lp.now }) changing shift.now x (value_at ray.now))) }
+{
+    let at = ProgramAt {
+        lp,
+        change: ChangeAt::Set(shift),
+    };
+    let column = column_of(alloc, ray)?;
+    let vanishes = ray_vanishes(alloc, lp, &column)?;
+    let order = limits_order(alloc, &at, &column, theta)?;
+    let fall = shift_order(alloc, lp, shift, &column)?;
+    let within = is_at_most(order);
+    let falls = fall.is_lt();
+    let rest = both(within, falls);
+    Ok(both(vanishes, rest))
+}

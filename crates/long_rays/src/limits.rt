@@ -1,0 +1,111 @@
+// The limits that the multipliers of a ray meet.
+ghost use Rattle.std.specs.Prelude.{◌≡◌, List, IfOk, true, is_some, option_map, length, unwrap_or};
+ghost use Rattle.exact_values.specs.Rational.{ℚ, whole, zero_ℚ, ◌+ℚ◌, ◌*ℚ◌};
+ghost use Rattle.lp_definitions.specs.LinearProgram.{IsVariable, size, value_at};
+ghost use Rattle.long_vectors.specs.Vectors.{IsOver, IsValue};
+ghost use Rattle.long_programs.specs.Programs.{program_of, IsChangeIn, shift_at};
+ghost use Rattle.long_rays.specs.Tests.{limit_by, IsMet, SumsTo};
+
+use frac128::Frac;
+use integers::Integer;
+use long_points::sign_of;
+use long_programs::{ChangeAt, ProgramAt, top_of};
+use long_vectors::{Column, Sum, Value};
+use std::alloc::{AllocError, Global};
+use std::cmp::Ordering;
+
+// Adds a multiplier times a limit to which theta times its shift is added, times both denominators, if the limit is there.
+fn add_limit(
+    alloc: Global,
+    sum: &mut Sum,
+    limit: Option<Frac>,
+    shift: Frac,
+    top: &Integer,
+    theta: &Value,
+) -> Result<bool, AllocError>
+    ensures met { IfOk result (λ met. met ≡ is_some limit) }
+    ensures sum { IfOk result (λ met. (x y d : ℚ) → whole top.now ≡ y *ℚ d → IsValue x theta.now → met ≡ true →
+        sum.new ≡ sum.old +ℚ y *ℚ unwrap_or (option_map (λ l. l +ℚ x *ℚ shift) limit) zero_ℚ *ℚ (d *ℚ whole theta.now.bottom)) }
+{
+    let Some(limit) = limit else {
+        return Ok(false);
+    };
+    let scaled = top.product(alloc, &theta.bottom)?;
+    let moved = top.product(alloc, &theta.top)?;
+    sum.add(alloc, limit, &scaled)?;
+    sum.add(alloc, shift, &moved)?;
+    Ok(true)
+}
+
+// The limit that a multiplier of this sign meets: the upper one if it is positive, else the lower one.
+fn limit_by(sign: Ordering, lower: Option<Frac>, upper: Option<Frac>) -> Option<Frac>
+    ensures { result ≡ limit_by sign lower upper }
+{
+    match sign {
+        Ordering::Less | Ordering::Equal => lower,
+        Ordering::Greater => upper,
+    }
+}
+
+// What is added to the limits of variable `k` for each unit of theta.
+fn shift_on(at: &ProgramAt<'_>, k: u32) -> Frac
+    requires variable { IsVariable at.now.lp.now.matrix k }
+    requires change { IsChangeIn at.now.lp.now at.now.change }
+    ensures { result ≡ shift_at at.now.lp.now at.now.change k }
+{
+    let lp = at.lp;
+    match at.change {
+        ChangeAt::Set(shift) if k <= lp.rows => shift[k as usize - 1],
+        _ => Frac::whole(0),
+    }
+}
+
+// Adds the multiplier of variable `k`, if it isn't 0, times the limit at theta that it meets, times both denominators.
+fn add_met(
+    alloc: Global,
+    sum: &mut Sum,
+    at: &ProgramAt<'_>,
+    ray: &Column,
+    theta: &Value,
+    k: u32,
+) -> Result<bool, AllocError>
+    requires variable { IsVariable at.now.lp.now.matrix k }
+    requires change { IsChangeIn at.now.lp.now at.now.change }
+    requires places { length ray.now.tops.items ≡ size at.now.lp.now.matrix }
+    ensures { IfOk result (λ met. (w : List ℚ) → (x : ℚ) → IsOver w ray.now → IsValue x theta.now →
+        IsMet (program_of at.now.lp.now at.now.change x) (value_at w) k met sum.old sum.new (whole ray.now.bottom *ℚ whole theta.now.bottom)) }
+{
+    let top = top_of(ray, k);
+    let sign = sign_of(alloc, top);
+    if sign.is_eq() {
+        return Ok(true);
+    }
+    let lp = at.lp;
+    let limit = limit_by(sign, lp.lower_limit(k), lp.upper_limit(k));
+    let shift = shift_on(at, k);
+    let met = add_limit(alloc, sum, limit, shift, top, theta)?;
+    Ok(met)
+}
+
+/// How the multipliers, each times the limit at theta that it meets, add up as against 0, if each that isn't 0 meets a limit.
+pub fn limits_order(
+    alloc: Global,
+    at: &ProgramAt<'_>,
+    ray: &Column,
+    theta: &Value,
+) -> Result<Option<Ordering>, AllocError>
+    requires change { IsChangeIn at.now.lp.now at.now.change }
+    requires places { length ray.now.tops.items ≡ size at.now.lp.now.matrix }
+    ensures { IfOk result (λ order. (w : List ℚ) → (x : ℚ) → IsOver w ray.now → IsValue x theta.now →
+        SumsTo (program_of at.now.lp.now at.now.change x) (value_at w) order) }
+{
+    let lp = at.lp;
+    let mut sum = Sum::zero(alloc)?;
+    for i in 0..lp.number_of_variables() {
+        let met = add_met(alloc, &mut sum, at, ray, theta, i + 1)?;
+        if !met {
+            return Ok(None);
+        }
+    }
+    Ok(Some(sum.sign()))
+}
