@@ -39,6 +39,11 @@ for tool in git rt dh dh_python3 dpkg-buildpackage; do
 done
 [ -z "$(git -C "$top" status --porcelain)" ] || end 65 "there are changes that aren't committed, so no commit names what would be built"
 
+for name in mps360 mps360check; do
+    [ -n "${options[0]:-}" ] || "$top/scripts/program.sh" --fresh "$name" >/dev/null ||
+        end 70 "no proved program $name is there: scripts/build.sh proves and builds it; --unproved makes packages for trial"
+done
+
 # what the bytes depend on: the commit and its time, and nothing of this machine or of the hour
 commit=$(git -C "$top" rev-parse HEAD)
 SOURCE_DATE_EPOCH=$(git -C "$top" log -1 --format=%ct)

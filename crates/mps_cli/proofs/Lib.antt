@@ -3,3 +3,4 @@ pub mod May_end
 pub mod Why
 pub mod Reported
 pub mod Truth
+pub mod Accounted

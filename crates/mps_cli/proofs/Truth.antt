@@ -18,7 +18,6 @@ use Rattle.command_line.specs.declared.request.Request.{Request}
 use Rattle.command_line.specs.declared.request.Request.TheVariants as request
 use Rattle.control_run.specs.declared.status.RunStatus.{RunStatus}
 use Rattle.control_run.specs.Statuses.{code_of}
-use Rattle.control_run.specs.Finishing.{failures_in_run}
 use Rattle.job_program.specs.declared.stop.EarlyStop.TheVariants.{Words, Memory}
 use Rattle.command_line.specs.declared.request.WordsStop.{WordsStop}
 use Rattle.command_line.specs.declared.request.WordsStop.TheVariants as stops
@@ -100,13 +99,13 @@ module _ (asked : Option Request) (reported : Option (List ℕ)) (status : RunSt
       by_source _ asked reported read (λ bytes known. true_answer (answers (Read bytes) bytes (record { has_bytes = refl; is_reported = known; is_read = λ failed. refl })))
 
   -- the job is made
-  pub made_headline : (read_failed print_failed punch_failed memory_wanted : Type 0) (PrintGains PunchGains : List ℕ → Type 0) (size : ℕ) → asked ≡ Some (request.Make size) →
-      IsAnswered linear_programming (Made (made_job size)) (failures_in_run print_failed punch_failed memory_wanted) (code_of status) PrintGains PunchGains →
+  pub made_headline : (none_failed : Type 0) → (none_failed → ⊥) → (read_failed print_failed punch_failed memory_wanted : Type 0) (PrintGains PunchGains : List ℕ → Type 0) (size : ℕ) → asked ≡ Some (request.Make size) →
+      IsAnswered linear_programming (Made (made_job size)) (record { read = none_failed; print = print_failed; punch = punch_failed; memory = memory_wanted }) (code_of status) PrintGains PunchGains →
       (job : Job) → IsAsked asked reported job →
       IsTrueAnswer linear_programming job (record { read = read_failed; print = print_failed; punch = punch_failed; memory = memory_wanted }) (code_of status) PrintGains PunchGains
-  made_headline read_failed print_failed punch_failed memory_wanted PrintGains PunchGains size made answer =
+  made_headline none_failed none read_failed print_failed punch_failed memory_wanted PrintGains PunchGains size made answer =
       by_size _ asked reported size made (true_answer
-      (answered_too linear_programming (Made (made_job size)) (failures_in_run print_failed punch_failed memory_wanted) _ (λ e. absurd e) (λ e. e) (λ e. e) (λ e. e) (code_of status) PrintGains PunchGains answer))
+      (answered_too linear_programming (Made (made_job size)) (record { read = none_failed; print = print_failed; punch = punch_failed; memory = memory_wanted }) _ (λ e. absurd (none e)) (λ e. e) (λ e. e) (λ e. e) (code_of status) PrintGains PunchGains answer))
 
   -- a job that is asked for as a request is
   pub same_headline : (failures : Failures) (PrintGains PunchGains : List ℕ → Type 0) (request : Request) → asked ≡ Some request →

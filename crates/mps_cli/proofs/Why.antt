@@ -114,32 +114,6 @@ module _ (asked other : Option Request) (read_failed is_read other_failed other_
   likewise status.PunchFault is = (hand is.0, is.1)
   likewise status.Memory is = tt
 
--- a job that is asked for as another is
-pub same_cause : {asked : Option Request} (request : Request) (read_failed is_read print_failed punch_failed : Type 0) (GainsPrefixOf : List ℕ → Type 0) (ended : RunStatus) → asked ≡ Some request →
-    HasCause (Some request) read_failed is_read print_failed punch_failed GainsPrefixOf ended → HasCause asked read_failed is_read print_failed punch_failed GainsPrefixOf ended
-same_cause request read_failed is_read print_failed punch_failed GainsPrefixOf ended is cause =
-    subst (λ (o : Option Request). HasCause o read_failed is_read print_failed punch_failed GainsPrefixOf ended) (sym is) cause
-
--- of a job that is read
-pub read_cause : (read_failed is_read print_failed punch_failed : Type 0) (GainsPrefixOf : List ℕ → Type 0) (ended : RunStatus) {wanted : Request} → wanted ≡ request.Read →
-    HasCause (Some request.Read) read_failed is_read print_failed punch_failed GainsPrefixOf ended → HasCause (Some wanted) read_failed is_read print_failed punch_failed GainsPrefixOf ended
-read_cause read_failed is_read print_failed punch_failed GainsPrefixOf ended is cause = same_cause request.Read read_failed is_read print_failed punch_failed GainsPrefixOf ended (ap (λ (r : Request). Some r) is) cause
-
--- of a job that is made: nothing is read
-pub made_cause : (read_failed is_read print_failed punch_failed : Type 0) (GainsPrefixOf : List ℕ → Type 0) (ended : RunStatus) (size : ℕ) {wanted : Request} → wanted ≡ request.Make size →
-    HasCause (Some (request.Make size)) ⊥ (Unit {0}) print_failed punch_failed GainsPrefixOf ended → HasCause (Some wanted) read_failed is_read print_failed punch_failed GainsPrefixOf ended
-made_cause read_failed is_read print_failed punch_failed GainsPrefixOf ended size is cause =
-    same_cause (request.Make size) read_failed is_read print_failed punch_failed GainsPrefixOf ended (ap (λ (r : Request). Some r) is)
-    (likewise (Some (request.Make size)) (Some (request.Make size)) ⊥ (Unit {0}) read_failed is_read
-    (λ e. e) (λ e failed. absurd failed) (λ here. tt) print_failed punch_failed GainsPrefixOf ended cause)
-
--- of a job that is made, from that of its source, which doesn't fail
-pub source_cause : (read_failed is_read print_failed punch_failed : Type 0) (GainsPrefixOf : List ℕ → Type 0) (ended : RunStatus) (size : ℕ) → (read_failed → ⊥) →
-    HasCause (Some request.Read) read_failed is_read print_failed punch_failed GainsPrefixOf ended → HasCause (Some (request.Make size)) ⊥ (Unit {0}) print_failed punch_failed GainsPrefixOf ended
-source_cause read_failed is_read print_failed punch_failed GainsPrefixOf ended size sure cause =
-    likewise (Some request.Read) (Some (request.Make size)) read_failed is_read ⊥ (Unit {0})
-    (λ e. absurd (cc)) (λ e failed. absurd (sure failed)) (λ here. tt) print_failed punch_failed GainsPrefixOf ended cause
-
 -- why the words ask for nothing
 pub why_words : (asked : Option Request) (read_failed is_read : Type 0) (stop : WordsStop) → (stop ≡ words.Refused → asked ≡ None) → IsWhy asked read_failed is_read (stop_of_words stop)
 why_words asked read_failed is_read words.Refused are_refused = are_refused refl

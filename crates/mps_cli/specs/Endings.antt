@@ -1,7 +1,7 @@
 -- The end of a job whose program isn't run.
 --     status_at stop               its status
 --     EndsWith .. stop status      its listing is the end of a stop alone
-use Rattle.std.specs.Prelude.{◌≡◌, ℕ, Ok, Err}
+use Rattle.std.specs.Prelude.{◌≡◌, Ok, Err}
 use Rattle.job_devices.specs.States.{SinkState}
 use Rattle.job_devices.specs.declared.device.WriteStop.{WriteStop}
 use Rattle.job_devices.specs.Text.{Writes}

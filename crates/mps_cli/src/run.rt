@@ -1,10 +1,9 @@
 // The top call.
 ghost use Rattle.std.specs.Prelude.{◌≡◌, ◌≢◌, ◌≤◌, List, ℕ, None, Some, IfOk, map, string_bytes};
-ghost use Rattle.std.specs.Io.KnownBytes.{Appends};
+ghost use Rattle.job_devices.specs.States.{untold_source};
 ghost use Rattle.job_devices.specs.Causes.{Rose};
 ghost use Rattle.job_devices.specs.Memory.{sure_left};
-ghost use Rattle.job_devices.specs.Text.{AppendsPrefix};
-ghost use Rattle.card_reader.specs.Reading.{ReadsJob, ReadsPrefix};
+ghost use Rattle.card_reader.specs.Reading.{ReadsJob};
 ghost use Rattle.answer_definitions.specs.Real.{linear_programming};
 ghost use Rattle.deck_definitions.specs.Transport.{made_job};
 ghost use Rattle.run_definitions.specs.Answer.{Job, Made, IsAnswered};
@@ -15,10 +14,9 @@ ghost use Rattle.command_line.specs.Sizes.{max_size};
 ghost use Rattle.command_line.specs.Requests.{HasSize};
 ghost use Rattle.command_line.specs.Requests as requests;
 ghost use Rattle.control_run.specs.Statuses.{code_of};
-ghost use Rattle.control_run.specs.Devices.{counts, IsReported, IsStill};
-ghost use Rattle.control_run.specs.Finishing.{failures_in_run};
 ghost use Rattle.mps_cli.specs.Asked.{IsAsked, IsGiven};
-ghost use Rattle.mps_cli.specs.Causes.{HasCause, IsPunched};
+ghost use Rattle.mps_cli.specs.Causes.{IsPunched};
+ghost use Rattle.mps_cli.specs.Devices.{devices, failures, PrintGains, PunchGains, IsAccounted};
 
 use crate::end::end_job;
 use command_line::{Request, request_of};
@@ -38,30 +36,13 @@ fn run_source<S: Source, P: Sink, U: Sink>(
     ensures answer { (given : Job) (bytes : List ℕ) →
         IsGiven (S.given job.old).left (Rose (S.given job.old).faults (S.given job.new).faults)
         given bytes →
-        IsAnswered linear_programming given
-        (record {
-          read = Rose (S.given job.old).faults (S.given job.new).faults;
-          print = Rose (P.taken print.old).faults (P.taken print.new).faults;
-          punch = Rose (U.taken punch.old).faults (U.taken punch.new).faults;
-          memory = Rose (P.taken print.old).refusals (P.taken print.new).refusals;
-        })
-        (code_of result)
-        (Appends (P.taken print.old).written (P.taken print.new).written)
-        (Appends (U.taken punch.old).written (U.taken punch.new).written) }
-    ensures cause { HasCause (Some Request.Read)
-        (Rose (S.given job.old).faults (S.given job.new).faults)
-        (ReadsJob (S.given job.old).left (S.given job.new).left)
-        (Rose (P.taken print.old).faults (P.taken print.new).faults)
-        (Rose (U.taken punch.old).faults (U.taken punch.new).faults)
-        (AppendsPrefix (P.taken print.old).written (P.taken print.new).written)
-        result }
-    ensures reported { IsReported
-        (counts (S.given job.old).faults (P.taken print.old) (U.taken punch.old))
-        (counts (S.given job.new).faults (P.taken print.new) (U.taken punch.new))
-        (code_of result) }
-    ensures still { IsStill (P.taken print.old) (P.taken print.new) ×
-        IsStill (U.taken punch.old) (U.taken punch.new) }
-    ensures no_further { ReadsPrefix (S.given job.old).left (S.given job.new).left }
+        let before = devices (S.given job.old) (P.taken print.old) (U.taken punch.old) in
+        let after = devices (S.given job.new) (P.taken print.new) (U.taken punch.new) in
+        IsAnswered linear_programming given (failures before after) (code_of result)
+        (PrintGains before after) (PunchGains before after) }
+    ensures accounted { IsAccounted (Some Request.Read)
+        (devices (S.given job.old) (P.taken print.old) (U.taken punch.old))
+        (devices (S.given job.new) (P.taken print.new) (U.taken punch.new)) result }
     ensures punch { IsPunched (Some Request.Read) (S.given job.old).left
         (ReadsJob (S.given job.old).left (S.given job.new).left) (punch.new ≡ punch.old) result }
 {
@@ -81,28 +62,17 @@ fn made_source(alloc: Global, size: u32) -> Result<SureSource, NoMemory>
     SureSource::new(alloc, &job)
 }
 
-// Runs the generated job of a size.
+// Runs the generated job of a size. No source is read: it is as one that tells nothing and whose reads never fail.
 fn run_made<P: Sink, U: Sink>(alloc: Global, size: u32, print: &mut P, punch: &mut U) -> RunStatus
     requires least { 1 ≤ size }
     requires most { size ≤ max_size }
-    ensures answer { IsAnswered linear_programming (Made (made_job size))
-        (failures_in_run (Rose (P.taken print.old).faults (P.taken print.new).faults)
-        (Rose (U.taken punch.old).faults (U.taken punch.new).faults)
-        (Rose (P.taken print.old).refusals (P.taken print.new).refusals))
-        (code_of result)
-        (Appends (P.taken print.old).written (P.taken print.new).written)
-        (Appends (U.taken punch.old).written (U.taken punch.new).written) }
-    ensures cause { HasCause (Some (Request.Make size)) ⊥ (Unit {0})
-        (Rose (P.taken print.old).faults (P.taken print.new).faults)
-        (Rose (U.taken punch.old).faults (U.taken punch.new).faults)
-        (AppendsPrefix (P.taken print.old).written (P.taken print.new).written)
-        result }
-    ensures reported { IsReported
-        (counts 0 (P.taken print.old) (U.taken punch.old))
-        (counts 0 (P.taken print.new) (U.taken punch.new))
-        (code_of result) }
-    ensures still { IsStill (P.taken print.old) (P.taken print.new) ×
-        IsStill (U.taken punch.old) (U.taken punch.new) }
+    ensures answer { let before = devices (untold_source 0) (P.taken print.old) (U.taken punch.old) in
+        let after = devices (untold_source 0) (P.taken print.new) (U.taken punch.new) in
+        IsAnswered linear_programming (Made (made_job size)) (failures before after)
+        (code_of result) (PrintGains before after) (PunchGains before after) }
+    ensures accounted { IsAccounted (Some (Request.Make size))
+        (devices (untold_source 0) (P.taken print.old) (U.taken punch.old))
+        (devices (untold_source 0) (P.taken print.new) (U.taken punch.new)) result }
     ensures punch { IsPunched (Some (Request.Make size)) None (Unit {0}) (punch.new ≡ punch.old)
         result }
 {
@@ -122,30 +92,13 @@ fn run_request<S: Source, P: Sink, U: Sink>(
 ) -> RunStatus
     requires { HasSize request }
     ensures headline { (asked : Job) → IsAsked (Some request) (S.given job.old).left asked →
-        IsTrueAnswer linear_programming asked
-        (record {
-          read = Rose (S.given job.old).faults (S.given job.new).faults;
-          print = Rose (P.taken print.old).faults (P.taken print.new).faults;
-          punch = Rose (U.taken punch.old).faults (U.taken punch.new).faults;
-          memory = Rose (P.taken print.old).refusals (P.taken print.new).refusals;
-        })
-        (code_of result)
-        (Appends (P.taken print.old).written (P.taken print.new).written)
-        (Appends (U.taken punch.old).written (U.taken punch.new).written) }
-    ensures cause { HasCause (Some request)
-        (Rose (S.given job.old).faults (S.given job.new).faults)
-        (ReadsJob (S.given job.old).left (S.given job.new).left)
-        (Rose (P.taken print.old).faults (P.taken print.new).faults)
-        (Rose (U.taken punch.old).faults (U.taken punch.new).faults)
-        (AppendsPrefix (P.taken print.old).written (P.taken print.new).written)
-        result }
-    ensures reported { IsReported
-        (counts (S.given job.old).faults (P.taken print.old) (U.taken punch.old))
-        (counts (S.given job.new).faults (P.taken print.new) (U.taken punch.new))
-        (code_of result) }
-    ensures still { IsStill (P.taken print.old) (P.taken print.new) ×
-        IsStill (U.taken punch.old) (U.taken punch.new) }
-    ensures no_further { ReadsPrefix (S.given job.old).left (S.given job.new).left }
+        let before = devices (S.given job.old) (P.taken print.old) (U.taken punch.old) in
+        let after = devices (S.given job.new) (P.taken print.new) (U.taken punch.new) in
+        IsTrueAnswer linear_programming asked (failures before after) (code_of result)
+        (PrintGains before after) (PunchGains before after) }
+    ensures accounted { IsAccounted (Some request)
+        (devices (S.given job.old) (P.taken print.old) (U.taken punch.old))
+        (devices (S.given job.new) (P.taken print.new) (U.taken punch.new)) result }
     ensures unread { request ≢ Request.Read → job.new ≡ job.old }
     ensures punch { IsPunched (Some request) (S.given job.old).left
         (ReadsJob (S.given job.old).left (S.given job.new).left) (punch.new ≡ punch.old) result }
@@ -190,16 +143,10 @@ pub fn run_job<S: Source, P: Sink, U: Sink>(
     // source, tell the job.
     ensures headline { (asked : Job) →
         IsAsked (requests.asked (map string_bytes words.now)) (S.given job.old).left asked →
-        IsTrueAnswer linear_programming asked
-        (record {
-          read = Rose (S.given job.old).faults (S.given job.new).faults;
-          print = Rose (P.taken print.old).faults (P.taken print.new).faults;
-          punch = Rose (U.taken punch.old).faults (U.taken punch.new).faults;
-          memory = Rose (P.taken print.old).refusals (P.taken print.new).refusals;
-        })
-        (code_of result)
-        (Appends (P.taken print.old).written (P.taken print.new).written)
-        (Appends (U.taken punch.old).written (U.taken punch.new).written) }
+        let before = devices (S.given job.old) (P.taken print.old) (U.taken punch.old) in
+        let after = devices (S.given job.new) (P.taken print.new) (U.taken punch.new) in
+        IsTrueAnswer linear_programming asked (failures before after) (code_of result)
+        (PrintGains before after) (PunchGains before after) }
 
     // The job's own run. The job has exactly one run that doesn't stop with an overflow. The status is that of its end, the print gains
     // its whole listing and the punch all its cards; or the status is 20, and what stands is a run that stops with an overflow where
@@ -207,16 +154,10 @@ pub fn run_job<S: Source, P: Sink, U: Sink>(
     // is 24, or the print and it is 25, or the punch and it is 26, or it is 28.
     ensures one_run { (asked : Job) →
         IsAsked (requests.asked (map string_bytes words.now)) (S.given job.old).left asked →
-        IsAnsweredOnce linear_programming asked
-        (record {
-          read = Rose (S.given job.old).faults (S.given job.new).faults;
-          print = Rose (P.taken print.old).faults (P.taken print.new).faults;
-          punch = Rose (U.taken punch.old).faults (U.taken punch.new).faults;
-          memory = Rose (P.taken print.old).refusals (P.taken print.new).refusals;
-        })
-        (code_of result)
-        (Appends (P.taken print.old).written (P.taken print.new).written)
-        (Appends (U.taken punch.old).written (U.taken punch.new).written) }
+        let before = devices (S.given job.old) (P.taken print.old) (U.taken punch.old) in
+        let after = devices (S.given job.new) (P.taken print.new) (U.taken punch.new) in
+        IsAnsweredOnce linear_programming asked (failures before after) (code_of result)
+        (PrintGains before after) (PunchGains before after) }
 
     // What stands, by the status. With 0, 1, 2, 8, 10, 12, 13, 16, 17 and 20 the run of the job has this end; the whole
     // listing of the run stands, and all cards that it has punched; 8 and 13 leave their line alone, and so do 4 and 24. After
@@ -225,39 +166,20 @@ pub fn run_job<S: Source, P: Sink, U: Sink>(
     // that comes before stands with a prefix of this text, and the cards that are punched by then.
     ensures stands { (asked : Job) →
         IsAsked (requests.asked (map string_bytes words.now)) (S.given job.old).left asked →
-        StandsAfter linear_programming asked
-        (record {
-          read = Rose (S.given job.old).faults (S.given job.new).faults;
-          print = Rose (P.taken print.old).faults (P.taken print.new).faults;
-          punch = Rose (U.taken punch.old).faults (U.taken punch.new).faults;
-          memory = Rose (P.taken print.old).refusals (P.taken print.new).refusals;
-        })
-        (Appends (P.taken print.old).written (P.taken print.new).written)
-        (Appends (U.taken punch.old).written (U.taken punch.new).written)
-        (code_of result) }
+        let before = devices (S.given job.old) (P.taken print.old) (U.taken punch.old) in
+        let after = devices (S.given job.new) (P.taken print.new) (U.taken punch.new) in
+        StandsAfter linear_programming asked (failures before after)
+        (PrintGains before after) (PunchGains before after) (code_of result) }
 
-    // Why, also where the devices don't tell their bytes.
-    ensures cause { HasCause (requests.asked (map string_bytes words.now))
-        (Rose (S.given job.old).faults (S.given job.new).faults)
-        (ReadsJob (S.given job.old).left (S.given job.new).left)
-        (Rose (P.taken print.old).faults (P.taken print.new).faults)
-        (Rose (U.taken punch.old).faults (U.taken punch.new).faults)
-        (AppendsPrefix (P.taken print.old).written (P.taken print.new).written)
-        result }
+    // What the devices have come to. Why the job ended so, also where they don't tell their bytes. What the status reports: a fault of
+    // the print by 25, and that it ran out of memory by 28; a fault of a read by 24 and one of the punch by 26, and that it ran out of
+    // memory by 28, unless the print stops as well and the status is that of its stop. After a fault of the print or of the punch, or
+    // where one of them runs out of memory, nothing more is written to it. And how far the job is read.
+    ensures accounted { IsAccounted (requests.asked (map string_bytes words.now))
+        (devices (S.given job.old) (P.taken print.old) (U.taken punch.old))
+        (devices (S.given job.new) (P.taken print.new) (U.taken punch.new)) result }
 
-    // What the status reports: a fault of the print by 25, and that it ran out of memory by 28; a fault of a read by 24 and one of
-    // the punch by 26, and that it ran out of memory by 28, unless the print stops as well and the status is that of its stop.
-    ensures reported { IsReported
-        (counts (S.given job.old).faults (P.taken print.old) (U.taken punch.old))
-        (counts (S.given job.new).faults (P.taken print.new) (U.taken punch.new))
-        (code_of result) }
-
-    // After a fault of the print or of the punch, or where one of them runs out of memory, nothing more is written to it.
-    ensures still { IsStill (P.taken print.old) (P.taken print.new) ×
-        IsStill (U.taken punch.old) (U.taken punch.new) }
-
-    // How far the job is read, and what stays the same. Nothing is punched but in the run of the job's program.
-    ensures no_further { ReadsPrefix (S.given job.old).left (S.given job.new).left }
+    // What stays the same. Nothing is punched but in the run of the job's program.
     ensures unread { requests.asked (map string_bytes words.now) ≢ Some Request.Read →
         job.new ≡ job.old }
     ensures punch { IsPunched (requests.asked (map string_bytes words.now)) (S.given job.old).left

@@ -1,4 +1,4 @@
-use Rattle.std.proofs.Common.{map, string_bytes, refl, ap, subst, arith, ◌∙◌, Some, Err}
+use Rattle.std.proofs.Common.{map, string_bytes, refl, ap, subst, ◌∙◌, Some, Err}
 use Rattle.command_line.specs.Requests.{asked}
 use Rattle.command_line.specs.declared.request.Request.{Request}
 use Rattle.job_program.specs.declared.stop.EarlyStop.{EarlyStop}
@@ -6,8 +6,8 @@ use Rattle.mps_cli.specs.Endings.{EndsWith}
 use Rattle.ending_laws.proofs.Standing.{stands_after}
 use Rattle.answer_definitions.specs.Real.{linear_programming}
 use Rattle.mps_cli.specs.Causes.{nothing}
-use Rattle.mps_cli.proofs.Why.{why_words, ending_cause, same_cause, same_punch}
-use Rattle.mps_cli.proofs.Reported.{reported_stop, still_stop}
+use Rattle.mps_cli.proofs.Why.{why_words, same_punch}
+use Rattle.mps_cli.proofs.Accounted.{untouched_accounted, same_accounted}
 use Rattle.mps_cli.proofs.Truth.{once_answer, stopped_headline, same_headline}
 use Rattle.mps_cli.proofs.run.run_job.Goals as goal
 
@@ -26,8 +26,8 @@ returns-in-Ok-clause-stands g c job is = stands_after linear_programming (return
 pub returns-in-Ok-clause-punch : goal.returns-in-Ok-clause-punch
 returns-in-Ok-clause-punch g c = same_punch c.in-Ok.request _ _ _ c.run_request.result c.in-Ok.ensures.accepted c.run_request.ensures.punch
 
-pub returns-in-Ok-clause-cause : goal.returns-in-Ok-clause-cause
-returns-in-Ok-clause-cause g c = same_cause c.in-Ok.request _ _ _ _ _ c.run_request.result c.in-Ok.ensures.accepted c.run_request.ensures.cause
+pub returns-in-Ok-clause-accounted : goal.returns-in-Ok-clause-accounted
+returns-in-Ok-clause-accounted g c = same_accounted c.in-Ok.request c.run_request.result c.in-Ok.ensures.accepted c.run_request.ensures.accounted
 
 pub returns-in-Ok-clause-unread : goal.returns-in-Ok-clause-unread
 returns-in-Ok-clause-unread g c differs = c.run_request.ensures.unread (λ e. differs (c.in-Ok.ensures.accepted ∙ ap (λ (r : Request). Some r) e))
@@ -49,18 +49,8 @@ returns-in-Err-clause-stands g c job is = stands_after linear_programming (retur
 pub returns-in-Err-clause-punch : goal.returns-in-Err-clause-punch
 returns-in-Err-clause-punch g c = nothing refl
 
-pub returns-in-Err-clause-cause : goal.returns-in-Err-clause-cause
-returns-in-Err-clause-cause g c =
-    ending_cause (asked (map string_bytes c.args.words.now)) _ _ _ _ c.end_job.result
+pub returns-in-Err-clause-accounted : goal.returns-in-Err-clause-accounted
+returns-in-Err-clause-accounted g c =
+    untouched_accounted (asked (map string_bytes c.args.words.now)) (g.S.Source.given c.args.job.now) (g.U.Sink.taken c.args.punch.now) _ c.end_job.result
     (why_words (asked (map string_bytes c.args.words.now)) _ _ c.in-Err.stop (λ e. c.in-Err.ensures.refused (ap (λ s. Err s) e)))
-    (subst (λ (stop : EarlyStop). EndsWith (g.P.Sink.taken c.args.print.now) (g.P.Sink.taken c.end_job.new.print) stop c.end_job.result) c.from.ensures c.end_job.ensures)
-
-pub returns-in-Err-clause-reported : goal.returns-in-Err-clause-reported
-returns-in-Err-clause-reported g c =
-    reported_stop (g.U.Sink.taken c.args.punch.now) (g.S.Source.given c.args.job.now).faults (g.S.Source.given c.args.job.now).faults _ c.end_job.result (λ more. absurd (omega (arith, more)))
-    (subst (λ (stop : EarlyStop). EndsWith (g.P.Sink.taken c.args.print.now) (g.P.Sink.taken c.end_job.new.print) stop c.end_job.result) c.from.ensures c.end_job.ensures)
-
-pub returns-in-Err-clause-still : goal.returns-in-Err-clause-still
-returns-in-Err-clause-still g c =
-    still_stop (g.U.Sink.taken c.args.punch.now) _ c.end_job.result
     (subst (λ (stop : EarlyStop). EndsWith (g.P.Sink.taken c.args.print.now) (g.P.Sink.taken c.end_job.new.print) stop c.end_job.result) c.from.ensures c.end_job.ensures)
