@@ -1,8 +1,8 @@
 #!/usr/bin/env bash
-# Proves every crate below the programs mps360 and mps360check, or below the
-# one that is named, and builds them. The first time that takes some 25 minutes
-# on four processors for mps360, and more for both; what is proved stays so,
-# and later runs prove only what changed.
+# Proves every crate below the programs mps360, mps360check and mps360long, or
+# below the one that is named, and builds them. The first time that takes some
+# 25 minutes on four processors for mps360, and more for all; what is proved
+# stays so, and later runs prove only what changed.
 #
 # usage: scripts/build.sh [NAME]
 #
@@ -22,8 +22,8 @@ case ${1:-} in
         exit 0
         ;;
 esac
-[[ $# -eq 0 || $# -eq 1 && $1 =~ ^mps360(check)?$ ]] || {
-    echo "usage: build.sh [mps360 | mps360check]" >&2
+[[ $# -eq 0 || $# -eq 1 && $1 =~ ^mps360(check|long)?$ ]] || {
+    echo "usage: build.sh [mps360 | mps360check | mps360long]" >&2
     exit 64
 }
 top=$(cd "$(dirname "$0")/.." && pwd)
@@ -37,7 +37,7 @@ trap 'rm -rf "$room"' EXIT
 
 # the programs that crates.txt lists, and the crates below them, themselves included
 names=()
-for name in ${1:-mps360 mps360check}; do
+for name in ${1:-mps360 mps360check mps360long}; do
     if grep -q "^$name:" "$top/crates.txt"; then names+=("$name"); fi
 done
 [ ${#names[@]} -gt 0 ] || {
@@ -58,7 +58,8 @@ awk -v names="${names[*]}" '{ sub(/#.*/, "") }
     }' "$top/crates.txt" >"$room/crates.txt"
 count=$(wc -l <"$room/crates.txt")
 told=${names[*]}
-echo "${told/ / and } with the crates below: $count. What is proved already is passed over." 2>/dev/null || cant_write
+[ ${#names[@]} -eq 1 ] || told="$(sed 's/ /, /g' <<<"${told% *}") and ${told##* }"
+echo "$told with the crates below: $count. What is proved already is passed over." 2>/dev/null || cant_write
 
 # The gate's own command, over a copy that has these crates alone, without must-fail edits: it proves as many at once as there are
 # processors, and keeps what it has proved.

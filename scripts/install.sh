@@ -1,6 +1,6 @@
 #!/usr/bin/env bash
-# Installs the proved programs mps360 and mps360check, the commands that stand
-# beside them, manual pages, completion for bash, zsh and fish, the documents
+# Installs the proved programs mps360, mps360check and mps360long, the commands
+# that stand beside them, manual pages, completion for bash, zsh and fish, the documents
 # and the examples.
 #
 # usage: scripts/install.sh [--root FOLDER] [--unproved] PREFIX
@@ -52,10 +52,10 @@ done
 scripts=$(cd "$(dirname "$0")" && pwd)
 top=$(dirname "$scripts")
 
-# the two programs, and how they are named where they are put
+# the programs, and how they are named where they are put
 ending='' state='proved program'
 programs=()
-for name in mps360 mps360check; do
+for name in mps360 mps360check mps360long; do
     if [ -n "$is_trial" ]; then
         program=$("$scripts/unproved.py" --program "$name" --compile) || end 70 "install.sh: $name can't be compiled"
         ending=.unproved state='trial package, no proved program: it runs unproved'
@@ -71,6 +71,7 @@ documents=$to/share/doc/mps360
 mkdir -p "$home/faults" "$home/python" "$documents/examples" "$to"/{bin,share} || end 73 "install.sh: can't write to $to"
 install -m 755 "${programs[0]}" "$home/program$ending"
 install -m 755 "${programs[1]}" "$home/check$ending"
+install -m 755 "${programs[2]}" "$home/long$ending"
 echo "mps360 $(git -C "$scripts" rev-parse --short=8 HEAD 2>/dev/null || echo 'of unknown commit'), $state" >"$home/version"
 "$scripts/program.sh" --sum >"$home/sources"
 install -m 644 "$top/examples/faults/INDEX" "$home/faults"

@@ -4,8 +4,8 @@
 # built of the same sources.
 #
 # usage: program.sh [--fresh] [NAME]
-#            NAME is mps360, where none is given, or mps360check, the checker of
-#            listings
+#            NAME is mps360, where none is given, or a checker of listings,
+#            mps360check or mps360long
 #        program.sh --sum
 #            prints the checksum of the sources here, definitions and proofs
 #            among them

@@ -2,9 +2,10 @@
 """Counts how many exact answers of another solver are attested, by rows and decimals of random sparse models (those of bench_bases.py); and
 times the checker.
 
-usage: bench_attesting.py [--itself | --program FILE] [--models N] [--rows N,N..] [--seconds S] | --times [--program FILE]
+usage: bench_attesting.py [--long] [--itself | --program FILE] [--models N] [--rows N,N..] [--seconds S] | --times [--long] [--program FILE]
 
-  --itself        oracle/attesting.py is asked, a reading of the checker's rules that isn't proved. Else the proved program mps360check
+  --long          mps360long, which reads numbers of any length, in place of mps360check
+  --itself        oracle/attesting.py is asked, a reading of the checker's rules that isn't proved. Else the proved program
   --program FILE  another program, which takes the job on standard input and the listing from the file LISTING of the present folder
   --models N      N models of each kind (10)
   --rows N,N..    10,20,50,100,200,300 without it
@@ -12,8 +13,8 @@ usage: bench_attesting.py [--itself | --program FILE] [--models N] [--rows N,N..
   --times         times, in place of the counts: the least processor time of five runs, and the peak memory
 
 esolver of QSopt_ex solves each model in exact fractions, and solution2listing.py makes a job and a listing of what it wrote. A number of the
-answer may not fit a fraction of 127 bits: then there is no listing, since none could have these numbers. It ends with 64 for wrong use, 70
-where there is no checker or no esolver."""
+answer may not fit a fraction of 127 bits: then mps360check isn't asked, which reads none. It ends with 64 for wrong use, 70 where there is no
+checker or no esolver."""
 import argparse
 import collections
 import functools
@@ -34,10 +35,11 @@ from mps360.jobs.write import job_of
 from mps360.plain import Plain
 from mps360.listings.write import Answer, listing_of
 from mps360 import programs
+from mps360.checkers import has_long_number
 from mps360.cli.options import Parser
 from mps360.errors import NoProgram
 from oracle.attesting import attest
-from oracle.claims import ATTESTED, UNCHECKED
+from oracle.claims import ATTESTED, OF_128_BITS, OF_ANY_LENGTH, UNCHECKED
 
 HERE = pathlib.Path(__file__).resolve().parent
 Asked = Callable[[bytes, bytes], tuple[int, str]]   # from a job and a listing to the status and the line of a checker
@@ -53,19 +55,16 @@ def solved(path: pathlib.Path, solution: pathlib.Path, seconds: float) -> bool:
     return solution.exists()
 
 
-def end_of(asked: Asked, text: str, folder: pathlib.Path, seconds: float) -> str:
+def end_of(asked: Asked, text: str, folder: pathlib.Path, options: argparse.Namespace) -> str:
     "what becomes of the answer to a model, as text"
     path, solution = folder / "model.mps", folder / "solution"
     path.write_text(text)
     solution.unlink(missing_ok=True)
-    if not solved(path, solution, seconds):
+    if not solved(path, solution, options.seconds):
         return "no end"
-    try:
-        job, listing = solution2listing.made(mps2job.parsed_options([str(path)], solution2listing.wrong_use), str(solution))
-    except solution2listing.Ended as cause:
-        if "doesn't fit 128 bits" in str(cause):
-            return "doesn't fit"
-        raise
+    job, listing = solution2listing.made(mps2job.parsed_options([str(path)], solution2listing.wrong_use), str(solution))
+    if not options.long and has_long_number(listing.encode("latin-1")):
+        return "doesn't fit"
     status, line = asked(job.text.encode("latin-1"), listing.encode("latin-1"))
     if status not in (ATTESTED, UNCHECKED):
         raise SystemExit(f"bench_attesting.py: of esolver's answer to {path.read_text().split()[1]} the checker says {line}")
@@ -82,7 +81,7 @@ def counts(asked: Asked, options: argparse.Namespace) -> None:
                 ends = collections.Counter[str]()
                 for number in range(1, options.models + 1):
                     model = Plain(bench_bases.made_model(rows, decimals, number))
-                    ends[end_of(asked, model.text, pathlib.Path(folder), options.seconds)] += 1
+                    ends[end_of(asked, model.text, pathlib.Path(folder), options)] += 1
                 print("| " + " | ".join(str(cell) for cell in (rows, decimals, options.models, *(ends[end] for end in ENDS))) + " |", flush=True)
 
 
@@ -122,6 +121,7 @@ def main(words: list[str]) -> int:
         print(__doc__)
         return 0
     parser = Parser(refused, allow_abbrev=True)
+    parser.add_argument("--long", action="store_true")
     parser.add_argument("--itself", action="store_true")
     parser.add_argument("--program", type=lambda word: str(pathlib.Path(word).resolve()))
     parser.add_argument("--models", type=int, default=10)
@@ -134,14 +134,14 @@ def main(words: list[str]) -> int:
     try:
         if not options.times and not shutil.which("esolver"):
             raise NoProgram("esolver isn't installed (qsopt-ex)")
-        program = None if options.itself else options.program or programs.checker_program()
+        program = None if options.itself else options.program or programs.checker_program(name="mps360long" if options.long else "mps360check")
     except NoProgram as cause:
         print(f"bench_attesting.py: {cause}", file=sys.stderr)
         return 70
     if options.times and program:
         times(program)
         return 0
-    asked: Asked = attest
+    asked: Asked = functools.partial(attest, by=OF_ANY_LENGTH if options.long else OF_128_BITS)
     if program:
         asked = functools.partial(programs.attested_by, program)
     counts(asked, options)

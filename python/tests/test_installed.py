@@ -5,9 +5,9 @@ import shutil
 
 import places
 import pytest
-from house import (CHECKER, DIET, EXAMPLES, STATUSES, STUB, call, check_checker, check_made, example, make_house, make_jobs, model_and_solution, put_program, with_rt, without_rt)
+from house import (DIET, EXAMPLES, STATUSES, STUBS, call, check_checker, check_made, example, make_house, make_jobs, model_and_solution, put_program, with_rt, without_rt)
 
-COMMANDS = ["mps360", "mps360check", "mps360-attest", "mps360-batch", "mps360-explain", "mps360-plot", "mps2job", "listing2json"]
+COMMANDS = ["mps360", "mps360check", "mps360long", "mps360-attest", "mps360-batch", "mps360-explain", "mps360-plot", "mps2job", "listing2json"]
 COMMANDS += [command for script, command in (("listing2html.py", "listing2html"), ("solve", "mps360-solve"), ("basis2deck.py", "basis2deck"),
                                              ("prove", "mps360-prove"), ("free_deck.py", "free_deck"), ("solution2listing.py", "solution2listing"),
                                              ("listing2vipr.py", "listing2vipr"), ("vipr2listing.py", "vipr2listing"), ("check_vipr.py", "check_vipr")) if (places.SCRIPTS / script).exists()]
@@ -15,7 +15,7 @@ COMMANDS += [command for script, command in (("listing2html.py", "listing2html")
 
 def put_programs(house):
     "whether mps360 is the proved program; stubs stand in the place of those that aren't fresh"
-    return [put_program(house, name, stub) for name, stub in (("mps360", STUB), ("mps360check", CHECKER))][0]
+    return [put_program(house, name, stub) for name, stub in STUBS.items()][0]
 
 
 def installed(folder):
@@ -42,20 +42,21 @@ def test_build(tmp_path):
     assert ended.returncode == 70 and b"a goal is open" in ended.stderr and b"not built" in ended.stderr, ("build.sh: not proved", ended)
     (house / "broken").unlink()
     ended = call(house / "scripts/build.sh", env=with_rt(house))
-    built_programs = {name: house / "crates" / name / "out" / name for name in ("mps360", "mps360check")}
-    for words, names, crates in (((), "mps360 and mps360check", ("low", "left", "right", "mps360", "mps360check")),
-                                 (("mps360",), "mps360", ("low", "left", "right", "mps360")), (("mps360check",), "mps360check", ("low", "left", "mps360check"))):
+    built_programs = {name: house / "crates" / name / "out" / name for name in STUBS}
+    for words, names, crates in (((), "mps360, mps360check and mps360long", ("low", "left", "right", "mps360", "mps360check", "mps360long")),
+                                 (("mps360",), "mps360", ("low", "left", "right", "mps360")), (("mps360check",), "mps360check", ("low", "left", "mps360check")),
+                                 (("mps360long",), "mps360long", ("low", "left", "mps360long"))):
         for program in built_programs.values():
             program.unlink(missing_ok=True)
         ended, count = call(house / "scripts/build.sh", *words, env=with_rt(house)), len(crates)
         lines = [f"{names} with the crates below: {count}. What is proved already is passed over.", *(f"crate {k} of {count}: {name}" for k, name in enumerate(crates, 1))]
-        told, wanted = ended.stdout.decode().splitlines(), [program for name, program in built_programs.items() if name in names.split()]
+        told, wanted = ended.stdout.decode().splitlines(), [program for name, program in built_programs.items() if name in names.replace(",", "").split()]
         built = [line.startswith("built in 0 minutes") and line.endswith(str(program)) for line, program in zip(told[count + 1:], wanted)]
         assert ended.returncode == 0 and told[:count + 1] == lines and built == [True] * len(wanted) == [True] * (len(told) - count - 1), \
             (f"build.sh {words}", ended)
         assert [program for program in built_programs.values() if program.exists()] == wanted, f"build.sh {words}: what is built"
     ended = call(house / "scripts/build.sh", env=with_rt(house))
-    for words, name in (((), "mps360"), (("mps360",), "mps360"), (("mps360check",), "mps360check")):
+    for words, name in (((), "mps360"), (("mps360",), "mps360"), (("mps360check",), "mps360check"), (("mps360long",), "mps360long")):
         assert call(house / "scripts/program.sh", "--fresh", *words).stdout.decode() == f"{built_programs[name]}\n", f"program.sh --fresh {words}"
     source = house / "crates/low/src/lib.rt"
     source.parent.mkdir(parents=True)
@@ -95,7 +96,7 @@ def test_install(tmp_path):
     ended = call(prefix / "bin/mps360", "--help", cwd="/")
     pages = [word.strip("(),") for word in ended.stdout.decode().split() if ".md" in word]
     assert pages and all(pathlib.Path(page).exists() for page in pages), f"mps360 --help names documents that are installed: {pages}"
-    for name in ("mps360", "mps360check"):
+    for name in STUBS:
         page = prefix / f"share/man/man1/{name}.1"
         assert page.read_bytes().startswith(f".TH {name.upper()} 1 ".encode()), f"the manual page {name}.1 is there"
         if shutil.which("man"):
@@ -105,7 +106,7 @@ def test_install(tmp_path):
 
 def check_completion(folder, prefix):
     "what bash offers after 'mps360 f' and 'mps360 --v' in the folder of jobs"
-    for command in ("mps360", "mps360check", "mps360-batch"):
+    for command in ("mps360", "mps360check", "mps360long", "mps360-batch"):
         script = prefix / "share/bash-completion/completions" / command
         option = ("--r", "--resume") if command == "mps360-batch" else ("--v", "--version")
         for word, wanted in (("f", "first.job"), option):
@@ -162,7 +163,8 @@ def test_installed_commands(tmp_path):
 
 def test_the_installed_checker(tmp_path):
     home, _, _ = installed(tmp_path)
-    check_checker(home / "mps360check", without_rt(), b"", tmp_path)
+    for name in ("mps360check", "mps360long"):
+        check_checker(home / name, without_rt(), b"", tmp_path)
     for env in (without_rt(), {**without_rt(), "MPS360_UNPROVED": "1"}):
         ended = call(home / "mps360-attest", *model_and_solution(tmp_path), env=env, cwd="/")
         assert (ended.returncode, ended.stdout) == (0, b"attested: OPTIMAL, objective 9\n"), ended
@@ -174,11 +176,11 @@ def test_an_installed_program_of_the_same_sources(tmp_path):
     make_house(house)
     put_programs(house)
     assert call(house / "scripts/install.sh", prefix).returncode == 0
-    for name in ("mps360", "mps360check"):
+    for name in STUBS:
         (house / "crates" / name / "out" / name).unlink()
     env = without_rt()
     env["PATH"] = f"{prefix / 'bin'}:{env['PATH']}"
-    for words, file in (((), "program"), (("mps360check",), "check")):
+    for words, file in (((), "program"), (("mps360check",), "check"), (("mps360long",), "long")):
         ended = call(house / "scripts/program.sh", "--fresh", *words, env=env)
         assert (ended.returncode, ended.stdout.decode().strip()) == (0, str(prefix / "libexec/mps360" / file)), ended
     (house / "crates.txt").write_text((house / "crates.txt").read_text() + "more:\n")
@@ -191,16 +193,17 @@ def test_a_trial_package(tmp_path):
     make_house(house)
     (house / "module").touch()
     env = with_rt(house)
-    for name, stub in (("mps360", STUB), ("mps360check", CHECKER)):
+    for name, stub in STUBS.items():
         (house / "made").write_text(stub.format(house))
         assert call(house / "scripts/unproved.py", "--program", name, "--compile", env=env).returncode == 0
     ended = call(house / "scripts/install.sh", "--unproved", prefix, env=env)
     assert ended.returncode == 0, ended
     home = prefix / "libexec/mps360"
-    assert not (home / "program").exists() and not (home / "check").exists()
+    assert not any((home / name).exists() for name in ("program", "check", "long"))
     (house / "model.mps").write_text(DIET)
     for command, words, status in (("mps360", [EXAMPLES / "first.job"], 0), ("mps360-solve", [house / "model.mps"], 0), ("mps360-batch", ["--out", tmp_path / "out", house / "model.mps"], 0),
-                                   ("mps360check", [EXAMPLES / "store.job", EXAMPLES / "store.listing"], 0)):
+                                   ("mps360check", [EXAMPLES / "store.job", EXAMPLES / "store.listing"], 0),
+                                   ("mps360long", [EXAMPLES / "store.job", EXAMPLES / "store.listing"], 0)):
         ended = call(prefix / "bin" / command, *words, env=without_rt(), cwd=tmp_path)
         assert ended.returncode == status and b"UNPROVED" in ended.stderr and b"proved by the program" not in ended.stdout + ended.stderr, ended
         ended = call(prefix / "bin" / command, *words, env={**without_rt(), "MPS360_PROVED": "1"}, cwd=tmp_path)
