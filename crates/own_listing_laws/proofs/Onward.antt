@@ -1,5 +1,5 @@
 -- The walk goes on past what a run prints with the word CHECKED, and past its SOLUTION.
-use Rattle.std.proofs.Common.{◌≡◌, ◌⊎◌, inl, inr, ℕ, true, false, not, ◌||◌, List, [], ◌++◌, length, Option, Some, None, if◌then◌else◌, refl, sym, ap, ap₂, ◌∙◌, append-nil}
+use Rattle.std.proofs.Common.{◌≡◌, ◌⊎◌, inl, inr, ℕ, Bool, true, false, not, ◌||◌, List, [], ◌++◌, length, Option, Some, None, if◌then◌else◌, refl, sym, ap, ap₂, ◌∙◌, append-nil}
 use Rattle.std.specs.Prelude.{is_none}
 use Rattle.std.specs.Option.{option_or}
 use Rattle.exact_values.specs.Rational.{ℚ}
@@ -18,7 +18,7 @@ use Rattle.listing_definitions.specs.Text.{report_text, verdict_text, solution_t
 use Rattle.question_definitions.specs.Answers.{Basis, Sheet, Question, OfPath, OfSolution, AnswerTo, PathEnd, Reached}
 use Rattle.answer_definitions.specs.Verdicts.{IsSolvedBy}
 use Rattle.run_definitions.specs.State.{Present}
-use Rattle.run_definitions.specs.Moves.{Nothing, Prints, Punches, printed_by, gain_text, gain_of, StatementOutcome, Goes, Ends, InSelection, StatementMove, Does, MayStop}
+use Rattle.run_definitions.specs.Moves.{Nothing, Prints, Punches, printed_by, gain_text, gain_of, StatementOutcome, Goes, Ends, InSelection, InAnswer, StatementMove, Does, MayStop, Asks, Settles}
 use Rattle.run_definitions.specs.Verbs.{asks}
 use Rattle.walk_definitions.specs.Checkers.{Checker, checker_of_128_bits}
 use Rattle.walk_definitions.specs.Words.{left_after}
@@ -110,8 +110,21 @@ does_on C w outcome more kept text closed =
     ap (λ (o : Option Found). unless_found o (taken w outcome (left_after (gain_text (gain_of outcome)) w.rest))) (nothing_open w closed outcome kept)
     ∙ ap (taken w outcome) (ap (left_after (gain_text (gain_of outcome))) text ∙ stands (gain_text (gain_of outcome)) more)
 
+both_parts : (a b : Bool) → (not a || b) ≡ false → (a ≡ true) × (b ≡ false)
+both_parts true b e = (refl, e)
+both_parts false b e = absurd (cc e)
+
 selects_on : (C : Checker) (w : Walker) (problem : Problem ℕ) (choice : Choice) (move : StatementMove) → is_made problem choice ≡ true → walk_move C w (MayStop (InSelection problem choice) move) ≡ walk_move C w move
 selects_on C w problem choice move made = ap (λ b. unless_found (opened w move) (if not b || refuses_selection move then Finds (Unchecked w.rest) else due C w move)) made
+
+settled_on : (C : Checker) (w : Walker) (card : ℕ) (move : StatementMove) (outcome : StatementOutcome) (more : List ℕ) → Settles card move outcome → refuses_selection move ≡ false → (w.pending ≡ None) ⊎ KeepsMark outcome →
+    w.rest ≡ gain_text (gain_of outcome) ++ more → is_open_stop w.rest ≡ false → walk_move C w move ≡ follows (passed more (length (printed_by (gain_of outcome))) w) outcome
+settled_on C w card (Does own) outcome more settled made kept text closed = ap (λ (o : StatementOutcome). walk_move C w (Does o)) (sym settled) ∙ does_on C w outcome more kept text closed
+settled_on C w card (MayStop (InSelection problem choice) move) outcome more settled made kept text closed =
+    let parts = both_parts (is_made problem choice) (refuses_selection move) made in
+    selects_on C w problem choice move parts.0 ∙ settled_on C w card move outcome more settled parts.1 kept text closed
+settled_on C w card (MayStop (InAnswer question sheet bases) move) outcome more settled made kept text closed = settled_on C w card move outcome more settled made kept text closed
+settled_on C w card (Asks question sheet s go) outcome more settled made kept text closed = absurd settled
 
 ends_attested : (w : Walker) (ending : Ending) → w.pending ≡ None → w.rest ≡ ending_text ending → is_open_stop w.rest ≡ false → closes w ending ≡ Finds (Attested w.reports)
 ends_attested w ending none text closed =
@@ -119,4 +132,4 @@ ends_attested w ending none text closed =
     ∙ ap (λ (left : Option (List ℕ)). Finds (ended w left)) (ap (left_after (ending_text ending)) (text ∙ sym (append-nil (ending_text ending))) ∙ stands (ending_text ending) [])
 
 pub walks_on : WalksOn
-walks_on = record { report = report_closed; verdict = verdict_passed; solution = solution_passed; does = does_on; selects = selects_on; end = ends_attested }
+walks_on = record { report = report_closed; verdict = verdict_passed; solution = solution_passed; statement = settled_on; selects = selects_on; end = ends_attested }
