@@ -68,7 +68,8 @@ EXACT = "esolver's exact answer, attested by the checker"
     (Provenance("unproved", False, PRIMAL), "UNPROVED", ("an UNPROVED run of the program printed the listing.", "Program mps360, ")),
     (Provenance("proved", False, CLP, (Tried(PRIMAL, 5.0, "no end in 5 seconds"), Tried(CLP, 1.0, None)), "clp", "1.17.6"), "PROVED",
      (f"Route {CLP} (clp 1.17.6) tried too: {PRIMAL}: no end in 5 seconds File",)),
-    (Provenance("proved", True, EXACT, (Tried(PRIMAL, 0.1, "a number doesn't fit"), Tried(EXACT, 1.0, None)), "esolver", "2.5.8"), "PROVED",
+    (Provenance("proved", True, EXACT, (Tried(PRIMAL, 0.1, "a number doesn't fit"), Tried(EXACT, 1.0, None)), "esolver", "2.5.8", checker="mps360check"),
+     "PROVED",
      ("the proved checker attested the listing.", f"Route {EXACT} (esolver 2.5.8)", "Program mps360check, ")),
     (Provenance("proved", False, PRIMAL, (Tried(PRIMAL, 9.0, "no end in 9 seconds"),), has_verdict=False), "NO VERDICT",
      (f"Route tried: {PRIMAL}: no end in 9 seconds",))))

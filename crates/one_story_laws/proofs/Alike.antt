@@ -76,7 +76,7 @@ by_verdict_alike Unbounded report other state left right same setups = demanded_
 
 module _ (C : Checker) (S : Solving) (Speaks : State → Report → Type 0) (Open : Type 0) (at other : State) (card : ℕ) where
   pub record IsAlike (first second : StatementMove) : Type 0 where
-    pub by : (a b : StatementOutcome) → Gives S card first a → Gives (attested C) card second b → All (Speaks at) (printed_by (gain_of a)) → All (Says other) (printed_by (gain_of b)) →
+    pub by : (a b : StatementOutcome) → Gives S card first a → Gives (attested C) card second b → All (Speaks at) (printed_by (gain_of a)) → All (Says C other) (printed_by (gain_of b)) →
         (IsOverflowStop b → ⊥) → AlikeOrStopped Open a b
 
   pub does : (a b : StatementOutcome) → Alike a b → IsAlike (Does a) (Does b)
@@ -88,19 +88,19 @@ module _ (C : Checker) (S : Solving) (Speaks : State → Report → Type 0) (Ope
   may_stop refusals others first second alike = record { by = stopping }
     where
       stopping : (a b : StatementOutcome) → Gives S card (MayStop refusals first) a → Gives (attested C) card (MayStop others second) b → All (Speaks at) (printed_by (gain_of a)) →
-          All (Says other) (printed_by (gain_of b)) → (IsOverflowStop b → ⊥) → AlikeOrStopped Open a b
+          All (Says C other) (printed_by (gain_of b)) → (IsOverflowStop b → ⊥) → AlikeOrStopped Open a b
       stopping a b (inr stop) given speaks says unstopped = inr (OverflowStop _, tt, stop.3)
       stopping a b (inl gives) (inl given) speaks says unstopped = alike.by a b gives given speaks says unstopped
       stopping a b (inl gives) (inr stop) speaks says unstopped = absurd (unstopped (_, stop.3))
 
   pub asked : (question : Question) (sheet : Sheet) (s t : Basis) (go on : AnswerTo question → StatementOutcome) →
-      ((x y : AnswerTo question) → IsRight S question sheet s x → IsRight (attested C) question sheet t y → All (Speaks at) (printed_by (gain_of (go x))) → All (Says other) (printed_by (gain_of (on y))) →
+      ((x y : AnswerTo question) → IsRight S question sheet s x → IsRight (attested C) question sheet t y → All (Speaks at) (printed_by (gain_of (go x))) → All (Says C other) (printed_by (gain_of (on y))) →
       AlikeOrStopped Open (go x) (on y)) → IsAlike (Asks question sheet s go) (Asks question sheet t on)
   asked question sheet s t go on alike = record {
     by = λ a b first second speaks says unstopped.
         subst (λ (o : StatementOutcome). AlikeOrStopped Open o b) (sym first.2) (subst (λ (o : StatementOutcome). AlikeOrStopped Open (go first.0) o) (sym second.2)
         (alike first.0 second.0 first.1 second.1 (subst (λ (o : StatementOutcome). All (Speaks at) (printed_by (gain_of o))) first.2 speaks)
-        (subst (λ (o : StatementOutcome). All (Says other) (printed_by (gain_of o))) second.2 says)));
+        (subst (λ (o : StatementOutcome). All (Says C other) (printed_by (gain_of o))) second.2 says)));
   }
 
   pub unless_fault : {X : Type 0} (fault : VerbFault) (o : Option X) (go on : X → StatementMove) → ((x : X) → o ≡ Some x → IsAlike (go x) (on x)) → IsAlike (or_fault card fault o go) (or_fault card fault o on)

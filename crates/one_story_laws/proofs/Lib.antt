@@ -9,5 +9,4 @@ mod Worth
 mod Shows
 mod Runs
 mod NoBasis
-mod Attested
 mod Stories

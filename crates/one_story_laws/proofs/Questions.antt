@@ -127,14 +127,14 @@ module _ (C : Checker) (S : Solving) (Speaks : State → Report → Type 0) (Ope
     path_on = after_path solver card two (counted second)
 
     paths_alike : (x y : PathEnd) → S.Solves solver sheet (present_basis one) limit x → (attested C).Solves solver sheet (present_basis two) limit y → All (Speaks first) (printed_by (gain_of (path_go x))) →
-        All (Says second) (printed_by (gain_of (path_on y))) → AlikeOrStopped Open (path_go x) (path_on y)
+        All (Says C second) (printed_by (gain_of (path_on y))) → AlikeOrStopped Open (path_go x) (path_on y)
     paths_alike PathLimit y right taken speaks says = inr (LimitStop _, enough.path_limits solver sheet (present_basis one) limit right, refl)
     paths_alike (PricesWrong j) y right taken speaks says = inr (PriceStop _, enough.price_stops solver sheet (present_basis one) limit j right, refl)
     paths_alike (Reached bases verdict check) PathLimit right taken speaks says = absurd ((attested_says C).path_limits solver sheet (present_basis two) limit taken)
     paths_alike (Reached bases verdict check) (PricesWrong j) right taken speaks says = absurd ((attested_says C).price_stops solver sheet (present_basis two) limit j taken)
     paths_alike (Reached bases verdict check) (Reached more another other_check) right taken speaks says =
         let spoken = enough.paths first solver verdict check is_path (one_verdict (Speaks first) (mark_of verdict) (Solved solver verdict check) _ speaks) in
-        let said = (attested_says C).paths second solver another other_check is_path (one_verdict (Says second) (mark_of another) (Solved solver another other_check) _ says) in
+        let said = (attested_says C).paths second solver another other_check is_path (one_verdict (Says C second) (mark_of another) (Solved solver another other_check) _ says) in
         inl (verdicts_alike solver verdict another check other_check bases more (λ m. Some m)
         (same_verdict sheet verdict another (true_here (Some one) one verdict refl is spoken.0 spoken.1) (true_here (Some two) two another refl is said.0 said.1)))
 
@@ -196,21 +196,21 @@ module _ (C : Checker) (S : Solving) (Speaks : State → Report → Type 0) (Ope
         fails_here (Some one) one verdict refl is
         (enough.openings first parametric_run.changing verdict check (one_verdict (Speaks first) (mark_of verdict) (Solved (parametric_solver parametric_run.changing) verdict check) _ speaks))
 
-    said_opening : (verdict : PathVerdict) (check : Check) (bases : List Basis) → All (Says second) (printed_by (gain_of (parametric_run_on (Opening bases verdict check)))) → FailsAt (family parametric_run.from) verdict
+    said_opening : (verdict : PathVerdict) (check : Check) (bases : List Basis) → All (Says C second) (printed_by (gain_of (parametric_run_on (Opening bases verdict check)))) → FailsAt (family parametric_run.from) verdict
     said_opening verdict check bases says =
         fails_here (Some two) two verdict refl is
-        ((attested_says C).openings second parametric_run.changing verdict check (one_verdict (Says second) (mark_of verdict) (Solved (parametric_solver parametric_run.changing) verdict check) _ says))
+        ((attested_says C).openings second parametric_run.changing verdict check (one_verdict (Says C second) (mark_of verdict) (Solved (parametric_solver parametric_run.changing) verdict check) _ says))
 
     spoken_run : (intervals : List ParametricInterval) (end : ChainEnd) → All (Speaks first) (Parametric (parametric_solver parametric_run.changing) (chain_of intervals end) ∷ []) → HasRun family parametric_run.from parametric_run.to end
     spoken_run intervals end speaks =
         runs_here (Some one) one end refl is (enough.chains first (parametric_solver parametric_run.changing) (chain_of intervals end) (All-head (Speaks first) _ [] speaks))
 
-    said_run : (intervals : List ParametricInterval) (end : ChainEnd) → All (Says second) (Parametric (parametric_solver parametric_run.changing) (chain_of intervals end) ∷ []) → HasRun family parametric_run.from parametric_run.to end
+    said_run : (intervals : List ParametricInterval) (end : ChainEnd) → All (Says C second) (Parametric (parametric_solver parametric_run.changing) (chain_of intervals end) ∷ []) → HasRun family parametric_run.from parametric_run.to end
     said_run intervals end says =
-        runs_here (Some two) two end refl is ((attested_says C).chains second (parametric_solver parametric_run.changing) (chain_of intervals end) (All-head (Says second) _ [] says))
+        runs_here (Some two) two end refl is ((attested_says C).chains second (parametric_solver parametric_run.changing) (chain_of intervals end) (All-head (Says C second) _ [] says))
 
     parametric_runs_alike : (x y : ParametricRunEnd) → S.ParametricRuns sheet (present_basis one) parametric_run x → (attested C).ParametricRuns sheet (present_basis two) parametric_run y → All (Speaks first) (printed_by (gain_of (parametric_run_go x))) →
-        All (Says second) (printed_by (gain_of (parametric_run_on y))) → AlikeOrStopped Open (parametric_run_go x) (parametric_run_on y)
+        All (Says C second) (printed_by (gain_of (parametric_run_on y))) → AlikeOrStopped Open (parametric_run_go x) (parametric_run_on y)
     parametric_runs_alike ParametricRunLimit y right taken speaks says = inr (LimitStop _, enough.parametric_run_limits sheet (present_basis one) parametric_run right, refl)
     parametric_runs_alike (Opening bases verdict check) ParametricRunLimit right taken speaks says = absurd ((attested_says C).parametric_run_limits sheet (present_basis two) parametric_run taken)
     parametric_runs_alike (Chained bases intervals end) ParametricRunLimit right taken speaks says = absurd ((attested_says C).parametric_run_limits sheet (present_basis two) parametric_run taken)

@@ -57,11 +57,11 @@ reported_map Tells Other tells reported = record {
 
 -- ---- an attested listing
 
-reported_path : (state : State) (solver : Solver) (verdict : PathVerdict) (check : Check) → IsPathSolver solver → Says state (Solved solver verdict check) → IsTrueVerdict state verdict
-reported_path state ByPrimal verdict check is says = says
-reported_path state ByDual verdict check is says = (says.0, says.1)
-reported_path state ByParaobj verdict check is says = absurd is
-reported_path state ByPararhs verdict check is says = absurd is
+reported_path : (C : Checker) (state : State) (solver : Solver) (verdict : PathVerdict) (check : Check) → IsPathSolver solver → Says C state (Solved solver verdict check) → IsTrueVerdict state verdict
+reported_path C state ByPrimal verdict check is says = says.0
+reported_path C state ByDual verdict check is says = let said = says.0 in (said.0, said.1)
+reported_path C state ByParaobj verdict check is says = absurd is
+reported_path C state ByPararhs verdict check is says = absurd is
 
 abbrev FailsAsViewed : PathVerdict → Sheet → ParametricRun → Type 0
 FailsAsViewed verdict sheet parametric_run = IsTrueAtFirst (sheet_at sheet parametric_run.changing parametric_run.from) verdict
@@ -69,18 +69,18 @@ FailsAsViewed verdict sheet parametric_run = IsTrueAtFirst (sheet_at sheet param
 fails_as_viewed : (verdict : PathVerdict) (sheet : Sheet) (parametric_run : ParametricRun) → FailsAsViewed verdict sheet parametric_run → Fails verdict sheet parametric_run
 fails_as_viewed verdict sheet parametric_run holds = fails_at_first (sheet_at sheet parametric_run.changing parametric_run.from) verdict holds
 
-reported_opening : (state : State) (changing : Changing) (verdict : PathVerdict) (check : Check) → Says state (Solved (parametric_solver changing) verdict check) →
+reported_opening : (C : Checker) (state : State) (changing : Changing) (verdict : PathVerdict) (check : Check) → Says C state (Solved (parametric_solver changing) verdict check) →
     ReportsOfRun state.setup state.cells (parametric_solver changing) (Fails verdict)
-reported_opening state (Row name) verdict check says = reported_map (FailsAsViewed verdict) (Fails verdict) (fails_as_viewed verdict) says
-reported_opening state (Set name) verdict check says = reported_map (FailsAsViewed verdict) (Fails verdict) (fails_as_viewed verdict) says
+reported_opening C state (Row name) verdict check says = reported_map (FailsAsViewed verdict) (Fails verdict) (fails_as_viewed verdict) says.0
+reported_opening C state (Set name) verdict check says = reported_map (FailsAsViewed verdict) (Fails verdict) (fails_as_viewed verdict) says.0
 
 runs_as_viewed : (chain : Chain) (sheet : Sheet) (parametric_run : ParametricRun) → ShowsProvedChain chain sheet parametric_run → Runs chain.end sheet parametric_run
 runs_as_viewed chain sheet parametric_run shows = run_as_viewed (family_of sheet parametric_run.changing) sheet parametric_run.from parametric_run.to (map part_of chain.intervals) chain.end shows.is_true
 
-pub attested_says : (C : Checker) → SaysEnough (attested C) Says ⊥
+pub attested_says : (C : Checker) → SaysEnough (attested C) (Says C) ⊥
 attested_says C = record {
-  paths = reported_path;
-  openings = reported_opening;
+  paths = reported_path C;
+  openings = reported_opening C;
   chains = λ state solver chain says. reported_map (ShowsProvedChain chain) (Runs chain.end) (runs_as_viewed chain) says;
   lasts = λ sheet s parametric_run bases intervals end taken. parametric_run_taken C sheet parametric_run (Chained bases intervals end) taken;
   path_limits = λ solver sheet s limit taken. path_taken C solver limit sheet PathLimit taken;

@@ -138,8 +138,8 @@ ends_unstopped : (gain : Gain) (ending : Ending) → (IsOverflow ending → ⊥)
 ends_unstopped gain ending none stop = let e = stop.1 in none (stop.0, cc)
 
 module _ (C : Checker) (S : Solving) (Speaks : State → Report → Type 0) (Open : Type 0) (enough : SaysEnough S Speaks Open) (Same : State → Report → Report → Type 0)
-    (shows : (a b : State) → SameStanding a b → (report other : Report) → ReportsSame report other → Speaks a report → Says b other → Same a report other) (program : Program) where
-  step_alike : (a b : State) (x y : StatementOutcome) → SameStanding a b → Step S program a x → Step (attested C) program b y → All (Speaks a) (printed_by (gain_of x)) → All (Says b) (printed_by (gain_of y)) →
+    (shows : (a b : State) → SameStanding a b → (report other : Report) → ReportsSame report other → Speaks a report → Says C b other → Same a report other) (program : Program) where
+  step_alike : (a b : State) (x y : StatementOutcome) → SameStanding a b → Step S program a x → Step (attested C) program b y → All (Speaks a) (printed_by (gain_of x)) → All (Says C b) (printed_by (gain_of y)) →
       (IsOverflowStop y → ⊥) → AlikeOrStopped Open x y
   step_alike _ _ x y (standing state left right setups) first second speaks says unstopped =
       (verb_alike C S Speaks Open enough first.statement.card state first.statement.verb left right setups).by x y first.gives moved speaks says unstopped
@@ -150,12 +150,12 @@ module _ (C : Checker) (S : Solving) (Speaks : State → Report → Type 0) (Ope
       moved : Gives (attested C) first.statement.card (verb_move first.statement.verb first.statement.card (counted (record state { setup = right }))) y
       moved = subst (λ (s : Statement ℕ). Gives (attested C) s.card (verb_move s.verb s.card (counted (record state { setup = right }))) y) same second.gives
 
-  show_all : (a b : State) → SameStanding a b → (reports others : List Report) → TellSame reports others → All (Speaks a) reports → All (Says b) others →
+  show_all : (a b : State) → SameStanding a b → (reports others : List Report) → TellSame reports others → All (Speaks a) reports → All (Says C b) others →
       AreBeside Same (map (λ (report : Report). (a, report)) reports) others
   show_all a b stand [] [] tell speaks says = tt
   show_all a b stand (report ∷ reports) (other ∷ others) tell speaks says = (
-    shows a b stand report other tell.0 (All-head (Speaks a) report reports speaks) (All-head (Says b) other others says),
-    show_all a b stand reports others tell.1 (All-tail (Speaks a) report reports speaks) (All-tail (Says b) other others says),
+    shows a b stand report other tell.0 (All-head (Speaks a) report reports speaks) (All-head (Says C b) other others says),
+    show_all a b stand reports others tell.1 (All-tail (Speaks a) report reports speaks) (All-tail (Says C b) other others says),
   )
   show_all a b stand [] (other ∷ others) tell speaks says = absurd tell
   show_all a b stand (report ∷ reports) [] tell speaks says = absurd tell
@@ -166,7 +166,7 @@ module _ (C : Checker) (S : Solving) (Speaks : State → Report → Type 0) (Ope
     pub beside : AreBeside Same made others
 
   one_more : (made : List (State × Report)) (reports others : List Report) (state other : State) (gain another : Gain) (after later : State) → AreAlike made reports others state other →
-      Alike (Goes gain after) (Goes another later) → All (Speaks state) (printed_by gain) → All (Says other) (printed_by another) →
+      Alike (Goes gain after) (Goes another later) → All (Speaks state) (printed_by gain) → All (Says C other) (printed_by another) →
       AreAlike (made ++ made_by state gain) (reports ++ printed_by gain) (others ++ printed_by another) after later
   one_more made reports others state other gain another after later before alike speaks says = record {
     tell = tell_append reports others (printed_by gain) (printed_by another) before.tell alike.0;
@@ -185,11 +185,11 @@ module _ (C : Checker) (S : Solving) (Speaks : State → Report → Type 0) (Ope
     count came = steps S Speaks program decks came
 
     abbrev seen_count : {reports : List Report} {cards : List (List ℕ)} {state : State} → Seen reports cards state → ℕ
-    seen_count seen = steps (attested C) Says program decks seen
+    seen_count seen = steps (attested C) (Says C) program decks seen
 
     -- after as many statements
     same_so_far : (reports others : List Report) (cards other_cards : List (List ℕ)) (state other : State) (first : Came reports cards state) (second : Seen others other_cards other) →
-        HoldSoFar S Speaks program decks first → HoldSoFar (attested C) Says program decks second → count first ≡ seen_count second → AreAlike (made_so_far S program decks first) reports others state other
+        HoldSoFar S Speaks program decks first → HoldSoFar (attested C) (Says C) program decks second → count first ≡ seen_count second → AreAlike (made_so_far S program decks first) reports others state other
     same_so_far _ _ _ _ _ _ begun begun holds also e = record { tell = tt; stand = standing (start decks) None None no_setup; beside = tt }
     same_so_far _ _ _ _ _ _ begun (stepped gain after before step) holds also e = absurd (omega arith)
     same_so_far _ _ _ _ _ _ (stepped gain after before step) begun holds also e = absurd (omega arith)
@@ -209,10 +209,10 @@ module _ (C : Checker) (S : Solving) (Speaks : State → Report → Type 0) (Ope
       gain : Gain
       after : State
       step : Step (attested C) program other (Goes gain after)
-      says : All (Says other) (printed_by gain)
+      says : All (Says C other) (printed_by gain)
 
     ahead : (reports others : List Report) (cards other_cards : List (List ℕ)) (state other : State) (first : Came reports cards state) (second : Seen others other_cards other) →
-        HoldSoFar S Speaks program decks first → HoldSoFar (attested C) Says program decks second → count first < seen_count second →
+        HoldSoFar S Speaks program decks first → HoldSoFar (attested C) (Says C) program decks second → count first < seen_count second →
         IsAhead (made_so_far S program decks first) reports state others
     ahead _ _ _ _ _ _ first begun holds also e = absurd (omega (arith, e))
     ahead reports _ cards _ state _ first (stepped {reports = others} {cards = other_cards} {state = other} gain after before step) holds also e =
@@ -258,7 +258,7 @@ module _ (C : Checker) (S : Solving) (Speaks : State → Report → Type 0) (Ope
       speaks : All (Speaks state) (printed_by gain)
 
     behind : (reports others : List Report) (cards other_cards : List (List ℕ)) (state other : State) (first : Came reports cards state) (second : Seen others other_cards other) →
-        HoldSoFar S Speaks program decks first → HoldSoFar (attested C) Says program decks second → seen_count second < count first → IsBehind other
+        HoldSoFar S Speaks program decks first → HoldSoFar (attested C) (Says C) program decks second → seen_count second < count first → IsBehind other
     behind _ _ _ _ _ _ begun second holds also e = absurd (omega (arith, e))
     behind _ others _ other_cards _ other (stepped {reports} {cards} {state} gain after before step) second holds also e =
         by (eq-or-lt_of_le {n = seen_count second} {m = count before} (omega (arith, e))) (behind reports others cards other_cards state other before second holds.0 also)
@@ -296,7 +296,7 @@ module _ (C : Checker) (S : Solving) (Speaks : State → Report → Type 0) (Ope
       abbrev EndSame : Gain → Gain → Ending → Ending → Type 0
       EndSame gain another ending other = Story Open Same (made ++ made_by a gain) (before ++ printed_by gain) (earlier ++ printed_by another) ending other
 
-      both_end : (gain another : Gain) (ending other : Ending) → All (Speaks a) (printed_by gain) → All (Says b) (printed_by another) → AlikeOrStopped Open (Ends gain ending) (Ends another other) →
+      both_end : (gain another : Gain) (ending other : Ending) → All (Speaks a) (printed_by gain) → All (Says C b) (printed_by another) → AlikeOrStopped Open (Ends gain ending) (Ends another other) →
           EndSame gain another ending other
       both_end gain another ending other speaks says (inl alike) = inl (
         tell_append before earlier (printed_by gain) (printed_by another) so_far.tell alike.0,
@@ -305,7 +305,7 @@ module _ (C : Checker) (S : Solving) (Speaks : State → Report → Type 0) (Ope
       )
       both_end gain another ending other speaks says (inr stop) = inr (cut_here made a before (earlier ++ printed_by another) earlier (printed_by another) gain ending refl so_far.tell so_far.beside stop)
 
-      two_lasts : (gain another : Gain) (ending other : Ending) → (IsOverflow other → ⊥) → Last S Speaks program decks a gain ending → Last (attested C) Says program decks b another other →
+      two_lasts : (gain another : Gain) (ending other : Ending) → (IsOverflow other → ⊥) → Last S Speaks program decks a gain ending → Last (attested C) (Says C) program decks b another other →
           EndSame gain another ending other
       two_lasts _ _ ending other none (over first) (over second) = inl (
         tell_append before earlier [] [] so_far.tell tt,
@@ -332,7 +332,7 @@ module _ (C : Checker) (S : Solving) (Speaks : State → Report → Type 0) (Ope
 
     -- it doesn't go on where the second one ends
     goes_late : (other_state : State) (another : Gain) (other : Ending) (rest : IsBehind other_state) → (IsOverflow other → ⊥) →
-        Last (attested C) Says program decks other_state another other → ⊥
+        Last (attested C) (Says C) program decks other_state another other → ⊥
     goes_late b _ other rest none (over second) =
         over_or_step (attested C) S program b rest.state other (Goes rest.gain rest.after) (sym (same_position rest.state b rest.stand)) (sym (same_executed rest.state b rest.stand)) second rest.step
     goes_late b another other rest none (ended second says) =
@@ -353,7 +353,7 @@ module _ (C : Checker) (S : Solving) (Speaks : State → Report → Type 0) (Ope
     }
 
     module _ (made mades : List (State × Report)) (reports others : List Report) (ending other : Ending) (first : Whole S Speaks program decks made reports ending)
-        (second : Whole (attested C) Says program decks mades others other) (none : IsOverflow other → ⊥) where
+        (second : Whole (attested C) (Says C) program decks mades others other) (none : IsOverflow other → ⊥) where
       abbrev EndsSame : Type 0
       EndsSame = Story Open Same (made_so_far S program decks first.came ++ made_by first.state first.gain) (first.before ++ printed_by first.gain) (second.before ++ printed_by second.gain) ending other
 

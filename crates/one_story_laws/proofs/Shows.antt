@@ -17,6 +17,7 @@ use Rattle.run_definitions.specs.State.{Present, State, choice_of}
 use Rattle.soundness_laws.specs.Truth.{PresentProgram, sheet_of, ReportsOfRun}
 use Rattle.walk_definitions.specs.Tests.{point_of}
 use Rattle.judged_laws.specs.Views.{part_of}
+use Rattle.walk_definitions.specs.Checkers.{Checker}
 use Rattle.walk_laws.specs.Proved.{Says}
 use Rattle.one_story_laws.specs.Story.{ReportsSame}
 use Rattle.one_story_laws.specs.Views.{SameActivity, objective_at, SameAlong, ShowsSame}
@@ -79,15 +80,15 @@ same_runs cells left right setups solver chain another first second =
 
 -- ---- two reports
 
-module _ (Speaks : State → Report → Type 0) (worth : SpeaksWorth Speaks) where
+module _ (C : Checker) (Speaks : State → Report → Type 0) (worth : SpeaksWorth Speaks) where
   solutions_same : (state : State) (left right : Option Present) → SameSetup left right → (other : Mark) (lines others : SolutionLines) → Optimal ≡ other → Speaks (record state { setup = left }) (Solution Optimal lines) →
-      Says (record state { setup = right }) (Solution other others) → SameActivity left state.cells lines others
-  solutions_same state left right setups Optimal lines others same first second = same_activity state.cells left right setups lines others (worth.solutions (record state { setup = left }) lines first) (attested_worth.solutions (record state { setup = right }) others second)
+      Says C (record state { setup = right }) (Solution other others) → SameActivity left state.cells lines others
+  solutions_same state left right setups Optimal lines others same first second = same_activity state.cells left right setups lines others (worth.solutions (record state { setup = left }) lines first) ((attested_worth C).solutions (record state { setup = right }) others second)
   solutions_same state left right setups Infeasible lines others same first second = absurd (cc same)
   solutions_same state left right setups Unbounded lines others same first second = absurd (cc same)
 
   beside_optimal : (state : State) (left right : Option Present) → SameSetup left right → (lines : SolutionLines) (other : Report) → ReportsSame (Solution Optimal lines) other →
-      Speaks (record state { setup = left }) (Solution Optimal lines) → Says (record state { setup = right }) other → ShowsSame (record state { setup = left }) (Solution Optimal lines) other
+      Speaks (record state { setup = left }) (Solution Optimal lines) → Says C (record state { setup = right }) other → ShowsSame (record state { setup = left }) (Solution Optimal lines) other
   beside_optimal state left right setups lines (Titled text) same first second = tt
   beside_optimal state left right setups lines (Converted filed) same first second = tt
   beside_optimal state left right setups lines (Revised filed) same first second = tt
@@ -101,7 +102,7 @@ module _ (Speaks : State → Report → Type 0) (worth : SpeaksWorth Speaks) whe
   beside_optimal state left right setups lines (Parametric other another) same first second = tt
 
   beside_run : (state : State) (left right : Option Present) → SameSetup left right → (solver : Solver) (chain : Chain) (other : Report) → ReportsSame (Parametric solver chain) other →
-      Speaks (record state { setup = left }) (Parametric solver chain) → Says (record state { setup = right }) other → ShowsSame (record state { setup = left }) (Parametric solver chain) other
+      Speaks (record state { setup = left }) (Parametric solver chain) → Says C (record state { setup = right }) other → ShowsSame (record state { setup = left }) (Parametric solver chain) other
   beside_run state left right setups solver chain (Titled text) same first second = tt
   beside_run state left right setups solver chain (Converted filed) same first second = tt
   beside_run state left right setups solver chain (Revised filed) same first second = tt
@@ -114,9 +115,9 @@ module _ (Speaks : State → Report → Type 0) (worth : SpeaksWorth Speaks) whe
   beside_run state left right setups solver chain (Ranges others) same first second = tt
   beside_run state left right setups solver chain (Parametric other another) same first second =
       same_runs state.cells left right setups solver chain another (worth.chains (record state { setup = left }) solver chain first)
-      (subst (λ (s : Solver). ReportsOfRun right state.cells s (RunsWorth another.intervals)) (sym same.0) (attested_worth.chains (record state { setup = right }) other another second))
+      (subst (λ (s : Solver). ReportsOfRun right state.cells s (RunsWorth another.intervals)) (sym same.0) ((attested_worth C).chains (record state { setup = right }) other another second))
 
-  pub shows_same : (a b : State) → SameStanding a b → (report other : Report) → ReportsSame report other → Speaks a report → Says b other → ShowsSame a report other
+  pub shows_same : (a b : State) → SameStanding a b → (report other : Report) → ReportsSame report other → Speaks a report → Says C b other → ShowsSame a report other
   shows_same a b stand (Titled text) other same first second = tt
   shows_same a b stand (Converted filed) other same first second = tt
   shows_same a b stand (Revised filed) other same first second = tt

@@ -17,9 +17,8 @@ use Rattle.soundness_laws.specs.Truth.{Holds, HoldsAtEnd}
 use Rattle.soundness_laws.specs.Headline.{HoldInRun, HoldInJob}
 use Rattle.soundness_laws.specs.Laws.{RunLaws}
 use Rattle.determinism_laws.specs.Laws.{IsOverflow}
-use Rattle.reading_laws.specs.Laws.{ReadingLaw}
-use Rattle.judged_laws.specs.Laws.{JudgedLaws}
 use Rattle.walk_laws.specs.Proved.{attested, Says, SaysAtEnd, IsTrueListing}
+use Rattle.walk_laws.specs.Laws.{AttestedLaw}
 use Rattle.one_story_laws.specs.Story.{ReportsSame, TellSame, IsOfNoBasis, IsCutEnding}
 use Rattle.one_story_laws.specs.Views.{made_by, made_so_far, made_in_run, made_in_job, ShowsSame}
 use Rattle.one_story_laws.specs.Laws.{IsOneStory, IsBrokenOff, IsProvedListing, OneStoryLaws}
@@ -29,8 +28,9 @@ use Rattle.one_story_laws.proofs.Worth.{attested_worth, real_worth}
 use Rattle.one_story_laws.proofs.Shows.{shows_same}
 use Rattle.one_story_laws.proofs.Runs.{Whole, whole_of, Story, two_runs}
 use Rattle.one_story_laws.proofs.NoBasis.{job_of_no_basis}
-use Rattle.one_story_laws.proofs.Attested.{attested_reported}
 use Rattle.walk_definitions.specs.Checkers.{Checker}
+use Rattle.walk_definitions.specs.Walker.{Attested}
+use Rattle.walk_definitions.specs.Found.{Comes}
 
 -- ---- how a run is cut off
 
@@ -57,20 +57,20 @@ one_program : (bytes : List ℕ) (program other : Program) → IsProgramOf bytes
 one_program bytes program other first second = let e = sym second.is_compiled ∙ first.is_compiled in cc
 
 module _ (C : Checker) (S : Solving) (Speaks : State → Report → Type 0) (AtEnd : State → Ending → Type 0) (Open : Type 0) (enough : SaysEnough S Speaks Open)
-    (Same : State → Report → Report → Type 0) (shows : (a b : State) → SameStanding a b → (report other : Report) → ReportsSame report other → Speaks a report → Says b other → Same a report other)
+    (Same : State → Report → Report → Type 0) (shows : (a b : State) → SameStanding a b → (report other : Report) → ReportsSame report other → Speaks a report → Says C b other → Same a report other)
     (bytes : List ℕ) where
   same_program : (program other : Program) (reports others : List Report) (cards other_cards : List (List ℕ)) (ending another : Ending) → IsProgramOf bytes program → IsProgramOf bytes other →
       (first : IsRun S program (job_decks program bytes) reports cards ending) (second : IsRun (attested C) other (job_decks other bytes) others other_cards another) →
-      HoldInRun S Speaks AtEnd program (job_decks program bytes) first → HoldInRun (attested C) Says SaysAtEnd other (job_decks other bytes) second → (IsOverflow another → ⊥) →
+      HoldInRun S Speaks AtEnd program (job_decks program bytes) first → HoldInRun (attested C) (Says C) SaysAtEnd other (job_decks other bytes) second → (IsOverflow another → ⊥) →
       Story Open Same (made_in_run S program (job_decks program bytes) first) reports others ending another
   same_program program other reports others cards other_cards ending another is also first second holds says none =
       two_runs C S Speaks Open enough Same shows program (job_decks program bytes) (made_in_run S program (job_decks program bytes) first) (made_in_run (attested C) other (job_decks other bytes) second)
       reports others ending another (whole_of S Speaks program (job_decks program bytes) AtEnd reports cards ending first holds)
-      (subst (λ (x : Program). Whole (attested C) Says x (job_decks x bytes) (made_in_run (attested C) other (job_decks other bytes) second) others another) (one_program bytes program other is also)
-      (whole_of (attested C) Says other (job_decks other bytes) SaysAtEnd others other_cards another second says)) none
+      (subst (λ (x : Program). Whole (attested C) (Says C) x (job_decks x bytes) (made_in_run (attested C) other (job_decks other bytes) second) others another) (one_program bytes program other is also)
+      (whole_of (attested C) (Says C) other (job_decks other bytes) SaysAtEnd others other_cards another second says)) none
 
   two_jobs : (reports others : List Report) (cards other_cards : List (List ℕ)) (ending other : Ending) (first : IsJobRun S bytes reports cards ending) (second : IsJobRun (attested C) bytes others other_cards other) →
-      HoldInJob S Speaks AtEnd first → HoldInJob (attested C) Says SaysAtEnd second → (IsOverflow other → ⊥) → Story Open Same (made_in_job S first) reports others ending other
+      HoldInJob S Speaks AtEnd first → HoldInJob (attested C) (Says C) SaysAtEnd second → (IsOverflow other → ⊥) → Story Open Same (made_in_job S first) reports others ending other
   two_jobs _ _ _ _ _ _ (card_fault fault is) (card_fault other also) holds says none = let e = sym is ∙ also in inl (tt, cc, tt)
   two_jobs _ _ _ _ _ _ (card_fault fault is) (control_fault other fine also) holds says none = let e = sym is ∙ fine in absurd (cc e)
   two_jobs _ _ _ _ _ _ (card_fault fault is) (run program fine runs) holds says none = let e = sym is ∙ fine.is_read in absurd (cc e)
@@ -87,20 +87,20 @@ module _ (C : Checker) (S : Solving) (Speaks : State → Report → Type 0) (AtE
 two_listings : (C D : Checker) (bytes lines others : List ℕ) (n m : ℕ) (one : IsProvedListing C bytes lines n) (two : IsProvedListing D bytes others m) →
     IsOneStory (made_in_job (attested C) one.proved.runs) one.proved.reports two.proved.reports one.proved.ending two.proved.ending
 two_listings C D bytes lines others n m one two =
-    by (two_jobs D (attested C) Says SaysAtEnd ⊥ (attested_says C) ShowsSame (shows_same Says attested_worth) bytes one.proved.reports two.proved.reports one.proved.cards two.proved.cards one.proved.ending
-    two.proved.ending one.proved.runs two.proved.runs one.proved.each two.proved.each two.unstopped)
+    by (two_jobs D (attested C) (Says C) SaysAtEnd ⊥ (attested_says C) ShowsSame (shows_same D (Says C) (attested_worth C)) bytes one.proved.reports two.proved.reports one.proved.cards two.proved.cards one.proved.ending
+    two.proved.ending one.proved.runs two.proved.runs one.proved.each two.proved.each two.proved.unstopped)
   where
     by : Story ⊥ ShowsSame (made_in_job (attested C) one.proved.runs) one.proved.reports two.proved.reports one.proved.ending two.proved.ending →
         IsOneStory (made_in_job (attested C) one.proved.runs) one.proved.reports two.proved.reports one.proved.ending two.proved.ending
     by (inl story) = record { tell = story.0; end = story.1; show = story.2 }
-    by (inr breaks) = absurd (one.unstopped ((of_cut ⊥ one.proved.ending breaks.cut).1 (λ (none : ⊥). none)))
+    by (inr breaks) = absurd (one.proved.unstopped ((of_cut ⊥ one.proved.ending breaks.cut).1 (λ (none : ⊥). none)))
 
 beside_run : (C : Checker) → RunLaws → (bytes lines : List ℕ) (count : ℕ) (one : IsProvedListing C bytes lines count) (reports : List Report) (cards : List (List ℕ)) (ending : Ending) →
     (runs : IsJobRun linear_programming bytes reports cards ending) →
     IsOneStory (made_in_job linear_programming runs) reports one.proved.reports ending one.proved.ending ⊎ IsBrokenOff (made_in_job linear_programming runs) reports one.proved.reports ending
 beside_run C laws bytes lines count one reports cards ending runs =
-    by (two_jobs C linear_programming Holds HoldsAtEnd (Unit {0}) real_says ShowsSame (shows_same Holds real_worth) bytes reports one.proved.reports cards one.proved.cards ending one.proved.ending runs
-    one.proved.runs (laws.truth.job bytes reports cards ending runs) one.proved.each one.unstopped)
+    by (two_jobs C linear_programming Holds HoldsAtEnd (Unit {0}) real_says ShowsSame (shows_same C Holds real_worth) bytes reports one.proved.reports cards one.proved.cards ending one.proved.ending runs
+    one.proved.runs (laws.truth.job bytes reports cards ending runs) one.proved.each one.proved.unstopped)
   where
     by : Story (Unit {0}) ShowsSame (made_in_job linear_programming runs) reports one.proved.reports ending one.proved.ending →
         IsOneStory (made_in_job linear_programming runs) reports one.proved.reports ending one.proved.ending ⊎ IsBrokenOff (made_in_job linear_programming runs) reports one.proved.reports ending
@@ -182,13 +182,17 @@ tell_as_many (report ∷ reports) (other ∷ others) tell = ap suc (tell_as_many
 tell_as_many [] (other ∷ others) tell = absurd tell
 tell_as_many (report ∷ reports) [] tell = absurd tell
 
-pub stories : ((C : Checker) → ReadingLaw C) → ((C : Checker) → JudgedLaws C) → RunLaws → OneStoryLaws
-stories reading truth laws = record {
-  is_proved = λ C. attested_reported C (reading C) (truth C);
+-- what an attested listing is, with the number of its reports
+listing_proved : (C : Checker) → AttestedLaw C → (bytes lines : List ℕ) (count : ℕ) → Comes C bytes lines (Attested count) → IsProvedListing C bytes lines count
+listing_proved C attest bytes lines count come = let got = attest bytes lines count come in record { proved = got.0; has_count = got.1 }
+
+pub stories : ((C : Checker) → AttestedLaw C) → RunLaws → OneStoryLaws
+stories attest laws = record {
+  is_proved = λ C. listing_proved C (attest C);
   one_story = two_listings;
   as_many = λ C D bytes lines others n m first second.
-      let one = attested_reported C (reading C) (truth C) bytes lines n first in
-      let two = attested_reported D (reading D) (truth D) bytes others m second in
+      let one = listing_proved C (attest C) bytes lines n first in
+      let two = listing_proved D (attest D) bytes others m second in
       sym one.has_count ∙ tell_as_many one.proved.reports two.proved.reports (two_listings C D bytes lines others n m one two).tell ∙ two.has_count;
   run = λ C. beside_run C laws;
   made = λ C bytes lines one. made_job (attested C) bytes one.reports one.cards one.ending one.runs;

@@ -1,50 +1,22 @@
 -- What is taken of a listing for an answer: a parametric run that isn't broken ends at the last value, and nothing is cut off at a limit.
---     OnRight P judged             what is judged right is so
-use Rattle.std.proofs.Common.{◌≡◌, ℕ, ◌+◌, Bool, true, false, List, [], ◌∷◌, Option, Some, None, refl, subst, codes, nat_eq}
-use Rattle.std.specs.Prelude.{if◌then◌else◌, ◌&&◌, is_some}
+use Rattle.std.proofs.Common.{◌≡◌, ℕ, ◌+◌, Bool, true, false, List, [], ◌∷◌, Option, Some, None, subst, codes, nat_eq}
+use Rattle.std.specs.Prelude.{if◌then◌else◌}
 use Rattle.exact_values.specs.Rational.{ℚ}
 use Rattle.exact_values.specs.Tests.{eq_ℚ}
 use Rattle.exact_values.proofs.Tests_laws.{same_from_test}
-use Rattle.check_definitions.specs.declared.Verdict.{Verdict}
-use Rattle.check_definitions.specs.declared.Verdict.TheVariants.{Checked, Failed, Unchecked}
+use Rattle.check_definitions.specs.declared.Verdict.TheVariants.{Checked}
 use Rattle.check_definitions.specs.Steps.{in_turn}
 use Rattle.check_definitions.proofs.Passing.{both_checked, holds_if_checked}
 use Rattle.listing_definitions.specs.declared.Solver.{Solver}
 use Rattle.listing_definitions.specs.Report.{ParametricInterval, ChainEnd, EndsAt, UnboundedPast, InfeasiblePast}
 use Rattle.question_definitions.specs.Answers.{Sheet, Changing, Row, Set, parametric_solver, ParametricRun, OfPath, OfParametricRun, PathEnd, Reached, ParametricRunEnd, Opening, Chained, ParametricRunLimit}
 use Rattle.walk_definitions.specs.Checkers.{Checker}
-use Rattle.walk_definitions.specs.Words.{Parsed, left_after, fraction_in, form_in}
+use Rattle.walk_definitions.specs.Words.{left_after}
 use Rattle.walk_definitions.specs.Tests.{asked, interval_test, close_test}
-use Rattle.walk_definitions.specs.Reading.{Judged, Right, Fails, Refuses, by_verdict, tested_or, tested_by, judged_map, Claim, interval_in, close_in, parametric_run_head, Run, onward, part_in, run_in, parametric_run_in, judged}
+use Rattle.walk_definitions.specs.Reading.{Judged, Right, Fails, Refuses, tested_by, judged_map, Claim, interval_in, close_in, parametric_run_head, Run, onward, part_in, run_in, parametric_run_in, judged}
 use Rattle.walk_laws.specs.Proved.{IsTaken}
+use Rattle.walk_laws.proofs.Rightly.{OnRight, on_map, on_any, on_tested}
 use Rattle.one_story_laws.proofs.Ends.{IsLast}
-
-abbrev OnRight : {X : Type 0} → (X → Type 0) → Judged X → Type 0
-OnRight P (Right x rest) = P x
-OnRight P judged = Unit {0}
-
-on_map : {X Y : Type 0} (P : Y → Type 0) (f : X → Y) (judged : Judged X) → OnRight (λ x. P (f x)) judged → OnRight P (judged_map f judged)
-on_map P f (Right x rest) holds = holds
-on_map P f Fails holds = tt
-on_map P f Refuses holds = tt
-
-on_any : {X : Type 0} (P : X → Type 0) → ((x : X) → P x) → (judged : Judged X) → OnRight P judged
-on_any P all (Right x rest) = all x
-on_any P all Fails = tt
-on_any P all Refuses = tt
-
-on_tested : (C : Checker) {X : Type 0} (P : X → Type 0) (test : X → Verdict) → ((x : X) → test x ≡ Checked → P x) → (reads : (List ℕ → Option ℚ) → List ℕ → Parsed X) (rest : List ℕ) → OnRight P (tested_by C test reads rest)
-on_tested C {X} P test passes reads rest = by_reading (is_some C.most_digits && is_some (reads (form_in C) rest)) (reads (fraction_in C) rest)
-  where
-    by : (got : X × List ℕ) (verdict : Verdict) → test got.0 ≡ verdict → OnRight P (by_verdict verdict got.0 got.1)
-    by got Checked e = passes got.0 e
-    by got (Failed part number) e = tt
-    by got (Unchecked refused) e = tt
-
-    by_reading : (b : Bool) (parsed : Parsed X) → OnRight P (tested_or (if b then Refuses else Fails) test parsed)
-    by_reading true None = tt
-    by_reading false None = tt
-    by_reading b (Some got) = by got (test got.0) refl
 
 -- ---- parametric runs
 

@@ -30,6 +30,7 @@ use Rattle.soundness_laws.proofs.Selected.{selected_has_no_change}
 use Rattle.walk_definitions.specs.Tables.{number_of, column_of}
 use Rattle.walk_definitions.specs.Tests.{point_of}
 use Rattle.judged_laws.specs.Views.{part_of}
+use Rattle.walk_definitions.specs.Checkers.{Checker}
 use Rattle.walk_laws.specs.Proved.{ShowsProvedChain, Says}
 use Rattle.one_story_laws.specs.Views.{objective_at}
 
@@ -70,8 +71,8 @@ all_weaker P Q weaker (x ∷ xs) all = All-cons Q x xs (weaker x (All-head P x x
 
 -- ---- an attested listing
 
-reported_solution : (state : State) (lines : SolutionLines) → Says state (Solution Optimal lines) → ShowsWorth state.setup state.cells lines
-reported_solution state lines says = record {
+reported_solution : (C : Checker) (state : State) (lines : SolutionLines) → Says C state (Solution Optimal lines) → ShowsWorth state.setup state.cells lines
+reported_solution C state lines says = record {
   program = says.program;
   is_worth = record {
     point = point_of (sheet_of says.program) lines;
@@ -93,8 +94,8 @@ reported_run chain sheet parametric_run shows = λ interval among.
     (all_weaker (λ (i : ParametricInterval). IsTruePart (family_of sheet parametric_run.changing) parametric_run.to (part_of i)) (IntervalWorth sheet parametric_run) (reported_interval sheet parametric_run) chain.intervals
     (all_before (IsTruePart (family_of sheet parametric_run.changing) parametric_run.to) part_of chain.intervals shows.is_true.intervals)) among
 
-reported_chain : (state : State) (solver : Solver) (chain : Chain) → Says state (Parametric solver chain) → ReportsOfRun state.setup state.cells solver (RunsWorth chain.intervals)
-reported_chain state solver chain says = record {
+reported_chain : (C : Checker) (state : State) (solver : Solver) (chain : Chain) → Says C state (Parametric solver chain) → ReportsOfRun state.setup state.cells solver (RunsWorth chain.intervals)
+reported_chain C state solver chain says = record {
   program = says.program;
   parametric_run = says.parametric_run;
   is_solver = says.is_solver;
@@ -105,8 +106,8 @@ reported_chain state solver chain says = record {
   tells = reported_run chain (sheet_of says.program) says.parametric_run says.tells;
 }
 
-pub attested_worth : SpeaksWorth Says
-attested_worth = record { solutions = reported_solution; chains = reported_chain }
+pub attested_worth : (C : Checker) → SpeaksWorth (Says C)
+attested_worth C = record { solutions = reported_solution C; chains = reported_chain C }
 
 -- ---- the lines of the run itself
 

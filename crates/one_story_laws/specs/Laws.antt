@@ -1,7 +1,7 @@
 -- What is said of two listings of one job that are both attested, and of an attested one and the run of the job itself.
 --     IsOneStory ..                two runs report the same, and what they show is worth the same, and they end alike
 --     IsBrokenOff ..               a run was cut off, and as far as it goes that is so of it and the other
---     IsProvedListing C ..         a listing is true, with so many reports, and its run doesn't stop with an overflow
+--     IsProvedListing C ..         a listing is true, with so many reports
 --     OneStoryLaws                 two such listings tell one story, and so does the run, as far as it goes
 use Rattle.std.specs.Prelude.{◌≡◌, ◌⊎◌, ℕ, List, ◌++◌, All, length, map}
 use Rattle.listing_definitions.specs.Report.{Report}
@@ -9,7 +9,6 @@ use Rattle.listing_definitions.specs.Ending.{Ending}
 use Rattle.answer_definitions.specs.Real.{linear_programming}
 use Rattle.run_definitions.specs.State.{State}
 use Rattle.run_definitions.specs.Answer.{IsJobRun}
-use Rattle.determinism_laws.specs.Laws.{IsOverflow}
 use Rattle.walk_definitions.specs.Checkers.{Checker}
 use Rattle.walk_definitions.specs.Walker.{Attested}
 use Rattle.walk_definitions.specs.Found.{Comes}
@@ -31,11 +30,9 @@ pub record IsBrokenOff (made : List (State × Report)) (reports others : List Re
   pub tell : TellSame reports first
   pub show : ShowSame made first
 
--- A run may stop with an overflow wherever an operation of a selection is refused, and that is its own choice; the walk never takes it.
 pub record IsProvedListing (C : Checker) (bytes lines : List ℕ) (count : ℕ) : Type 0 where
   pub proved : IsTrueListing C bytes lines
   pub has_count : length proved.reports ≡ count
-  pub unstopped : IsOverflow proved.ending → ⊥
 
 -- The listings may be attested by two checkers.
 pub record OneStoryLaws : Type 0 where

@@ -4,15 +4,13 @@
 
 ghost use Rattle.one_story_laws.specs.Laws.{OneStoryLaws};
 
-use judged_laws::judged_laws;
-use reading_laws::reading_law;
 use soundness_laws::soundness_laws;
+use walk_laws::attested_law;
 
 /// No attested listing of a job contradicts another, nor the run of the job.
 pub fn one_story_laws()
     ensures { OneStoryLaws }
 {
-    reading_law();
-    judged_laws();
+    attested_law();
     soundness_laws();
 }

@@ -13,6 +13,8 @@ mod Openly
 mod Openings
 mod Paced
 mod Own
+mod Rightly
+mod Onward
 mod Keeping
 mod Closing
 mod Parts

@@ -100,7 +100,7 @@ pub verdict_printed : (sheet : Sheet) (s : Basis) (t : Tableau) (n : ℕ) (endin
 verdict_printed sheet s t n ending verdict is same = subst (IsPrinted sheet) (sym same) (ended_printed sheet s t n ending is)
 
 -- a path that was gone
-record HasEnded (solver : Solver) (sheet : Sheet) (s : Basis) (bases : List Basis) (verdict : PathVerdict) (check : Check) : Type 0 where
+pub record HasEnded (solver : Solver) (sheet : Sheet) (s : Basis) (bases : List Basis) (verdict : PathVerdict) (check : Check) : Type 0 where
   pub tableau : Tableau
   pub is_tableau : IsTableau sheet.lp (last_of s bases) tableau
   pub ending : PathEnding
@@ -119,7 +119,7 @@ IsPathSolver ByPrimal = Unit {0}
 IsPathSolver ByDual = Unit {0}
 IsPathSolver solver = ⊥
 
-has_ended : (solver : Solver) → IsPathSolver solver → (sheet : Sheet) (s : Basis) (limit : Option ℕ) (bases : List Basis) (verdict : PathVerdict) (check : Check) → verdicts.IsSolvedBy solver sheet s limit (Reached bases verdict check) →
+pub has_ended : (solver : Solver) → IsPathSolver solver → (sheet : Sheet) (s : Basis) (limit : Option ℕ) (bases : List Basis) (verdict : PathVerdict) (check : Check) → verdicts.IsSolvedBy solver sheet s limit (Reached bases verdict check) →
     HasEnded solver sheet s bases verdict check
 has_ended ByPrimal path sheet s limit bases verdict check solved = record {
   tableau = solved.ends.ends.tableau;

@@ -21,8 +21,8 @@ use Rattle.lp_laws.proofs.Optimal.{price_of_column}
 use Rattle.check_definitions.specs.declared.Verdict.{Verdict}
 use Rattle.check_definitions.specs.declared.Verdict.TheVariants.{Checked, Failed, Unchecked}
 use Rattle.check_definitions.specs.Steps.{Step, operation, comparison, verdict_of, followed_by, in_turn, Product, product_of, sum_steps}
-use Rattle.check_definitions.specs.Checks.{equations, reduced_costs, optimal_check, crossed_check, infeasible_check, unbounded_check}
-use Rattle.check_definitions.proofs.Passing.{verdict-append}
+use Rattle.check_definitions.specs.Checks.{equations, within_limits, feasible_point, reduced_costs, standing_prices, optimal_check, crossed_check, infeasible_check, unbounded_check}
+use Rattle.check_definitions.proofs.Passing.{verdict-append, checked-append}
 use Rattle.certificate_laws.specs.Parts.{AreReducedCosts}
 use Rattle.certificate_check.proofs.True_claims.{NeverFails, never_equations, never_costs, never_optimal}
 use Rattle.simplex_definitions.specs.Path.{PathEnding, EndsOptimal, EndsCrossed, EndsInfeasible, EndsUnbounded, listed}
@@ -30,6 +30,7 @@ use Rattle.simplex_laws.specs.Laws.{IsNonsingularBasis}
 use Rattle.simplex_laws.proofs.Ends.{value_at-listed, IsFeasible-same}
 use Rattle.simplex_laws.proofs.Numbered.{get_or-listed}
 use Rattle.listing_definitions.specs.declared.Mark.{Mark}
+use Rattle.listing_definitions.specs.declared.Mark.TheVariants.{Optimal}
 use Rattle.listing_definitions.specs.Report.{PathVerdict, OptimalAt, CrossedAt, InfeasibleBy, UnboundedBy, Check, SolutionLines}
 use Rattle.listing_definitions.specs.Report as reports
 use Rattle.question_definitions.specs.Answers.{Basis, Sheet}
@@ -120,6 +121,25 @@ with_asked (Failed part number) true e = refl
 with_asked (Unchecked refused) true e = refl
 with_asked v false e = absurd (cc e)
 
+-- ---- what is checked whole
+
+checked_operation : (op : Op) (x y : ℚ) (steps : List Step) → refuses op x y ≡ false → verdict_of steps ≡ Checked → verdict_of (operation op x y ∷ steps) ≡ Checked
+checked_operation op x y steps fits e = ap (λ b. if b then Unchecked (record { op = op; left = x; right = y }) else verdict_of steps) fits ∙ e
+
+checked_comparison : (part number : ℕ) (b : Bool) → b ≡ true → verdict_of (comparison part number b ∷ []) ≡ Checked
+checked_comparison part number true e = refl
+checked_comparison part number false e = absurd (cc e)
+
+checked_each : (f : ℕ → List Step) (first n : ℕ) → ((k : ℕ) → first ≤ k → k < first + n → verdict_of (f k) ≡ Checked) → verdict_of (flat_map f (numbers_from first n)) ≡ Checked
+checked_each f first zero h = refl
+checked_each f first (suc n) h =
+    verdict-append (f first) (flat_map f (numbers_from (suc first) n)) ∙ ap (λ v. followed_by v (verdict_of (flat_map f (numbers_from (suc first) n)))) (h first (omega arith) (omega arith))
+    ∙ checked_each f (suc first) n (λ k low high. h k (omega arith) (omega arith))
+
+all_checked : (a b c d : Verdict) → a ≡ Checked → b ≡ Checked → c ≡ Checked → d ≡ Checked → in_turn (a ∷ b ∷ c ∷ d ∷ []) ≡ Checked
+all_checked a b c d is_a is_b is_c is_d =
+    ap (λ v. in_turn (v ∷ b ∷ c ∷ d ∷ [])) is_a ∙ ap (λ v. in_turn (v ∷ c ∷ d ∷ [])) is_b ∙ ap (λ v. in_turn (v ∷ d ∷ [])) is_c ∙ ap (λ v. in_turn (v ∷ [])) is_d
+
 module _ (sheet : Sheet) (s : Basis) (t : Tableau) where
   ended_passes : (steps : ℕ) (ending : PathEnding) (check : Check) → IsOf sheet.lp s t ending → check_of sheet.lp ending ≡ found check → Passes (verdict_test checker_of_128_bits sheet (verdicts.verdict_of sheet steps ending) check)
   ended_passes steps (EndsOptimal z y) check is e = passes_checked
@@ -133,6 +153,23 @@ module _ (sheet : Sheet) (s : Basis) (t : Tableau) where
   pub verdict_passes : (steps : ℕ) (ending : PathEnding) (verdict : PathVerdict) (check : Check) → IsOf sheet.lp s t ending → IsVerdict sheet steps ending verdict check → Passes (verdict_test checker_of_128_bits sheet verdict check)
   verdict_passes steps ending verdict check is reported_so =
       subst (λ v. Passes (verdict_test checker_of_128_bits sheet v check)) (sym reported_so.is_verdict) (ended_passes steps ending check is reported_so.is_check)
+
+  -- ---- where the run's check was made, its verdict passes
+
+  made_so : (v : Verdict) → v ≡ Checked → in_turn (v ∷ asked true ∷ []) ≡ Checked
+  made_so v e = ap (λ u. in_turn (u ∷ asked true ∷ [])) e
+
+  ended_checked : (steps : ℕ) (ending : PathEnding) → IsOf sheet.lp s t ending → check_of sheet.lp ending ≡ Checked → verdict_test checker_of_128_bits sheet (verdicts.verdict_of sheet steps ending) reports.Checked ≡ Checked
+  ended_checked steps (EndsOptimal z y) is e = refl
+  ended_checked steps (EndsCrossed k) is e = made_so (crossed_check sheet.lp k) e
+  ended_checked steps (EndsInfeasible w) is e = made_so _ (ap (λ (xs : List ℚ). infeasible_check sheet.lp (value_at xs)) (multipliers_of_ray sheet w is) ∙ e)
+  ended_checked steps (EndsUnbounded z d) is e =
+      let o = sheet.lp.objective in
+      made_so _ (ap₂ (λ (xs ys : List ℚ). in_turn (unbounded_check sheet.lp (value_at xs) (value_at ys) ∷ asked (eq_ℚ (value_at z o) (value_at xs o)) ∷ [])) (first_of_pairs sheet z d is.0) (second_of_pairs sheet z d is.1)
+      ∙ with_asked (unbounded_check sheet.lp (value_at z) (value_at d)) (eq_ℚ (value_at z o) (value_at z o)) (test_from_same (value_at z o) (value_at z o) refl) ∙ e)
+
+  pub verdict_checked : (steps : ℕ) (ending : PathEnding) (verdict : PathVerdict) → IsOf sheet.lp s t ending → IsVerdict sheet steps ending verdict reports.Checked → verdict_test checker_of_128_bits sheet verdict reports.Checked ≡ Checked
+  verdict_checked steps ending verdict is reported_so = ap (λ v. verdict_test checker_of_128_bits sheet v reports.Checked) reported_so.is_verdict ∙ ended_checked steps ending is reported_so.is_check
 
   -- ---- SOLUTION
 
@@ -187,6 +224,24 @@ module _ (sheet : Sheet) (s : Basis) (t : Tableau) where
         (pass_then (verdict_of (equations p 1 reported_point)) _ (passes_steps _ (never_equations p 1 reported_point keeps))
         (pass_then (verdict_of (reduced_costs p reported_prices)) _ (passes_steps _ (never_costs p lawful.is_matrix reported_prices reduced))
         (pass_then _ _ (passes_steps _ never_slacks) (pass_then _ [] best pass_none)))).passes
+
+    -- no difference of a slack is refused
+    abbrev pub MakesSlacks : Type 0
+    MakesSlacks = (i : ℕ) → 1 ≤ i → i < 1 + p.rows → refuses Sub (value_at p.rhs i) (reported_point i) ≡ false
+
+    slacks_checked : MakesSlacks → verdict_of (flat_map (slack_steps sheet reported_point (value_at (column_of 2 (solution_lines sheet s t).rows))) (row_numbers p)) ≡ Checked
+    slacks_checked fit = checked_each (slack_steps sheet reported_point (value_at (column_of 2 (solution_lines sheet s t).rows))) 1 p.rows (λ i low high.
+        checked_operation Sub (value_at p.rhs i) (reported_point i)
+        (comparison 6 i (eq_ℚ (value_at p.rhs i -ℚ reported_point i) (value_at (column_of 2 (solution_lines sheet s t).rows) i)) ∷ []) (fit i low high) (checked_comparison 6 i _ (test_from_same _ _ (slack_is i low high))))
+
+    -- where the run's own check was made it passes whole
+    pub reported_checked : optimal_check p reported_point reported_prices ≡ Checked → MakesSlacks → solution_test checker_of_128_bits sheet Optimal (solution_lines sheet s t) ≡ Checked
+    reported_checked own fit =
+        let parts = checked-append (feasible_point p reported_point) (reduced_costs p reported_prices ++ standing_prices p reported_point reported_prices) own in
+        let equal = (checked-append (equations p 1 reported_point) (within_limits p reported_point) parts.0).0 in
+        let costs = (checked-append (reduced_costs p reported_prices) (standing_prices p reported_point reported_prices) parts.1).0 in
+        ap₂ (test_by Optimal) (points_of_lines sheet s t) (prices_of_lines sheet s t)
+        ∙ all_checked (verdict_of (equations p 1 reported_point)) (verdict_of (reduced_costs p reported_prices)) _ (optimal_check p reported_point reported_prices) equal costs (slacks_checked fit) own
 
     feasible : IsFeasible p t.point → IsFeasible p reported_point
     feasible h = IsFeasible-same p t.point reported_point (λ k is. sym (value_at-listed p.matrix t.point k is)) h

@@ -47,7 +47,7 @@ use Rattle.own_listing_laws.proofs.Paths.{judged_so}
 
 -- ---- what is pending is of the same point and prices
 
-record WaitsHere (pending : Pending) (lp : LinearProgram) (s : Basis) : Type 0 where
+pub record WaitsHere (pending : Pending) (lp : LinearProgram) (s : Basis) : Type 0 where
   pub tableau : Tableau
   pub is_tableau : IsTableau lp s tableau
   pub is_objective : pending.objective ≡ value_at (listed lp.matrix tableau.point) lp.objective
@@ -64,7 +64,7 @@ waits_here pending setup objective rhs present lp h set is =
     (subst (λ (p : LinearProgram). WaitsHere pending p (present_basis h.present)) same_lp (record { tableau = h.tableau; is_tableau = h.is_tableau; is_objective = h.is_objective; is_check = h.is_check }))
 
 module _ (p : LinearProgram) (lawful : IsLinearProgram p) (s : Basis) (at : IsNonsingularBasis p s) (t u : Tableau) (tab : IsTableau p s t) (other : IsTableau p s u) where
-  same_points : listed p.matrix t.point ≡ listed p.matrix u.point
+  pub same_points : listed p.matrix t.point ≡ listed p.matrix u.point
   same_points = listed_same p.matrix t.point u.point (one_point p s t.point u.point at.is_basis.counted at.nonsingular tab.is_point other.is_point)
 
   price_same : (k : ℕ) → IsVariable p.matrix k → price_at p (basics_of s) t.rate k ≡ price_at p (basics_of s) u.rate k
@@ -74,7 +74,7 @@ module _ (p : LinearProgram) (lawful : IsLinearProgram p) (s : Basis) (at : IsNo
       by true mark = refl
       by false mark = objective_value-same p (λ i. t.rate i k) (λ i. u.rate i k) lawful (λ i row. one_table p.matrix (basics_of s) t.rate u.rate at.nonsingular tab.are_rates other.are_rates i k row (is, mark))
 
-  same_prices : listed p.matrix (price_at p (basics_of s) t.rate) ≡ listed p.matrix (price_at p (basics_of s) u.rate)
+  pub same_prices : listed p.matrix (price_at p (basics_of s) t.rate) ≡ listed p.matrix (price_at p (basics_of s) u.rate)
   same_prices = listed_same p.matrix _ _ price_same
 
 checked_so : (check : Check) → found check ≡ Checked → says_checked check ≡ true
@@ -89,7 +89,7 @@ last_checked a b c d e =
     (both_checked d Checked after_c).0
 
 module _ (sheet : Sheet) (lawful : IsLinearProgram sheet.lp) (s : Basis) (at : IsNonsingularBasis sheet.lp s) (t : Tableau) (tab : IsTableau sheet.lp s t) where
-  settles_true : (pending : Pending) → WaitsHere pending sheet.lp s → solution_test checker_of_128_bits sheet Optimal (solution_lines sheet s t) ≡ Checked → settles checker_of_128_bits pending (point_of sheet (solution_lines sheet s t) sheet.lp.objective) ≡ true
+  pub settles_true : (pending : Pending) → WaitsHere pending sheet.lp s → solution_test checker_of_128_bits sheet Optimal (solution_lines sheet s t) ≡ Checked → settles checker_of_128_bits pending (point_of sheet (solution_lines sheet s t) sheet.lp.objective) ≡ true
   settles_true pending h checked =
       ap (λ b. if b then says_checked pending.check else false) (test_from_same pending.objective (point_of sheet (solution_lines sheet s t) sheet.lp.objective)
       (h.is_objective ∙ ap (λ (xs : List ℚ). value_at xs sheet.lp.objective) (sym points))) ∙ checked_so pending.check (sym h.is_check ∙ sym same_check ∙ own)

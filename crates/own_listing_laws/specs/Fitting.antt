@@ -2,11 +2,16 @@
 --     LinesFit lines               those of table lines
 --     VerdictFits verdict          those of a verdict, and CheckFits check those of its check
 --     ReportFits report            those of a report that is read
+--     SlacksFit sheet lines        no difference is refused by which the test of SOLUTION makes a slack
 --     StopFits ending              those of the evidence of an overflow, with its counts, which have 32 bits
-use Rattle.std.specs.Prelude.{◌≤◌, List, [], ◌∷◌}
-use Rattle.frac128.specs.Operations.{TermsFit}
-use Rattle.listing_definitions.specs.Report.{Value, Number, Line, PathVerdict, OptimalAt, CrossedAt, InfeasibleBy, UnboundedBy, Check, Checked, Unchecked, ParametricInterval, ChainEnd, EndsAt, UnboundedPast, InfeasiblePast, Report, Solved, Solution, Parametric}
+use Rattle.std.specs.Prelude.{◌≡◌, ℕ, ◌≤◌, ◌<◌, false, List, [], ◌∷◌}
+use Rattle.frac128.specs.declared.Op.TheVariants.{Sub}
+use Rattle.frac128.specs.Operations.{TermsFit, refuses}
+use Rattle.lp_definitions.specs.LinearProgram.{value_at}
+use Rattle.listing_definitions.specs.Report.{Value, Number, Line, PathVerdict, OptimalAt, CrossedAt, InfeasibleBy, UnboundedBy, Check, SolutionLines, Checked, Unchecked, ParametricInterval, ChainEnd, EndsAt, UnboundedPast, InfeasiblePast, Report, Solved, Solution, Parametric}
 use Rattle.listing_definitions.specs.Ending.{Overflow, Ending, OverflowStop}
+use Rattle.question_definitions.specs.Answers.{Sheet}
+use Rattle.walk_definitions.specs.Tests.{point_of}
 use Rattle.walk_definitions.specs.Words.{max_count}
 
 abbrev pub ValueFits : Value → Type 0
@@ -50,6 +55,10 @@ ReportFits report = Unit {0}
 abbrev pub ReportsFit : List Report → Type 0
 ReportsFit [] = Unit {0}
 ReportsFit (report ∷ reports) = ReportFits report × ReportsFit reports
+
+-- Right-hand side minus activity: the run's own check makes no slack, so an operation of it may be the first that is refused.
+abbrev pub SlacksFit : Sheet → SolutionLines → Type 0
+SlacksFit sheet lines = (i : ℕ) → 0 < i → i ≤ sheet.lp.rows → refuses Sub (value_at sheet.lp.rhs i) (point_of sheet lines i) ≡ false
 
 -- the numbers of an overflow's evidence
 pub record OverflowFits (overflow : Overflow) : Type 0 where

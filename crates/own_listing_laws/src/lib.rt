@@ -2,7 +2,7 @@
 //! proves it.
 #![tactic(auto)]
 
-ghost use Rattle.own_listing_laws.specs.Laws.{ReadsBack, TestsPass, NeverWrong};
+ghost use Rattle.own_listing_laws.specs.Laws.{ReadsBack, TestsPass, JudgedRight, WalksOn, NeverWrong};
 
 /// What a run prints of a linear program is read back of its text.
 pub fn reads_back()
@@ -12,6 +12,16 @@ pub fn reads_back()
 /// A test of what a run prints never fails.
 pub fn tests_pass()
     ensures { TestsPass }
+{}
+
+/// What is printed with the word CHECKED is judged right.
+pub fn judged_right()
+    ensures { JudgedRight }
+{}
+
+/// And the walk goes on past it.
+pub fn walks_on()
+    ensures { WalksOn }
 {}
 
 /// The listing of a run is never found wrong.

@@ -23,7 +23,8 @@ use Rattle.walk_definitions.specs.Reading as readings
 use Rattle.walk_definitions.specs.Walker.{Pending, Walker, open_stop, open_pending, open_question, follows, passed, pending_after, noted, answered}
 use Rattle.reading_laws.specs.Laws.{ReadingLaw}
 use Rattle.judged_laws.specs.Laws.{IsTrueUnlessOptimal, JudgedLaws}
-use Rattle.walk_laws.specs.Proved.{Says}
+use Rattle.walk_laws.specs.Proved.{SaysVerdict, Says}
+use Rattle.walk_laws.proofs.Rightly.{TakesUnlessOptimal, path_word}
 use Rattle.walk_laws.proofs.Owing.{Owes, holds_settled, program_before_path}
 use Rattle.walk_laws.proofs.Turns.{never_either, never_stop, never_pending, none_either, nothing_pending, on_unless}
 use Rattle.walk_laws.proofs.Followed.{GoesOn, EndsSo, ComesTo, IsFollowed, Pays, follows_on, may_stop, one_says, reads}
@@ -41,10 +42,10 @@ printed_verdict Infeasible report state = printed_demanded state.cells.xdonfs 1 
 printed_verdict Unbounded report state = printed_demanded state.cells.xdounb 2 report state
 
 -- what it owes, it owes where the run goes on, and where it ends
-module _ (C : Checker) (Holds : Type 0) (w : Walker) (pending : Option Pending) (report : Report) (state : State) (owes : Owes (Holds × All (Says w.state) (report ∷ [])) pending state.setup state.cells) where
+module _ (C : Checker) (Holds : Type 0) (w : Walker) (pending : Option Pending) (report : Report) (state : State) (owes : Owes C (Holds × All (Says C w.state) (report ∷ [])) pending state.setup state.cells) where
   pays_demanded : (position : Option ℕ) (code : ℕ) → Pays C Holds w pending (demanded position code report state)
   pays_demanded (Some position) code = owes
-  pays_demanded None code = λ settled. holds_settled (Holds × All (Says w.state) (report ∷ [])) pending state.setup state.cells owes settled
+  pays_demanded None code = λ settled. holds_settled C (Holds × All (Says C w.state) (report ∷ [])) pending state.setup state.cells owes settled
 
   pub pays_verdict : (mark : Mark) → Pays C Holds w pending (by_verdict mark report state)
   pays_verdict Optimal = owes
@@ -80,12 +81,12 @@ abbrev IsBounded : Solver → PathVerdict → Type 0
 IsBounded ByDual verdict = IsNotUnbounded verdict
 IsBounded solver verdict = Unit {0}
 
-says_verdict : (state : State) (solver : Solver) (verdict : PathVerdict) (check : Check) → IsPathSolver solver → (program : PresentProgram state.setup state.cells) → IsTrueOf (sheet_of program) verdict →
-    IsBounded solver verdict → Says state (Solved solver verdict check)
-says_verdict state ByPrimal verdict check is program holds bounded = (program, holds)
-says_verdict state ByDual verdict check is program holds bounded = (program, holds, bounded)
-says_verdict state ByParaobj verdict check is program holds bounded = absurd is
-says_verdict state ByPararhs verdict check is program holds bounded = absurd is
+says_verdict : (state : State) (solver : Solver) (verdict : PathVerdict) → IsPathSolver solver → (program : PresentProgram state.setup state.cells) → IsTrueOf (sheet_of program) verdict →
+    IsBounded solver verdict → SaysVerdict state solver verdict
+says_verdict state ByPrimal verdict is program holds bounded = (program, holds)
+says_verdict state ByDual verdict is program holds bounded = (program, holds, bounded)
+says_verdict state ByParaobj verdict is program holds bounded = absurd is
+says_verdict state ByPararhs verdict is program holds bounded = absurd is
 
 bounded_verdict : (C : Checker) → JudgedLaws C → (solver : Solver) (limit : Option ℕ) (sheet : Sheet) (rest after : List ℕ) (bases : List Basis) (verdict : PathVerdict) (check : Check) →
     judged C (OfPath solver limit) sheet rest ≡ Right (Reached bases verdict check) after → IsBounded solver verdict
@@ -94,7 +95,7 @@ bounded_verdict C truth ByDual limit sheet rest after bases verdict check e = tr
 bounded_verdict C truth ByParaobj limit sheet rest after bases verdict check e = tt
 bounded_verdict C truth ByPararhs limit sheet rest after bases verdict check e = tt
 
-module _ (C : Checker) (reading : ReadingLaw C) (truth : JudgedLaws C) (Holds : Type 0) (w : Walker) (owed : Owes Holds w.pending w.state.setup w.state.cells) (lawful : HasProblem w.state.setup) where
+module _ (C : Checker) (reading : ReadingLaw C) (truth : JudgedLaws C) (Holds : Type 0) (w : Walker) (owed : Owes C Holds w.pending w.state.setup w.state.cells) (lawful : HasProblem w.state.setup) where
   module _ (solver : Solver) (is_path : IsPathSolver solver) (limit : Option ℕ) (card : ℕ) (present : Present) (lp : LinearProgram) (set : w.state.setup ≡ Some present)
       (is : selected present.problem (choice_of w.state.cells present.options) ≡ Ok lp) where
     abbrev sheet : Sheet
@@ -110,18 +111,22 @@ module _ (C : Checker) (reading : ReadingLaw C) (truth : JudgedLaws C) (Holds : 
     move = Asks (OfPath solver limit) sheet (present_basis present) go
 
     owes_verdict : (rest : List ℕ) (bases : List Basis) (verdict : PathVerdict) (check : Check) → Holds → IsTrueUnlessOptimal sheet verdict → IsBounded solver verdict →
-        Owes (Holds × All (Says w.state) (Solved solver verdict check ∷ [])) (pending_after rest verdict check) (Some (gone_through bases present)) w.state.cells
-    owes_verdict rest bases (OptimalAt steps objective) check holds proved bounded = λ proves. (
+        TakesUnlessOptimal C verdict check →
+        Owes C (Holds × All (Says C w.state) (Solved solver verdict check ∷ [])) (pending_after rest verdict check) (Some (gone_through bases present)) w.state.cells
+    owes_verdict rest bases (OptimalAt steps objective) check holds proved bounded takes = λ proves word. (
       holds,
-      one_says C Holds w (Solved solver (OptimalAt steps objective) check) (says_verdict w.state solver (OptimalAt steps objective) check is_path
-          (program_before_path w.state.setup w.state.cells present bases set proves.program) proves.best bounded),
+      one_says C Holds w (Solved solver (OptimalAt steps objective) check) (
+        says_verdict w.state solver (OptimalAt steps objective) is_path
+            (program_before_path w.state.setup w.state.cells present bases set proves.program) proves.best bounded,
+        word,
+      ),
     )
-    owes_verdict rest bases (CrossedAt k) check holds proved bounded =
-        (holds, one_says C Holds w (Solved solver (CrossedAt k) check) (says_verdict w.state solver (CrossedAt k) check is_path program proved bounded))
-    owes_verdict rest bases (InfeasibleBy steps lines) check holds proved bounded =
-        (holds, one_says C Holds w (Solved solver (InfeasibleBy steps lines) check) (says_verdict w.state solver (InfeasibleBy steps lines) check is_path program proved bounded))
-    owes_verdict rest bases (UnboundedBy steps objective lines) check holds proved bounded =
-        (holds, one_says C Holds w (Solved solver (UnboundedBy steps objective lines) check) (says_verdict w.state solver (UnboundedBy steps objective lines) check is_path program proved bounded))
+    owes_verdict rest bases (CrossedAt k) check holds proved bounded takes =
+        (holds, one_says C Holds w (Solved solver (CrossedAt k) check) (says_verdict w.state solver (CrossedAt k) is_path program proved bounded, takes))
+    owes_verdict rest bases (InfeasibleBy steps lines) check holds proved bounded takes =
+        (holds, one_says C Holds w (Solved solver (InfeasibleBy steps lines) check) (says_verdict w.state solver (InfeasibleBy steps lines) is_path program proved bounded, takes))
+    owes_verdict rest bases (UnboundedBy steps objective lines) check holds proved bounded takes =
+        (holds, one_says C Holds w (Solved solver (UnboundedBy steps objective lines) check) (says_verdict w.state solver (UnboundedBy steps objective lines) is_path program proved bounded, takes))
 
     path_comes : (answer : PathEnd) (rest : List ℕ) → judged C (OfPath solver limit) sheet w.rest ≡ Right answer rest → Holds →
         ComesTo C Holds w card move (follows (record (passed rest 1 w) { pending = noted w (OfPath solver limit) sheet answer }) (go answer))
@@ -132,7 +137,7 @@ module _ (C : Checker) (reading : ReadingLaw C) (truth : JudgedLaws C) (Holds : 
         (printed_verdict (mark_of verdict) (Solved solver verdict check) after) refl
         (pays_verdict C Holds w (pending_after w.rest verdict check) (Solved solver verdict check) after
         (owes_verdict w.rest bases verdict check holds (truth.verdict solver limit sheet w.rest rest bases verdict check program.is_linear_program (selected_without_change present.problem (choice_of w.state.cells present.options) lp is) e)
-        (bounded_verdict C truth solver limit sheet w.rest rest bases verdict check e)) (mark_of verdict)))
+        (bounded_verdict C truth solver limit sheet w.rest rest bases verdict check e) (path_word C solver limit sheet w.rest rest bases verdict check e)) (mark_of verdict)))
     path_comes PathLimit rest e holds = absurd (never_made (λ (claim : readings.Claim). Reached [] claim.0 claim.1) PathLimit (λ claim same. cc same) _ rest e)
     path_comes (PricesWrong j) rest e holds = absurd (never_made (λ (claim : readings.Claim). Reached [] claim.0 claim.1) (PricesWrong j) (λ claim same. cc same) _ rest e)
 
@@ -142,7 +147,7 @@ module _ (C : Checker) (reading : ReadingLaw C) (truth : JudgedLaws C) (Holds : 
           (answered C w (OfPath solver limit) sheet go (judged C (OfPath solver limit) sheet w.rest))
           (never_either (open_stop w) (open_pending w) (never_stop w) (never_pending w.pending))
           (λ none. by (judged C (OfPath solver limit) sheet w.rest) refl
-          (holds_settled Holds w.pending w.state.setup w.state.cells owed (nothing_pending w.pending (none_either (open_stop w) (open_pending w) none).1)));
+          (holds_settled C Holds w.pending w.state.setup w.state.cells owed (nothing_pending w.pending (none_either (open_stop w) (open_pending w) none).1)));
     })
       where
         by : (j : Judged PathEnd) → judged C (OfPath solver limit) sheet w.rest ≡ j → Holds → ComesTo C Holds w card move (answered C w (OfPath solver limit) sheet go j)

@@ -44,7 +44,7 @@ module _ (C : Checker) (Holds : Type 0) (w : Walker) where
     pub gives : Gives (attested C) card move (Goes gain v.state)
     pub text : w.rest ≡ reports_text (printed_by gain) ++ v.rest
     pub counted : v.reports ≡ w.reports + length (printed_by gain)
-    pub owes : Owes (Holds × All (Says w.state) (printed_by gain)) v.pending v.state.setup v.state.cells
+    pub owes : Owes C (Holds × All (Says C w.state) (printed_by gain)) v.pending v.state.setup v.state.cells
 
   pub record EndsSo (card : ℕ) (move : StatementMove) (count : ℕ) : Type 0 where
     pub gain : Gain
@@ -52,7 +52,7 @@ module _ (C : Checker) (Holds : Type 0) (w : Walker) where
     pub gives : Gives (attested C) card move (Ends gain ending)
     pub text : w.rest ≡ reports_text (printed_by gain) ++ ending_text ending
     pub counted : count ≡ w.reports + length (printed_by gain)
-    pub holds : Holds × All (Says w.state) (printed_by gain)
+    pub holds : Holds × All (Says C w.state) (printed_by gain)
 
   abbrev pub ComesTo : ℕ → StatementMove → WalkTurn → Type 0
   ComesTo card move turn = On (GoesOn card move) (EndsSo card move) turn
@@ -62,8 +62,8 @@ module _ (C : Checker) (Holds : Type 0) (w : Walker) where
 
   -- what the report of an outcome says is true, or is owed
   abbrev pub Pays : Option Pending → StatementOutcome → Type 0
-  Pays pending (Goes gain after) = Owes (Holds × All (Says w.state) (printed_by gain)) pending after.setup after.cells
-  Pays pending (Ends gain ending) = pending ≡ None → Holds × All (Says w.state) (printed_by gain)
+  Pays pending (Goes gain after) = Owes C (Holds × All (Says C w.state) (printed_by gain)) pending after.setup after.cells
+  Pays pending (Ends gain ending) = pending ≡ None → Holds × All (Says C w.state) (printed_by gain)
 
   pub record Leads (card : ℕ) (move : StatementMove) (u : Walker) (outcome : StatementOutcome) : Type 0 where
     pub gives : Gives (attested C) card move outcome
@@ -108,14 +108,14 @@ module _ (C : Checker) (Holds : Type 0) (w : Walker) where
   -- ---- nothing is asked
 
   abbrev pub DoesSo : StatementOutcome → Type 0
-  DoesSo (Goes gain after) = All (Says w.state) (printed_by gain) × (is_none after.mark ≡ false → SelectsSame w.state.setup w.state.cells after.setup after.cells)
-  DoesSo (Ends gain ending) = All (Says w.state) (printed_by gain)
+  DoesSo (Goes gain after) = All (Says C w.state) (printed_by gain) × (is_none after.mark ≡ false → SelectsSame w.state.setup w.state.cells after.setup after.cells)
+  DoesSo (Ends gain ending) = All (Says C w.state) (printed_by gain)
 
-  module _ (owed : Owes Holds w.pending w.state.setup w.state.cells) where
+  module _ (owed : Owes C Holds w.pending w.state.setup w.state.cells) where
     pays_plain : (outcome : StatementOutcome) → open_outcome w outcome ≡ None → DoesSo outcome → Pays w.pending outcome
     pays_plain (Goes gain after) none so =
-        owes_on Holds (All (Says w.state) (printed_by gain)) w.pending w.state.setup w.state.cells after.setup after.cells owed so.0 (λ p is. so.1 (stays_marked w gain after p is none))
-    pays_plain (Ends gain ending) none so = λ settled. (holds_settled Holds w.pending w.state.setup w.state.cells owed settled, so)
+        owes_on C Holds (All (Says C w.state) (printed_by gain)) w.pending w.state.setup w.state.cells after.setup after.cells owed so.0 (λ p is. so.1 (stays_marked w gain after p is none))
+    pays_plain (Ends gain ending) none so = λ settled. (holds_settled C Holds w.pending w.state.setup w.state.cells owed settled, so)
 
     taken_on : (card : ℕ) (outcome : StatementOutcome) → Pays w.pending outcome → (left : Option (List ℕ)) → left_after (gain_text (gain_of outcome)) w.rest ≡ left → ComesTo card (Does outcome) (taken w outcome left)
     taken_on card outcome pays None is = tt
@@ -133,7 +133,7 @@ module _ (C : Checker) (Holds : Type 0) (w : Walker) where
     }
 
     does_stop : (card : ℕ) (ending : Ending) → IsFollowed card (Does (stops ending))
-    does_stop card ending = does card (stops ending) (All-nil (Says w.state))
+    does_stop card ending = does card (stops ending) (All-nil (Says C w.state))
 
     pub unless_fault : {X : Type 0} (card : ℕ) (fault : VerbFault) (o : Option X) (go : X → StatementMove) → ((x : X) → o ≡ Some x → IsFollowed card (go x)) → IsFollowed card (or_fault card fault o go)
     unless_fault card fault None go followed = does_stop card _
@@ -156,8 +156,8 @@ module _ (C : Checker) (Holds : Type 0) (w : Walker) where
   -- ---- an answer is read
 
   -- one report says the truth
-  pub one_says : (report : Report) → Says w.state report → All (Says w.state) (report ∷ [])
-  one_says report says = All-cons (Says w.state) report [] says (All-nil (Says w.state))
+  pub one_says : (report : Report) → Says C w.state report → All (Says C w.state) (report ∷ [])
+  one_says report says = All-cons (Says C w.state) report [] says (All-nil (Says C w.state))
 
   -- the listing has the answer's report
   pub reads : ReadingLaw C → (card : ℕ) (question : Question) (sheet : Sheet) (s : Basis) (go : AnswerTo question → StatementOutcome) (answer : AnswerTo question) (rest : List ℕ) →

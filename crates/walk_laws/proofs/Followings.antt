@@ -66,19 +66,19 @@ demanding : (demand : Demand) (position : ℕ) (cells : Cells) (setup : Option P
 demanding Xdonfs position cells setup = record { setups = refl; objectives = refl; rhs = refl }
 demanding Xdounb position cells setup = record { setups = refl; objectives = refl; rhs = refl }
 
-module _ (C : Checker) (reading : ReadingLaw C) (truth : JudgedLaws C) (Holds : Type 0) (w : Walker) (owed : Owes Holds w.pending w.state.setup w.state.cells) (lawful : HasProblem w.state.setup) where
+module _ (C : Checker) (reading : ReadingLaw C) (truth : JudgedLaws C) (Holds : Type 0) (w : Walker) (owed : Owes C Holds w.pending w.state.setup w.state.cells) (lawful : HasProblem w.state.setup) where
   abbrev SelectsAfter : State → Type 0
   SelectsAfter after = is_none after.mark ≡ false → SelectsSame w.state.setup w.state.cells after.setup after.cells
 
   quiet : (card : ℕ) (after : State) → SelectsAfter after → IsFollowed C Holds w card (Does (Goes Nothing after))
-  quiet card after same = does C Holds w owed card (Goes Nothing after) (All-nil (Says w.state), same)
+  quiet card after same = does C Holds w owed card (Goes Nothing after) (All-nil (Says C w.state), same)
 
-  prints : (card : ℕ) (report : Report) (after : State) → Says w.state report → SelectsAfter after → IsFollowed C Holds w card (Does (Goes (Prints report) after))
+  prints : (card : ℕ) (report : Report) (after : State) → Says C w.state report → SelectsAfter after → IsFollowed C Holds w card (Does (Goes (Prints report) after))
   prints card report after says same = does C Holds w owed card (Goes (Prints report) after) (one_says C Holds w report says, same)
 
   -- ---- problems
 
-  files_followed : (card : ℕ) (report : Filed → Report) (decks : List (List Card)) → ((filed : Filed) → Says w.state (report filed)) → (problem : Problem ℕ) →
+  files_followed : (card : ℕ) (report : Filed → Report) (decks : List (List Card)) → ((filed : Filed) → Says C w.state (report filed)) → (problem : Problem ℕ) →
       IsFollowed C Holds w card (files report decks (counted w.state) problem)
   files_followed card report decks says problem = prints card (report (size_of problem)) _ (says (size_of problem)) (λ stands. absurd (cc stands))
 
@@ -201,4 +201,4 @@ module _ (C : Checker) (reading : ReadingLaw C) (truth : JudgedLaws C) (Holds : 
   verb_followed Bcdout card = punches_followed card
   verb_followed Punch card = punches_basis_followed card
   verb_followed Insert card = inserts_followed card
-  verb_followed Exit card = does C Holds w owed card (stops (Ended 0)) (All-nil (Says w.state))
+  verb_followed Exit card = does C Holds w owed card (stops (Ended 0)) (All-nil (Says C w.state))

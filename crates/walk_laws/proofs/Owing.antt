@@ -1,8 +1,8 @@
 -- What an optimal verdict waits for that no SOLUTION has shown yet.
 --     ProvesObjective ..           a point is best in what the cells select, as prices prove, and has this objective
---     Owes Holds pending ..        what holds, or holds as soon as what is pending is proved
+--     Owes C Holds pending ..      what holds, or holds as soon as what is pending is proved, and the checker takes the word of its check
 --     SelectsSame ..               the setup is the same, and the cells select the same of it
-use Rattle.std.proofs.Common.{◌≡◌, List, refl, sym, ap, ap₂, subst, ◌∙◌}
+use Rattle.std.proofs.Common.{◌≡◌, true, List, refl, sym, ap, ap₂, subst, ◌∙◌}
 use Rattle.std.specs.Prelude.{Option, Some, None}
 use Rattle.std.proofs.lemmas.Option.{same_Some}
 use Rattle.exact_values.specs.Rational.{ℚ}
@@ -13,20 +13,21 @@ use Rattle.selection_definitions.specs.Selection.{selected}
 use Rattle.question_definitions.specs.Answers.{Basis}
 use Rattle.run_definitions.specs.State.{Present, gone_through, choice_of}
 use Rattle.soundness_laws.specs.Truth.{PresentProgram, IsBestObjective}
+use Rattle.walk_definitions.specs.Checkers.{Checker}
 use Rattle.walk_definitions.specs.Walker.{Pending}
 
 pub record ProvesObjective (setup : Option Present) (cells : Cells) (objective : ℚ) : Type 0 where
   pub program : PresentProgram setup cells
   pub best : IsBestObjective program.lp objective
 
-abbrev pub Owes : Type 0 → Option Pending → Option Present → Cells → Type 0
-Owes Holds None setup cells = Holds
-Owes Holds (Some pending) setup cells = ProvesObjective setup cells pending.objective → Holds
+abbrev pub Owes : Checker → Type 0 → Option Pending → Option Present → Cells → Type 0
+Owes C Holds None setup cells = Holds
+Owes C Holds (Some pending) setup cells = ProvesObjective setup cells pending.objective → C.takes pending.check ≡ true → Holds
 
 -- where nothing is pending it holds
-pub holds_settled : (Holds : Type 0) (pending : Option Pending) (setup : Option Present) (cells : Cells) → Owes Holds pending setup cells → pending ≡ None → Holds
-holds_settled Holds None setup cells owed none = owed
-holds_settled Holds (Some pending) setup cells owed none = absurd (cc none)
+pub holds_settled : (C : Checker) (Holds : Type 0) (pending : Option Pending) (setup : Option Present) (cells : Cells) → Owes C Holds pending setup cells → pending ≡ None → Holds
+holds_settled C Holds None setup cells owed none = owed
+holds_settled C Holds (Some pending) setup cells owed none = absurd (cc none)
 
 pub record SelectsSame (setup : Option Present) (cells : Cells) (later : Option Present) (moved : Cells) : Type 0 where
   pub setups : later ≡ setup
@@ -48,10 +49,10 @@ module _ (setup : Option Present) (cells : Cells) (later : Option Present) (move
   proves_before objective proves = record { program = program_before proves.program; best = proves.best }
 
 -- what is owed is owed still where the cells select the same, and more holds
-pub owes_on : (Holds More : Type 0) (pending : Option Pending) (setup : Option Present) (cells : Cells) (later : Option Present) (moved : Cells) → Owes Holds pending setup cells → More →
-    ((p : Pending) → pending ≡ Some p → SelectsSame setup cells later moved) → Owes (Holds × More) pending later moved
-owes_on Holds More None setup cells later moved owed more same = (owed, more)
-owes_on Holds More (Some p) setup cells later moved owed more same = λ proves. (owed (proves_before setup cells later moved (same p refl) p.objective proves), more)
+pub owes_on : (C : Checker) (Holds More : Type 0) (pending : Option Pending) (setup : Option Present) (cells : Cells) (later : Option Present) (moved : Cells) → Owes C Holds pending setup cells → More →
+    ((p : Pending) → pending ≡ Some p → SelectsSame setup cells later moved) → Owes C (Holds × More) pending later moved
+owes_on C Holds More None setup cells later moved owed more same = (owed, more)
+owes_on C Holds More (Some p) setup cells later moved owed more same = λ proves takes. (owed (proves_before setup cells later moved (same p refl) p.objective proves) takes, more)
 
 -- what the cells select after a path, they selected before it
 abbrev pub program_before_path : (setup : Option Present) (cells : Cells) (present : Present) (bases : List Basis) → setup ≡ Some present → PresentProgram (Some (gone_through bases present)) cells →

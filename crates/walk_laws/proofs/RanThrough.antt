@@ -3,7 +3,7 @@ use Rattle.std.proofs.Common.{◌≡◌, ℕ, List, [], refl}
 use Rattle.std.specs.Prelude.{Option, Some, None, Ok}
 use Rattle.lp_definitions.specs.LinearProgram.{LinearProgram}
 use Rattle.selection_definitions.specs.Selection.{selected}
-use Rattle.listing_definitions.specs.Report.{PathVerdict, Check, Solved, Parametric}
+use Rattle.listing_definitions.specs.Report.{PathVerdict, Solved, Parametric}
 use Rattle.question_definitions.specs.Answers.{Sheet, Changing, Row, Set, changing_name, parametric_solver, ParametricRun, OfParametricRun, ParametricRunEnd, Opening, Chained, ParametricRunLimit}
 use Rattle.answer_definitions.specs.ParametricRuns.{sheet_at}
 use Rattle.run_definitions.specs.State.{Present, present_basis, path_of, gone_through, State, choice_of}
@@ -24,7 +24,8 @@ use Rattle.reading_laws.specs.Laws.{ReadingLaw}
 use Rattle.judged_laws.specs.Views.{MayChange}
 use Rattle.judged_laws.specs.Views.{IsTrueAtFirst}
 use Rattle.judged_laws.specs.Laws.{JudgedLaws}
-use Rattle.walk_laws.specs.Proved.{ShowsProvedChain, Says}
+use Rattle.walk_laws.specs.Proved.{ShowsProvedChain, SaysVerdict, Says}
+use Rattle.walk_laws.proofs.Rightly.{opening_word}
 use Rattle.walk_laws.proofs.Owing.{Owes, holds_settled}
 use Rattle.walk_laws.proofs.Turns.{never_either, never_stop, never_pending, none_either, nothing_pending, on_unless}
 use Rattle.walk_laws.proofs.Followed.{GoesOn, EndsSo, ComesTo, IsFollowed, follows_on, may_stop, one_says, reads}
@@ -34,17 +35,17 @@ may_change : (sheet : Sheet) (changing : Changing) → ChangesFreely sheet chang
 may_change sheet (Row name) free = free
 may_change sheet (Set name) free = tt
 
-opening_says : (state : State) (changing : Changing) (verdict : PathVerdict) (check : Check) →
-    ReportsOfRun state.setup state.cells (parametric_solver changing) (λ sheet parametric_run. IsTrueAtFirst (sheet_at sheet parametric_run.changing parametric_run.from) verdict) → Says state (Solved (parametric_solver changing) verdict check)
-opening_says state (Row name) verdict check reported = reported
-opening_says state (Set name) verdict check reported = reported
+opening_says : (state : State) (changing : Changing) (verdict : PathVerdict) →
+    ReportsOfRun state.setup state.cells (parametric_solver changing) (λ sheet parametric_run. IsTrueAtFirst (sheet_at sheet parametric_run.changing parametric_run.from) verdict) → SaysVerdict state (parametric_solver changing) verdict
+opening_says state (Row name) verdict reported = reported
+opening_says state (Set name) verdict reported = reported
 
 -- no listing shows that a run was stopped at its limit
 never_limited : (C : Checker) (sheet : Sheet) (parametric_run : ParametricRun) (rest after : List ℕ) (left : Option (List ℕ)) → parametric_run_in C sheet parametric_run rest left ≡ Right ParametricRunLimit after → ⊥
 never_limited C sheet parametric_run rest after None e = never_made (λ (claim : readings.Claim). Opening [] claim.0 claim.1) ParametricRunLimit (λ claim same. cc same) _ after e
 never_limited C sheet parametric_run rest after (Some left) e = never_made (λ (run : readings.Run). Chained [] run.0 run.1) ParametricRunLimit (λ run same. cc same) _ after e
 
-module _ (C : Checker) (reading : ReadingLaw C) (truth : JudgedLaws C) (Holds : Type 0) (w : Walker) (owed : Owes Holds w.pending w.state.setup w.state.cells) (lawful : HasProblem w.state.setup) where
+module _ (C : Checker) (reading : ReadingLaw C) (truth : JudgedLaws C) (Holds : Type 0) (w : Walker) (owed : Owes C Holds w.pending w.state.setup w.state.cells) (lawful : HasProblem w.state.setup) where
   module _ (card : ℕ) (present : Present) (lp : LinearProgram) (parametric_run : ParametricRun) (set : w.state.setup ≡ Some present)
       (is : selected present.problem (choice_of w.state.cells present.options) ≡ Ok lp) (asked : IsAskedFor w.state present parametric_run) where
     abbrev sheet : Sheet
@@ -78,9 +79,11 @@ module _ (C : Checker) (reading : ReadingLaw C) (truth : JudgedLaws C) (Holds : 
         ComesTo C Holds w card move (follows (record (passed rest 1 w) { pending = None }) (go answer))
     parametric_run_comes (Opening bases verdict check) rest e holds =
         let after : State = record (counted w.state) { setup = Some (gone_through bases present); mark = None } in
-        let says : Says w.state (Solved (parametric_solver parametric_run.changing) verdict check) =
-        opening_says w.state parametric_run.changing verdict check (reported (λ sheet parametric_run. IsTrueAtFirst (sheet_at sheet parametric_run.changing parametric_run.from) verdict)
-        (truth.opening parametric_run sheet w.rest rest bases verdict check program.is_linear_program free e)) in
+        let at_first = truth.opening parametric_run sheet w.rest rest bases verdict check program.is_linear_program free e in
+        let says : Says C w.state (Solved (parametric_solver parametric_run.changing) verdict check) = (
+          opening_says w.state parametric_run.changing verdict (reported (λ sheet parametric_run. IsTrueAtFirst (sheet_at sheet parametric_run.changing parametric_run.from) verdict) at_first),
+          opening_word C sheet parametric_run w.rest rest bases verdict check at_first e,
+        ) in
         follows_on C Holds w card move (record (passed rest 1 w) { pending = None }) (go (Opening bases verdict check))
         (reads C Holds w reading card (OfParametricRun parametric_run) sheet (present_basis present) go (Opening bases verdict check) rest (w.rest, rest, e) e
         (printed_verdict (mark_of verdict) (Solved (parametric_solver parametric_run.changing) verdict check) after) refl
@@ -101,7 +104,7 @@ module _ (C : Checker) (reading : ReadingLaw C) (truth : JudgedLaws C) (Holds : 
           (answered C w (OfParametricRun parametric_run) sheet go (judged C (OfParametricRun parametric_run) sheet w.rest))
           (never_either (open_stop w) (open_pending w) (never_stop w) (never_pending w.pending))
           (λ none. by (judged C (OfParametricRun parametric_run) sheet w.rest) refl
-          (holds_settled Holds w.pending w.state.setup w.state.cells owed (nothing_pending w.pending (none_either (open_stop w) (open_pending w) none).1)));
+          (holds_settled C Holds w.pending w.state.setup w.state.cells owed (nothing_pending w.pending (none_either (open_stop w) (open_pending w) none).1)));
     })
       where
         by : (j : Judged ParametricRunEnd) → judged C (OfParametricRun parametric_run) sheet w.rest ≡ j → Holds → ComesTo C Holds w card move (answered C w (OfParametricRun parametric_run) sheet go j)

@@ -39,7 +39,15 @@ settled_objective C pending objective e = by (eq_ℚ pending.objective objective
     by true same e = same_from_test pending.objective objective same
     by false other e = absurd (cc e)
 
-module _ (C : Checker) (reading : ReadingLaw C) (truth : JudgedLaws C) (Holds : Type 0) (w : Walker) (owed : Owes Holds w.pending w.state.setup w.state.cells) (lawful : HasProblem w.state.setup) where
+-- and a word that the checker takes
+settled_word : (C : Checker) (pending : Pending) (objective : ℚ) → settles C pending objective ≡ true → C.takes pending.check ≡ true
+settled_word C pending objective e = by (eq_ℚ pending.objective objective) e
+  where
+    by : (b : Bool) → (if b then C.takes pending.check else false) ≡ true → C.takes pending.check ≡ true
+    by true takes = takes
+    by false e = absurd (cc e)
+
+module _ (C : Checker) (reading : ReadingLaw C) (truth : JudgedLaws C) (Holds : Type 0) (w : Walker) (owed : Owes C Holds w.pending w.state.setup w.state.cells) (lawful : HasProblem w.state.setup) where
   module _ (card : ℕ) (present : Present) (lp : LinearProgram) (set : w.state.setup ≡ Some present) (is : selected present.problem (choice_of w.state.cells present.options) ≡ Ok lp) where
     abbrev sheet : Sheet
     sheet = record { problem = present.problem; lp = lp }
@@ -77,14 +85,14 @@ module _ (C : Checker) (reading : ReadingLaw C) (truth : JudgedLaws C) (Holds : 
           (reads C Holds w reading card (OfSolution Optimal) sheet (present_basis present) (go Optimal) lines rest (w.rest, rest, e) e refl refl
           (holds, one_says C Holds w (Solution Optimal lines) (record { program = program; best = solved.best; certificate = solved.certificate })))
 
-      settles_on : (pending : Option Pending) → Owes Holds pending w.state.setup w.state.cells →
+      settles_on : (pending : Option Pending) → Owes C Holds pending w.state.setup w.state.cells →
           ComesTo C Holds w card (move Optimal) (settled C w pending (point_of sheet lines lp.objective) (follows (record (passed rest 1 w) { pending = None }) (go Optimal lines)))
       settles_on None owed = shows_on owed
       settles_on (Some pending) owed = by (settles C pending (point_of sheet lines lp.objective)) refl
         where
           by : (b : Bool) → settles C pending (point_of sheet lines lp.objective) ≡ b →
               ComesTo C Holds w card (move Optimal) (if b then follows (record (passed rest 1 w) { pending = None }) (go Optimal lines) else Finds (Wrong pending.rest))
-          by true viewed = shows_on (owed (proves pending viewed))
+          by true viewed = shows_on (owed (proves pending viewed) (settled_word C pending (point_of sheet lines lp.objective) viewed))
           by false other = tt
 
     asks_followed : (mark : Mark) → ((lines : SolutionLines) (rest : List ℕ) → judged C (OfSolution mark) sheet w.rest ≡ Right lines rest → ComesTo C Holds w card (move mark) (answered C w (OfSolution mark) sheet (go mark) (Right lines rest))) →
@@ -101,9 +109,9 @@ module _ (C : Checker) (reading : ReadingLaw C) (truth : JudgedLaws C) (Holds : 
 
     -- ---- another mark leaves pending what is pending
 
-    other_on : (mark : Mark) (lines : SolutionLines) → Says w.state (Solution mark lines) → Owes (Holds × All (Says w.state) (Solution mark lines ∷ [])) w.pending w.state.setup w.state.cells
+    other_on : (mark : Mark) (lines : SolutionLines) → Says C w.state (Solution mark lines) → Owes C (Holds × All (Says C w.state) (Solution mark lines ∷ [])) w.pending w.state.setup w.state.cells
     other_on mark lines says =
-        owes_on Holds (All (Says w.state) (Solution mark lines ∷ [])) w.pending w.state.setup w.state.cells w.state.setup w.state.cells owed (one_says C Holds w (Solution mark lines) says)
+        owes_on C Holds (All (Says C w.state) (Solution mark lines ∷ [])) w.pending w.state.setup w.state.cells w.state.setup w.state.cells owed (one_says C Holds w (Solution mark lines) says)
         (λ p some. record { setups = refl; objectives = refl; rhs = refl })
 
     pub solution_followed : (mark : Mark) → IsFollowed C Holds w card (asks (OfSolution mark) sheet present (go mark))

@@ -29,6 +29,7 @@ use Rattle.judged_laws.specs.Laws.{JudgedLaws}
 use Rattle.walk_laws.specs.Proved.{attested, Says, IsTrueListing}
 use Rattle.walk_laws.proofs.Owing.{Owes, holds_settled}
 use Rattle.walk_laws.proofs.Turns.{On, on_map, on_closes}
+use Rattle.walk_laws.proofs.Unstopped.{ends_unstopped, over_unstopped}
 use Rattle.walk_laws.proofs.Followed.{GoesOn, EndsSo}
 use Rattle.walk_laws.proofs.Followings.{verb_followed}
 
@@ -40,23 +41,23 @@ module _ (C : Checker) (program : Program) (Holds : Type 0) (w : Walker) where
     pub step : Step (attested C) program w.state (Goes gain v.state)
     pub text : w.rest ≡ reports_text (printed_by gain) ++ v.rest
     pub counted : v.reports ≡ w.reports + length (printed_by gain)
-    pub owes : Owes (Holds × All (Says w.state) (printed_by gain)) v.pending v.state.setup v.state.cells
+    pub owes : Owes C (Holds × All (Says C w.state) (printed_by gain)) v.pending v.state.setup v.state.cells
 
   pub data Finishes (count : ℕ) : Type 0 where
     over : (ending : Ending) → IsOver (attested C) program w.state ending → w.rest ≡ ending_text ending → count ≡ w.reports → Holds → Finishes count
     by_statement : (gain : Gain) (ending : Ending) → Step (attested C) program w.state (Ends gain ending) → w.rest ≡ reports_text (printed_by gain) ++ ending_text ending →
-        count ≡ w.reports + length (printed_by gain) → Holds × All (Says w.state) (printed_by gain) → Finishes count
+        count ≡ w.reports + length (printed_by gain) → Holds × All (Says C w.state) (printed_by gain) → Finishes count
 
 past_end : (statements : List (Statement ℕ)) (k : ℕ) → slice_get statements k ≡ None → length statements ≤ k
 past_end [] k e = omega arith
 past_end (statement ∷ statements) zero e = absurd (cc e)
 past_end (statement ∷ statements) (suc k) e = let rest = past_end statements k e in omega (arith, rest)
 
-module _ (C : Checker) (reading : ReadingLaw C) (truth : JudgedLaws C) (program : Program) (Holds : Type 0) (w : Walker) (owed : Owes Holds w.pending w.state.setup w.state.cells) (lawful : HasProblem w.state.setup)
+module _ (C : Checker) (reading : ReadingLaw C) (truth : JudgedLaws C) (program : Program) (Holds : Type 0) (w : Walker) (owed : Owes C Holds w.pending w.state.setup w.state.cells) (lawful : HasProblem w.state.setup)
     (inside : length program.statements ≤ w.state.position - 1 → length program.statements < w.state.position) where
   closes_over : (ending : Ending) → IsOver (attested C) program w.state ending → On (StepsTo C program Holds w) (Finishes C program Holds w) (closes w ending)
   closes_over ending is = on_closes (StepsTo C program Holds w) (Finishes C program Holds w) w ending (λ settled text.
-      over ending is text refl (holds_settled Holds w.pending w.state.setup w.state.cells owed settled))
+      over ending is text refl (holds_settled C Holds w.pending w.state.setup w.state.cells owed settled))
 
   executes : (statement : Statement ℕ) → slice_get program.statements (w.state.position - 1) ≡ Some statement → w.state.executed < max_executed →
       On (StepsTo C program Holds w) (Finishes C program Holds w) (walk_move C w (verb_move statement.verb statement.card (counted w.state)))
@@ -104,7 +105,7 @@ module _ (C : Checker) (reading : ReadingLaw C) (truth : JudgedLaws C) (bytes li
     pub reaches : Reaches (attested C) program decks reports cards w.state
     pub text : lines ≡ reports_text reports ++ w.rest
     pub counted : w.reports ≡ length reports
-    pub owes : Owes (HoldSoFar (attested C) Says program decks reaches) w.pending w.state.setup w.state.cells
+    pub owes : Owes C (HoldSoFar (attested C) (Says C) program decks reaches) w.pending w.state.setup w.state.cells
 
   -- the position is 1 or more, or there is a statement
   stays_inside : (reports : List Report) (cards : List (List ℕ)) (state : State) → Reaches (attested C) program decks reports cards state → length program.statements ≤ state.position - 1 →
@@ -116,9 +117,9 @@ module _ (C : Checker) (reading : ReadingLaw C) (truth : JudgedLaws C) (bytes li
   setup_lawful : (reports : List Report) (cards : List (List ℕ)) (state : State) → Reaches (attested C) program decks reports cards state → HasProblem state.setup
   setup_lawful reports cards state reaches = (job_reaching (attested C) bytes program reports cards state (record { is_program = is_program; reaches = reaches })).setup
 
-  turned_from : (w : Walker) (is : IsWalked w) → On (StepsTo C program (HoldSoFar (attested C) Says program decks is.reaches) w) (Finishes C program (HoldSoFar (attested C) Says program decks is.reaches) w) (turn C program w)
+  turned_from : (w : Walker) (is : IsWalked w) → On (StepsTo C program (HoldSoFar (attested C) (Says C) program decks is.reaches) w) (Finishes C program (HoldSoFar (attested C) (Says C) program decks is.reaches) w) (turn C program w)
   turned_from w is =
-      turned C reading truth program (HoldSoFar (attested C) Says program decks is.reaches) w is.owes (setup_lawful is.reports is.cards w.state is.reaches) (stays_inside is.reports is.cards w.state is.reaches)
+      turned C reading truth program (HoldSoFar (attested C) (Says C) program decks is.reaches) w is.owes (setup_lawful is.reports is.cards w.state is.reaches) (stays_inside is.reports is.cards w.state is.reaches)
 
   -- the text of some reports, and of more after them
   more_text : (reports more : List Report) (rest after : List ℕ) → lines ≡ reports_text reports ++ rest → rest ≡ reports_text more ++ after → lines ≡ reports_text (reports ++ more) ++ after
@@ -131,7 +132,7 @@ module _ (C : Checker) (reading : ReadingLaw C) (truth : JudgedLaws C) (bytes li
 
   walked_on : (w v : Walker) → IsWalked w → turn C program w ≡ Walks v → IsWalked v
   walked_on w v is e =
-      let Holds : Type 0 = HoldSoFar (attested C) Says program decks is.reaches in
+      let Holds : Type 0 = HoldSoFar (attested C) (Says C) program decks is.reaches in
       let steps : StepsTo C program Holds w v = subst (On (StepsTo C program Holds w) (Finishes C program Holds w)) e (turned_from w is) in
       record {
         reports = is.reports ++ printed_by steps.gain;
@@ -146,8 +147,8 @@ module _ (C : Checker) (reading : ReadingLaw C) (truth : JudgedLaws C) (bytes li
   is_walked _ at_start = record { reports = []; cards = []; reaches = begun; text = refl; counted = refl; owes = tt }
   is_walked _ (gone_on {w} {v} before e) = walked_on w v (is_walked w before) e
 
-  finished : (w : Walker) (count : ℕ) (is : IsWalked w) → Finishes C program (HoldSoFar (attested C) Says program decks is.reaches) w count → (proved : IsTrueListing C bytes lines) × (length proved.reports ≡ count)
-  finished w count is (over ending ends text counted holds) = (
+  finished : (w : Walker) (count : ℕ) (is : IsWalked w) → turn C program w ≡ Finds (Attested count) → Finishes C program (HoldSoFar (attested C) (Says C) program decks is.reaches) w count → (proved : IsTrueListing C bytes lines) × (length proved.reports ≡ count)
+  finished w count is e (over ending ends text counted holds) = (
     record {
       reports = is.reports;
       cards = is.cards;
@@ -155,10 +156,11 @@ module _ (C : Checker) (reading : ReadingLaw C) (truth : JudgedLaws C) (bytes li
       runs = run program is_program (is_over is.reaches ends);
       is_listing = is.text ∙ ap (λ (t : List ℕ). reports_text is.reports ++ t) text;
       each = holds;
+      unstopped = over_unstopped C program w.state ending ends;
     },
     sym (counted ∙ is.counted),
   )
-  finished w count is (by_statement gain ending step text counted holds) = (
+  finished w count is e (by_statement gain ending step text counted holds) = (
     record {
       reports = is.reports ++ printed_by gain;
       cards = is.cards ++ punched_by gain;
@@ -166,6 +168,7 @@ module _ (C : Checker) (reading : ReadingLaw C) (truth : JudgedLaws C) (bytes li
       runs = run program is_program (is_ended gain is.reaches step);
       is_listing = more_text is.reports (printed_by gain) w.rest (ending_text ending) is.text text;
       each = (holds.0, holds.1, tt);
+      unstopped = ends_unstopped C program w count gain ending step e;
     },
     sym (more_counted is.reports (printed_by gain) w.reports count is.counted counted),
   )
@@ -173,5 +176,5 @@ module _ (C : Checker) (reading : ReadingLaw C) (truth : JudgedLaws C) (bytes li
   pub walk_proved : (w : Walker) (count : ℕ) → IsCome C program decks lines w → turn C program w ≡ Finds (Attested count) → (proved : IsTrueListing C bytes lines) × (length proved.reports ≡ count)
   walk_proved w count come e =
       let is : IsWalked w = is_walked w come in
-      let Holds : Type 0 = HoldSoFar (attested C) Says program decks is.reaches in
-      finished w count is (subst (On (StepsTo C program Holds w) (Finishes C program Holds w)) e (turned_from w is))
+      let Holds : Type 0 = HoldSoFar (attested C) (Says C) program decks is.reaches in
+      finished w count is e (subst (On (StepsTo C program Holds w) (Finishes C program Holds w)) e (turned_from w is))
