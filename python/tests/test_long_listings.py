@@ -170,6 +170,7 @@ def files(tmp_path):
 def test_an_answer_with_long_numbers_is_attested_by_the_checker_of_any_length(files, tmp_path, monkeypatch):
     found = {name: at_hand.Tool((programs_at_hand.checker(tmp_path, words),), "proved", name=name) for name, words in (("mps360check", ""), ("mps360long", "--long"))}
     monkeypatch.setattr(at_hand, "listing_checker", found.get)
+    monkeypatch.setenv("MPS360_PROVED", "1")   # (nothing is compiled)
     status, out, told = called(attest, *files)
     assert status == 0 and out.startswith("attested by mps360long: OPTIMAL, objective ") and " digits)" in out, (out, told)
     del found["mps360long"]
