@@ -85,10 +85,7 @@ def made(folder, text):
     return status, told, path, job, listing
 
 
-@pytest.mark.parametrize("text, said, answer", (
-    (CERTIFICATE, "optimal, the objective is 36", "ATTESTED 5 REPORTS"), (NO_PLAN, "infeasible", "ATTESTED 4 REPORTS"),
-    (CERTIFICATE.replace("VER 1.0", "VER 1.1"), "optimal, the objective is 36", "ATTESTED 5 REPORTS"),
-    (NO_PLAN.replace("VER 1.0", "VER 1.1"), "infeasible", "ATTESTED 4 REPORTS")))
+@pytest.mark.parametrize("text, said, answer", ((CERTIFICATE, "optimal, the objective is 36", "ATTESTED 5 REPORTS"), (NO_PLAN, "infeasible", "ATTESTED 4 REPORTS")))
 def test_what_holds(tmp_path, text, said, answer):
     status, told, path, job, listing = made(tmp_path, text)
     assert called(oracle_vipr, path)[:2] == (0, said + "\n")
