@@ -16,12 +16,12 @@ from collections.abc import Callable
 from dataclasses import dataclass
 from typing import Literal
 
-from mps360 import programs
+from mps360 import commands, programs
 from mps360.errors import NoProgram
 
 Kind = Literal["proved", "unproved", "other"]
 PROGRAM, CHECKER, LONG_CHECKER = "mps360", "mps360check", "mps360long"
-PROVES = "scripts/build.sh proves and builds it, in some 25 minutes"
+PROVES = commands.who_proves()
 
 
 @dataclass(frozen=True)

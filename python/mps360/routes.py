@@ -18,6 +18,7 @@ from collections.abc import Callable
 from dataclasses import dataclass, field
 from typing import TYPE_CHECKING
 
+from mps360.commands import who_proves
 from mps360.errors import Refused
 from mps360.life import within
 from mps360.processes import Process, Processes
@@ -357,7 +358,7 @@ class Routes:
         attempt = self.running = Attempt(f"{what}, attested by the checker", self.job.text, solver=solver, by_checker=True, status=0)
         try:
             if self.checkers is None or not (self.checkers.short or self.checkers.long):
-                raise NoBasis("no checker of listings is at hand (scripts/build.sh builds it)")
+                raise NoBasis(f"no checker of listings is at hand ({who_proves('scripts/build.sh builds it')})")
             self.observer.going(f"asking {solver.title} for an exact answer")
             request = self.asked(functools.partial(solver.ask_exactly, self.plain_form(), self.processes, self.first_basis), solver)
             attempt.written = request.written()
