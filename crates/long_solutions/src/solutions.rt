@@ -10,7 +10,6 @@ ghost use Rattle.walk_definitions.specs.Tests.{best_test};
 ghost use Rattle.listing_words.specs.Read.{sheet_view};
 ghost use Rattle.listing_claims.specs.Passing.{Judges};
 ghost use Rattle.listing_claims.specs.Solutions.{Counted, printed_test};
-ghost use Rattle.long_vectors.specs.Vectors.{IsOver};
 ghost use Rattle.long_programs.specs.Programs.{own_theta};
 ghost use Rattle.long_programs.specs.Places.{IsSpread};
 ghost use Rattle.long_solutions.specs.Answers.{Answers};
@@ -19,11 +18,12 @@ use crate::verdicts::judged;
 use listing_claims::{Printed, Stop};
 use listing_definitions::Mark;
 use listing_tables::Sheet;
+use listing_words::Number;
 use long_points::{
     both, equations_hold, limits_hold, prices_stand, reduced_costs_hold, slacks_hold,
 };
 use long_programs::{Spread, as_it_is, spread_own};
-use long_vectors::{Column, column_of};
+use long_vectors::column_of;
 use lp_model::Lp;
 use std::alloc::{AllocError, Global};
 
@@ -63,13 +63,13 @@ fn values_hold(
     mark: Mark,
     point: &Spread,
     prices: &Spread,
-    slacks: &Column,
+    slacks: &[Number<'_>],
 ) -> Result<bool, AllocError>
     requires places { length point.now.column.tops.items ≡ size lp.now.matrix }
     requires price_places { length prices.now.column.tops.items ≡ size lp.now.matrix }
-    requires slack_places { length slacks.now.tops.items ≡ lp.now.matrix.rows }
-    ensures { IfOk result (λ holds. (problem : Problem ℕ) → (values costs shown : List ℚ) → IsSpread values (own_theta lp.now) point.now → IsSpread costs (own_theta lp.now) prices.now → IsOver shown slacks.now →
-        Answers holds (printed_test checker_of_any_length (record { problem = problem; lp = lp.now }) mark (value_at values) (value_at costs) (value_at shown))) }
+    requires slack_places { length slacks.now ≡ lp.now.matrix.rows }
+    ensures { IfOk result (λ holds. (problem : Problem ℕ) → (values costs : List ℚ) → IsSpread values (own_theta lp.now) point.now → IsSpread costs (own_theta lp.now) prices.now →
+        Answers holds (printed_test checker_of_any_length (record { problem = problem; lp = lp.now }) mark (value_at values) (value_at costs) (value_at slacks.now))) }
 {
     let at = as_it_is(lp);
     let keeps = equations_hold(alloc, lp, &point.column)?;
@@ -95,10 +95,9 @@ fn printed_holds(
 {
     let point_column = column_of(alloc, &printed.point)?;
     let price_column = column_of(alloc, &printed.prices)?;
-    let slacks = column_of(alloc, &printed.slacks)?;
     let point = spread_own(alloc, lp, point_column)?;
     let prices = spread_own(alloc, lp, price_column)?;
-    let holds = values_hold(alloc, lp, mark, &point, &prices, &slacks)?;
+    let holds = values_hold(alloc, lp, mark, &point, &prices, &printed.slacks)?;
     Ok(holds)
 }
 

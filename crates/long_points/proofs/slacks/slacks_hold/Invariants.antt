@@ -7,4 +7,4 @@ use Rattle.long_points.proofs.slacks.slacks_hold.Given as goal
 
 -- the slacks so far are right
 abbrev pub invariant-loop-i : goal.invariant-loop-i
-invariant-loop-i l = (values shown : List ℚ) → IsOver values l.point → IsOver shown l.slacks → UpTo (slack_test l.lp (value_at values) (value_at shown)) l.i
+invariant-loop-i l = (values : List ℚ) → IsOver values l.point → UpTo (slack_test l.lp (value_at values) (value_at l.slacks)) l.i
