@@ -1,4 +1,4 @@
-//! The checker that reads numbers of any length and refuses no operation on them.
+//! The checker that reads numbers of up to 100,000 digits above and below the line, and refuses no operation on them.
 #![tactic(auto)]
 
 mod any_length;
