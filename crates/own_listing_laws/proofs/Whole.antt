@@ -5,19 +5,19 @@ use Rattle.card_definitions.specs.Cards.{Card}
 use Rattle.control_definitions.specs.Program.{Program}
 use Rattle.listing_definitions.specs.declared.Mark.TheVariants.{Optimal}
 use Rattle.listing_definitions.specs.Report.{Checked, Report, Solved, Solution}
-use Rattle.listing_definitions.specs.Ending.{Ending}
+use Rattle.listing_definitions.specs.Ending.{Ending, ControlStop, CardStop}
 use Rattle.listing_definitions.specs.Text.{report_text}
 use Rattle.listing_definitions.specs.Listing.{ending_text, reports_text, listing}
 use Rattle.answer_definitions.specs.Real.{linear_programming}
 use Rattle.run_definitions.specs.State.{State, start}
 use Rattle.run_definitions.specs.Moves.{Gain, Nothing, Prints, Punches, printed_by, punched_by, gain_text}
 use Rattle.run_definitions.specs.Run.{counted, Reaches, begun, stepped, IsRun, is_over, is_ended}
-use Rattle.run_definitions.specs.Answer.{job_decks, IsJobRun, run}
+use Rattle.run_definitions.specs.Answer.{job_decks, IsJobRun, card_fault, control_fault, run}
 use Rattle.walk_definitions.specs.Checkers.{checker_of_128_bits}
 use Rattle.walk_definitions.specs.Forms.{is_open_stop}
-use Rattle.walk_definitions.specs.Walker.{Walker, Attested, Finds, turn}
-use Rattle.walk_definitions.specs.Found.{first_walker, Reaches as Walked, begun as not_begun, walked, Comes, of_walk}
-use Rattle.own_listing_laws.specs.Attestable.{to_show, IsAttestable, over, does, stops, finds, finds_last, shows, IsAttestableRun, ComesAttested}
+use Rattle.walk_definitions.specs.Walker.{Walker, Attested, Finds, closes, turn}
+use Rattle.walk_definitions.specs.Found.{first_walker, Reaches as Walked, begun as not_begun, walked, Comes, of_cards as ends_by_cards, of_control as ends_by_control, of_walk}
+use Rattle.own_listing_laws.specs.Attestable.{to_show, IsAttestable, over, does, stops, finds, finds_last, shows, IsAttestableRun, of_cards, of_control, of_program, ComesAttested}
 use Rattle.own_listing_laws.proofs.Own.{ending_plain, listing_plain}
 use Rattle.own_listing_laws.proofs.Onward.{walks_on}
 use Rattle.own_listing_laws.proofs.Stepping.{StandsAt, over_found, statement_goes, statement_ends, verdict_goes, verdict_ends, solution_goes}
@@ -103,17 +103,27 @@ module _ (program : Program) (decks : List (List Card)) where
       (stepped (Prints (Solution Optimal lines)) (record (counted s) { position = s.position + 1 }) before shown.step) rest)
 
 is_run : (bytes : List ℕ) (reports : List Report) (ending : Ending) → IsAttestableRun bytes reports ending → (cards : List (List ℕ)) × IsJobRun linear_programming bytes reports cards ending
-is_run bytes reports ending is =
-    let own = runs_so is.program (job_decks is.program bytes) [] [] None (start (job_decks is.program bytes)) reports ending begun is.runs in
-    (own.0, run is.program is.is_program own.1)
+is_run bytes _ _ (of_cards fault is) = ([], card_fault fault is)
+is_run bytes _ _ (of_control fault none is) = ([], control_fault fault none is)
+is_run bytes _ _ (of_program program reports ending is_program runs) =
+    let own = runs_so program (job_decks program bytes) [] [] None (start (job_decks program bytes)) reports ending begun runs in
+    (own.0, run program is_program own.1)
 
-is_attested : (bytes : List ℕ) (reports : List Report) (ending : Ending) → IsAttestableRun bytes reports ending → Comes checker_of_128_bits bytes (listing reports ending) (Attested (length reports))
-is_attested bytes reports ending is =
-    let decks = job_decks is.program bytes in
+-- ---- jobs
+
+only_end : (ending : Ending) → is_open_stop (ending_text ending) ≡ false → closes (first_walker [] (listing [] ending)) ending ≡ Finds (Attested 0)
+only_end ending closed = walks_on.end (first_walker [] (listing [] ending)) ending refl refl closed
+
+is_attested : (bytes : List ℕ) (reports : List Report) (ending : Ending) → IsAttestableRun bytes reports ending → is_open_stop (ending_text ending) ≡ false →
+    Comes checker_of_128_bits bytes (listing reports ending) (Attested (length reports))
+is_attested bytes _ _ (of_cards fault is) closed = ends_by_cards fault is (only_end (CardStop fault) closed)
+is_attested bytes _ _ (of_control fault none is) closed = ends_by_control fault none is (only_end (ControlStop fault) closed)
+is_attested bytes _ _ (of_program program reports ending is_program runs) closed =
+    let decks = job_decks program bytes in
     let lines = listing reports ending in
-    let end = attests is.program decks lines (first_walker decks lines) None (start decks) reports ending is.closed is.runs
+    let end = attests program decks lines (first_walker decks lines) None (start decks) reports ending closed runs
     (record { like = record { opening = []; steps = []; is = refl }; is_rest = refl; waits = refl }) not_begun in
-    of_walk is.program end.last is.is_program end.reaches (end.finds ∙ ap (λ (n : ℕ). Finds (Attested n)) (omega arith))
+    of_walk program end.last is_program end.reaches (end.finds ∙ ap (λ (n : ℕ). Finds (Attested n)) (omega arith))
 
 pub comes_attested : ComesAttested
 comes_attested = record { runs = is_run; attested = is_attested }

@@ -4,11 +4,15 @@
 --     FindsChecked ..              PRIMAL or DUAL gives a verdict with the word CHECKED
 --     ShowsChecked ..              SOLUTION shows the objective of an optimal verdict
 --     IsAttestable program ..      what a run still reports from a state on, and how it ends
---     IsAttestableRun bytes ..     so the run of a job's program reports from its start on, and its end can be attested
---     ComesAttested                its listing is attested
-use Rattle.std.specs.Prelude.{◌≡◌, ◌⊎◌, ℕ, ◌+◌, true, false, List, [], ◌∷◌, ◌++◌, Option, Some, None, Ok, is_none, length}
+--     IsAttestableRun bytes ..     so the run of a job's program reports from its start on, or its cards or program are refused
+--     ComesAttested                its listing is attested, where its end can be
+use Rattle.std.specs.Prelude.{◌≡◌, ◌⊎◌, ℕ, ◌+◌, true, false, List, [], ◌∷◌, ◌++◌, Option, Some, None, Ok, Err, is_none, length}
 use Rattle.exact_values.specs.Rational.{ℚ}
 use Rattle.lp_definitions.specs.LinearProgram.{LinearProgram}
+use Rattle.card_definitions.specs.declared.CardFault.{CardFault}
+use Rattle.card_definitions.specs.Cards.{cards_of, job_fault}
+use Rattle.control_definitions.specs.declared.ControlFault.{ControlFault}
+use Rattle.control_definitions.specs.Compiled.{compiled}
 use Rattle.control_definitions.specs.Program.{Verb, Primal, Dual, Solution as SolutionVerb, Program}
 use Rattle.control_definitions.specs.Cells.{Cells, steps_allowed}
 use Rattle.selection_definitions.specs.Selection.{selected}
@@ -17,7 +21,7 @@ use Rattle.listing_definitions.specs.declared.Mark.TheVariants.{Optimal}
 use Rattle.listing_definitions.specs.declared.Solver.{Solver}
 use Rattle.listing_definitions.specs.declared.Solver.TheVariants.{Primal as ByPrimal, Dual as ByDual}
 use Rattle.listing_definitions.specs.Report.{PathVerdict, OptimalAt, Checked, SolutionLines, Report, Solved, Solution}
-use Rattle.listing_definitions.specs.Ending.{Ending}
+use Rattle.listing_definitions.specs.Ending.{Ending, ControlStop, CardStop}
 use Rattle.listing_definitions.specs.Listing.{ending_text, listing}
 use Rattle.question_definitions.specs.Answers.{Basis, Sheet, Reached}
 use Rattle.answer_definitions.specs.Verdicts.{IsSolvedBy}
@@ -101,14 +105,14 @@ pub data IsAttestable (program : Program) : Option ℚ → State → List Report
   shows : (waiting : Option ℚ) (s : State) (objective : ℚ) (lines : SolutionLines) (reports : List Report) (ending : Ending) → ShowsChecked program s objective lines → (waiting ≡ None) ⊎ (waiting ≡ Some objective) →
       IsAttestable program None (record (counted s) { position = s.position + 1 }) reports ending → IsAttestable program waiting s (Solution Optimal lines ∷ reports) ending
 
--- From its start on the run of a job's program is so, and its end isn't one that can't be attested.
-pub record IsAttestableRun (bytes : List ℕ) (reports : List Report) (ending : Ending) : Type 0 where
-  pub program : Program
-  pub is_program : IsProgramOf bytes program
-  pub runs : IsAttestable program None (start (job_decks program bytes)) reports ending
-  pub closed : is_open_stop (ending_text ending) ≡ false
+-- What such a job comes to: a fault of its cards, a control fault, or so a run of its program from its start on.
+pub data IsAttestableRun (bytes : List ℕ) : List Report → Ending → Type 0 where
+  of_cards : (fault : CardFault) → job_fault bytes ≡ Some fault → IsAttestableRun bytes [] (CardStop fault)
+  of_control : (fault : ControlFault) → job_fault bytes ≡ None → compiled (cards_of bytes) ≡ Err fault → IsAttestableRun bytes [] (ControlStop fault)
+  of_program : (program : Program) (reports : List Report) (ending : Ending) → IsProgramOf bytes program → IsAttestable program None (start (job_decks program bytes)) reports ending → IsAttestableRun bytes reports ending
 
--- It is a run of the job, and its listing is attested, with all its reports.
+-- It is a run of the job, and its listing is attested, with all its reports, where its end isn't one that can't be attested.
 pub record ComesAttested : Type 0 where
   pub runs : (bytes : List ℕ) (reports : List Report) (ending : Ending) → IsAttestableRun bytes reports ending → (cards : List (List ℕ)) × IsJobRun linear_programming bytes reports cards ending
-  pub attested : (bytes : List ℕ) (reports : List Report) (ending : Ending) → IsAttestableRun bytes reports ending → Comes checker_of_128_bits bytes (listing reports ending) (Attested (length reports))
+  pub attested : (bytes : List ℕ) (reports : List Report) (ending : Ending) → IsAttestableRun bytes reports ending → is_open_stop (ending_text ending) ≡ false →
+      Comes checker_of_128_bits bytes (listing reports ending) (Attested (length reports))
