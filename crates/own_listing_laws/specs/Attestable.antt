@@ -1,4 +1,4 @@
--- The runs that the walk of the listing checker attests, whatever is in their listings but reports that it never attests.
+-- The runs whose whole listings the walk of the listing checker attests: at none of their statements it may stop.
 --     Selects s                    what the cells select of the setup, with no operation refused
 --     AsksNothing step             a statement that asks nothing of linear programming, with no operation of a selection refused
 --     FindsChecked ..              PRIMAL or DUAL gives a verdict with the word CHECKED
