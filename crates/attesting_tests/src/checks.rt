@@ -1,32 +1,19 @@
 // Listings as they are, and changed.
 use crate::jobs::JOBS;
-use crate::listings::{Listing, answer_to, first_other};
+use crate::listings::{answer_to, first_wrong};
 use crate::parametric_runs::{
     INFEASIBLE_PAST, LAMPS, MILK, RHS_INTERVALS, RHS_POINT, TWO_INTERVALS, UNBOUNDED_OPENING,
 };
 use crate::plans::{BLANKS, STORE, TESTPROB, TIES, TWO_SOLUTIONS};
 use crate::refused::{FAR_POINT, GREAT, RANGE_AFTER_PRIMAL, RANGE_REFUSED};
 use crate::verdicts::{CONFLICT, INFEASIBLE, UNBOUNDED};
-use std::alloc::Global;
+use checks_of_128_bits::Of128Bits;
 use std::test::Fail;
-
-// The first listing of which a change is answered otherwise, with this change.
-fn first_wrong(
-    alloc: Global,
-    listings: &[&Listing],
-) -> Result<Option<(&'static str, &'static str)>, Fail> {
-    for listing in listings {
-        if let Some(case) = first_other(alloc, listing)? {
-            return Ok(Some((listing.name, case)));
-        }
-    }
-    Ok(None)
-}
 
 #[test]
 fn plans_are_attested(rt: HostRuntime) -> Result<(), Fail> {
     assert_eq!(rt;
-        first_wrong(
+        first_wrong::<Of128Bits>(
             rt.alloc(),
             &[&STORE, &TESTPROB, &TWO_SOLUTIONS, &TIES, &BLANKS]
         )?,
@@ -38,7 +25,7 @@ fn plans_are_attested(rt: HostRuntime) -> Result<(), Fail> {
 #[test]
 fn verdicts_are_attested(rt: HostRuntime) -> Result<(), Fail> {
     assert_eq!(rt;
-        first_wrong(rt.alloc(), &[&CONFLICT, &INFEASIBLE, &UNBOUNDED])?,
+        first_wrong::<Of128Bits>(rt.alloc(), &[&CONFLICT, &INFEASIBLE, &UNBOUNDED])?,
         None
     );
     Ok(())
@@ -47,7 +34,7 @@ fn verdicts_are_attested(rt: HostRuntime) -> Result<(), Fail> {
 #[test]
 fn parametric_runs_are_attested(rt: HostRuntime) -> Result<(), Fail> {
     assert_eq!(rt;
-        first_wrong(
+        first_wrong::<Of128Bits>(
             rt.alloc(),
             &[
                 &TWO_INTERVALS,
@@ -67,7 +54,7 @@ fn parametric_runs_are_attested(rt: HostRuntime) -> Result<(), Fail> {
 #[test]
 fn refused_operations_are_reported(rt: HostRuntime) -> Result<(), Fail> {
     assert_eq!(rt;
-        first_wrong(
+        first_wrong::<Of128Bits>(
             rt.alloc(),
             &[&GREAT, &RANGE_REFUSED, &RANGE_AFTER_PRIMAL, &FAR_POINT]
         )?,
@@ -79,7 +66,7 @@ fn refused_operations_are_reported(rt: HostRuntime) -> Result<(), Fail> {
 #[test]
 fn jobs_decide_what_is_due(rt: HostRuntime) -> Result<(), Fail> {
     for row in &JOBS {
-        let answer = answer_to(rt.alloc(), row.job, row.listing)?;
+        let answer = answer_to::<Of128Bits>(rt.alloc(), row.job, row.listing)?;
         assert!(rt; answer.is(row.status, row.line), "{}", row.name);
     }
     Ok(())

@@ -23,7 +23,7 @@ fn in_pieces(
     failing_writes: &[u64],
 ) -> Result<Answer, Fail> {
     let plan = &STORE;
-    answer_from(
+    answer_from::<Of128Bits>(
         alloc,
         MemorySource::in_pieces(alloc, plan.job, failing_job, 100)?,
         MemorySource::in_pieces(alloc, plan.text, failing_listing, 100)?,

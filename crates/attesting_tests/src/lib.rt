@@ -12,6 +12,10 @@ mod jobs;
 #[cfg(test)]
 mod listings;
 #[cfg(test)]
+mod long;
+#[cfg(test)]
+mod long_plans;
+#[cfg(test)]
 mod parametric_runs;
 #[cfg(test)]
 mod plans;
@@ -19,3 +23,9 @@ mod plans;
 mod refused;
 #[cfg(test)]
 mod verdicts;
+#[cfg(test)]
+mod wide_attested;
+#[cfg(test)]
+mod wide_changed;
+#[cfg(test)]
+mod wide_cut;

@@ -1,9 +1,9 @@
 // Listings that are changed, and what each is found to be.
 ghost use Rattle.std.specs.Prelude.{◌≤◌, length, IfSome};
 
-use checks_of_128_bits::Of128Bits;
 use job_devices::{MemorySink, MemorySource};
 use listing_check::check_listing;
+use listing_claims::Checks;
 use std::alloc::Global;
 use std::test::Fail;
 
@@ -81,35 +81,29 @@ fn replaced(
     Ok(Some(made))
 }
 
-// The text after a change. None where what is to be changed isn't there.
-fn edited(alloc: Global, text: &[u8], edit: Edit) -> Result<Option<Vec<u8>>, Fail> {
+/// The text after a change. None where what is to be changed isn't there.
+pub fn edited(alloc: Global, text: &[u8], edit: Edit) -> Result<Option<Vec<u8>>, Fail> {
     match edit {
         Edit::Text(old, new) => replaced(alloc, text, old, new, true),
         Edit::From(old, new) => replaced(alloc, text, old, new, false),
     }
 }
 
-/// What is answered to a job and a listing, over a print whose writes with these numbers fail.
-pub fn answer_from(
+/// What a checker answers to a job and a listing, over a print whose writes with these numbers fail.
+pub fn answer_from<T: Checks>(
     alloc: Global,
     mut job: MemorySource,
     mut listing: MemorySource,
     failing_writes: &[u64],
 ) -> Result<Answer, Fail> {
     let mut print = MemorySink::new(alloc, failing_writes)?;
-    let status = check_listing::<Of128Bits, _, _, _>(
-        alloc,
-        &[],
-        &mut job,
-        &mut listing,
-        &mut print,
-    ).code();
+    let status = check_listing::<T, _, _, _>(alloc, &[], &mut job, &mut listing, &mut print).code();
     Ok(Answer { status, print })
 }
 
-/// What is answered to a job and a listing.
-pub fn answer_to(alloc: Global, job: &[u8], listing: &[u8]) -> Result<Answer, Fail> {
-    answer_from(
+/// What a checker answers to a job and a listing.
+pub fn answer_to<T: Checks>(alloc: Global, job: &[u8], listing: &[u8]) -> Result<Answer, Fail> {
+    answer_from::<T>(
         alloc,
         MemorySource::new(alloc, job, &[])?,
         MemorySource::new(alloc, listing, &[])?,
@@ -117,18 +111,34 @@ pub fn answer_to(alloc: Global, job: &[u8], listing: &[u8]) -> Result<Answer, Fa
     )
 }
 
-/// The first change of a listing after which another line or another status is answered, or which can't be made. The listing as it is
+/// The first change of a listing after which a checker answers another line or another status, or which can't be made. The listing as it is
 /// comes before its changes.
-pub fn first_other(alloc: Global, listing: &Listing) -> Result<Option<&'static str>, Fail> {
-    if !answer_to(alloc, listing.job, listing.text)?.is(listing.status, listing.line) {
+pub fn first_other<T: Checks>(
+    alloc: Global,
+    listing: &Listing,
+) -> Result<Option<&'static str>, Fail> {
+    if !answer_to::<T>(alloc, listing.job, listing.text)?.is(listing.status, listing.line) {
         return Ok(Some("as it is"));
     }
     for case in listing.cases {
         let Some(text) = edited(alloc, listing.text, case.edit)? else {
             return Ok(Some(case.name));
         };
-        if !answer_to(alloc, listing.job, &text)?.is(case.status, case.line) {
+        if !answer_to::<T>(alloc, listing.job, &text)?.is(case.status, case.line) {
             return Ok(Some(case.name));
+        }
+    }
+    Ok(None)
+}
+
+/// The first listing of which a change is answered otherwise by a checker, with this change.
+pub fn first_wrong<T: Checks>(
+    alloc: Global,
+    listings: &[&Listing],
+) -> Result<Option<(&'static str, &'static str)>, Fail> {
+    for listing in listings {
+        if let Some(case) = first_other::<T>(alloc, listing)? {
+            return Ok(Some((listing.name, case)));
         }
     }
     Ok(None)

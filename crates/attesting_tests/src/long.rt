@@ -1,0 +1,181 @@
+// What the checker of any length finds.
+use crate::listings::{Edit, Listing, answer_to, edited, first_wrong};
+use crate::long_plans::{CHAIN, CHAIN_OBJECTIVE, CHAIN_RHS, LONG_DIRECTION, LONG_RAY};
+use crate::parametric_runs::{
+    INFEASIBLE_PAST, LAMPS, MILK, RHS_INTERVALS, RHS_POINT, TWO_INTERVALS, UNBOUNDED_OPENING,
+};
+use crate::plans::{BLANKS, STORE, TIES, TWO_SOLUTIONS};
+use crate::refused::{FAR_POINT, GREAT, RANGE_AFTER_PRIMAL, RANGE_REFUSED};
+use crate::verdicts::{INFEASIBLE, UNBOUNDED};
+use crate::wide_attested::{FIRST_PLAN, SECOND_PLAN, THIRD_PLAN};
+use crate::wide_changed::{MISSING_ROW, WRONG_LETTER, WRONG_SLACK};
+use crate::wide_cut::{CUT_SECOND_ROW, CUT_THIRD_ROW, CUT_VERDICT};
+use checks_of_128_bits::Of128Bits;
+use checks_of_any_length::OfAnyLength;
+use std::alloc::Global;
+use std::test::Fail;
+
+#[test]
+fn long_numbers_are_tested(rt: HostRuntime) -> Result<(), Fail> {
+    assert_eq!(rt;
+        first_wrong::<OfAnyLength>(
+            rt.alloc(),
+            &[
+                &CHAIN,
+                &CHAIN_OBJECTIVE,
+                &CHAIN_RHS,
+                &LONG_RAY,
+                &LONG_DIRECTION
+            ]
+        )?,
+        None
+    );
+    Ok(())
+}
+
+#[test]
+fn random_plans_are_tested(rt: HostRuntime) -> Result<(), Fail> {
+    assert_eq!(rt;
+        first_wrong::<OfAnyLength>(
+            rt.alloc(),
+            &[
+                &FIRST_PLAN,
+                &SECOND_PLAN,
+                &THIRD_PLAN,
+                &WRONG_LETTER,
+                &WRONG_SLACK,
+                &MISSING_ROW,
+                &CUT_VERDICT,
+                &CUT_SECOND_ROW,
+                &CUT_THIRD_ROW
+            ]
+        )?,
+        None
+    );
+    Ok(())
+}
+
+// Of these the same is found as by 128 bits, a selection that is refused among them.
+#[test]
+fn short_numbers_are_answered_alike(rt: HostRuntime) -> Result<(), Fail> {
+    assert_eq!(rt;
+        first_wrong::<OfAnyLength>(
+            rt.alloc(),
+            &[
+                &TWO_SOLUTIONS,
+                &TIES,
+                &BLANKS,
+                &INFEASIBLE,
+                &UNBOUNDED,
+                &TWO_INTERVALS,
+                &LAMPS,
+                &UNBOUNDED_OPENING,
+                &INFEASIBLE_PAST,
+                &MILK,
+                &RHS_INTERVALS,
+                &RHS_POINT,
+                &RANGE_REFUSED,
+                &RANGE_AFTER_PRIMAL
+            ]
+        )?,
+        None
+    );
+    Ok(())
+}
+
+// A test that 128 bits refuse is made.
+#[test]
+fn no_test_is_refused(rt: HostRuntime) -> Result<(), Fail> {
+    let cases: [(&Listing, u8, &[u8]); 2] = [
+        (&GREAT, 40, b"WRONG LINE 4\n"),
+        (&FAR_POINT, 0, b"ATTESTED 3 REPORTS\n"),
+    ];
+    for (listing, status, line) in cases {
+        let answer = answer_to::<OfAnyLength>(rt.alloc(), listing.job, listing.text)?;
+        assert!(rt; answer.is(status, line), "{}", listing.name);
+    }
+    Ok(())
+}
+
+// The word UNCHECKED says nothing of a verdict here. By 128 bits it is wrong where the test is made.
+#[test]
+fn an_unchecked_verdict_is_tested(rt: HostRuntime) -> Result<(), Fail> {
+    let (alloc, store) = (rt.alloc(), &STORE);
+    let text = edited(
+        alloc,
+        store.text,
+        Edit::Text(b"CHECKED", b"UNCHECKED MUL 2 3"),
+    )?;
+    let text = text.unwrap_or(Vec::new(alloc));
+    assert!(rt; answer_to::<OfAnyLength>(alloc, store.job, &text)?.is(0, b"ATTESTED 5 REPORTS\n"));
+    assert!(rt; answer_to::<Of128Bits>(alloc, store.job, &text)?.is(40, b"WRONG LINE 4\n"));
+    Ok(())
+}
+
+const COUNTED: &[u8] = b"         PROGRAM
+         CONVERT
+         SETUP
+         PRIMAL
+         SOLUTION
+         EXIT
+         PEND
+NAME          T
+ROWS
+ N  COST
+ N  SUM
+COLUMNS
+    X         SUM       1
+ENDATA
+";
+
+const BEFORE: &[u8] = b"CONVERT T        ROWS 2 COLUMNS 1 ENTRIES 1
+SETUP   T        MIN
+PRIMAL OPTIMAL STEPS 0 OBJECTIVE 0 CHECKED
+SOLUTION OPTIMAL
+SECTION 1 - ROWS
+NUMBER ROW AT ACTIVITY SLACK LOWER UPPER DUAL
+    1 COST     BS 0 0 NONE NONE 0
+    2 SUM      BS ";
+
+const BETWEEN: &[u8] = b" NONE NONE 0
+SECTION 2 - COLUMNS
+NUMBER COLUMN AT ACTIVITY COST LOWER UPPER REDUCED
+    3 X        BS ";
+
+// A plan whose column stands at a number of so many ones.
+fn plan_of_ones(alloc: Global, digits: usize) -> Result<Vec<u8>, Fail> {
+    let mut ones = Vec::new(alloc);
+    for _ in 0..digits {
+        ones.push(b'1')?;
+    }
+    let mut text = Vec::new(alloc);
+    for piece in [
+        BEFORE,
+        &ones,
+        b" -",
+        &ones,
+        BETWEEN,
+        &ones,
+        b" 0 0 NONE 0\nEND 0\n",
+    ] {
+        text.extend_from_slice(piece)?;
+    }
+    Ok(text)
+}
+
+#[test]
+fn numbers_of_100000_digits_are_read(rt: HostRuntime) -> Result<(), Fail> {
+    let alloc = rt.alloc();
+    let cases: [(usize, u8, &[u8]); 2] = [
+        (100_000, 0, b"ATTESTED 4 REPORTS\n"),
+        (100_001, 42, b"UNCHECKED LINE 4\n"),
+    ];
+    for (digits, status, line) in cases {
+        let text = plan_of_ones(alloc, digits)?;
+        assert!(rt;
+            answer_to::<OfAnyLength>(alloc, COUNTED, &text)?.is(status, line),
+            "{digits}"
+        );
+    }
+    Ok(())
+}
