@@ -1,7 +1,7 @@
 #!/usr/bin/env bash
 # Small checks of the repository, which run after the gate, in three minutes or so on four processors. A check whose tool is missing is skipped, and so is,
 # saying so, what needs the proved program where it isn't fresh. With CHECK_WHOLE=1 a tool that is missing (pytest, mypy, pylint) is a fault too.
-# usage: check.sh      ends with 1 where a check fails
+# usage: check.sh      ends with 1 where a check fails, 64 for wrong use
 set -u
 case ${1:-} in
     -h | --help)
@@ -12,6 +12,10 @@ case ${1:-} in
         exit 0
         ;;
 esac
+[ $# -eq 0 ] || {
+    echo "usage: check.sh" >&2
+    exit 64
+}
 cd "$(dirname "$0")/.." || exit 1
 failed=0 missing=''
 room=$(mktemp -d)

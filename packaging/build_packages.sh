@@ -39,7 +39,7 @@ for tool in git rt dh dh_python3 dpkg-buildpackage; do
 done
 [ -z "$(git -C "$top" status --porcelain)" ] || end 65 "there are changes that aren't committed, so no commit names what would be built"
 
-for name in mps360 mps360check; do
+for name in mps360 mps360check mps360long; do
     [ -n "${options[0]:-}" ] || "$top/scripts/program.sh" --fresh "$name" >/dev/null ||
         end 70 "no proved program $name is there: scripts/build.sh proves and builds it; --unproved makes packages for trial"
 done

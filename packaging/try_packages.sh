@@ -86,6 +86,11 @@ done
 mps360-prove $examples/glass.mps >proved 2>said && grep -q 'PRIMAL OPTIMAL' proved || fail "mps360-prove: $(cat said)"
 echo '{"answer": "optimal", "columns": {"doors": 2, "windows": 6}, "prices": {"plant_2_hours": "3/2", "plant_3_hours": 1}}' >solution.json
 mps360-attest $examples/glass.mps solution.json >attested 2>said && grep -q 'OPTIMAL, objective 36' attested || fail "mps360-attest: $(cat attested said)"
+# (numbers of 36 decimal places: the objective of the plan has 73 digits, which mps360long alone reads)
+printf 'NAME LONG\nROWS\n N COST\n G NEED\nCOLUMNS\n X COST 1.%035d7 NEED 3.%035d1\nRHS\n B NEED 1.%035d1\nENDATA\n' 0 0 0 >long.mps
+printf '{"answer": "optimal", "columns": {"X": "1%035d1/3%035d1"}, "prices": {"NEED": "1%035d7/3%035d1"}}\n' 0 0 0 0 >long.json
+mps360-attest --keep long long.mps long.json >attested 2>said && grep -q 'mps360long.*OPTIMAL, objective ' attested || fail "mps360-attest by mps360long: $(cat attested said)"
+mps360long long/model.job long/model.listing >attested 2>said && grep -q '^ATTESTED [0-9]* REPORTS$' attested || fail "mps360long: $(cat attested said)"
 mkdir models && cp $examples/*.mps $examples/first.job models/
 mps360-batch -j 2 models >batch 2>/dev/null && [ "$(wc -l <models/listings/summary.csv)" = 3 ] || fail "mps360-batch: $(cat batch)"
 mps2job -o glass.job --names glass.names $examples/glass.mps 2>/dev/null && mps360 glass.job 2>/dev/null | listing2json --names glass.names | grep -q '"doors"' || fail "mps2job, listing2json"

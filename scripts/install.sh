@@ -1,7 +1,7 @@
 #!/usr/bin/env bash
 # Installs the proved programs mps360, mps360check and mps360long, the commands
-# that stand beside them, manual pages, completion for bash, zsh and fish, the documents
-# and the examples.
+# that stand beside them, manual pages, completion for bash, zsh and fish, the
+# documents and the examples.
 #
 # usage: scripts/install.sh [--root FOLDER] [--unproved] PREFIX
 #

@@ -183,7 +183,7 @@ def answer_of(job: Job, outcome: Outcome, ranging: bool = False) -> Answer:
     end, is_optimal = listing["end"], bool(verdict) and verdict["verdict"] == "optimal"
     moving = [line for line in (verdict or {}).get("direction", []) if line["number"] > len(job.rows)]
     objective = verdict.get("objective_with_constant", verdict.get("objective")) if verdict else None
-    said = (*job.said, *(attempt.basis.said if attempt.basis else ()), *notes)
+    said = (*job.said_without(job.of_table, job.of_listing), *(attempt.basis.said if attempt.basis else ()), *notes)
     run = {"model": job.file.name, "program": provenance.kind, "seconds": round(attempt.seconds, 3), "interrupted": False, "notes": list(said), **provenance.as_json()}
     document = tables.document(listing, run)
     tables.add_decimals(document)

@@ -3,9 +3,10 @@
     program = solver_program()             NoProgram where there is none
     checker = listing_checker(NAME)        mps360check, or mps360long, which reads numbers of any length; None where it isn't at hand
     checkers = checkers_at_hand(FILE)      both, each found where it is first asked for, or the one that is named
+    checker = checker_to_compile(NAME)     as listing_checker finds it; where there is none, with the command that compiles it
 
-Nothing is compiled here: of the unproved ones those count that were compiled before of the same sources, by scripts/mps360, scripts/mps360check or
-scripts/mps360long."""
+Nothing is compiled here: of the unproved ones those count that were compiled before of the same sources, by scripts/mps360, scripts/mps360check,
+scripts/mps360long or scripts/unproved.py."""
 from __future__ import annotations
 
 import functools
@@ -16,12 +17,12 @@ from collections.abc import Callable
 from dataclasses import dataclass
 from typing import Literal
 
-from mps360 import programs
+from mps360 import commands, programs
 from mps360.errors import NoProgram
 
 Kind = Literal["proved", "unproved", "other"]
 PROGRAM, CHECKER, LONG_CHECKER = "mps360", "mps360check", "mps360long"
-PROVES = "scripts/build.sh proves and builds it, in some 25 minutes"
+PROVES = commands.who_proves()
 
 
 @dataclass(frozen=True)
@@ -139,3 +140,12 @@ def listing_checker(name: str = CHECKER) -> Tool | None:
         return Tool((proved,), "proved", name=name)
     kept = None if os.environ.get("MPS360_PROVED") else kept_program(name)
     return Tool((kept,), "unproved", name=name) if kept else None
+
+
+def checker_to_compile(name: str = CHECKER) -> Tool | None:
+    "the checker of listings that is at hand; else the unproved one, which is to be compiled first. None where it has no sources here, or unproved runs are refused"
+    tool = listing_checker(name)
+    if tool or not programs.may_be_compiled(name):
+        return tool
+    command = (str(programs.COMMANDS / "unproved.py"), "--program", name)
+    return Tool(command, "unproved", (*command, "--compile"), name)

@@ -10,6 +10,15 @@ DOCUMENTS = os.path.join(os.path.dirname(os.path.dirname(TOP)), "share/doc/mps36
 INSTALLED = {"attest": "mps360-attest", "explain": "mps360-explain", "plot_parametric.py": "mps360-plot", "prove": "mps360-prove", "solve": "mps360-solve"}
 
 
+# where a proved program comes from: in a clone of its build, installed of another package
+IN_A_CLONE, INSTALLED_HERE = "scripts/build.sh proves and builds it, in some 25 minutes", "a package made of a proved build has the proved one"
+
+
+def who_proves(in_a_clone: str = IN_A_CLONE) -> str:
+    "where the proved program comes from; words for a clone, which has scripts/build.sh"
+    return INSTALLED_HERE if IS_INSTALLED else in_a_clone
+
+
 def called(name: str) -> str:
     "what a command of scripts/ is called here, by the name of its file there"
     return INSTALLED.get(name, name.removesuffix(".py")) if IS_INSTALLED else f"scripts/{name}"

@@ -93,27 +93,30 @@ class Model:
 
     def add_row(self, name: str, kind: str, rhs: Number = 0, span: Number | None = None) -> None:
         """a new row of the kind N (no limit), L (at most rhs), G (at least) or E (equal); a span makes a range of it: of an L row from rhs - span, of a G row to
-        rhs + span. On an N row rhs is its constant, which is added to its activity. ValueError where there is such a row"""
+        rhs + span. On an N row rhs is its constant, which is added to its activity. ValueError where there is such a row, TypeError for a float; then the model
+        stays as it was"""
         if name in self.rows and not (name == self.objective and kind == "N"):
             raise ValueError(f"there is a row {name!r} already")
         if kind not in KINDS:
             raise ValueError(f"{kind!r} is none of {', '.join(KINDS)}")
+        if span is not None and kind == "N":
+            raise ValueError("an N row has no range")
+        limit, width = exact(rhs), None if span is None else exact(span)
         self.rows[name] = kind
-        if rhs:
+        if limit:
             self.rhs_set = self.rhs_set or "RHS"
-            self.rhs.setdefault(self.rhs_set, {})[name] = exact(rhs) * (self.constant_sign if kind == "N" else 1)
-        if span is not None:
-            if kind == "N":
-                raise ValueError("an N row has no range")
+            self.rhs.setdefault(self.rhs_set, {})[name] = limit * (self.constant_sign if kind == "N" else 1)
+        if width is not None:
             self.range_set = self.range_set or "RANGES"
-            self.ranges.setdefault(self.range_set, {})[name] = exact(span)
+            self.ranges.setdefault(self.range_set, {})[name] = width
 
     def add_combination(self, name: str, kind: str, parts: Mapping[str, Number], rhs: Number = 0) -> None:
         "a new row that is a sum of rows before it, each times a multiplier; ValueError where one of them isn't there"
         if missing := next((part for part in parts if part not in self.rows), None):
             raise ValueError(f"there is no row {missing!r}")
+        multipliers = {part: exact(times) for part, times in parts.items()}
         self.add_row(name, kind, rhs)
-        self.parts[name] = {part: exact(times) for part, times in parts.items()}
+        self.parts[name] = multipliers
 
     def add_column(self, name: str, entries: Mapping[str, Number], lower: Number | None = 0, upper: Number | None = None) -> None:
         "a new column, with its numbers on rows that are there and are no combinations, and its limits, None for none; ValueError where it can't be"
@@ -121,8 +124,8 @@ class Model:
             raise ValueError(f"there is a column {name!r} already")
         if wrong := next((row for row in entries if row not in self.rows or row in self.parts), None):
             raise ValueError(f"{wrong!r} is a combination, which has no entries of its own" if wrong in self.parts else f"there is no row {wrong!r}")
-        self.columns[name] = {row: exact(value) for row, value in entries.items()}
         limits = Limits(None if lower is None else exact(lower), None if upper is None else exact(upper))
+        self.columns[name] = {row: exact(value) for row, value in entries.items()}
         if (limits.lower, limits.upper) != (Fraction(0), None):
             self.bound_set = self.bound_set or "BOUNDS"
             self.bounds.setdefault(self.bound_set, {})[name] = limits

@@ -56,13 +56,13 @@ def of_choices(model: Model, choices: Choices) -> Iterator[str]:
 
 
 def of_empty(model: Model) -> Iterator[str]:
-    "columns without entries, and rows that have limits and no entries"
-    met = {row for entries in model.columns.values() for row in entries}
+    "columns without entries, and rows that have limits and no entries; an entry that is 0 is none"
+    met = {row for entries in model.columns.values() for row, value in entries.items() if value}
     met.update(row for row, parts in model.parts.items() if parts)
     rows = [row for row, kind in model.rows.items() if row not in met and kind != "N"]
     if rows:
         yield f"{counted(len(rows), 'row', 'has', 'have')} no entry ({some_of(rows)}): is a column missing?"
-    columns = [column for column, entries in model.columns.items() if not entries]
+    columns = [column for column, entries in model.columns.items() if not any(entries.values())]
     if columns:
         them = "it" if len(columns) == 1 else "them"
         yield f"{counted(len(columns), 'column', 'has', 'have')} no entry ({some_of(columns)}): only bounds limit {them}"

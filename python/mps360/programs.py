@@ -7,6 +7,7 @@ import re
 import shutil
 import subprocess
 import tempfile
+from mps360.commands import who_proves
 from mps360.errors import NoProgram
 
 # the repository, or the folder where the commands are installed
@@ -14,6 +15,7 @@ TOP = pathlib.Path(__file__).resolve().parents[2]
 COMMANDS = TOP / "scripts" if (TOP / "scripts").is_dir() else TOP
 # what the programs of a trial package end in
 UNPROVED = ".unproved"
+BUILDS = "scripts/build.sh builds it"
 
 
 def installed_program(name: str, ending: str = "") -> str | None:
@@ -42,7 +44,7 @@ def checker_program(is_unproved: bool = False, name: str = "mps360check") -> str
     if program:
         return program
     if not is_unproved:
-        raise NoProgram(f"no proved program {name} is there (scripts/build.sh builds it)")
+        raise NoProgram(f"no proved program {name} is there ({who_proves(BUILDS)})")
     from mps360 import unproved
     try:
         return unproved.make(name, optimised=True)
@@ -73,7 +75,7 @@ def run_jobs(jobs: Mapping[str, bytes], unproved: bool = False, whole: bool = Tr
     if program:
         return {name: run_proved(program, job)[:2] for name, job in jobs.items()}
     if not unproved or not shutil.which("rt"):
-        raise NoProgram("no proved program is there (scripts/build.sh builds it)" if not unproved else "no command rt on the path")
+        raise NoProgram(f"no proved program is there ({who_proves(BUILDS)})" if not unproved else "no command rt on the path")
     with tempfile.TemporaryDirectory() as folder:
         for name, job in jobs.items():
             pathlib.Path(folder, name).write_bytes(job)

@@ -5,6 +5,8 @@ from collections.abc import Sequence
 from dataclasses import dataclass
 from typing import TYPE_CHECKING, Literal
 
+from mps360.commands import who_proves
+
 if TYPE_CHECKING:
     from mps360.at_hand import Kind
     from mps360.routes import Outcome, Tried
@@ -90,12 +92,13 @@ class Provenance:
 
     def sentence(self) -> str:
         "whether the listing is proved, for people"
+        proved_one = who_proves("scripts/build.sh builds the proved one")
         if self.by_checker:
             return {"proved": f"The proved {self.checker_title} attested the listing, so its verdict and numbers are proved for the job's cards.",
-                    "unproved": f"Not proved: the {self.checker_title} ran unproved (scripts/build.sh builds the proved one).",
+                    "unproved": f"Not proved: the {self.checker_title} ran unproved ({proved_one}).",
                     "other": "Not proved: another program than the proved checker attested this."}[self.kind]
         return {"proved": "The proved program printed the listing, so its verdict and numbers are proved for the job's cards.",
-                "unproved": "Not proved: the program ran unproved (scripts/build.sh builds the proved one).",
+                "unproved": f"Not proved: the program ran unproved ({proved_one}).",
                 "other": "Not proved: another program printed this."}[self.kind]
 
     def page_sentence(self) -> str:

@@ -18,6 +18,7 @@ from collections.abc import Callable
 from dataclasses import dataclass, field
 from typing import TYPE_CHECKING
 
+from mps360.commands import who_proves
 from mps360.errors import Refused
 from mps360.life import within
 from mps360.processes import Process, Processes
@@ -152,11 +153,17 @@ class Routes:
         return self.outcome(attempt)
 
     def prepare(self) -> None:
-        "compiles a program that runs unproved and isn't compiled; its own words are told"
-        if self.program.prepare:
-            process = self.processes.start(self.program.prepare, tell=self.observer.heard, keeps=False)
-            if self.wait(process, self.left(), lambda: "waits for the program to be compiled") and process.status:
-                raise NoAnswer.of(process.status)
+        "compiles a program that runs unproved and isn't compiled"
+        status = self.compiled(self.program, "the program")
+        if status:
+            raise NoAnswer.of(status)
+
+    def compiled(self, tool: Tool, title: str) -> int | None:
+        "how the command ends that compiles a tool, 0 where there is nothing to compile; its own words are told. None where no time is left for it"
+        if not tool.prepare:
+            return 0
+        process = self.processes.start(tool.prepare, tell=self.observer.heard, keeps=False)
+        return process.status if self.wait(process, self.left(), lambda: f"waits for {title} to be compiled") else None
 
     # ---- time, and waiting
 
@@ -357,7 +364,7 @@ class Routes:
         attempt = self.running = Attempt(f"{what}, attested by the checker", self.job.text, solver=solver, by_checker=True, status=0)
         try:
             if self.checkers is None or not (self.checkers.short or self.checkers.long):
-                raise NoBasis("no checker of listings is at hand (scripts/build.sh builds it)")
+                raise NoBasis(f"no checker of listings is at hand ({who_proves('scripts/build.sh builds it')})")
             self.observer.going(f"asking {solver.title} for an exact answer")
             request = self.asked(functools.partial(solver.ask_exactly, self.plain_form(), self.processes, self.first_basis), solver)
             attempt.written = request.written()
@@ -390,8 +397,14 @@ class Routes:
         return checkers.title(attempt.checker)
 
     def said_by(self, checker: Tool, attempt: Attempt) -> Said:
-        "what a checker says of the attempt's listing; NoBasis where no time is left for it"
-        from mps360.checkers import Said
+        "what a checker says of the attempt's listing, once it is compiled; NoBasis where it can't be, or where no time is left for it"
+        from mps360.checkers import Said, title
+        if checker.prepare:
+            what = f"{title(checker)} of listings"
+            self.observer.going(f"compiling {what}, which then runs UNPROVED")
+            status = self.compiled(checker, what)
+            if status != 0:
+                raise NoBasis(f"{what} wasn't compiled" + (" in the time that was left" if status is None else ""))
         process = self.processes.start(checker.command, attempt.job.encode("latin-1"), files={"LISTING": attempt.listing}, tell=self.observer.heard)
         if not self.wait(process, self.left(), lambda: "waits for the checker of listings"):
             raise NoBasis("the checker of listings had no end in the time that was left")

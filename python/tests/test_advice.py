@@ -208,6 +208,21 @@ def test_names_where_it_is_installed(tmp_path):
     assert told == b"mps360-explain, mps2job, mps360-solve, mps360-batch, /doc/FAULTS.md\n"
 
 
+def test_a_proved_program_where_it_is_installed(tmp_path):
+    "an installed copy has no scripts/build.sh, so no words of its answers and faults speak of it"
+    home = tmp_path / "libexec/mps360"
+    (home / "python").mkdir(parents=True)
+    (home / "python/mps360").symlink_to(places.PYTHON / "mps360")
+    code = "import sys; sys.path.insert(0, sys.argv[1]); from mps360 import commands; commands.IS_INSTALLED = True; " \
+        "from mps360 import at_hand, provenance; print(at_hand.PROVES); " \
+        "print(*(provenance.Provenance('unproved', by_checker, 'PRIMAL', ()).sentence() for by_checker in (False, True)), sep='\\n')"
+    told = subprocess.run([sys.executable, "-c", code, home / "python"], stdout=subprocess.PIPE, check=True, text=True).stdout.splitlines()
+    assert told == ["a package made of a proved build has the proved one",
+                    "Not proved: the program ran unproved (a package made of a proved build has the proved one).",
+                    "Not proved: the checker ran unproved (a package made of a proved build has the proved one)."]
+    assert commands.who_proves() == "scripts/build.sh proves and builds it, in some 25 minutes"
+
+
 # ---- certificates
 
 def test_vipr_1_1(tmp_path):

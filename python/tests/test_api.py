@@ -159,6 +159,28 @@ def test_what_is_changed_is_noted(program):
     assert any("whole numbers" in note for note in answer.notes) and any("whole numbers" in note for note in model.notes)
 
 
+def test_no_note_is_for_a_table_that_isnt_there(program):
+    "an answer has no table of names, and its objective has the constant: what is said for readers of these isn't noted"
+    answer = mps360.solve(mps360.read_mps(GLASS), program=program)
+    assert answer.notes == () and answer.as_json()["run"]["notes"] == []
+    text = "NAME T\nROWS\n N COST\n G NEED\nCOLUMNS\n X COST 2 NEED 4\nRHS\n B NEED 1 COST 3\nENDATA\n"
+    answer = mps360.solve(mps360.read_mps(io.BytesIO(text.encode())), program=program)
+    assert answer.objective == Fraction(1, 2) - 3
+    assert len(answer.notes) == 1 and answer.notes[0].startswith("the objective's constant is -3")
+
+
+def test_a_call_that_is_refused_leaves_the_model_alone(program):
+    "a float, a range of an N row: the model has the answer that it had"
+    model = week()
+    for wrong in (lambda: model.add_row("more", "L", 0.5), lambda: model.add_row("more", "L", 1, 0.5), lambda: model.add_row("more", "N", 0, 1),
+                  lambda: model.add_combination("sum", "L", {"boards": 0.5}), lambda: model.add_column("beds", {"boards": 0.5}),
+                  lambda: model.add_column("beds", {"boards": 1}, 0, 0.5)):
+        with pytest.raises((TypeError, ValueError)):
+            wrong()
+    assert mps360.solve(model, program=program).objective == 48 * 20 + 8 * 36
+    assert list(model.rows) == ["profit", "boards", "hours"] and list(model.columns) == ["tables", "chairs", "shelves"]
+
+
 @pytest.mark.parametrize("value", [0.1, True, "1"])
 def test_only_exact_numbers_are_taken(value):
     "a float isn't the decimal that it shows"

@@ -130,6 +130,7 @@ def test_resume_goes_by_the_words(tmp_path):
 
 @pytest.mark.parametrize("words, status, cause", [
     (("--with", "cplex"), 64, "no solver cplex"), (("--with", "glpsol"), 70, "glpsol isn't installed (apt-get install glpk-utils)"), (("--seconds", "-1"), 64, "--seconds"),
+    (("--seconds", "x"), 64, "'x' isn't a number of seconds"), (("-j", "0"), 64, "'0' isn't a whole number from 1 on"), (("-j", "two"), 64, "'two' isn't a whole number from 1 on"),
     (("--mps2job=--neglect",), 64, "--mps2job: "), (("--mps2job", "--neglect"), 64, "--mps2job: unrecognized arguments: --neglect"), (("--mps2job='",), 64, "--mps2job: "), (("--mps2job=--infinity x",), 64, "--mps2job: --infinity: x isn't a number")])
 def test_wrong_words_are_wrong_at_once(tmp_path, words, status, cause):
     house = House(tmp_path)

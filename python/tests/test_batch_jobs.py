@@ -9,7 +9,7 @@ import time
 
 import places
 import pytest
-from house import CHECKER, DIET, EXAMPLES, STATUSES, STOP, STOPPED, STUB, call, example, lines_of, make_house, make_jobs, put_program, without_rt
+from house import CHECKER, DIET, EXAMPLES, LONG_CHECKER, STATUSES, STOP, STOPPED, STUB, call, example, lines_of, make_house, make_jobs, put_program, without_rt
 from oracle import listing as expected_listing
 
 # the generated transportation problem, solved again and again: a job that never ends within a test
@@ -22,7 +22,7 @@ def made(folder, place="house/scripts"):
     "the command in a house, or as it is installed, and a folder of jobs"
     make_house(folder / "house")
     make_jobs(folder / "jobs")
-    for name, stub in (("mps360", STUB), ("mps360check", CHECKER)):
+    for name, stub in (("mps360", STUB), ("mps360check", CHECKER), ("mps360long", LONG_CHECKER)):
         put_program(folder / "house", name, stub)
     if place.startswith("prefix"):
         assert call(folder / "house/scripts/install.sh", folder / "prefix").returncode == 0

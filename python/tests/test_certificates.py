@@ -70,7 +70,7 @@ NOT_SO = (
     (CERTIFICATE.replace("{ lin 1 1 3/2 }", "{ asm }"), 65, "is by 'asm'"),
     (CERTIFICATE.replace("lin 2 5 1 2 1", "lin 2 9 1 2 1"), 65, "line 19: '9'"),
     (CERTIFICATE.replace("2 0 3 1 5", "2 0 3 0 5"), 65, "the index 0 stands twice"),
-    (CERTIFICATE.replace("VER 1.0", "VER 2.0"), 65, "line 2: '2.0'"),
+    (CERTIFICATE.replace("VER 1.0", "VER 2.0"), 65, "line 2: '2.0'"), (CERTIFICATE.replace("VER 1.0", "VER 1.2"), 65, "line 2: '1.2'"),
     (CERTIFICATE[:200], 65, "the certificate ends too early"),
     (CERTIFICATE + "more", 65, "something follows"),
     ("", 65, "line 1:"),

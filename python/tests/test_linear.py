@@ -32,7 +32,7 @@ ORDINARY = {"solve": {**READING, "cli.solve": "the command", "cli.route_options"
                       "runs": "a run of the program", "processes": "its process", "life": "lines of life", "solver_names": "whom a word may name",
                       "listings": "", "listings.read": "reads the listing", "listings.made": "compares it with the job", "listings.tables": "its tables",
                       "provenance": "where the answer comes from"},
-            "attest": {**READING, "cli.attest": "the command", "cli.solution2listing": "its listing", "listings": "", "listings.write": "writes the listing",
+            "attest": {**READING, "cli.attest": "the command", "checkers": "which checker attests", "cli.solution2listing": "its listing", "listings": "", "listings.write": "writes the listing",
                        "solutions": "reads the answer", "long_answers": "an answer of long numbers", "bases": "what stands where"}}
 # with all that Python loads for it, of which it begins with some 30: 154 for solve and 147 for attest, by Python 3.11
 MOST_MODULES = 165

@@ -59,6 +59,9 @@ def test_two_n_rows():
 
 def test_rows_and_columns_without_entries():
     assert warned(file_of(more_rows=" G NEED\n")) == ["1 row has no entry (NEED): is a column missing?"]
+    # (an entry that is 0 is none)
+    assert warned(file_of(more_rows=" G NEED\n", columns=" X {0} 3 CAP 1\n X NEED 0\n Y {0} 0\n")) == [
+        "1 row has no entry (NEED): is a column missing?", "1 column has no entry (Y): only bounds limit it"]
     assert warned(file_of(more_rows=" G NEED\n E SUM\n")) == ["2 rows have no entry (NEED, SUM): is a column missing?"]
     assert warned("min\nobj: x\nst\nc: x >= 1\nbounds\n y <= 4\nend\n") == ["1 column has no entry (y): only bounds limit it"]
     # a combination has its parts

@@ -125,7 +125,7 @@ def test_help_to_a_full_disk(tmp_path, command):
     assert len(ended.stderr.splitlines()) == 1
 
 
-@pytest.mark.parametrize("command", ["mps360", "mps360check", "program.sh", "build.sh", "install.sh", "check.sh", "mps360-batch", "unproved.py"])
+@pytest.mark.parametrize("command", ["mps360", "mps360check", "mps360long", "program.sh", "build.sh", "install.sh", "check.sh", "mps360-batch", "unproved.py"])
 def test_help_to_a_closed_pipe(tmp_path, command):
     ended = to_closed_pipe(command, ["--help"], tmp_path)
     assert last_line(ended).startswith(f"{command}: can't write to standard output")
@@ -186,7 +186,7 @@ def test_a_folder_that_is_a_file(tmp_path, command):
 def test_every_command_is_tried():
     tried = {command.split(" ")[0] for command in (*ANSWERS, *FILES)}
     # (the shell scripts print what programs print, and mps360-batch has a test of its own)
-    assert set(COMMANDS) - tried == {"build.sh", "check.sh", "install.sh", "mps360", "mps360-batch", "mps360check", "program.sh", "unproved.py"}
+    assert set(COMMANDS) - tried == {"build.sh", "check.sh", "install.sh", "mps360", "mps360-batch", "mps360check", "mps360long", "program.sh", "unproved.py"}
 
 
 def test_notes_that_cant_be_written(tmp_path):

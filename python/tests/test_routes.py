@@ -48,8 +48,10 @@ STATUS = {"ATTESTED": 0, "WRONG": 40, "OPEN": 41, "UNCHECKED": 42}
 
 
 def says(folder, name, answer):
-    "a stand-in for a checker that answers so; None where there is no answer"
-    return answer and at_hand.Tool((fakes.program(folder, name, fakes.CHECKER, answer=answer, status=STATUS[answer.split(" ", maxsplit=1)[0]]),), "other", name=name)
+    "a stand-in for a checker that answers so, or the checker itself; None where there is no answer"
+    if answer is None or isinstance(answer, at_hand.Tool):
+        return answer
+    return at_hand.Tool((fakes.program(folder, name, fakes.CHECKER, answer=answer, status=STATUS[answer.split(" ", maxsplit=1)[0]]),), "other", name=name)
 
 
 def run(folder, plan, *, opening="overflow", inserted="answers", checker=None, long_checker=None, told=None, begin=None):
@@ -118,6 +120,31 @@ def test_the_checker_of_any_length_is_asked_where_the_other_has_no_answer(tmp_pa
         outcome = run(tmp_path, plan(solvers=("esolver",), only="exact"), checker=checker, long_checker="ATTESTED 5 REPORTS")
     assert outcome.attempt.by_checker and outcome.status == 0 and outcome.tool.name == wanted
     assert outcome.routes[-1].words == "esolver's exact answer, attested by the checker" + (" mps360long" if wanted == "mps360long" else "")
+
+
+@pytest.mark.parametrize("status, why", [(0, None), (70, "no exact answer of esolver: the checker mps360long of listings wasn't compiled")])
+def test_a_checker_is_compiled_where_it_is_needed(tmp_path, status, why):
+    "its command is there only once it is compiled; where that fails the route ends, and says so"
+    made = fakes.program(tmp_path, "made", fakes.CHECKER, answer="ATTESTED 5 REPORTS", status=0)
+    compiles = fakes.program(tmp_path, "compiles", "{status} or os.rename({made!r}, {made!r} + '-long'); sys.exit({status})", status=status, made=made)
+    told, long_checker = Told(), at_hand.Tool((made + "-long",), "unproved", (compiles,), "mps360long")
+    with fakes.only_path(tmp_path):
+        fakes.program(tmp_path, "esolver", ESOLVER, solution=SOLUTION, deck=GOOD_DECK)
+        outcome = run(tmp_path, plan(solvers=("esolver",)), inserted="overflow", checker="UNCHECKED LINE 5", long_checker=long_checker, told=told)
+    assert outcome.routes[-1].why == why and outcome.attempt.by_checker == (why is None)
+    assert "compiling the checker mps360long of listings, which then runs UNPROVED" in told.said
+
+
+@pytest.mark.parametrize("name", ["mps360check", "mps360long"])
+def test_an_unproved_checker_is_compiled_by_its_name(monkeypatch, name):
+    "where none is at hand; not where an unproved run is refused"
+    monkeypatch.setattr(at_hand, "listing_checker", lambda name: None)
+    monkeypatch.delenv("MPS360_PROVED", raising=False)
+    tool = at_hand.checker_to_compile(name)
+    assert tool is not None and (tool.name, tool.kind) == (name, "unproved")
+    assert tool.prepare == (str(places.SCRIPTS / "unproved.py"), "--program", name, "--compile")
+    monkeypatch.setenv("MPS360_PROVED", "1")
+    assert at_hand.checker_to_compile(name) is None
 
 
 @pytest.mark.parametrize("checker, words", [("WRONG LINE 9", "the checker of listings says WRONG LINE 9 and ends with 40"), (None, "no checker of listings is at hand")])

@@ -147,7 +147,8 @@ def test_interrupted(tmp_path, number):
 
 @pytest.mark.parametrize("words, status, cause", [
     (("--with", "cplex"), 64, "no solver cplex; highs, clp, esolver, glpsol, lp_solve are known, and none for nobody"), (("--with", ""), 64, "no solver"),
-    (("--only", "luck"), 64, "invalid choice: 'luck'"), (("--seconds", "0"), 64, "--seconds"), (("--seconds", "x"), 64, "--seconds"),
+    (("--only", "luck"), 64, "invalid choice: 'luck'"), (("--seconds", "0"), 64, "'0' isn't a number of seconds"), (("--seconds", "x"), 64, "'x' isn't a number of seconds"),
+    (("--seconds", "nan"), 64, "'nan' isn't a number of seconds"), (("--processors", "0"), 64, "'0' isn't a whole number"), (("--processors", "2.5"), 64, "'2.5' isn't a whole number"),
     (("--only", "basis", "--with", "none"), 64, "lets nobody be asked"), (("--only", "exact", "--with", "clp"), 64, "asks esolver"),
     (("--with", "clp"), 70, "clp isn't installed (apt-get install coinor-clp)"), (("--only", "exact"), 70, "esolver isn't installed (apt-get install qsopt-ex)"),
     (("--checker", "/none"), 70, "/none isn't a program that can be run"), (("--program", "/none"), 70, "/none isn't a program that can be run"),

@@ -12,6 +12,7 @@ import pytest
 def installed(folder, status):
     "a copy of the command mps360 as it is installed, whose program stops with a status"
     shutil.copy(places.SCRIPTS / "mps360", folder / "mps360")
+    (folder / "version").write_text("mps360 1\n", encoding="ascii")
     fakes.program(folder, "program", f"sys.stdin.read()\nprint('STOP')\nsys.exit({status})")
     job = folder / "a job"
     job.write_text("         PROGRAM\n", encoding="ascii")

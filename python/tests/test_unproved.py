@@ -1,4 +1,5 @@
 "Where no proved program is there: jobs run, and listings are attested, unproved; a program that was compiled is kept until a source changes."
+import hashlib
 import io
 import os
 import shutil
@@ -6,10 +7,14 @@ import subprocess
 import time
 import unittest.mock
 
+import fakes
 import places
+import programs_at_hand
 from house import (CHECKER, EXAMPLES, STATUSES, STUB, UNPROVED, call, check_checker, check_made, example, make_house, make_jobs, model_and_solution, with_rt,
                    without_rt)
 from mps360 import unproved
+from test_routes import ESOLVER, GOOD_DECK, SOLUTION
+from test_solvers import GLASS
 
 
 def made(folder):
@@ -127,6 +132,25 @@ def test_the_unproved_checker(tmp_path):
     assert ended.returncode == 0 and ended.stdout.startswith(b"not proved, since the checker ran unproved; it attests: OPTIMAL, objective 9\n"), \
         ("attest unproved", ended)
     (house / "module").unlink()
+
+
+def test_solve_compiles_the_checker_that_it_needs(tmp_path):
+    "esolver's exact answer goes to a checker that nobody compiled before; what it attests isn't called proved, and its checksum is said"
+    house, _ = made(tmp_path)
+    (house / "module").touch()
+    (house / "made").write_text(CHECKER.format(house))
+    fakes.program(house / "bin", "esolver", ESOLVER, solution=SOLUTION, deck=GOOD_DECK)
+    model = tmp_path / "glass.mps"
+    model.write_text(GLASS)
+    words = (house / "scripts/solve", "--program", programs_at_hand.solver(tmp_path), "--only", "exact", model)
+    ended = call(*words, env={**with_rt(house), "MPS360_PROVED": "1"})
+    assert b"no checker of listings is at hand" in ended.stderr, ("solve: an unproved checker is refused", ended)
+    ended = call(*words, env=with_rt(house))
+    assert ended.returncode == 0 and b"solve: compiling the checker of listings, which then runs UNPROVED\n" in ended.stderr, ("solve compiles", ended)
+    assert b"not proved, since the checker ran unproved: by esolver's exact answer, attested by the checker" in ended.stderr, ("solve says who attests", ended)
+    assert b"checker " + hashlib.sha256((house / "made").read_bytes()).hexdigest().encode() in ended.stdout, ("solve: the checksum", ended)
+    ended = call(*words, env=with_rt(house))
+    assert ended.returncode == 0 and b"compiling" not in ended.stderr and (house / "tried").read_text() == "once\n", ("solve: it is kept", ended)
 
 
 def test_several_at_once(tmp_path):

@@ -20,3 +20,7 @@ mod Closing
 mod Parts
 mod Chains
 mod Counted
+mod Turns
+mod Alike
+mod Stepping
+mod Whole

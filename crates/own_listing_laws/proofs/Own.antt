@@ -1,5 +1,5 @@
 -- The listing of a job's run is never found wrong.
-use Rattle.std.proofs.Common.{◌≡◌, ℕ, ◌-◌, ◌<◌, true, false, List, [], ◌∷◌, ◌++◌, length, Some, None, Result, Ok, Err, if◌then◌else◌, refl, sym, ap, subst, ◌∙◌, arith, append_assoc, append-nil, lt-ltb, le-ltb, ◌≤◌}
+use Rattle.std.proofs.Common.{◌≡◌, ℕ, ◌-◌, ◌<◌, false, List, [], ◌∷◌, ◌++◌, length, Some, None, Result, Ok, Err, refl, sym, ap, subst, ◌∙◌, arith, append_assoc, append-nil, lt-ltb, le-ltb, ◌≤◌}
 use Rattle.std.specs.Prelude.{slice_get, nat_lt}
 use Rattle.std.proofs.lemmas.Grind.{flat_map-append}
 use Rattle.std.proofs.lemmas.Option.{slice_get_within, same_Some}
@@ -23,10 +23,11 @@ use Rattle.soundness_laws.proofs.Moves.{HasProblem, Knows}
 use Rattle.soundness_laws.proofs.Runs.{has_problem, known, knows_linear_programming}
 use Rattle.walk_definitions.specs.Checkers.{checker_of_128_bits}
 use Rattle.walk_definitions.specs.Tables.{begins_table_line}
-use Rattle.walk_definitions.specs.Walker.{Walker, Found, WalkTurn, Walks, Finds, closes, walk_move, walk_statement, turn}
+use Rattle.walk_definitions.specs.Walker.{Walker, Found, WalkTurn, Walks, Finds, closes, walk_move, turn}
 use Rattle.walk_definitions.specs.Found.{first_walker, Reaches as Walked, begun as not_begun, walked, of_cards, of_control, of_walk}
 use Rattle.own_listing_laws.specs.Fitting.{ReportsFit, StopFits}
 use Rattle.own_listing_laws.specs.Laws.{IsNotWrong, NeverWrong}
+use Rattle.own_listing_laws.proofs.Turns.{turn_at_end, turn_at_limit, turn_at_statement}
 use Rattle.own_listing_laws.proofs.Pace.{IsLike, WaitsAt, KeepsPace, Lands, IsFoundRight, GainFits, IsDue, closes_right}
 use Rattle.walk_definitions.specs.Words.{max_count}
 use Rattle.own_listing_laws.proofs.Counted.{AreSmall, MovesSmall, program_small, statement_at}
@@ -34,7 +35,7 @@ use Rattle.own_listing_laws.proofs.Paced.{default_limits, verb_matched}
 
 -- ---- no table line stands where a report or an end does
 
-ending_plain : (ending : Ending) → begins_table_line (ending_text ending) ≡ false
+pub ending_plain : (ending : Ending) → begins_table_line (ending_text ending) ≡ false
 ending_plain (Ended code) = refl
 ending_plain WordsRefused = refl
 ending_plain (ControlStop fault) = refl
@@ -72,7 +73,7 @@ report_plain (Parametric Dual chain) more = refl
 report_plain (Parametric Paraobj chain) more = refl
 report_plain (Parametric Pararhs chain) more = refl
 
-listing_plain : (reports : List Report) (ending : Ending) → begins_table_line (listing reports ending) ≡ false
+pub listing_plain : (reports : List Report) (ending : Ending) → begins_table_line (listing reports ending) ≡ false
 listing_plain [] ending = ending_plain ending
 listing_plain (report ∷ reports) ending =
     ap begins_table_line (append_assoc (report_text report) (reports_text reports) (ending_text ending)) ∙ report_plain report (listing reports ending)
@@ -146,23 +147,6 @@ module _ (program : Program) (small : AreSmall program) where
   after_right (Finds found) right = right
 
   module _ (w : Walker) where
-    turn_at_end : nat_lt (length program.statements) w.state.position ≡ true → turn checker_of_128_bits program w ≡ closes w (Ended 0)
-    unfolding turn
-    turn_at_end e = ap (λ b. if b then closes w (Ended 0) else if nat_lt w.state.executed max_executed then walk_statement checker_of_128_bits w (slice_get program.statements (w.state.position - 1)) else closes w StatementLimit) e
-
-    turn_before_end : nat_lt (length program.statements) w.state.position ≡ false →
-        turn checker_of_128_bits program w ≡ (if nat_lt w.state.executed max_executed then walk_statement checker_of_128_bits w (slice_get program.statements (w.state.position - 1)) else closes w StatementLimit)
-    unfolding turn
-    turn_before_end e = ap (λ b. if b then closes w (Ended 0) else if nat_lt w.state.executed max_executed then walk_statement checker_of_128_bits w (slice_get program.statements (w.state.position - 1)) else closes w StatementLimit) e
-
-    turn_at_limit : nat_lt (length program.statements) w.state.position ≡ false → nat_lt w.state.executed max_executed ≡ false → turn checker_of_128_bits program w ≡ closes w StatementLimit
-    turn_at_limit e f = turn_before_end e ∙ ap (λ b. if b then walk_statement checker_of_128_bits w (slice_get program.statements (w.state.position - 1)) else closes w StatementLimit) f
-
-    turn_at_statement : (statement : Statement ℕ) → nat_lt (length program.statements) w.state.position ≡ false → nat_lt w.state.executed max_executed ≡ true →
-        slice_get program.statements (w.state.position - 1) ≡ Some statement → turn checker_of_128_bits program w ≡ walk_move checker_of_128_bits w (verb_move statement.verb statement.card (counted w.state))
-    turn_at_statement statement e f at =
-        turn_before_end e ∙ ap (λ b. if b then walk_statement checker_of_128_bits w (slice_get program.statements (w.state.position - 1)) else closes w StatementLimit) f ∙ ap (walk_statement checker_of_128_bits w) at
-
     -- a turn at a state that is the run's but for the bases
     module _ (s : State) (like : IsLike w.state s) (waits : WaitsAt w.pending s) (is_known : IsKnown s) where
       position_is : w.state.position ≡ s.position
@@ -173,17 +157,17 @@ module _ (program : Program) (small : AreSmall program) where
 
       over_after : (ending : Ending) → IsOver linear_programming program s ending → w.rest ≡ ending_text ending → StandsAfter (turn checker_of_128_bits program w)
       over_after _ (at_end past) rest =
-          subst StandsAfter (sym (turn_at_end (ap (λ n. nat_lt (length program.statements) n) position_is ∙ lt-ltb (length program.statements) s.position past)))
+          subst StandsAfter (sym (turn_at_end program w (ap (λ n. nat_lt (length program.statements) n) position_is ∙ lt-ltb (length program.statements) s.position past)))
           (after_right (closes w (Ended 0)) (closes_right w (Ended 0) rest))
       over_after _ (at_limit within limit) rest =
-          subst StandsAfter (sym (turn_at_limit (ap (λ n. nat_lt (length program.statements) n) position_is ∙ le-ltb (length program.statements) s.position within)
+          subst StandsAfter (sym (turn_at_limit program w (ap (λ n. nat_lt (length program.statements) n) position_is ∙ le-ltb (length program.statements) s.position within)
           (ap (λ n. nat_lt n max_executed) executed_is ∙ le-ltb s.executed max_executed limit)))
           (after_right (closes w StatementLimit) (closes_right w StatementLimit rest))
 
       step_turn : (outcome : StatementOutcome) (step : Step linear_programming program s outcome) → turn checker_of_128_bits program w ≡ walk_move checker_of_128_bits w (verb_move step.statement.verb step.statement.card (counted w.state))
       step_turn outcome step =
           let within : s.position - 1 < length program.statements = slice_get_within program.statements (s.position - 1) step.statement step.is_at_position in
-          turn_at_statement step.statement
+          turn_at_statement program w step.statement
           (ap (λ n. nat_lt (length program.statements) n) position_is ∙ le-ltb (length program.statements) s.position (omega (arith, within)))
           (ap (λ n. nat_lt n max_executed) executed_is ∙ lt-ltb s.executed max_executed step.is_within_limit)
           (ap (λ n. slice_get program.statements (n - 1)) position_is ∙ step.is_at_position)

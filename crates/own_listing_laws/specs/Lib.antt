@@ -1,3 +1,4 @@
 pub mod Fitting
 pub mod Printed
 pub mod Laws
+pub mod Attestable

@@ -3,6 +3,7 @@
 #![tactic(auto)]
 
 ghost use Rattle.own_listing_laws.specs.Laws.{ReadsBack, TestsPass, JudgedRight, WalksOn, NeverWrong};
+ghost use Rattle.own_listing_laws.specs.Attestable.{ComesAttested};
 
 /// What a run prints of a linear program is read back of its text.
 pub fn reads_back()
@@ -27,4 +28,9 @@ pub fn walks_on()
 /// The listing of a run is never found wrong.
 pub fn never_wrong()
     ensures { NeverWrong }
+{}
+
+/// The listing of an attestable run is attested.
+pub fn comes_attested()
+    ensures { ComesAttested }
 {}

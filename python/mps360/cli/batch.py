@@ -45,14 +45,14 @@ import sys
 import tempfile
 import threading
 import time
-from collections.abc import Callable, Mapping, Sequence
+from collections.abc import Mapping, Sequence
 from concurrent.futures import FIRST_COMPLETED, ThreadPoolExecutor, wait
 from pathlib import Path
 from typing import Any, NoReturn
 from mps360.listings.read import NUMBER
 from mps360 import at_hand, programs, solvers
 from mps360.cli import mps2job
-from mps360.cli.route_options import solvers_of
+from mps360.cli.route_options import counted, positive, solvers_of
 from mps360.life import Life, keep_above
 from mps360.cli.words import taken
 from mps360.text import guard
@@ -354,8 +354,8 @@ def a_program() -> tuple[str, bool]:
     if program:
         return program, True
     if os.environ.get("MPS360_PROVED"):
-        raise Wrong(70, "no proved program is there; scripts/build.sh proves and builds it, in some 25 minutes")
-    say("running UNPROVED; scripts/build.sh proves and builds the program, in some 25 minutes")
+        raise Wrong(70, f"no proved program is there; {at_hand.PROVES}")
+    say(f"running UNPROVED; {at_hand.PROVES}")
     try:
         return at_hand.kept_program("mps360") or unproved.make(optimised=True), False
     except unproved.Answered:
@@ -463,15 +463,6 @@ def batch(options: argparse.Namespace, signals: Signals, life: Life) -> int:
     return 0 if all(record["state"] == "ended" for record in summary.records.values()) else OLD_OPEN if options.old_codes else OPEN
 
 
-def positive(kind: Callable[[str], float]) -> Callable[[str], float]:
-    "reads a number above 0"
-    def read(word: str) -> float:
-        if not kind(word) > 0:
-            raise ValueError
-        return kind(word)
-    return read
-
-
 class Words(argparse.ArgumentParser):
     "words that end the command where they are wrong"
     def error(self, message: str) -> NoReturn:
@@ -486,9 +477,9 @@ def main(words: list[str] | None = None) -> int:
     errors = sys.stderr
     guard()
     parser = Words(add_help=False, allow_abbrev=False)
-    parser.add_argument("-j", dest="at_once", type=positive(int), default=1)
-    parser.add_argument("--time-limit", type=positive(float))
-    parser.add_argument("--seconds", type=positive(float))
+    parser.add_argument("-j", dest="at_once", type=counted, default=1)
+    parser.add_argument("--time-limit", type=positive)
+    parser.add_argument("--seconds", type=positive)
     parser.add_argument("--with", dest="solvers", type=solvers_of)
     parser.add_argument("--old-codes", action="store_true")
     parser.add_argument("--resume", action="store_true")

@@ -8,22 +8,25 @@ from mps360.routes import ROUTES, Plan, processors_here
 from mps360.solver_names import EXACT_SOLVER, NAMES
 
 NOBODY = "none"
+MOST_SECONDS, MOST_DIGITS = 1_000_000_000, 9
 
 
 def positive(word: str) -> float:
     "a number of seconds above 0"
-    number = float(word)
-    if not 0 < number < 1e9:
-        raise ValueError(word)
+    try:
+        number = float(word)
+    except ValueError:
+        number = 0.0
+    if not 0 < number < MOST_SECONDS:
+        raise argparse.ArgumentTypeError(f"{word[:30]!r} isn't a number of seconds above 0 and below {MOST_SECONDS:,}")
     return number
 
 
 def counted(word: str) -> int:
     "a count from 1 on"
-    number = int(word)
-    if number < 1:
-        raise ValueError(word)
-    return number
+    if not (word.isascii() and word.isdigit() and len(word) <= MOST_DIGITS and int(word)):
+        raise argparse.ArgumentTypeError(f"{word[:30]!r} isn't a whole number from 1 on, of at most {MOST_DIGITS} digits")
+    return int(word)
 
 
 def solvers_of(word: str) -> tuple[str, ...]:

@@ -466,9 +466,9 @@ def program_of(options: argparse.Namespace) -> at_hand.Tool:
 
 
 def checkers_of(options: argparse.Namespace) -> at_hand.Checkers:
-    "the checkers of listings, found where they are needed"
+    "the checkers of listings, found where they are needed; one that is neither proved nor compiled is compiled then"
     try:
-        return at_hand.checkers_at_hand(options.checker)
+        return at_hand.checkers_at_hand(options.checker, at_hand.checker_to_compile)
     except errors.NoProgram as cause:
         raise Ended(70, str(cause)) from None
 

@@ -1,5 +1,5 @@
-"""Makes a job and a listing of a VIPR certificate (VER 1.0) of a linear program that was solved to its end: the job states the certificate's
-linear program, and the listing its plan with its multipliers as prices, or its proof that there is no plan.
+"""Makes a job and a listing of a VIPR certificate (VER 1.0 or 1.1) of a linear program that was solved to its end: the job states the
+certificate's linear program, and the listing its plan with its multipliers as prices, or its proof that there is no plan.
 
 usage: vipr2listing.py -o JOB [--listing LISTING] [--names MAP] CERTIFICATE      CERTIFICATE may be gzipped
 
