@@ -51,7 +51,15 @@ pub fn walk<'a, T: Checks>(
             return place.close(alloc, &Ending::Statements);
         }
         executed += 1;
-        match step::<T>(alloc, &mut machine, program, cards, &mut place, &mut last, position) {
+        match step::<T>(
+            alloc,
+            &mut machine,
+            program,
+            cards,
+            &mut place,
+            &mut last,
+            position,
+        ) {
             Ok(Onward::Goes(to)) => position = to,
             Ok(Onward::Finds(found)) => return Ok(found),
             Err(refused) => return Err(refused),
