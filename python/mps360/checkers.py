@@ -56,8 +56,10 @@ def may_be_for_length(said: Said, listing: bytes) -> bool:
 
 
 def in_turn(checkers: Checkers, listing: bytes, ask: Callable[[Tool], Said]) -> tuple[Tool, Said] | None:
-    "asks the one checker, and the other where the length of a number may stand in the way"
+    "asks the one checker, and the other where the length of a number may stand in the way; the one isn't compiled where a long number stands in the listing"
     short = checkers.short
+    if short and short.prepare and has_long_number(listing) and checkers.long:
+        short = None
     said = ask(short) if short else None
     if short and said and not may_be_for_length(said, listing):
         return short, said

@@ -1,5 +1,6 @@
 """Listings with numbers that don't fit 127 bits: answers that came with them from outside, forms of numbers by the rules of mps360long, and which of the two
 checkers is asked for what."""
+import dataclasses
 import json
 import pathlib
 
@@ -119,6 +120,14 @@ def test_checkers_that_are_not_at_hand():
     assert checkers.in_turn(at_hand.Checkers(lambda: SHORT), LONG_LISTING, lambda one: unchecked) == (SHORT, unchecked)
     assert checkers.in_turn(at_hand.Checkers(find_long=lambda: LONG), LONG_LISTING, lambda one: unchecked) == (LONG, unchecked)
     assert checkers.in_turn(at_hand.Checkers(), LONG_LISTING, lambda one: unchecked) is None
+
+
+@pytest.mark.parametrize("listing, wanted", [(LONG_LISTING, LONG), (b"TITLE SHORT\n", SHORT)])
+def test_the_checker_of_127_bits_is_not_compiled_for_a_long_number(listing, wanted):
+    "which it can't read; a listing without one goes to it, compiled or not"
+    to_compile = dataclasses.replace(SHORT, prepare=("compiles",))
+    found = checkers.in_turn(at_hand.Checkers(lambda: to_compile, lambda: LONG), listing, lambda one: checkers.Said(0, "ATTESTED 4 REPORTS\n"))
+    assert found is not None and found[0].name == wanted.name
 
 
 def test_why_a_long_number_is_not_attested():
