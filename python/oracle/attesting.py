@@ -402,7 +402,10 @@ class Walk:
             self.open_pending()
             self.not_refused(lp)
         problem, cells = self.problem_set_up(), self.cells
-        change: str = cells.get("XCHROW" if verb == "PARAOBJ" else "XCHCOL", "")
+        cell, fault = ("XCHROW", 6) if verb == "PARAOBJ" else ("XCHCOL", 7)
+        if cell not in cells:
+            raise self.fault(fault)
+        change: str = cells[cell]
         if verb == "PARAOBJ" and (change not in problem.rows or problem.rows[change].kind != "N"):
             raise self.fault(6)
         if verb == "PARARHS" and change not in problem.rhs:

@@ -167,7 +167,10 @@ class Run:
     def parametric(self, verb: str) -> End:
         "PARAOBJ or PARARHS, from XPARAM to XPARMAX"
         problem, cells = self.select(), self.cells
-        change: str = cells.get("XCHROW" if verb == "PARAOBJ" else "XCHCOL", "")
+        cell, fault = ("XCHROW", 6) if verb == "PARAOBJ" else ("XCHCOL", 7)
+        if cell not in cells:
+            raise VerbFault(fault)
+        change: str = cells[cell]
         if verb == "PARAOBJ" and problem.rows.get(change) != "N":
             raise VerbFault(6)
         if verb == "PARARHS" and change not in problem.sets["RHS"]:

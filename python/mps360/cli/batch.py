@@ -401,11 +401,12 @@ def work_off(files: Mapping[str, Path], runs: Runs, summary: Summary, at_once: i
     begun = time.monotonic()
     total = len(files) + len(summary.records)
     with ThreadPoolExecutor(at_once) as pool:
-        waiting = {pool.submit(runs.run, name, path) for name, path in files.items()}
+        place = {pool.submit(runs.run, name, path): number for number, (name, path) in enumerate(files.items())}
+        waiting = set(place)
         try:
             while waiting and signals.number is None:
                 done, waiting = wait(waiting, PATIENCE, FIRST_COMPLETED)
-                for future in done:
+                for future in sorted(done, key=place.__getitem__):
                     record = future.result()
                     summary.add(record)
                     lines.tell(record)
