@@ -1,8 +1,10 @@
 "A write that fails is 73 in every command, with one line on standard error: never a traceback, never a status that means an answer."
 import contextlib
+import errno
 import io
 import os
 import pathlib
+import resource
 import subprocess
 import sys
 
@@ -181,6 +183,15 @@ def test_a_folder_that_is_a_file(tmp_path, command):
     (tmp_path / "no").write_text("", encoding="ascii")
     ended = run(command, words_of(tmp_path, FOLDERS[command]), tmp_path, stdout=subprocess.PIPE)
     assert last_line(ended) == f"{command.split(' ')[0]}: can't write {tmp_path / 'no'}: {os.strerror(17)}"
+
+
+@pytest.mark.parametrize("command, words", (("solve", ANSWERS["solve"]), ("attest", ANSWERS["attest"]), ("explain", (JOB,))))
+def test_a_file_that_takes_no_more(tmp_path, command, words):
+    "a job that goes to a program by a file of a temporary folder is written whole, or it is 73: files take 100 bytes here"
+    def limit():
+        resource.setrlimit(resource.RLIMIT_FSIZE, (100, 100))
+    ended = run(command, words_of(tmp_path, words), tmp_path, stdout=subprocess.PIPE, preexec_fn=limit)
+    assert last_line(ended).endswith(os.strerror(errno.EFBIG))
 
 
 def test_every_command_is_tried():

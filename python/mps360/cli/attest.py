@@ -65,7 +65,7 @@ def asked(checker: at_hand.Tool, job: bytes, listing: bytes) -> Said:
     program = checker.command
     with tempfile.TemporaryDirectory() as folder:
         for name, text in (("JOB", job), ("LISTING", listing)):
-            pathlib.Path(folder, name).write_bytes(text)
+            write_file(pathlib.Path(folder, name), text)
         try:
             with open(pathlib.Path(folder, "JOB"), "rb") as given:
                 ended = subprocess.run(program, check=False, stdin=given, stdout=subprocess.PIPE, cwd=folder)
