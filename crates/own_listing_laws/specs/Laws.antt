@@ -2,7 +2,7 @@
 --     IsNotWrong found             what is found isn't that a line is wrong
 --     ReadsBack                    what is printed of a linear program is read back
 --     TestsPass                    its tests never fail
---     JudgedRight                  what is printed with the word CHECKED is judged right
+--     JudgedRight                  a verdict of PRIMAL or DUAL with the word CHECKED, and its SOLUTION, are judged right
 --     WalksOn                      and the walk goes on past it
 --     NeverWrong                   the listing of a run isn't found wrong
 use Rattle.std.specs.Prelude.{◌≡◌, ◌⊎◌, ℕ, true, false, List, [], ◌++◌, Option, Some, None, is_none, length}
@@ -100,7 +100,7 @@ pub record IsShownChecked (solver : Solver) (sheet : Sheet) (s : Basis) (limit :
   pub rows : LinesFit lines.rows
   pub columns : LinesFit lines.columns
 
--- What a run prints with the word CHECKED is judged right where its numbers fit: no test fails, and no operation of one is refused.
+-- A verdict of PRIMAL or DUAL that a run prints with the word CHECKED, and the SOLUTION that shows it, are judged right where numbers fit.
 pub record JudgedRight : Type 0 where
   -- the verdict of a path
   pub verdict : (solver : Solver) (sheet : Sheet) (s : Basis) (limit : Option ℕ) (bases : List Basis) (verdict : PathVerdict) (after : List ℕ) → IsSolvedBy solver sheet s limit (Reached bases verdict Checked) →

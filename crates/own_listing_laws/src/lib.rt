@@ -15,7 +15,7 @@ pub fn tests_pass()
     ensures { TestsPass }
 {}
 
-/// What is printed with the word CHECKED is judged right.
+/// A verdict of PRIMAL or DUAL with the word CHECKED, and the SOLUTION that shows it, are judged right.
 pub fn judged_right()
     ensures { JudgedRight }
 {}

@@ -74,7 +74,7 @@ abbrev pub SaysAtEnd : State → Ending → Type 0
 SaysAtEnd state ending = Unit {0}
 
 -- THE THEOREM. The listing is that of a run of the job's program in which the answers are those that passed; each report says the truth of
--- the state in which it was made; and no operation was refused, in a selection either, so that the run doesn't stop with an overflow.
+-- the state in which it was made; and the run doesn't stop with an overflow, in a selection either.
 pub record IsTrueListing (C : Checker) (bytes lines : List ℕ) : Type 0 where
   pub reports : List Report
   pub cards : List (List ℕ)
