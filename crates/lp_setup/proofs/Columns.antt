@@ -19,8 +19,8 @@ use Rattle.problem_definitions.specs.Valid.{AreEntries}
 use Rattle.selection_definitions.specs.Limits.{value_on}
 use Rattle.selection_definitions.specs.Combinations.{value_in, part_products, sum_if_any, row_value, column_values, on_combination}
 use Rattle.selection_definitions.specs.Making.{combination_steps}
-use Rattle.combination_laws.proofs.Values.{length-before}
-use Rattle.combination_laws.proofs.Fields.{numbered-at, length-numbered, parts-at}
+use Rattle.selection_laws.proofs.Values.{length-before}
+use Rattle.selection_laws.proofs.Fields.{numbered-at, length-numbered, parts-at}
 use Rattle.lp_setup.specs.Parts.{by_number}
 use Rattle.lp_setup.specs.Combined.{IsRowValue, IsRowValueMade, IsRowValueOverflow, IsTermRefusal, IsSumMade, AreSumsMade, IsColumnRefusal, IsColumnOverflow, AreColumnsMade, IsMatrixOverflow, AreParts}
 use Rattle.lp_setup.proofs.Lists.{length-by_number}

@@ -21,7 +21,7 @@ use Rattle.problem_definitions.proofs.Each.{all-each}
 use Rattle.selection_definitions.specs.Combinations.{part_product, part_products, sum_if_any}
 use Rattle.selection_definitions.specs.CombinationSums.{combination_formula}
 use Rattle.selection_definitions.proofs.Making.{make_first}
-use Rattle.combination_laws.proofs.Columns.{sum-if-any}
+use Rattle.selection_laws.proofs.Columns.{sum-if-any}
 use Rattle.lp_setup.specs.declared.combined.Total.{Total}
 use Rattle.lp_setup.specs.declared.combined.RefusedPart.{RefusedPart}
 use Rattle.lp_setup.specs.Parts.{IsSumRefusal}

@@ -3,3 +3,7 @@ pub mod Distinct
 pub mod Lawful
 pub mod Selected
 pub mod FreeRows
+pub mod Values
+pub mod Columns
+pub mod Fields
+pub mod Activities

@@ -1,5 +1,5 @@
 use Rattle.std.proofs.Common.{[], length, ap, arith, ◌≡◌}
-use Rattle.combination_laws.proofs.Values.{values-length}
+use Rattle.selection_laws.proofs.Values.{values-length}
 use Rattle.lp_setup.proofs.combined.combined_numbers.Goals as goal
 
 pub numbers_on_combinations-requires-clause-values : goal.numbers_on_combinations-requires-clause-values

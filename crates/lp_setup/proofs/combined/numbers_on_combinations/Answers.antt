@@ -3,7 +3,7 @@ use Rattle.std.specs.List.{enumerate_from, filter_map, cons_option, slice_get}
 use Rattle.std.proofs.lemmas.List.{take_all, append-nil}
 use Rattle.problem_definitions.specs.Problem.{Row}
 use Rattle.selection_definitions.specs.Combinations.{value_in, on_combination}
-use Rattle.combination_laws.proofs.Fields.{length-numbered}
+use Rattle.selection_laws.proofs.Fields.{length-numbered}
 use Rattle.lp_setup.proofs.Columns.{numbers_step, with_number}
 use Rattle.lp_setup.proofs.Lists.{standing}
 use Rattle.lp_setup.proofs.combined.numbers_on_combinations.Goals as goal

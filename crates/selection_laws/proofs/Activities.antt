@@ -9,8 +9,8 @@ use Rattle.exact_values.proofs.Sums.{sum_to-same, sum_to-zero, sum_to-add, sum_t
 use Rattle.lp_definitions.specs.LinearProgram.{on_row, entry, Vector, KeepsEquations}
 use Rattle.problem_definitions.specs.Problem.{Row, Entry, Group, Problem}
 use Rattle.selection_definitions.specs.Selection.{coefficients, matrix_of}
-use Rattle.combination_laws.specs.Sums.{sum_of_parts}
-use Rattle.combination_laws.proofs.Columns.{IsColumnOf, same-sums, adds}
+use Rattle.selection_laws.specs.Sums.{sum_of_parts}
+use Rattle.selection_laws.proofs.Columns.{IsColumnOf, same-sums, adds}
 
 no-sum : (parts : List (Entry ℕ)) → sum_of_parts parts (λ i. zero_ℚ) ≡ zero_ℚ
 no-sum [] = refl

@@ -1,7 +1,7 @@
 -- A combination is the sum of its parts, in a lawful problem.
-use Rattle.combination_laws.proofs.Fields.{columns-of, earlier-parts}
-use Rattle.combination_laws.proofs.Activities.{adds-numbers, adds-activities}
-use Rattle.combination_laws.proofs.combination_laws.Goals as goal
+use Rattle.selection_laws.proofs.Fields.{columns-of, earlier-parts}
+use Rattle.selection_laws.proofs.Activities.{adds-numbers, adds-activities}
+use Rattle.selection_laws.proofs.combination_laws.Goals as goal
 
 pub returns-clause-numbers : goal.returns-clause-numbers
 returns-clause-numbers c = λ problem place column row parts is there combines. adds-numbers problem (columns-of problem is) place column row parts there combines

@@ -7,7 +7,7 @@ use Rattle.problem_definitions.specs.Problem.{Row, Entry, Group, Problem}
 use Rattle.problem_definitions.specs.Valid.{IsProblem, AreEntries, IsNumberOf, is_combination}
 use Rattle.problem_definitions.proofs.Each.{all-each, each-change}
 use Rattle.selection_definitions.specs.Limits.{value_on}
-use Rattle.combination_laws.proofs.Columns.{IsColumnOf}
+use Rattle.selection_laws.proofs.Columns.{IsColumnOf}
 
 pub numbered-at : (rows : List (Row ℕ)) (first k : ℕ) (row : Row ℕ) (d : ℕ × Row ℕ) → slice_get rows k ≡ Some row → slice_index_or (enumerate_from first rows) k d ≡ (first + k, row)
 numbered-at [] first k row d is = absurd (cc is)

@@ -13,8 +13,8 @@ use Rattle.problem_definitions.specs.Problem.{Row, Entry, Group}
 use Rattle.selection_definitions.specs.Limits.{value_on}
 use Rattle.selection_definitions.specs.Combinations.{value_in, part_products, sum_if_any, row_value, column_values, on_combination, on_combinations}
 use Rattle.selection_definitions.specs.Selection.{entered, coefficients}
-use Rattle.combination_laws.specs.Sums.{sum_of_parts}
-use Rattle.combination_laws.proofs.Values.{values-there, length-before, values-front}
+use Rattle.selection_laws.specs.Sums.{sum_of_parts}
+use Rattle.selection_laws.proofs.Values.{values-there, length-before, values-front}
 
 -- ---- numbers on combinations
 

@@ -1,4 +1,0 @@
-pub mod Values
-pub mod Columns
-pub mod Fields
-pub mod Activities
