@@ -29,7 +29,7 @@ use Rattle.revise_definitions.specs.Tests.{action_fault, edit_fault, action_data
 use Rattle.revise_definitions.specs.Revision.{revised, may_come_after, inner_card_fault, revise_card_fault}
 use Rattle.revise_definitions.proofs.Steps.{action_card_after-push, under_after-push, revised-push, with_edit, rows_begun-push}
 use Rattle.revise_edits.specs.Summary.{combination_on, under_of, with_card_under, goes_on_from, goes_on_row_from, edited_by}
-use Rattle.revise_parts.specs.EditTests.{insert_columns_test, edit_test}
+use Rattle.revise_edits.specs.EditTests.{insert_columns_test, edit_test}
 use Rattle.revise_deck.specs.State.{State, state_of, read_at, data_fault, standing_fault, inner_fault, fault_at, problem_in, problem_with, state_with}
 
 -- ---- what is known of the cards under an action

@@ -19,7 +19,7 @@ use Rattle.revise_definitions.specs.Actions.{is_action_card, action_on, anchor_o
 use Rattle.revise_definitions.specs.Tests.{action_fault}
 use Rattle.revise_definitions.specs.Revision.{revised, may_come_after}
 use Rattle.revise_edits.specs.Summary.{Under, under_of, edited_by, with_card_under}
-use Rattle.revise_parts.specs.EditTests.{edit_test}
+use Rattle.revise_edits.specs.EditTests.{edit_test}
 
 -- the deck's style, the section and the action that go on, what is known of the data cards under the action, and the
 -- revised problem so far

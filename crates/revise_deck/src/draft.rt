@@ -14,8 +14,7 @@ use name_table::Name;
 use named_problem::{DeckFaultKind, NamedProblem, Section};
 use problem_file::{NoMemory, Problem};
 use revise_definitions::Action;
-use revise_edits::UnderAction;
-use revise_parts::{edit, edit_fault_of};
+use revise_edits::{UnderAction, edit, edit_fault_of};
 use std::alloc::Global;
 
 /// A problem under revision: the deck's style, the section and the action that go on, what is known of the data cards under the
@@ -45,7 +44,7 @@ impl ReviseDraft {
     ghost use Rattle.revise_definitions.specs.Actions.{action_on, anchor_on};
     ghost use Rattle.revise_definitions.specs.Tests.{action_fault};
     ghost use Rattle.revise_edits.specs.Summary.{under_of, with_card_under, edited_by};
-    ghost use Rattle.revise_parts.specs.EditTests.{edit_test};
+    ghost use Rattle.revise_edits.specs.EditTests.{edit_test};
     ghost use Rattle.revise_deck.specs.State.{read_at, data_fault, standing_fault, inner_fault, inner_with, problem_with, fault_at, state_with};
     ghost use Rattle.revise_deck.specs.Draft_view.{state_view};
 

@@ -1,1 +1,4 @@
 mod Absent
+pub mod TwoPairs
+pub mod FaultParts
+mod Faultless

@@ -1,2 +1,3 @@
 pub mod Summary
 pub mod Needs
+pub mod EditTests

@@ -1,11 +1,15 @@
-//! The edits of a problem by the data cards under an action of REVISE: what is known of the cards so far, where a new row or column
-//! goes, and what a card changes.
+//! What a data card of a REVISE deck does to a problem under revision: what is known of the cards under an action so far, the fault of
+//! one more under it, where a new row or column goes, and the edit that the card makes where it has no fault.
 #![tactic(auto)]
 
+mod card_edit;
 mod edits;
+mod faults;
+mod pairs;
 mod places;
 mod under;
+mod verdicts;
 
-pub use edits::{edit_bounds_of, edit_columns_of, edit_rows_of, edit_sets_of};
-pub use places::next_row_place;
+pub use card_edit::edit;
 pub use under::UnderAction;
+pub use verdicts::edit_fault_of;

@@ -1,3 +1,0 @@
-pub mod TwoPairs
-pub mod FaultParts
-mod Faultless
