@@ -26,7 +26,7 @@ use Rattle.deck_definitions.specs.Sections.{is_section, is_section_card, section
 use Rattle.deck_definitions.specs.Conversion.{section_card_fault, first_faulty}
 use Rattle.deck_definitions.specs.Written.{name_card}
 use Rattle.deck_definitions.proofs.Steps.{section_after-push, first_faulty-append}
-use Rattle.written_deck_laws.proofs.Whole.{after_word, name_word, name_card-is, begun_by}
+use Rattle.basis_deck_laws.proofs.Whole.{after_word, name_word, name_card-is, begun_by}
 use Rattle.basis_deck_definitions.specs.Placings.{HasNames, Placing, code_words, placings_by}
 use Rattle.basis_deck_definitions.specs.Reading.{placings_of, stands_for, basis_card_fault, basis_reading}
 use Rattle.basis_deck_definitions.specs.Writing.{is_up, is_raised, basic_columns, nonbasic_rows, raised, exchange_card, limit_card, basis_deck}

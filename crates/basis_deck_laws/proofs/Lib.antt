@@ -3,3 +3,16 @@ pub mod GivesBack
 pub mod Lawful
 pub mod OneDeck
 pub mod Spoken
+pub mod Cards
+pub mod Accepts
+pub mod Facts
+pub mod AddedPairs
+pub mod Rows
+pub mod Sets
+pub mod Entries
+pub mod Bounds
+pub mod Numbers
+pub mod Printable
+pub mod Texts
+pub mod Decks
+pub mod Whole

@@ -12,9 +12,9 @@ use Rattle.problem_definitions.specs.Valid.{IsProblem}
 use Rattle.problem_definitions.proofs.Each.{each-append}
 use Rattle.deck_definitions.specs.Decks.{decks_of, name_of_deck}
 use Rattle.deck_definitions.specs.Written.{name_card, card_text}
-use Rattle.written_deck_laws.proofs.Decks.{GoesOn, data-goes-on, mapped, one-deck-of, called-by}
-use Rattle.written_deck_laws.proofs.Printable.{ArePrintable}
-use Rattle.written_deck_laws.proofs.Texts.{IsCard, read-back, append-printable, trimmed-card, data-is}
+use Rattle.basis_deck_laws.proofs.Decks.{GoesOn, data-goes-on, mapped, one-deck-of, called-by}
+use Rattle.basis_deck_laws.proofs.Printable.{ArePrintable}
+use Rattle.basis_deck_laws.proofs.Texts.{IsCard, read-back, append-printable, trimmed-card, data-is}
 use Rattle.basis_deck_definitions.specs.Placings.{HasNames}
 use Rattle.basis_deck_definitions.specs.Writing.{is_up, basic_columns, nonbasic_rows, raised, exchange_card, limit_card, basis_deck}
 use Rattle.basis_deck_laws.proofs.Spoken.{row_label, column_label}

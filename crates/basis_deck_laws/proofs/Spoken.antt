@@ -30,8 +30,8 @@ use Rattle.deck_definitions.proofs.WrittenCards.{FitsField}
 use Rattle.deck_definitions.proofs.Steps.{section_after-push, first_faulty-append}
 use Rattle.revise_laws.proofs.ByNames.{named-lawful}
 use Rattle.revise_laws.proofs.Places.{name_at-there, number_in-name_at}
-use Rattle.written_deck_laws.proofs.Cards.{IsWritten, fields, written-card}
-use Rattle.written_deck_laws.proofs.Facts.{none_found, not_found, fits-name, label-of}
+use Rattle.basis_deck_laws.proofs.Cards.{IsWritten, fields, written-card}
+use Rattle.basis_deck_laws.proofs.Facts.{none_found, not_found, fits-name, label-of}
 use Rattle.basis_deck_definitions.specs.declared.Code.{Code}
 use Rattle.basis_deck_definitions.specs.declared.Code.TheVariants.{Exchanges, Stands}
 use Rattle.basis_deck_definitions.specs.Placings.{code_words, HasNames, Placing, placings_by, row_variable, column_variable}

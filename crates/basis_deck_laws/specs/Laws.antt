@@ -1,4 +1,4 @@
--- The laws of basis decks, as the functions of src/lib.rt promise them.
+-- The laws of basis decks, as functions of src/lib.rt promise them.
 --     BasisDeckLaws                a deck without a fault stands for a basis; the deck that is written for a basis stands for it, and
 --                                  comes back from its text, as one deck under the problem's name
 --     DependencyLaws               a set of variables has one dependency at most, and none where it is nonsingular

@@ -9,7 +9,7 @@ use Rattle.card_definitions.specs.Cards.{is_blank, is_printable}
 use Rattle.card_definitions.specs.Numbers.{Decimal, is_digit, is_sign, is_point, is_exponent_letter, after_one, trimmed, mantissa, exponent, after_whole_digits, rest_of_mantissa, rest_of_exponent, formed_length, lacks_digit, exponent_size, number_fault}
 use Rattle.card_definitions.proofs.FirstFaults.{passes, test_fails}
 use Rattle.problem_definitions.specs.Valid.{IsDecimal}
-use Rattle.written_deck_laws.proofs.Facts.{reads-as}
+use Rattle.basis_deck_laws.proofs.Facts.{reads-as}
 
 abbrev pub ArePrintable : List ℕ → Type 0
 ArePrintable text = list_all is_printable text ≡ true

@@ -1,8 +1,8 @@
 -- A written deck converts back, and is read back from its text.
-use Rattle.written_deck_laws.proofs.Decks.{one-deck, deck-called}
-use Rattle.written_deck_laws.proofs.Texts.{reads-back}
-use Rattle.written_deck_laws.proofs.Whole.{converts-back}
-use Rattle.written_deck_laws.proofs.written_deck_laws.Goals as goal
+use Rattle.basis_deck_laws.proofs.Decks.{one-deck, deck-called}
+use Rattle.basis_deck_laws.proofs.Texts.{reads-back}
+use Rattle.basis_deck_laws.proofs.Whole.{converts-back}
+use Rattle.basis_deck_laws.proofs.written_deck_laws.Goals as goal
 
 pub returns-clause-converts_back : goal.returns-clause-converts_back
 returns-clause-converts_back c = converts-back

@@ -24,10 +24,10 @@ use Rattle.deck_definitions.specs.Written.{data_card, bound_kind_text, bound_tex
 use Rattle.deck_definitions.proofs.Steps.{with_card, with_group}
 use Rattle.deck_definitions.proofs.WrittenCards.{FitsField}
 use Rattle.deck_definitions.proofs.Examples.{bound_words}
-use Rattle.written_deck_laws.proofs.Cards.{IsWritten, fields, written-card}
-use Rattle.written_deck_laws.proofs.Accepts.{Accepts, accepts-data}
-use Rattle.written_deck_laws.proofs.Facts.{none_found, not_found, all-at, apart-before, from-map, fits-name, label-of, reads-as, fits-number}
-use Rattle.written_deck_laws.proofs.Sets.{groups_at, items-taken, new-group, EachAdds, groups-accepted}
+use Rattle.basis_deck_laws.proofs.Cards.{IsWritten, fields, written-card}
+use Rattle.basis_deck_laws.proofs.Accepts.{Accepts, accepts-data}
+use Rattle.basis_deck_laws.proofs.Facts.{none_found, not_found, all-at, apart-before, from-map, fits-name, label-of, reads-as, fits-number}
+use Rattle.basis_deck_laws.proofs.Sets.{groups_at, items-taken, new-group, EachAdds, groups-accepted}
 
 abbrev pub bound_card : Name → Bound Name → List ℕ
 bound_card name bound = data_card (bound_kind_text bound.kind) name bound.column (bound_text bound)

@@ -26,11 +26,11 @@ use Rattle.deck_definitions.specs.Described.{described}
 use Rattle.deck_definitions.specs.Conversion.{section_card_fault, card_fault, first_faulty, deck_fault, deck_name, conversion}
 use Rattle.deck_definitions.specs.Written.{data_card, row_cards, entry_cards, bound_cards, column_cards, set_section, written}
 use Rattle.revise_laws.proofs.ByNames.{named-lawful}
-use Rattle.written_deck_laws.proofs.Accepts.{Stands, Accepts, accepts-none, accepts-then, accepts-header, accepts-section}
-use Rattle.written_deck_laws.proofs.Rows.{rows-accepted}
-use Rattle.written_deck_laws.proofs.Entries.{columns-accepted, rhs-accepted, ranges-accepted}
-use Rattle.written_deck_laws.proofs.Bounds.{bounds-accepted}
-use Rattle.written_deck_laws.proofs.Numbers.{numbered-by_names}
+use Rattle.basis_deck_laws.proofs.Accepts.{Stands, Accepts, accepts-none, accepts-then, accepts-header, accepts-section}
+use Rattle.basis_deck_laws.proofs.Rows.{rows-accepted}
+use Rattle.basis_deck_laws.proofs.Entries.{columns-accepted, rhs-accepted, ranges-accepted}
+use Rattle.basis_deck_laws.proofs.Bounds.{bounds-accepted}
+use Rattle.basis_deck_laws.proofs.Numbers.{numbered-by_names}
 
 -- ---- the NAME card
 

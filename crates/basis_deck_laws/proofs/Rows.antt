@@ -23,10 +23,10 @@ use Rattle.deck_definitions.specs.Written.{data_card, row_kind_text, combination
 use Rattle.deck_definitions.proofs.Steps.{with_card}
 use Rattle.deck_definitions.proofs.GoesOn.{with_row-new, row_fault-new, with_row-more, row_fault-more}
 use Rattle.deck_definitions.proofs.WrittenCards.{FitsField}
-use Rattle.written_deck_laws.proofs.Cards.{IsWritten, fields, written-card}
-use Rattle.written_deck_laws.proofs.Accepts.{Accepts, accepts-none, accepts-then, accepts-data}
-use Rattle.written_deck_laws.proofs.Facts.{none_found, not_found, below, all-at, apart-before, absent-before, fits-name, reads-as, fits-number}
-use Rattle.written_deck_laws.proofs.AddedPairs.{MayAdd, may-add, pair_of, pair-fine}
+use Rattle.basis_deck_laws.proofs.Cards.{IsWritten, fields, written-card}
+use Rattle.basis_deck_laws.proofs.Accepts.{Accepts, accepts-none, accepts-then, accepts-data}
+use Rattle.basis_deck_laws.proofs.Facts.{none_found, not_found, below, all-at, apart-before, absent-before, fits-name, reads-as, fits-number}
+use Rattle.basis_deck_laws.proofs.AddedPairs.{MayAdd, may-add, pair_of, pair-fine}
 
 -- ---- the words of types
 

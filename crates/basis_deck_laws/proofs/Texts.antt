@@ -28,8 +28,8 @@ use Rattle.deck_definitions.specs.DataCards.{combination_text}
 use Rattle.deck_definitions.specs.Written.{row_kind_text, bound_kind_text, data_card, row_cards, entry_cards, column_cards, bound_text, bound_cards, set_section, written, card_text}
 use Rattle.revise_laws.proofs.Lists.{each-filter}
 use Rattle.revise_laws.proofs.ByNames.{named-lawful}
-use Rattle.written_deck_laws.proofs.Facts.{from-map, label-of}
-use Rattle.written_deck_laws.proofs.Printable.{ArePrintable, number-printable}
+use Rattle.basis_deck_laws.proofs.Facts.{from-map, label-of}
+use Rattle.basis_deck_laws.proofs.Printable.{ArePrintable, number-printable}
 
 -- a card of printable bytes, of which the last isn't a blank
 pub record IsCard (card : List ℕ) : Type 0 where

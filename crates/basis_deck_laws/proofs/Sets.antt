@@ -9,8 +9,8 @@ use Rattle.problem_definitions.specs.Groups.{items_of, in_group, in_set}
 use Rattle.problem_definitions.proofs.Names.{same_refl}
 use Rattle.problem_definitions.proofs.Groups.{has_group-names, items_of-absent, items_of-push}
 use Rattle.deck_definitions.specs.declared.Section.{Section}
-use Rattle.written_deck_laws.proofs.Accepts.{Accepts, accepts-none, accepts-then}
-use Rattle.written_deck_laws.proofs.Facts.{apart-before, absent-before}
+use Rattle.basis_deck_laws.proofs.Accepts.{Accepts, accepts-none, accepts-then}
+use Rattle.basis_deck_laws.proofs.Facts.{apart-before, absent-before}
 
 module _ {X : Type 0} where
   -- some groups, and after them the items taken so far of one more, which is there once it has an item

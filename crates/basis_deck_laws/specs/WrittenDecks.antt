@@ -1,4 +1,4 @@
--- The law of written decks, as the function of src/lib.rt promises it.
+-- The law of written decks, as a function of src/lib.rt promises it.
 use Rattle.std.specs.Prelude.{◌≡◌, ℕ, [], ◌∷◌, Some, None, Ok, false}
 use Rattle.std.specs.List.{All}
 use Rattle.card_definitions.specs.Words.{is_empty}

@@ -17,7 +17,7 @@ use Rattle.deck_definitions.specs.Sections.{is_section}
 use Rattle.deck_definitions.specs.DataCards.{Pair}
 use Rattle.deck_definitions.specs.Tests.{pair_row_fault, pairs_fault, value_fault, number_fault_from}
 use Rattle.deck_definitions.proofs.Pairs.{pairs_fault-cons}
-use Rattle.written_deck_laws.proofs.Facts.{none_found, not_found, all-at, apart-before, absent-before, label-of, reads-as}
+use Rattle.basis_deck_laws.proofs.Facts.{none_found, not_found, all-at, apart-before, absent-before, label-of, reads-as}
 
 -- an entry that may be added to these
 pub record MayAdd (rows : List (Row Name)) (taken : List (Entry Name)) (entry : Entry Name) : Type 0 where

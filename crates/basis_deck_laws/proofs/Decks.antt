@@ -17,8 +17,8 @@ use Rattle.deck_definitions.specs.Sections.{is_section, section_words, section_w
 use Rattle.deck_definitions.specs.Decks.{parts_ended_by, decks_of, name_of_deck}
 use Rattle.deck_definitions.specs.DataCards.{combination_text}
 use Rattle.deck_definitions.specs.Written.{row_kind_text, bound_kind_text, bound_text, data_card, row_cards, entry_cards, column_cards, bound_cards, set_section, written}
-use Rattle.written_deck_laws.proofs.Cards.{no_section, reassoc}
-use Rattle.written_deck_laws.proofs.Whole.{name_card, after_word, name_card-is, begun_by, header-is}
+use Rattle.basis_deck_laws.proofs.Cards.{no_section, reassoc}
+use Rattle.basis_deck_laws.proofs.Whole.{name_card, after_word, name_card-is, begun_by, header-is}
 
 -- whether a text begins this section
 abbrev pub starts : Section → List ℕ → Bool

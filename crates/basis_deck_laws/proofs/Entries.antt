@@ -17,11 +17,11 @@ use Rattle.deck_definitions.specs.declared.Section.TheVariants.{Columns, Rhs, Ra
 use Rattle.deck_definitions.specs.DataCards.{pairs_of}
 use Rattle.deck_definitions.specs.Tests.{kind_filled, marks, all_but_last, columns_fault, pairs_fault}
 use Rattle.deck_definitions.specs.Written.{data_card}
-use Rattle.written_deck_laws.proofs.Cards.{IsWritten, fields, written-card}
-use Rattle.written_deck_laws.proofs.Accepts.{Accepts, accepts-data}
-use Rattle.written_deck_laws.proofs.Facts.{none_found, not_found, below, all-at, from-map, fits-name, reads-as, fits-number}
-use Rattle.written_deck_laws.proofs.AddedPairs.{MayAdd, may-add, pair-fine}
-use Rattle.written_deck_laws.proofs.Sets.{groups_at, has-last, items-taken, new-group, EachAdds, groups-accepted}
+use Rattle.basis_deck_laws.proofs.Cards.{IsWritten, fields, written-card}
+use Rattle.basis_deck_laws.proofs.Accepts.{Accepts, accepts-data}
+use Rattle.basis_deck_laws.proofs.Facts.{none_found, not_found, below, all-at, from-map, fits-name, reads-as, fits-number}
+use Rattle.basis_deck_laws.proofs.AddedPairs.{MayAdd, may-add, pair-fine}
+use Rattle.basis_deck_laws.proofs.Sets.{groups_at, has-last, items-taken, new-group, EachAdds, groups-accepted}
 
 abbrev pub entry_card : Name → Entry Name → List ℕ
 entry_card name entry = data_card [] name entry.row entry.value.text
