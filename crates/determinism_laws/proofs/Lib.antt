@@ -8,3 +8,5 @@ pub mod Steps
 pub mod Stops
 pub mod Runs
 pub mod Decided
+pub mod OwnEnds
+pub mod Standing

@@ -9,7 +9,7 @@ ghost use Rattle.deck_definitions.specs.Transport.{made_job};
 ghost use Rattle.run_definitions.specs.Answer.{Job, Made, IsAnswered};
 ghost use Rattle.one_run_laws.specs.Laws.{IsAnsweredOnce};
 ghost use Rattle.soundness_laws.specs.Headline.{IsTrueAnswer};
-ghost use Rattle.ending_laws.specs.Stands.{StandsAfter};
+ghost use Rattle.determinism_laws.specs.Stands.{StandsAfter};
 ghost use Rattle.command_line.specs.Sizes.{max_size};
 ghost use Rattle.command_line.specs.Requests.{HasSize};
 ghost use Rattle.command_line.specs.Requests as requests;

@@ -3,7 +3,7 @@ use Rattle.command_line.specs.Requests.{asked}
 use Rattle.command_line.specs.declared.request.Request.{Request}
 use Rattle.job_program.specs.declared.stop.EarlyStop.{EarlyStop}
 use Rattle.mps_cli.specs.Endings.{EndsWith}
-use Rattle.ending_laws.proofs.Standing.{stands_after}
+use Rattle.determinism_laws.proofs.Standing.{stands_after}
 use Rattle.answer_definitions.specs.Real.{linear_programming}
 use Rattle.mps_cli.specs.Causes.{nothing}
 use Rattle.mps_cli.proofs.Why.{why_words, same_punch}

@@ -8,9 +8,9 @@ use Rattle.question_definitions.specs.Solving.{Solving}
 use Rattle.run_definitions.specs.Answer as run
 use Rattle.run_definitions.specs.Answer.{Job, bytes_of, Failures, IsPunchedTo, Gains, IsJobRun, MayEnd, IsAnswer, whole, print_fails, print_wants_memory}
 use Rattle.soundness_laws.specs.Headline.{IsTrueAnswer}
-use Rattle.ending_laws.specs.Stands as stands
-use Rattle.ending_laws.specs.Stands.{IsOwnEnd, StandsWhole, StandsAlone, StandsBrokenOff, StandsAfter}
-use Rattle.ending_laws.proofs.OwnEnds.{own_end}
+use Rattle.determinism_laws.specs.Stands as stands
+use Rattle.determinism_laws.specs.Stands.{IsOwnEnd, StandsWhole, StandsAlone, StandsBrokenOff, StandsAfter}
+use Rattle.determinism_laws.proofs.OwnEnds.{own_end}
 
 module _ (S : Solving) (job : Job) (failures : Failures) (status : ℕ) (PrintGains PunchGains : List ℕ → Type 0) (printed punched : List ℕ)
     (print_gains : PrintGains printed) (punch_gains : PunchGains punched) where

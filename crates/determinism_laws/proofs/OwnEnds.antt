@@ -5,7 +5,7 @@ use Rattle.listing_definitions.specs.Ending.{Ending, Ended, WordsRefused, Contro
 use Rattle.question_definitions.specs.Solving.{Solving}
 use Rattle.run_definitions.specs.Answer.{IsJobRun, card_fault, control_fault, run}
 use Rattle.determinism_laws.proofs.Stops.{IsEndOfRun, end_of_run}
-use Rattle.ending_laws.specs.Stands.{IsOwnEnd}
+use Rattle.determinism_laws.specs.Stands.{IsOwnEnd}
 
 end_of_job : (reports : List Report) (cards : List (List ℕ)) (ending : Ending) → IsEndOfRun ending → IsOwnEnd reports cards ending
 end_of_job reports cards (Ended code) own = own

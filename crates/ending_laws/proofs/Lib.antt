@@ -1,2 +1,0 @@
-pub mod OwnEnds
-pub mod Standing
