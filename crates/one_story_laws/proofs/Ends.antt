@@ -17,7 +17,7 @@ use Rattle.listing_definitions.specs.declared.Mark.TheVariants.{Optimal, Infeasi
 use Rattle.listing_definitions.specs.Report.{ChainEnd, EndsAt, UnboundedPast, InfeasiblePast}
 use Rattle.question_definitions.specs.Answers.{Sheet}
 use Rattle.answer_definitions.specs.ParametricRuns.{end_of}
-use Rattle.judged_laws.specs.Views.{past_of}
+use Rattle.walk_laws.specs.Views.{past_of}
 use Rattle.one_story_laws.specs.Story.{SameClose}
 use Rattle.one_story_laws.proofs.Marks.{IsOfMark, one_mark}
 

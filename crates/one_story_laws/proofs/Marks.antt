@@ -18,7 +18,7 @@ use Rattle.run_definitions.specs.Verbs.{mark_of}
 use Rattle.soundness_laws.specs.Truth.{IsBestObjective, IsTrueOf}
 use Rattle.parametric_laws.specs.Truth.{IsTrueFailure}
 use Rattle.answer_definitions.specs.Verdicts.{verdict_of}
-use Rattle.judged_laws.specs.Views.{IsTrueAtFirst}
+use Rattle.walk_laws.specs.Views.{IsTrueAtFirst}
 use Rattle.one_story_laws.specs.Story.{SameObjective, SameVerdict}
 
 abbrev pub IsOfMark : LinearProgram → Mark → Type 0

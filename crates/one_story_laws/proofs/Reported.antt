@@ -15,7 +15,7 @@ use Rattle.answer_definitions.specs.Real.{linear_programming}
 use Rattle.run_definitions.specs.State.{Present, State}
 use Rattle.soundness_laws.specs.Truth.{PresentProgram, sheet_of, IsTrueOf, ReportsOfRun, ShowsOpening, ShowsChain, Holds}
 use Rattle.soundness_laws.proofs.Runs.{knows_linear_programming}
-use Rattle.judged_laws.specs.Views.{part_of, IsTrueAtFirst}
+use Rattle.walk_laws.specs.Views.{part_of, IsTrueAtFirst}
 use Rattle.walk_laws.specs.Proved.{attested, ShowsProvedChain, Says}
 use Rattle.walk_laws.proofs.Answered.{IsPathSolver}
 use Rattle.one_story_laws.proofs.Marks.{FailsAt, fails_at_first, fails_by_ending}

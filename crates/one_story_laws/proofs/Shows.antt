@@ -16,7 +16,7 @@ use Rattle.answer_definitions.specs.ParametricRuns.{family_of}
 use Rattle.run_definitions.specs.State.{Present, State, choice_of}
 use Rattle.soundness_laws.specs.Truth.{PresentProgram, sheet_of, ReportsOfRun}
 use Rattle.walk_definitions.specs.Tests.{point_of}
-use Rattle.judged_laws.specs.Views.{part_of}
+use Rattle.walk_laws.specs.Views.{part_of}
 use Rattle.walk_definitions.specs.Checkers.{Checker}
 use Rattle.walk_laws.specs.Proved.{Says}
 use Rattle.one_story_laws.specs.Story.{ReportsSame}

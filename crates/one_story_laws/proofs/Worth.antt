@@ -29,7 +29,7 @@ use Rattle.soundness_laws.proofs.ChangeRow.{changes_freely}
 use Rattle.soundness_laws.proofs.Selected.{selected_has_no_change}
 use Rattle.walk_definitions.specs.Tables.{number_of, column_of}
 use Rattle.walk_definitions.specs.Tests.{point_of}
-use Rattle.judged_laws.specs.Views.{part_of}
+use Rattle.walk_laws.specs.Views.{part_of}
 use Rattle.walk_definitions.specs.Checkers.{Checker}
 use Rattle.walk_laws.specs.Proved.{ShowsProvedChain, Says}
 use Rattle.one_story_laws.specs.Views.{objective_at}

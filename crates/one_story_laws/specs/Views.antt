@@ -23,7 +23,7 @@ use Rattle.run_definitions.specs.Run.{Reaches, begun, stepped, IsRun, is_over, i
 use Rattle.run_definitions.specs.Answer.{IsJobRun, run}
 use Rattle.soundness_laws.specs.Truth.{PresentProgram, sheet_of, ReportsOfRun}
 use Rattle.walk_definitions.specs.Tests.{point_of}
-use Rattle.judged_laws.specs.Views.{part_of}
+use Rattle.walk_laws.specs.Views.{part_of}
 
 -- ---- the reports of a run
 

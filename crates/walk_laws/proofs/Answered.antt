@@ -21,8 +21,8 @@ use Rattle.walk_definitions.specs.Checkers.{Checker}
 use Rattle.walk_definitions.specs.Reading.{Judged, Right, Fails, Refuses, judged, judged_map}
 use Rattle.walk_definitions.specs.Reading as readings
 use Rattle.walk_definitions.specs.Walker.{Pending, Walker, open_stop, open_pending, open_question, follows, passed, pending_after, noted, answered}
-use Rattle.reading_laws.specs.Laws.{ReadingLaw}
-use Rattle.judged_laws.specs.Laws.{IsTrueUnlessOptimal, JudgedLaws}
+use Rattle.walk_laws.specs.Read.{ReadingLaw}
+use Rattle.walk_laws.specs.Judged.{IsTrueUnlessOptimal, JudgedLaws}
 use Rattle.walk_laws.specs.Proved.{SaysVerdict, Says}
 use Rattle.walk_laws.proofs.Rightly.{TakesUnlessOptimal, path_word}
 use Rattle.walk_laws.proofs.Owing.{Owes, holds_settled, program_before_path}

@@ -6,8 +6,8 @@ use Rattle.run_definitions.specs.Answer.{card_fault, control_fault}
 use Rattle.walk_definitions.specs.Checkers.{Checker}
 use Rattle.walk_definitions.specs.Walker.{Attested, Finds, closes}
 use Rattle.walk_definitions.specs.Found.{first_walker, of_cards, of_control, of_walk}
-use Rattle.reading_laws.specs.Laws.{ReadingLaw}
-use Rattle.judged_laws.specs.Laws.{JudgedLaws}
+use Rattle.walk_laws.specs.Read.{ReadingLaw}
+use Rattle.walk_laws.specs.Judged.{JudgedLaws}
 use Rattle.walk_laws.specs.Laws.{AttestedLaw}
 use Rattle.walk_laws.proofs.Turns.{On, on_closes}
 use Rattle.walk_laws.proofs.Whole.{walk_proved}

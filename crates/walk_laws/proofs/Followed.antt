@@ -26,7 +26,7 @@ use Rattle.walk_definitions.specs.Words.{left_after}
 use Rattle.walk_definitions.specs.Reading.{Right, judged}
 use Rattle.walk_definitions.specs.Walker.{Pending, Walker, Found, WalkTurn, Finds, Unchecked, open_outcome, opened, refuses_selection, unless_found, follows, passed, taken, noted, due, walk_move}
 use Rattle.walk_definitions.proofs.Texts.{is_text}
-use Rattle.reading_laws.specs.Laws.{ReadingLaw, reported}
+use Rattle.walk_laws.specs.Read.{ReadingLaw, reported}
 use Rattle.walk_laws.specs.Proved.{attested, Says}
 use Rattle.walk_laws.proofs.Owing.{Owes, holds_settled, SelectsSame, owes_on}
 use Rattle.walk_laws.proofs.Turns.{On, on_map, never_outcome, stays_marked, on_unless, on_closes}

@@ -37,8 +37,8 @@ use Rattle.soundness_laws.proofs.Moves.{HasProblem}
 use Rattle.walk_definitions.specs.Checkers.{Checker}
 use Rattle.walk_definitions.specs.Forms.{is_ranges, is_punched}
 use Rattle.walk_definitions.specs.Walker.{Walker, Finds, Wrong, open_if, open_stop, open_pending, is_inserted_by, open_question}
-use Rattle.reading_laws.specs.Laws.{ReadingLaw}
-use Rattle.judged_laws.specs.Laws.{JudgedLaws}
+use Rattle.walk_laws.specs.Read.{ReadingLaw}
+use Rattle.walk_laws.specs.Judged.{JudgedLaws}
 use Rattle.walk_laws.specs.Proved.{Says}
 use Rattle.walk_laws.proofs.Owing.{Owes, SelectsSame}
 use Rattle.walk_laws.proofs.Turns.{never_either, never_if, never_stop, never_pending, on_unless}

@@ -20,10 +20,10 @@ use Rattle.walk_definitions.specs.Reading.{Judged, Right, Fails, Refuses, judged
 use Rattle.walk_definitions.specs.Reading as readings
 use Rattle.walk_definitions.specs.Words.{left_after}
 use Rattle.walk_definitions.specs.Walker.{Walker, open_stop, open_pending, open_question, follows, passed, answered}
-use Rattle.reading_laws.specs.Laws.{ReadingLaw}
-use Rattle.judged_laws.specs.Views.{MayChange}
-use Rattle.judged_laws.specs.Views.{IsTrueAtFirst}
-use Rattle.judged_laws.specs.Laws.{JudgedLaws}
+use Rattle.walk_laws.specs.Read.{ReadingLaw}
+use Rattle.walk_laws.specs.Views.{MayChange}
+use Rattle.walk_laws.specs.Views.{IsTrueAtFirst}
+use Rattle.walk_laws.specs.Judged.{JudgedLaws}
 use Rattle.walk_laws.specs.Proved.{ShowsProvedChain, SaysVerdict, Says}
 use Rattle.walk_laws.proofs.Rightly.{opening_word}
 use Rattle.walk_laws.proofs.Owing.{Owes, holds_settled}

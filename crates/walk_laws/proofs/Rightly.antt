@@ -16,7 +16,7 @@ use Rattle.walk_definitions.specs.Checkers.{Checker}
 use Rattle.walk_definitions.specs.Words.{Parsed, left_after, fraction_in, form_in}
 use Rattle.walk_definitions.specs.Tests.{says, asked, claim_test, verdict_test, making_steps}
 use Rattle.walk_definitions.specs.Reading.{Judged, Right, Fails, Refuses, by_verdict, tested_or, tested_by, judged_map, Claim, verdict_in, Run, run_in, parametric_run_head, parametric_run_in, judged}
-use Rattle.judged_laws.specs.Views.{IsTrueAtFirst}
+use Rattle.walk_laws.specs.Views.{IsTrueAtFirst}
 
 abbrev pub OnRight : {X : Type 0} → (X → Type 0) → Judged X → Type 0
 OnRight P (Right x rest) = P x

@@ -23,8 +23,8 @@ use Rattle.walk_definitions.specs.Tables.{column_of}
 use Rattle.walk_definitions.specs.Tests.{point_of, prices_of}
 use Rattle.walk_definitions.specs.Reading.{Judged, Right, Fails, Refuses, judged}
 use Rattle.walk_definitions.specs.Walker.{Pending, Walker, Finds, Wrong, open_question, follows, passed, settles, settled, answered}
-use Rattle.reading_laws.specs.Laws.{ReadingLaw}
-use Rattle.judged_laws.specs.Laws.{JudgedLaws}
+use Rattle.walk_laws.specs.Read.{ReadingLaw}
+use Rattle.walk_laws.specs.Judged.{JudgedLaws}
 use Rattle.walk_laws.specs.Proved.{Says}
 use Rattle.walk_laws.proofs.Owing.{ProvesObjective, Owes, owes_on}
 use Rattle.walk_laws.proofs.Turns.{never_stop, on_unless}

@@ -24,8 +24,8 @@ use Rattle.soundness_laws.proofs.Filed.{job_reaching}
 use Rattle.walk_definitions.specs.Checkers.{Checker}
 use Rattle.walk_definitions.specs.Walker.{Walker, Attested, Walks, Finds, closes, walk_move, walk_statement, turn}
 use Rattle.walk_definitions.specs.Found.{Reaches as IsCome, begun as at_start, walked as gone_on}
-use Rattle.reading_laws.specs.Laws.{ReadingLaw}
-use Rattle.judged_laws.specs.Laws.{JudgedLaws}
+use Rattle.walk_laws.specs.Read.{ReadingLaw}
+use Rattle.walk_laws.specs.Judged.{JudgedLaws}
 use Rattle.walk_laws.specs.Proved.{attested, Says, IsTrueListing}
 use Rattle.walk_laws.proofs.Owing.{Owes, holds_settled}
 use Rattle.walk_laws.proofs.Turns.{On, on_map, on_closes}

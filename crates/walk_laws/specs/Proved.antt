@@ -25,7 +25,7 @@ use Rattle.determinism_laws.specs.Laws.{IsOverflow}
 use Rattle.walk_definitions.specs.Checkers.{Checker}
 use Rattle.walk_definitions.specs.Tests.{point_of, prices_of}
 use Rattle.walk_definitions.specs.Reading.{Right, judged}
-use Rattle.judged_laws.specs.Views.{part_of, past_of, IsTrueAtFirst}
+use Rattle.walk_laws.specs.Views.{part_of, past_of, IsTrueAtFirst}
 
 abbrev pub IsTaken : Checker → (question : Question) → Sheet → AnswerTo question → Type 0
 IsTaken C question sheet answer = (rest : List ℕ) × (after : List ℕ) × (judged C question sheet rest ≡ Right answer after)

@@ -20,12 +20,12 @@ use Rattle.walk_definitions.specs.Words.{left_after, fraction_in}
 use Rattle.walk_definitions.specs.Tables.{part_slots, table_in}
 use Rattle.walk_definitions.specs.Tests.{interval_test, close_test}
 use Rattle.walk_definitions.specs.Reading.{Run, Judged, Right, Fails, Refuses, judged, judged_map, tested_by, verdict_in, interval_in, close_in, parametric_run_head, onward, part_in, run_in, opening_in, parametric_run_in}
-use Rattle.judged_laws.specs.Views.{part_of, past_of, MayChange}
-use Rattle.judged_laws.proofs.Judging.{right_is_passed, right_is_made}
-use Rattle.judged_laws.proofs.Readings.{after_text, after_word, mapped, at_some}
-use Rattle.judged_laws.proofs.Openings.{claim_steps, opening_of}
-use Rattle.judged_laws.proofs.Intervals.{IsTrueInterval, interval_is_true}
-use Rattle.judged_laws.proofs.Closings.{close_is_true}
+use Rattle.walk_laws.specs.Views.{part_of, past_of, MayChange}
+use Rattle.walk_laws.proofs.Judging.{right_is_passed, right_is_made}
+use Rattle.walk_laws.proofs.Readings.{after_text, after_word, mapped, at_some}
+use Rattle.walk_laws.proofs.Openings.{claim_steps, opening_of}
+use Rattle.walk_laws.proofs.Intervals.{IsTrueInterval, interval_is_true}
+use Rattle.walk_laws.proofs.Closings.{close_is_true}
 
 -- ---- members
 

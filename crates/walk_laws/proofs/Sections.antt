@@ -14,8 +14,8 @@ use Rattle.answer_definitions.specs.Lines.{row_numbers, column_numbers}
 use Rattle.walk_definitions.specs.Words.{Parsed, with_text, with_word}
 use Rattle.walk_definitions.specs.Tables.{pair_slots, part_slots, table_in, ray_in}
 use Rattle.walk_definitions.specs.Reading.{row_slots, column_slots, solution_in, interval_in, close_in}
-use Rattle.reading_laws.proofs.Pieces.{Tells, Spells, after_text, after_word, either, never, done, made, behind}
-use Rattle.reading_laws.proofs.Lines.{table_tells, ray_tells}
+use Rattle.walk_laws.proofs.Pieces.{Tells, Spells, after_text, after_word, either, never, done, made, behind}
+use Rattle.walk_laws.proofs.Lines.{table_tells, ray_tells}
 
 -- one thing, and another after it
 then_other : {X Y Z : Type 0} (one : List ℕ → Parsed X) (other : List ℕ → Parsed Y) (f : X → Y → Z) (text_one : X → List ℕ) (text_other : Y → List ℕ) (whole : Z → List ℕ) → Tells [] one text_one → Tells [] other text_other →

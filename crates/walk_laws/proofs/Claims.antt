@@ -14,8 +14,8 @@ use Rattle.answer_definitions.specs.Lines.{pair_lines, ray_lines}
 use Rattle.walk_definitions.specs.Words.{count_in, max_count}
 use Rattle.walk_definitions.specs.Tables.{pair_slots, table_in, ray_in, multipliers, column_of}
 use Rattle.walk_definitions.specs.Reading.{Claim, optimal_in, crossed_in, infeasible_in, unbounded_in, claim_in, verdict_in}
-use Rattle.judged_laws.proofs.Readings.{after_text, after_word, after_check, one_or_other, if_none_else, mapped, at_some, count_within}
-use Rattle.judged_laws.proofs.TableLines.{pair_lines_are, ray_lines_are}
+use Rattle.walk_laws.proofs.Readings.{after_text, after_word, after_check, one_or_other, if_none_else, mapped, at_some, count_within}
+use Rattle.walk_laws.proofs.TableLines.{pair_lines_are, ray_lines_are}
 
 -- an opening that is reported isn't optimal
 abbrev pub MayBeOptimal : Solver → Type 0

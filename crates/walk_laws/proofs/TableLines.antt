@@ -13,7 +13,7 @@ use Rattle.question_definitions.specs.Answers.{Sheet}
 use Rattle.answer_definitions.specs.Lines.{lines_of, pair_lines, ray_lines}
 use Rattle.walk_definitions.specs.Words.{Parsed, left_after}
 use Rattle.walk_definitions.specs.Tables.{Slot, AnyNumber, value_in, slot_in, values_in, then_more, number_at, numbered, begins_table_line, pair_slots, line_head, line_of, line_in, table_in, multiplier_in, ray_in, multipliers, column_of}
-use Rattle.judged_laws.proofs.Readings.{after_text, after_word, if_none_else, gone_on, listed_more}
+use Rattle.walk_laws.proofs.Readings.{after_text, after_word, if_none_else, gone_on, listed_more}
 
 -- ---- values
 

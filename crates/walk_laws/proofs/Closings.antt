@@ -23,8 +23,8 @@ use Rattle.answer_definitions.specs.ParametricRuns.{row_of, shifts_of, family_of
 use Rattle.walk_definitions.specs.Checkers.{Checker}
 use Rattle.walk_definitions.specs.Tables.{column_of, multipliers}
 use Rattle.walk_definitions.specs.Tests.{says, asked, making_steps, unbounded_past, shift_products, infeasible_past, past_test, close_test}
-use Rattle.judged_laws.specs.Views.{past_of}
-use Rattle.judged_laws.proofs.Judging.{asked_holds, each_checked}
+use Rattle.walk_laws.specs.Views.{past_of}
+use Rattle.walk_laws.proofs.Judging.{asked_holds, each_checked}
 
 -- the last end is before the last value, and the proof is checked
 record IsPastEnd (max last t : ℚ) (proof : Verdict) : Type 0 where

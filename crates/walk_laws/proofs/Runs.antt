@@ -18,10 +18,10 @@ use Rattle.walk_definitions.specs.Words.{Parsed, left_after, fraction_in, form_i
 use Rattle.walk_definitions.specs.Tests.{says, verdict_test, solution_test, making_steps, interval_test, close_test}
 use Rattle.walk_definitions.specs.Reading.{Judged, Right, Fails, Refuses, by_verdict, tested_or, unread, tested_by, judged_map, Claim, verdict_in, solution_in, interval_in, close_in, parametric_run_head, Run, onward, part_in, run_in, parametric_run_in}
 use Rattle.walk_definitions.proofs.Texts.{is_text}
-use Rattle.reading_laws.specs.Laws.{reported, ReadingLaw}
-use Rattle.reading_laws.proofs.Pieces.{Tells, fraction_spells}
-use Rattle.reading_laws.proofs.Verdicts.{verdict_tells}
-use Rattle.reading_laws.proofs.Sections.{solution_tells, interval_tells, close_tells}
+use Rattle.walk_laws.specs.Read.{reported, ReadingLaw}
+use Rattle.walk_laws.proofs.Pieces.{Tells, fraction_spells}
+use Rattle.walk_laws.proofs.VerdictTexts.{verdict_tells}
+use Rattle.walk_laws.proofs.Sections.{solution_tells, interval_tells, close_tells}
 
 -- what passes its test was read
 tested_right : {X : Type 0} (otherwise : Judged X) (test : X → Verdict) (o : Parsed X) (x : X) (after : List ℕ) → (otherwise ≡ Right x after → ⊥) → tested_or otherwise test o ≡ Right x after → o ≡ Some (x, after)

@@ -23,10 +23,10 @@ use Rattle.answer_definitions.specs.ParametricRuns.{row_of, shifts_of, family_of
 use Rattle.listing_definitions.specs.Report.{ParametricInterval}
 use Rattle.walk_definitions.specs.Checkers.{Checker}
 use Rattle.walk_definitions.specs.Tests.{says, asked, making_steps, along_steps, end_test, keeps_limit, keeping_steps, part_test, interval_test}
-use Rattle.judged_laws.specs.Views.{part_of, MayChange}
-use Rattle.judged_laws.proofs.Judging.{asked_holds, each_checked}
-use Rattle.judged_laws.proofs.Solution.{solved_if_held}
-use Rattle.judged_laws.proofs.Openings.{lawful_family}
+use Rattle.walk_laws.specs.Views.{part_of, MayChange}
+use Rattle.walk_laws.proofs.Judging.{asked_holds, each_checked}
+use Rattle.walk_laws.proofs.Solution.{solved_if_held}
+use Rattle.walk_laws.proofs.Openings.{lawful_family}
 
 -- what is proved at both ends is so between them
 holds_between : BetweenLaws → (sheet : Sheet) (changing : Changing) → IsLinearProgram sheet.lp → MayChange sheet changing → HoldsBetween (family_of sheet changing)

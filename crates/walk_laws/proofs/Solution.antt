@@ -15,7 +15,7 @@ use Rattle.answer_definitions.specs.Lines.{row_numbers}
 use Rattle.walk_definitions.specs.Checkers.{Checker}
 use Rattle.walk_definitions.specs.Tests.{says, point_of, prices_of, slacks_of, slack_steps, solution_test}
 use Rattle.walk_definitions.specs.Reading.{Right, judged, solution_in}
-use Rattle.judged_laws.proofs.Judging.{each_checked, right_is_passed}
+use Rattle.walk_laws.proofs.Judging.{each_checked, right_is_passed}
 
 pub solved_if_held : (p : LinearProgram) → IsLinearProgram p → (z y : Vector) → AllHold (optimal_steps p z y) → IsSolvedBy p z y
 solved_if_held p lawful z y held =

@@ -1,10 +1,10 @@
 -- All that is judged right is true.
 use Rattle.interval_laws.specs.Laws.{BetweenLaws, PastLaws}
-use Rattle.judged_laws.specs.Laws.{JudgedLaws}
-use Rattle.judged_laws.proofs.Solution.{solution_is_true}
-use Rattle.judged_laws.proofs.Verdicts.{verdict_is_true, dual_is_not_unbounded}
-use Rattle.judged_laws.proofs.Openings.{opening_is_true}
-use Rattle.judged_laws.proofs.Chains.{chain_is_true}
+use Rattle.walk_laws.specs.Judged.{JudgedLaws}
+use Rattle.walk_laws.proofs.Solution.{solution_is_true}
+use Rattle.walk_laws.proofs.Verdicts.{verdict_is_true, dual_is_not_unbounded}
+use Rattle.walk_laws.proofs.Openings.{opening_is_true}
+use Rattle.walk_laws.proofs.Chains.{chain_is_true}
 use Rattle.walk_definitions.specs.Checkers.{Checker}
 
 pub judged_is_true : (C : Checker) → BetweenLaws → PastLaws → JudgedLaws C

@@ -23,10 +23,10 @@ use Rattle.walk_definitions.specs.Words.{fraction_in}
 use Rattle.walk_definitions.specs.Tables.{multipliers, column_of}
 use Rattle.walk_definitions.specs.Tests.{says, asked, claim_test, verdict_test}
 use Rattle.walk_definitions.specs.Reading.{Claim, Right, judged, tested_by, verdict_in}
-use Rattle.judged_laws.specs.Views.{AreLinesOfGrowth, IsTrueAtFirst}
-use Rattle.judged_laws.specs.Laws.{IsTrueUnlessOptimal}
-use Rattle.judged_laws.proofs.Judging.{asked_holds, each_checked, right_is_passed, right_is_made}
-use Rattle.judged_laws.proofs.Claims.{MayBeOptimal, IsFormed, verdict_formed}
+use Rattle.walk_laws.specs.Views.{AreLinesOfGrowth, IsTrueAtFirst}
+use Rattle.walk_laws.specs.Judged.{IsTrueUnlessOptimal}
+use Rattle.walk_laws.proofs.Judging.{asked_holds, each_checked, right_is_passed, right_is_made}
+use Rattle.walk_laws.proofs.Claims.{MayBeOptimal, IsFormed, verdict_formed}
 
 module _ (C : Checker) (sheet : Sheet) (lawful : IsLinearProgram sheet.lp) where
   -- steps that are tested with the word of a check hold

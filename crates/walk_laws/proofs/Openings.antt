@@ -14,10 +14,10 @@ use Rattle.walk_definitions.specs.Checkers.{Checker}
 use Rattle.walk_definitions.specs.Words.{left_after, fraction_in}
 use Rattle.walk_definitions.specs.Tests.{says, making_steps, verdict_test}
 use Rattle.walk_definitions.specs.Reading.{Claim, Run, Right, judged, tested_by, verdict_in, parametric_run_head, run_in, opening_in, parametric_run_in}
-use Rattle.judged_laws.specs.Views.{MayChange, IsTrueAtFirst}
-use Rattle.judged_laws.proofs.Judging.{each_checked, right_is_passed, right_is_made}
-use Rattle.judged_laws.proofs.Claims.{MayBeOptimal, IsFormed, verdict_formed}
-use Rattle.judged_laws.proofs.Verdicts.{claim_is_true}
+use Rattle.walk_laws.specs.Views.{MayChange, IsTrueAtFirst}
+use Rattle.walk_laws.proofs.Judging.{each_checked, right_is_passed, right_is_made}
+use Rattle.walk_laws.proofs.Claims.{MayBeOptimal, IsFormed, verdict_formed}
+use Rattle.walk_laws.proofs.Verdicts.{claim_is_true}
 
 -- the linear program at each value is lawful
 pub lawful_family : (sheet : Sheet) (changing : Changing) → IsLinearProgram sheet.lp → MayChange sheet changing → (theta : ℚ) → IsLinearProgram (family_of sheet changing theta)

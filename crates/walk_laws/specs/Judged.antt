@@ -14,7 +14,7 @@ use Rattle.soundness_laws.specs.Truth.{IsTrueOf, IsNotUnbounded}
 use Rattle.walk_definitions.specs.Checkers.{Checker}
 use Rattle.walk_definitions.specs.Tests.{point_of, prices_of}
 use Rattle.walk_definitions.specs.Reading.{Right, judged}
-use Rattle.judged_laws.specs.Views.{part_of, past_of, MayChange, IsTrueAtFirst}
+use Rattle.walk_laws.specs.Views.{part_of, past_of, MayChange, IsTrueAtFirst}
 
 abbrev pub IsTrueUnlessOptimal : Sheet → PathVerdict → Type 0
 IsTrueUnlessOptimal sheet (OptimalAt steps objective) = Unit {0}

@@ -1,5 +1,0 @@
-use Rattle.judged_laws.proofs.Proved.{judged_is_true}
-use Rattle.judged_laws.proofs.judged_laws.Goals as goal
-
-pub returns : goal.returns
-returns c = λ C. judged_is_true C c.between_laws.ensures c.past_laws.ensures

@@ -1,5 +1,0 @@
-mod Pieces
-mod Lines
-mod Verdicts
-mod Sections
-pub mod Runs
