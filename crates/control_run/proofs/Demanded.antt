@@ -12,11 +12,11 @@ use Rattle.run_definitions.specs.Verbs.{by_verdict, demanded}
 use Rattle.run_machine.specs.declared.end.End.{End}
 use Rattle.run_machine.specs.declared.end.End.TheVariants as end
 use Rattle.run_machine.specs.declared.finding.Finding.TheVariants.{Ended}
-use Rattle.run_setup.specs.Machines.{Machine}
+use Rattle.setup_verbs.specs.Machines.{Machine}
 use Rattle.run_machine.specs.Ends.{end_view}
 use Rattle.run_machine.specs.Standing.{AreDemands}
-use Rattle.run_setup.specs.Standing.{Represents}
-use Rattle.run_setup.specs.Statements.{Follows}
+use Rattle.setup_verbs.specs.Standing.{Represents}
+use Rattle.setup_verbs.specs.Statements.{Follows}
 use Rattle.run_machine.specs.Findings.{demanded_act, act_of}
 
 module _ (card : ℕ) (cards : List (List ℕ)) (machine : Machine) (position executed : ℕ) (move : StatementMove) (report : Report) (then : State) (t : Represents cards machine position executed then) where

@@ -5,10 +5,10 @@ use Rattle.listing_definitions.specs.declared.Mark.{Mark}
 use Rattle.control_definitions.specs.Cells.{Cells}
 use Rattle.run_machine.specs.declared.finding.Finding.{Finding}
 use Rattle.run_machine.specs.declared.finding.Finding.TheVariants.{Refused, Overflow, WrongPrices, Limit, Ended, Printed, RanThrough}
-use Rattle.run_setup.specs.Machines.{Machine}
-use Rattle.run_setup.specs.Kept.{Setup}
+use Rattle.setup_verbs.specs.Machines.{Machine}
+use Rattle.setup_verbs.specs.Kept.{Setup}
 use Rattle.run_machine.specs.Standing.{AreDemands}
-use Rattle.run_setup.specs.Standing.{IsReady, IsSolved, IsSound}
+use Rattle.setup_verbs.specs.Standing.{IsReady, IsSolved, IsSound}
 use Rattle.run_machine.specs.Findings.{IfEnded, mark_left}
 use Rattle.control_run.specs.ParametricVerbs.{cells_left}
 

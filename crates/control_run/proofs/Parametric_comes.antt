@@ -23,26 +23,26 @@ use Rattle.run_definitions.specs.Verbs.{mark_of, last_value, not_less, or_select
 use Rattle.run_machine.specs.declared.act.Act.{Act}
 use Rattle.run_machine.specs.declared.act.Halt.{Halt}
 use Rattle.run_machine.specs.declared.finding.Finding.{Finding}
-use Rattle.run_setup.specs.Machines.{Machine}
-use Rattle.run_setup.specs.Kept.{Setup}
+use Rattle.setup_verbs.specs.Machines.{Machine}
+use Rattle.setup_verbs.specs.Kept.{Setup}
 use Rattle.run_machine.specs.declared.selecting.Refusal.TheVariants.{Fault}
 use Rattle.parametric_request.specs.declared.request.ParametricVerb.{ParametricVerb}
 use Rattle.parametric_request.specs.declared.request.ParametricVerb.TheVariants.{Paraobj, Pararhs}
 use Rattle.run_machine.specs.Choosing.{HasSelectionFault, HasSelectionOverflow, refused_act}
 use Rattle.run_machine.specs.Ends.{place_view}
 use Rattle.run_machine.specs.Standing.{AreDemands}
-use Rattle.run_setup.specs.Standing.{IsPresent, IsReady, ShowsSetup, Represents}
-use Rattle.run_setup.specs.Statements.{Comes, Executes}
+use Rattle.setup_verbs.specs.Standing.{IsPresent, IsReady, ShowsSetup, Represents}
+use Rattle.setup_verbs.specs.Statements.{Comes, Executes}
 use Rattle.run_machine.specs.Findings.{ReportsFinding, act_of}
 use Rattle.parametric_request.specs.Asking.{verb_of, name_moved, change_of, change_fault, IsAsked, no_last, below, IsAskFault, no_change, no_value}
 use Rattle.control_run.specs.ParametricVerbs.{ParametricRunReaches, ParametricRunOverflows, opened, chained, at_limit, overflows, ParametricRuns, unselected, too_large, not_asked, run_through, cells_left}
-use Rattle.run_setup.proofs.Selected.{same_matrix}
+use Rattle.setup_verbs.proofs.Selected.{same_matrix}
 use Rattle.run_machine.proofs.Giving.{quietly}
-use Rattle.run_setup.proofs.Giving.{gives_fault, gives_found, gives_unselected, gives_selected}
+use Rattle.setup_verbs.proofs.Giving.{gives_fault, gives_found, gives_unselected, gives_selected}
 use Rattle.control_run.proofs.Reporting.{reported_executes, cut_executes}
 use Rattle.control_run.proofs.Present.{goes_through}
 use Rattle.control_run.proofs.Demanded.{verdict_comes}
-use Rattle.run_setup.proofs.Present.{IsPresentOf, lie_up_to, present_at, present_with}
+use Rattle.setup_verbs.proofs.Present.{IsPresentOf, lie_up_to, present_at, present_with}
 
 no_cards_by : (problem : Problem ℕ) (cells : Cells) (verb : ParametricVerb) (setup new : Setup) (gain : Gain) (finding : Finding) → ParametricRuns problem cells verb setup new gain finding → punched_by gain ≡ []
 no_cards_by problem cells verb setup new _ _ (unselected h) = refl

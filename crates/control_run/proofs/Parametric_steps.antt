@@ -45,7 +45,7 @@ use Rattle.run_machine.specs.declared.act.Halt.TheVariants as halt
 use Rattle.run_machine.specs.declared.end.Place.{Place as OwnPlace}
 use Rattle.run_machine.specs.declared.finding.Finding.{Finding}
 use Rattle.run_machine.specs.declared.finding.Finding.TheVariants.{Ended, Overflow, RanThrough}
-use Rattle.run_setup.specs.Kept.{Engine, Setup}
+use Rattle.setup_verbs.specs.Kept.{Engine, Setup}
 use Rattle.control_run.proofs.Selected_again.{name_kept, options_kept, basis_kept, engine_kept, now_is}
 use Rattle.run_machine.specs.declared.selecting.Refusal.{Refusal}
 use Rattle.run_machine.specs.declared.selecting.Refusal.TheVariants.{Fault, NoMemory}
@@ -65,7 +65,7 @@ use Rattle.control_run.specs.ParametricVerbs.{refusal_of, parametric_run_view, v
 use Rattle.control_run.proofs.Reporting.{tells_more, tells_quietly, overflow_tells}
 use Rattle.control_run.proofs.Limit_formula.{placed_apart, unplaced_limit}
 use Rattle.control_run.proofs.Parametric_lines.{last_same, chain_same}
-use Rattle.run_setup.proofs.Present.{as_many_rows, one_problem}
+use Rattle.setup_verbs.proofs.Present.{as_many_rows, one_problem}
 
 -- ---- what is printed of a run
 

@@ -23,11 +23,11 @@ use Rattle.report_text.specs.Verdicts.{verdict_view, check_view}
 use Rattle.verb_answers.specs.declared.path.PathReport.{PathReport}
 use Rattle.verb_answers.specs.Reports.{sheet_view, RuleIsReached, IsReached, IsDualReached}
 use Rattle.run_definitions.specs.State.{Present, gone_through}
-use Rattle.run_setup.specs.Kept.{Setup}
-use Rattle.run_setup.specs.Standing.{ShowsSetup}
+use Rattle.setup_verbs.specs.Kept.{Setup}
+use Rattle.setup_verbs.specs.Standing.{ShowsSetup}
 use Rattle.control_run.specs.Found.{PathReaches}
 use Rattle.parametric_laws.proofs.Runs.{last_of-append}
-use Rattle.run_setup.proofs.Present.{IsPresentOf, present_with}
+use Rattle.setup_verbs.proofs.Present.{IsPresentOf, present_with}
 
 module _ (problem : Problem ℕ) (setup : Setup) (viewed : Option Present) (p : IsPresentOf problem setup viewed) (lp : LinearProgram) (same : matrix_of problem ≡ lp.matrix) where
   -- the present basis after a path

@@ -39,22 +39,22 @@ use Rattle.run_machine.specs.declared.act.Halt.TheVariants as halt
 use Rattle.run_machine.specs.declared.end.Place.{Place as OwnPlace}
 use Rattle.run_machine.specs.declared.finding.Finding.{Finding}
 use Rattle.run_machine.specs.declared.finding.Finding.TheVariants.{Overflow, Printed}
-use Rattle.run_setup.specs.Machines.{Machine}
-use Rattle.run_setup.specs.Kept.{Setup}
+use Rattle.setup_verbs.specs.Machines.{Machine}
+use Rattle.setup_verbs.specs.Kept.{Setup}
 use Rattle.run_machine.specs.declared.selecting.Refusal.TheVariants.{Fault}
 use Rattle.run_machine.specs.Ends.{place_view}
 use Rattle.answer_definitions.specs.Real.{linear_programming}
-use Rattle.run_setup.specs.Standing.{IsPresent, ShowsSetup, Represents}
-use Rattle.run_setup.specs.Statements.{Comes, Executes}
+use Rattle.setup_verbs.specs.Standing.{IsPresent, ShowsSetup, Represents}
+use Rattle.setup_verbs.specs.Statements.{Comes, Executes}
 use Rattle.run_machine.specs.Choosing.{refused_act}
 use Rattle.run_machine.specs.Findings.{ReportsFinding, act_of}
 use Rattle.control_run.specs.Found.{RangesFound, ranged, stopped, ShowsRanges, range_fault}
-use Rattle.run_setup.proofs.Selected.{same_matrix}
+use Rattle.setup_verbs.proofs.Selected.{same_matrix}
 use Rattle.run_machine.proofs.Giving.{quietly}
-use Rattle.run_setup.proofs.Giving.{gives_fault, gives_found, gives_selected}
+use Rattle.setup_verbs.proofs.Giving.{gives_fault, gives_found, gives_selected}
 use Rattle.control_run.proofs.Reporting.{reported_executes, cut_executes}
 use Rattle.control_run.proofs.Showing.{IsSameSetup, still_stands}
-use Rattle.run_setup.proofs.Present.{IsPresentOf, lie_up_to, one_problem, present_at, present_with}
+use Rattle.setup_verbs.proofs.Present.{IsPresentOf, lie_up_to, one_problem, present_at, present_with}
 
 -- ---- the intervals of a basis
 

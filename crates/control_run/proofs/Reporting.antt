@@ -19,13 +19,13 @@ use Rattle.run_machine.specs.declared.act.Halt.TheVariants as halt
 use Rattle.run_machine.specs.declared.end.Place.{Place as OwnPlace}
 use Rattle.run_machine.specs.declared.finding.Finding.{Finding}
 use Rattle.run_machine.specs.declared.finding.Finding.TheVariants.{Overflow}
-use Rattle.run_setup.specs.Machines.{Machine}
+use Rattle.setup_verbs.specs.Machines.{Machine}
 use Rattle.run_machine.specs.Ends.{end_view, place_view}
 use Rattle.answer_definitions.specs.Real.{linear_programming}
-use Rattle.run_setup.specs.Standing.{Represents}
-use Rattle.run_setup.specs.Statements.{Comes, Executes, Follows}
+use Rattle.setup_verbs.specs.Standing.{Represents}
+use Rattle.setup_verbs.specs.Statements.{Comes, Executes, Follows}
 use Rattle.run_machine.specs.Findings.{ReportsFinding}
-use Rattle.run_setup.specs.Overflows.{IsOverflowAt, reported, no_memory}
+use Rattle.setup_verbs.specs.Overflows.{IsOverflowAt, reported, no_memory}
 
 module _ where
   pub tells_more : (F G : Gain → Finding → Type 0) (print_old print_new : SinkState) → ((gain : Gain) (finding : Finding) → F gain finding → G gain finding) → (result : Result Finding Halt) →

@@ -9,9 +9,9 @@ use Rattle.lp_definitions.specs.LinearProgram.{LinearProgram}
 use Rattle.basis_values.specs.Calls.{HasRates}
 use Rattle.question_definitions.specs.Answers.{Basis}
 use Rattle.run_definitions.specs.State.{choice_of}
-use Rattle.run_setup.specs.Kept.{Engine, Setup}
-use Rattle.run_setup.specs.Standing.{IsReady}
-use Rattle.run_setup.proofs.Present.{ready_rates}
+use Rattle.setup_verbs.specs.Kept.{Engine, Setup}
+use Rattle.setup_verbs.specs.Standing.{IsReady}
+use Rattle.setup_verbs.proofs.Present.{ready_rates}
 
 -- given is the setup with what was selected again, as the call leaves it, and mid is the same as its fields are read
 module _ (setup : Setup) {given mid : Setup} (seen : mid ≡ given) (others : given ≡ record setup { objective = given.objective; rhs = given.rhs; lp = given.lp }) where

@@ -21,26 +21,26 @@ use Rattle.run_definitions.specs.Verbs.{mark_of, or_selection_fault, after_path,
 use Rattle.run_machine.specs.declared.act.Act.{Act}
 use Rattle.run_machine.specs.declared.act.Halt.{Halt}
 use Rattle.run_machine.specs.declared.finding.Finding.{Finding}
-use Rattle.run_setup.specs.Machines.{Machine}
-use Rattle.run_setup.specs.Kept.{Setup}
+use Rattle.setup_verbs.specs.Machines.{Machine}
+use Rattle.setup_verbs.specs.Kept.{Setup}
 use Rattle.run_machine.specs.declared.selecting.Refusal.TheVariants.{Fault}
 use Rattle.run_machine.specs.Choosing.{HasSelectionFault, HasSelectionOverflow, refused_act}
 use Rattle.run_machine.specs.Ends.{place_view}
 use Rattle.answer_definitions.specs.Real.{linear_programming}
 use Rattle.run_machine.specs.Standing.{AreDemands}
-use Rattle.run_setup.specs.Standing.{IsPresent, IsReady, ShowsSetup, Represents}
-use Rattle.run_setup.specs.Statements.{Comes, Executes}
+use Rattle.setup_verbs.specs.Standing.{IsPresent, IsReady, ShowsSetup, Represents}
+use Rattle.setup_verbs.specs.Statements.{Comes, Executes}
 use Rattle.run_machine.specs.Findings.{ReportsFinding, act_of, mark_left}
 use Rattle.control_run.specs.declared.solving.SolvingVerb.{SolvingVerb}
 use Rattle.control_run.specs.declared.solving.SolvingVerb.TheVariants.{Primal, Dual}
 use Rattle.control_run.specs.Found.{verb_of, solver_of, limit_of, PathReaches, PathOverflows, reached, wrong_prices, at_limit, overflows, Finds, unselected, too_large, solved}
-use Rattle.run_setup.proofs.Selected.{same_matrix}
+use Rattle.setup_verbs.proofs.Selected.{same_matrix}
 use Rattle.run_machine.proofs.Giving.{quietly}
-use Rattle.run_setup.proofs.Giving.{gives_fault, gives_found, gives_unselected, gives_selected}
+use Rattle.setup_verbs.proofs.Giving.{gives_fault, gives_found, gives_unselected, gives_selected}
 use Rattle.control_run.proofs.Reporting.{reported_executes, cut_executes}
 use Rattle.control_run.proofs.Demanded.{verdict_comes}
 use Rattle.control_run.proofs.Present.{goes_through}
-use Rattle.run_setup.proofs.Present.{IsPresentOf, lie_up_to, present_at, present_with}
+use Rattle.setup_verbs.proofs.Present.{IsPresentOf, lie_up_to, present_at, present_with}
 
 pub no_cards_by : (verb : SolvingVerb) (problem : Problem ℕ) (cells : Cells) (setup new : Setup) (gain : Gain) (finding : Finding) → Finds verb problem cells setup new gain finding → punched_by gain ≡ []
 no_cards_by verb problem cells setup new _ _ (unselected h) = refl

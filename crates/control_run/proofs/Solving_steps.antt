@@ -40,8 +40,8 @@ use Rattle.run_machine.specs.declared.end.Place.{Place as OwnPlace}
 use Rattle.run_machine.specs.declared.finding.Finding.{Finding}
 use Rattle.run_machine.specs.declared.finding.Finding.TheVariants.{Ended, Overflow}
 use Rattle.basis_values.specs.Calls.{HasRates}
-use Rattle.run_setup.specs.Kept.{Engine, Setup}
-use Rattle.run_setup.specs.Standing.{IsReady, IsSolved}
+use Rattle.setup_verbs.specs.Kept.{Engine, Setup}
+use Rattle.setup_verbs.specs.Standing.{IsReady, IsSolved}
 use Rattle.run_machine.specs.declared.selecting.Refusal.{Refusal}
 use Rattle.run_machine.specs.declared.selecting.Refusal.TheVariants.{Fault, NoMemory}
 use Rattle.run_machine.specs.declared.selecting.Refusal.TheVariants as refusals
@@ -50,9 +50,9 @@ use Rattle.run_machine.specs.Ends.{place_view}
 use Rattle.run_machine.specs.Findings.{ReportsFinding, refused_finding, IfEnded}
 use Rattle.control_run.specs.declared.solving.SolvingVerb.{SolvingVerb}
 use Rattle.control_run.specs.Found.{solver_of, limit_of, PathReaches, PathFinds, reached, wrong_prices, at_limit, overflows, Finds, unselected, too_large, solved}
-use Rattle.run_setup.proofs.Selected.{no_change}
+use Rattle.setup_verbs.proofs.Selected.{no_change}
 use Rattle.control_run.proofs.Reporting.{tells_more, tells_quietly}
-use Rattle.run_setup.proofs.Present.{one_problem, now_selected}
+use Rattle.setup_verbs.proofs.Present.{one_problem, now_selected}
 use Rattle.control_run.proofs.Selected_again.{name_kept, options_kept, basis_kept, engine_kept, now_is, rates_again}
 
 -- ---- the path

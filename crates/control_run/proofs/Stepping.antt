@@ -12,10 +12,10 @@ use Rattle.run_machine.specs.declared.act.Act.TheVariants as act
 use Rattle.run_machine.specs.declared.act.Halt.{Halt}
 use Rattle.run_machine.specs.declared.act.Halt.TheVariants as halt
 use Rattle.run_machine.specs.declared.act.AfterStatement.{AfterStatement}
-use Rattle.run_setup.specs.Machines.{Machine}
-use Rattle.run_setup.specs.Standing.{Represents}
-use Rattle.run_setup.specs.Statements.{Comes}
-use Rattle.run_setup.specs.Statements.{Performs}
+use Rattle.setup_verbs.specs.Machines.{Machine}
+use Rattle.setup_verbs.specs.Standing.{Represents}
+use Rattle.setup_verbs.specs.Statements.{Comes}
+use Rattle.setup_verbs.specs.Statements.{Performs}
 use Rattle.control_run.specs.Running.{Leads, Steps}
 use Rattle.run_machine.specs.Turning.{turn_of}
 

@@ -37,7 +37,7 @@ use Rattle.run_definitions.specs.Verbs.{mark_of}
 use Rattle.run_machine.specs.declared.end.Place.{Place as OwnPlace}
 use Rattle.run_machine.specs.declared.finding.Finding.{Finding}
 use Rattle.run_machine.specs.declared.finding.Finding.TheVariants.{Refused, Overflow, WrongPrices, Limit, Ended, Printed}
-use Rattle.run_setup.specs.Kept.{Setup}
+use Rattle.setup_verbs.specs.Kept.{Setup}
 use Rattle.run_machine.specs.Choosing.{HasSelectionFault, HasSelectionOverflow}
 use Rattle.run_machine.specs.Ends.{place_view}
 use Rattle.control_run.specs.declared.solving.SolvingVerb.{SolvingVerb}

@@ -36,7 +36,7 @@ use Rattle.run_machine.specs.declared.act.Halt.{Halt}
 use Rattle.run_machine.specs.declared.end.Place.{Place as OwnPlace}
 use Rattle.run_machine.specs.declared.finding.Finding.{Finding}
 use Rattle.run_machine.specs.declared.finding.Finding.TheVariants.{Refused, Overflow, Limit, Ended, RanThrough}
-use Rattle.run_setup.specs.Kept.{Setup}
+use Rattle.setup_verbs.specs.Kept.{Setup}
 use Rattle.run_machine.specs.declared.selecting.Refusal.{Refusal}
 use Rattle.run_machine.specs.declared.selecting.Refusal.TheVariants.{Fault, NoMemory}
 use Rattle.parametric_request.specs.declared.request.ParametricVerb.{ParametricVerb}
@@ -48,7 +48,7 @@ use Rattle.control_run.specs.declared.requested_run.ParametricRun.{ParametricRun
 use Rattle.control_run.specs.declared.requested_run.ParametricRun.TheVariants as own
 use Rattle.run_machine.specs.Choosing.{HasSelectionFault, HasSelectionOverflow}
 use Rattle.run_machine.specs.Ends.{place_view}
-use Rattle.run_setup.specs.Overflows.{IsOverflowAt}
+use Rattle.setup_verbs.specs.Overflows.{IsOverflowAt}
 
 -- ---- what a verb asks for
 

@@ -30,9 +30,9 @@ use Rattle.run_machine.specs.declared.act.Halt.TheVariants as halt
 use Rattle.run_machine.specs.declared.act.AfterStatement.{AfterStatement}
 use Rattle.run_machine.specs.declared.act.AfterStatement.TheVariants.{Goes, Ends}
 use Rattle.run_machine.specs.declared.end.End.{End}
-use Rattle.run_setup.specs.Machines.{Machine}
+use Rattle.setup_verbs.specs.Machines.{Machine}
 use Rattle.run_machine.specs.Ends.{end_view}
-use Rattle.run_setup.specs.Standing.{Represents}
+use Rattle.setup_verbs.specs.Standing.{Represents}
 use Rattle.run_machine.specs.Punching.{gain_cards}
 use Rattle.control_run.specs.Devices.{Leaves}
 

@@ -3,23 +3,22 @@ ghost use Rattle.std.specs.Prelude.{◌≡◌, ◌≤◌, length};
 ghost use Rattle.control_verbs.specs.Views.{viewed};
 ghost use Rattle.control_compiler.specs.Valid.{IsProgram};
 ghost use Rattle.answer_definitions.specs.Real.{linear_programming};
-ghost use Rattle.run_setup.specs.Standing.{IsSound};
+ghost use Rattle.setup_verbs.specs.Standing.{IsSound};
 ghost use Rattle.run_machine.specs.Statements.{IsSoundVerb};
-ghost use Rattle.run_setup.specs.Statements.{Performs};
+ghost use Rattle.setup_verbs.specs.Statements.{Performs};
 ghost use Rattle.control_run.specs.Running.{Steps};
 
 use crate::parametric::show_parametric_run;
 use crate::ranges::show_ranges;
 use crate::solution::show_solution;
 use crate::solving::{SolvingVerb, solve};
-use basis_verbs::{insert_basis, punch_present};
 use card_reader::Cards;
 use control_compiler::{Program, Statement, Verb};
 use job_devices::Sink;
 use lp_model::Engine;
 use parametric_request::ParametricVerb;
 use run_machine::{Act, AfterStatement, Halt, Machine};
-use run_setup::{Setup, set_up};
+use setup_verbs::{Setup, insert_basis, punch_present, set_up};
 use std::alloc::Global;
 
 /// What a run goes by: a compiled program, and the cards of its job.

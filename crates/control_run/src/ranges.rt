@@ -11,8 +11,8 @@ ghost use Rattle.basis_values.specs.Calls.{HasRates, KeepsRates};
 ghost use Rattle.answer_definitions.specs.Sections.{IsRanged};
 ghost use Rattle.verb_answers.specs.Answers.{sheet_view, AreRanged};
 ghost use Rattle.answer_definitions.specs.Real.{linear_programming};
-ghost use Rattle.run_setup.specs.Standing.{IsReady, IsSolved, IsSound};
-ghost use Rattle.run_setup.specs.Statements.{Executes};
+ghost use Rattle.setup_verbs.specs.Standing.{IsReady, IsSolved, IsSound};
+ghost use Rattle.setup_verbs.specs.Statements.{Executes};
 ghost use Rattle.run_machine.specs.Findings.{ReportsFinding};
 ghost use Rattle.control_run.specs.Found.{RangesFound, ShowsRanges, range_fault};
 
@@ -23,7 +23,7 @@ use lp_model::{Basis, Engine, Rates, Stop};
 use problem_file::ProblemFile;
 use report_text::{Report, text_of};
 use run_machine::{Act, Finding, Halt, Machine, Refusal, act_of};
-use run_setup::{Setup, overflow_at};
+use setup_verbs::{Setup, overflow_at};
 use std::alloc::Global;
 use verb_answers::{Ranged, ranges_of};
 

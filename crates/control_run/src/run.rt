@@ -3,7 +3,7 @@ ghost use Rattle.std.specs.Prelude.{◌≡◌, ◌≤◌, ◌-◌, ◌+◌, leng
 ghost use Rattle.card_definitions.specs.Cards.{numbered_cards};
 ghost use Rattle.run_definitions.specs.State.{start};
 ghost use Rattle.answer_definitions.specs.Real.{linear_programming};
-ghost use Rattle.run_setup.specs.Standing.{IsSound, Represents};
+ghost use Rattle.setup_verbs.specs.Standing.{IsSound, Represents};
 ghost use Rattle.control_run.specs.Running.{decks_after, Runs};
 ghost use Rattle.control_run.specs.Ended.{IsEndOfRun};
 
@@ -16,7 +16,7 @@ use job_devices::Sink;
 use lp_model::Engine;
 use reinversion::ProductForm;
 use run_machine::{AfterStatement, End, Halt, Machine};
-use run_setup::Setup;
+use setup_verbs::Setup;
 use std::alloc::Global;
 
 /// What keeps the rates of a run.

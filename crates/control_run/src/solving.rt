@@ -14,8 +14,8 @@ ghost use Rattle.verb_answers.specs.Reports.{sheet_view};
 ghost use Rattle.run_definitions.specs.Verbs.{mark_of};
 ghost use Rattle.answer_definitions.specs.Real.{linear_programming};
 ghost use Rattle.run_machine.specs.Standing.{AreDemands};
-ghost use Rattle.run_setup.specs.Standing.{IsReady, IsSolved, IsSound};
-ghost use Rattle.run_setup.specs.Statements.{Executes};
+ghost use Rattle.setup_verbs.specs.Standing.{IsReady, IsSolved, IsSound};
+ghost use Rattle.setup_verbs.specs.Statements.{Executes};
 ghost use Rattle.run_machine.specs.Findings.{ReportsFinding, IfEnded};
 ghost use Rattle.control_run.specs.Found.{verb_of, solver_of, limit_of, PathReaches, PathFinds, Finds};
 
@@ -29,7 +29,7 @@ use problem_file::ProblemFile;
 use report_text::{Report, text_of};
 use run_cells::Cells;
 use run_machine::{Act, Finding, Halt, Machine, Refusal, act_of, mark_left, refused};
-use run_setup::{Setup, overflow_at, select_again};
+use setup_verbs::{Setup, overflow_at, select_again};
 use std::alloc::Global;
 use verb_answers::{PathReport, dual_from, path_from};
 

@@ -3,8 +3,8 @@ use Rattle.control_definitions.specs.Program as program
 use Rattle.answer_definitions.specs.Real.{linear_programming}
 use Rattle.run_definitions.specs.Moves.{Gives}
 use Rattle.run_machine.proofs.Punching.{punches_nothing}
-use Rattle.run_setup.specs.Standing.{IsPresent}
-use Rattle.run_setup.proofs.Settling as settled
+use Rattle.setup_verbs.specs.Standing.{IsPresent}
+use Rattle.setup_verbs.proofs.Settling as settled
 use Rattle.control_run.proofs.execute.execute.Goals as goal
 
 pub returns-in-Initialz-clause-acts : goal.returns-in-Initialz-clause-acts

@@ -2,7 +2,7 @@
 use Rattle.std.proofs.Common.{None, Some}
 use Rattle.std.proofs.lemmas.Result.{err_from_is_err_and}
 use Rattle.control_run.proofs.Keeping.{sound_cleared, sound_run_through}
-use Rattle.run_setup.proofs.Present.{ready_of}
+use Rattle.setup_verbs.proofs.Present.{ready_of}
 use Rattle.control_run.proofs.Parametric_comes.{parametric_run_no_setup, parametric_run_found, parametric_run_cut}
 use Rattle.control_run.proofs.parametric.show_parametric_run.Goals as goal
 

@@ -2,7 +2,7 @@
 use Rattle.std.proofs.Common.{Some, refl, sym, ◌∙◌}
 use Rattle.std.proofs.lemmas.Result.{err_from_is_err_and}
 use Rattle.control_run.proofs.Keeping.{solved_of, sound_kept}
-use Rattle.run_setup.proofs.Present.{ready_of}
+use Rattle.setup_verbs.proofs.Present.{ready_of}
 use Rattle.control_run.proofs.Showing.{IsSameSetup, still_solved}
 use Rattle.control_run.proofs.Ranging.{without_fault, ranges_no_setup, ranges_refused, ranges_found, ranges_broken}
 use Rattle.listing_definitions.specs.declared.Mark.TheVariants.{Optimal}

@@ -3,7 +3,7 @@ use Rattle.std.proofs.Common.{List, subst}
 use Rattle.card_definitions.specs.Cards.{Card}
 use Rattle.deck_definitions.specs.Decks.{decks_of}
 use Rattle.run_definitions.specs.State.{start}
-use Rattle.run_setup.specs.Standing.{Represents}
+use Rattle.setup_verbs.specs.Standing.{Represents}
 use Rattle.control_run.proofs.run.run.Goals as goal
 
 pub run_statements-requires-clause-start : goal.run_statements-requires-clause-start

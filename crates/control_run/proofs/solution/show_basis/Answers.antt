@@ -3,7 +3,7 @@ use Rattle.lp_model.specs.RatesCalls.{IfOverflow}
 use Rattle.verb_answers.specs.Answers.{sheet_view}
 use Rattle.verb_answers.specs.Stops.{SolutionRefused}
 use Rattle.lp_definitions.specs.declared.Evidence.{Evidence}
-use Rattle.run_setup.specs.Overflows.{IsOverflowAt}
+use Rattle.setup_verbs.specs.Overflows.{IsOverflowAt}
 use Rattle.control_run.specs.Found.{LinesFound}
 use Rattle.control_run.proofs.Reporting.{overflow_tells}
 use Rattle.control_run.proofs.Showing.{lines_overflow}

@@ -1,8 +1,8 @@
 use Rattle.std.proofs.Common.{sym, subst}
-use Rattle.run_setup.specs.Standing.{IsReady}
+use Rattle.setup_verbs.specs.Standing.{IsReady}
 use Rattle.control_run.proofs.Showing.{lines_at}
 use Rattle.control_run.proofs.solution.show_setup.Goals as goal
-use Rattle.run_setup.proofs.Present.{ready_columns, ready_rows, ready_unchanged, stays_on_file}
+use Rattle.setup_verbs.proofs.Present.{ready_columns, ready_rows, ready_unchanged, stays_on_file}
 
 pub unreachable-unreachable : goal.unreachable-unreachable
 unreachable-unreachable g c = absurd (stays_on_file c.args.file.now _ (subst (IsReady c.args.file.now) (sym c.setup.view_is) c.requires) (sym c.in_default.ensures))

@@ -2,7 +2,7 @@
 use Rattle.std.proofs.Common.{Some}
 use Rattle.std.proofs.lemmas.Result.{err_from_is_err_and}
 use Rattle.control_run.proofs.Keeping.{solved_of, sound_kept}
-use Rattle.run_setup.proofs.Present.{ready_of}
+use Rattle.setup_verbs.proofs.Present.{ready_of}
 use Rattle.control_run.proofs.Showing.{solution_no_setup, solution_not_solved, solution_found, solution_cut, IsSameSetup, still_solved}
 use Rattle.control_run.proofs.solution.show_solution.Goals as goal
 

@@ -2,9 +2,9 @@
 use Rattle.std.proofs.Common.{refl, sym, ap, ◌∙◌}
 use Rattle.problem_file.specs.Filed.{filed_under}
 use Rattle.run_definitions.specs.State.{choice_of}
-use Rattle.run_setup.specs.Kept.{Setup}
-use Rattle.run_setup.proofs.Selected.{no_change}
-use Rattle.run_setup.proofs.Present.{as_many_columns, as_many_rows}
+use Rattle.setup_verbs.specs.Kept.{Setup}
+use Rattle.setup_verbs.proofs.Selected.{no_change}
+use Rattle.setup_verbs.proofs.Present.{as_many_columns, as_many_rows}
 use Rattle.control_run.proofs.Selected_again.{now_is, rates_again}
 use Rattle.control_run.proofs.Solving_steps.{refusal_reported, refusal_ends, again_reported, again_solved}
 use Rattle.control_run.proofs.solving.find.Goals as goal

@@ -2,7 +2,7 @@
 use Rattle.std.proofs.Common.{None, Some}
 use Rattle.std.proofs.lemmas.Result.{err_from_is_err_and}
 use Rattle.control_run.proofs.Keeping.{sound_cleared, sound_found}
-use Rattle.run_setup.proofs.Present.{ready_of}
+use Rattle.setup_verbs.proofs.Present.{ready_of}
 use Rattle.control_run.proofs.Solving_comes.{solving_no_setup, solving_found, solving_cut}
 use Rattle.control_run.proofs.solving.solve.Goals as goal
 

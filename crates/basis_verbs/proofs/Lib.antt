@@ -1,4 +1,0 @@
-pub mod Selecting
-pub mod Punched
-pub mod Inserted
-pub mod Counting

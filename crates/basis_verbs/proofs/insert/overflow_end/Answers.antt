@@ -1,6 +1,0 @@
-use Rattle.std.proofs.Common.{Some, ap}
-use Rattle.listing_definitions.specs.Ending as endings
-use Rattle.basis_verbs.proofs.insert.overflow_end.Goals as goal
-
-pub returns : goal.returns
-returns g c = ap (λ place. endings.OverflowStop (record { evidence = c.args.evidence; place = Some place; card = c.args.card })) c.in_ok-place.ensures

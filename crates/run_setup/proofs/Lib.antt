@@ -1,5 +1,0 @@
-pub mod Giving
-pub mod Settling
-pub mod Selected
-pub mod Present
-mod Setting
