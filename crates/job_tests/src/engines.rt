@@ -66,7 +66,23 @@ fn the_engine_of_runs_runs_jobs(rt: HostRuntime) -> Result<(), Fail> {
 fn an_engine_without_memory_ends_the_run(rt: HostRuntime) -> Result<(), Fail> {
     let run = run_of::<Starved>(
         rt.alloc(),
-        b"         PROGRAM\n         CONVERT\n         SETUP\n         PRIMAL\n         EXIT\n         PEND\nNAME          ONE\nROWS\n N  COST\n G  LOW\nCOLUMNS\n    X         COST      1\n    X         LOW       1\nRHS\n    B         LOW       1\nENDATA\n",
+        b"         PROGRAM
+         CONVERT
+         SETUP
+         PRIMAL
+         EXIT
+         PEND
+NAME          ONE
+ROWS
+ N  COST
+ G  LOW
+COLUMNS
+    X         COST      1
+    X         LOW       1
+RHS
+    B         LOW       1
+ENDATA
+",
     )?;
     assert_eq!(rt; run.status, RunStatus::Memory);
     let listing: &[u8] =

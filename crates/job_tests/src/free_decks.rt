@@ -72,7 +72,19 @@ fn first_misread(
 
 // A card of COLUMNS, card 13 of the job.
 const ENTRY_AROUND: Around = Around {
-    before: b"* A free deck, with one card or two changed.\n*\n         PROGRAM\n         CONVERT\n         BCDOUT\n         EXIT\n         PEND\nNAME          ONE       FREE\nROWS\n N COST\n G LOW\nCOLUMNS\n",
+    before: b"* A free deck, with one card or two changed.
+*
+         PROGRAM
+         CONVERT
+         BCDOUT
+         EXIT
+         PEND
+NAME          ONE       FREE
+ROWS
+ N COST
+ G LOW
+COLUMNS
+",
     listing: b"",
     after: b"RHS\n LOW 1\nENDATA\n",
 };
@@ -156,20 +168,56 @@ const ENTRY_DECKS: [Lawful; 2] = [
     Lawful {
         cards: " EIGHTLET COST 123456789012 LOW 1\n",
         lines: b"CONVERT ONE      ROWS 2 COLUMNS 1 ENTRIES 2\nBCDOUT  ONE      CARDS 10\n",
-        deck: b"NAME          ONE\nROWS\n N  COST\n G  LOW\nCOLUMNS\n    EIGHTLET  COST      123456789012\n    EIGHTLET  LOW       1\nRHS\n              LOW       1\nENDATA\n",
+        deck: b"NAME          ONE
+ROWS
+ N  COST
+ G  LOW
+COLUMNS
+    EIGHTLET  COST      123456789012
+    EIGHTLET  LOW       1
+RHS
+              LOW       1
+ENDATA
+",
     },
     Lawful {
         cards: "                                                            X COST 1 LOW 1\n",
         lines: b"CONVERT ONE      ROWS 2 COLUMNS 1 ENTRIES 2\nBCDOUT  ONE      CARDS 10\n",
-        deck: b"NAME          ONE\nROWS\n N  COST\n G  LOW\nCOLUMNS\n    X         COST      1\n    X         LOW       1\nRHS\n              LOW       1\nENDATA\n",
+        deck: b"NAME          ONE
+ROWS
+ N  COST
+ G  LOW
+COLUMNS
+    X         COST      1
+    X         LOW       1
+RHS
+              LOW       1
+ENDATA
+",
     },
 ];
 
 // A third card of ROWS, card 12.
 const ROW_AROUND: Around = Around {
-    before: b"* A free deck, with one card or two changed.\n*\n         PROGRAM\n         CONVERT\n         BCDOUT\n         EXIT\n         PEND\nNAME          ONE       FREE\nROWS\n N COST\n G LOW\n",
+    before: b"* A free deck, with one card or two changed.
+*
+         PROGRAM
+         CONVERT
+         BCDOUT
+         EXIT
+         PEND
+NAME          ONE       FREE
+ROWS
+ N COST
+ G LOW
+",
     listing: b"",
-    after: b"COLUMNS\n X COST 1 LOW 1\nRHS\n LOW 1\nENDATA\n",
+    after: b"COLUMNS
+ X COST 1 LOW 1
+RHS
+ LOW 1
+ENDATA
+",
 };
 
 const ROW_FAULTS: [Faulty; 16] = [
@@ -243,18 +291,59 @@ const ROW_DECKS: [Lawful; 2] = [
     Lawful {
         cards: " L A\n",
         lines: b"CONVERT ONE      ROWS 3 COLUMNS 1 ENTRIES 2\nBCDOUT  ONE      CARDS 11\n",
-        deck: b"NAME          ONE\nROWS\n N  COST\n G  LOW\n L  A\nCOLUMNS\n    X         COST      1\n    X         LOW       1\nRHS\n              LOW       1\nENDATA\n",
+        deck: b"NAME          ONE
+ROWS
+ N  COST
+ G  LOW
+ L  A
+COLUMNS
+    X         COST      1
+    X         LOW       1
+RHS
+              LOW       1
+ENDATA
+",
     },
     Lawful {
         cards: " DN S\n DL T COST 1\n DG U COST 1 LOW -2\n DG U T 3\n",
         lines: b"CONVERT ONE      ROWS 5 COLUMNS 1 ENTRIES 2\nBCDOUT  ONE      CARDS 15\n",
-        deck: b"NAME          ONE\nROWS\n N  COST\n G  LOW\n DN S\n DL T         COST      1\n DG U         COST      1\n DG U         LOW       -2\n DG U         T         3\nCOLUMNS\n    X         COST      1\n    X         LOW       1\nRHS\n              LOW       1\nENDATA\n",
+        deck: b"NAME          ONE
+ROWS
+ N  COST
+ G  LOW
+ DN S
+ DL T         COST      1
+ DG U         COST      1
+ DG U         LOW       -2
+ DG U         T         3
+COLUMNS
+    X         COST      1
+    X         LOW       1
+RHS
+              LOW       1
+ENDATA
+",
     },
 ];
 
 // A section between RHS and ENDATA, whose first data card is card 17.
 const SET_AROUND: Around = Around {
-    before: b"* A free deck, with one card or two changed.\n*\n         PROGRAM\n         CONVERT\n         BCDOUT\n         EXIT\n         PEND\nNAME          ONE       FREE\nROWS\n N COST\n G LOW\nCOLUMNS\n X COST 1 LOW 1\nRHS\n LOW 1\n",
+    before: b"* A free deck, with one card or two changed.
+*
+         PROGRAM
+         CONVERT
+         BCDOUT
+         EXIT
+         PEND
+NAME          ONE       FREE
+ROWS
+ N COST
+ G LOW
+COLUMNS
+ X COST 1 LOW 1
+RHS
+ LOW 1
+",
     listing: b"",
     after: b"ENDATA\n",
 };
@@ -314,40 +403,127 @@ const SET_DECKS: [Lawful; 6] = [
     Lawful {
         cards: "BOUNDS\n FR X\n",
         lines: b"CONVERT ONE      ROWS 2 COLUMNS 1 ENTRIES 2\nBCDOUT  ONE      CARDS 12\n",
-        deck: b"NAME          ONE\nROWS\n N  COST\n G  LOW\nCOLUMNS\n    X         COST      1\n    X         LOW       1\nRHS\n              LOW       1\nBOUNDS\n FR           X\nENDATA\n",
+        deck: b"NAME          ONE
+ROWS
+ N  COST
+ G  LOW
+COLUMNS
+    X         COST      1
+    X         LOW       1
+RHS
+              LOW       1
+BOUNDS
+ FR           X
+ENDATA
+",
     },
     Lawful {
         cards: "BOUNDS\n FR B X\n",
         lines: b"CONVERT ONE      ROWS 2 COLUMNS 1 ENTRIES 2\nBCDOUT  ONE      CARDS 12\n",
-        deck: b"NAME          ONE\nROWS\n N  COST\n G  LOW\nCOLUMNS\n    X         COST      1\n    X         LOW       1\nRHS\n              LOW       1\nBOUNDS\n FR B         X\nENDATA\n",
+        deck: b"NAME          ONE
+ROWS
+ N  COST
+ G  LOW
+COLUMNS
+    X         COST      1
+    X         LOW       1
+RHS
+              LOW       1
+BOUNDS
+ FR B         X
+ENDATA
+",
     },
     Lawful {
         cards: "BOUNDS\n UP X 1\n",
         lines: b"CONVERT ONE      ROWS 2 COLUMNS 1 ENTRIES 2\nBCDOUT  ONE      CARDS 12\n",
-        deck: b"NAME          ONE\nROWS\n N  COST\n G  LOW\nCOLUMNS\n    X         COST      1\n    X         LOW       1\nRHS\n              LOW       1\nBOUNDS\n UP           X         1\nENDATA\n",
+        deck: b"NAME          ONE
+ROWS
+ N  COST
+ G  LOW
+COLUMNS
+    X         COST      1
+    X         LOW       1
+RHS
+              LOW       1
+BOUNDS
+ UP           X         1
+ENDATA
+",
     },
     Lawful {
         cards: "BOUNDS\n UP B X 1\n",
         lines: b"CONVERT ONE      ROWS 2 COLUMNS 1 ENTRIES 2\nBCDOUT  ONE      CARDS 12\n",
-        deck: b"NAME          ONE\nROWS\n N  COST\n G  LOW\nCOLUMNS\n    X         COST      1\n    X         LOW       1\nRHS\n              LOW       1\nBOUNDS\n UP B         X         1\nENDATA\n",
+        deck: b"NAME          ONE
+ROWS
+ N  COST
+ G  LOW
+COLUMNS
+    X         COST      1
+    X         LOW       1
+RHS
+              LOW       1
+BOUNDS
+ UP B         X         1
+ENDATA
+",
     },
     Lawful {
         cards: "RANGES\n LOW 1\n",
         lines: b"CONVERT ONE      ROWS 2 COLUMNS 1 ENTRIES 2\nBCDOUT  ONE      CARDS 12\n",
-        deck: b"NAME          ONE\nROWS\n N  COST\n G  LOW\nCOLUMNS\n    X         COST      1\n    X         LOW       1\nRHS\n              LOW       1\nRANGES\n              LOW       1\nENDATA\n",
+        deck: b"NAME          ONE
+ROWS
+ N  COST
+ G  LOW
+COLUMNS
+    X         COST      1
+    X         LOW       1
+RHS
+              LOW       1
+RANGES
+              LOW       1
+ENDATA
+",
     },
     Lawful {
         cards: "RANGES\n R LOW 1\n",
         lines: b"CONVERT ONE      ROWS 2 COLUMNS 1 ENTRIES 2\nBCDOUT  ONE      CARDS 12\n",
-        deck: b"NAME          ONE\nROWS\n N  COST\n G  LOW\nCOLUMNS\n    X         COST      1\n    X         LOW       1\nRHS\n              LOW       1\nRANGES\n    R         LOW       1\nENDATA\n",
+        deck: b"NAME          ONE
+ROWS
+ N  COST
+ G  LOW
+COLUMNS
+    X         COST      1
+    X         LOW       1
+RHS
+              LOW       1
+RANGES
+    R         LOW       1
+ENDATA
+",
     },
 ];
 
 // The NAME card, card 8: it begins a free deck, or a fixed one, of which card 10 has a fault.
 const NAME_AROUND: Around = Around {
-    before: b"* A free deck, with one card or two changed.\n*\n         PROGRAM\n         CONVERT\n         BCDOUT\n         EXIT\n         PEND\n",
+    before: b"* A free deck, with one card or two changed.
+*
+         PROGRAM
+         CONVERT
+         BCDOUT
+         EXIT
+         PEND
+",
     listing: b"",
-    after: b"ROWS\n N COST\n G LOW\nCOLUMNS\n X COST 1 LOW 1\nRHS\n LOW 1\nENDATA\n",
+    after: b"ROWS
+ N COST
+ G LOW
+COLUMNS
+ X COST 1 LOW 1
+RHS
+ LOW 1
+ENDATA
+",
 };
 
 const NAME_FAULTS: [Faulty; 9] = [
@@ -393,18 +569,60 @@ const NAME_DECKS: [Lawful; 2] = [
     Lawful {
         cards: "NAME          A NAME    FREE\n",
         lines: b"CONVERT A NAME   ROWS 2 COLUMNS 1 ENTRIES 2\nBCDOUT  A NAME   CARDS 10\n",
-        deck: b"NAME          A NAME\nROWS\n N  COST\n G  LOW\nCOLUMNS\n    X         COST      1\n    X         LOW       1\nRHS\n              LOW       1\nENDATA\n",
+        deck: b"NAME          A NAME
+ROWS
+ N  COST
+ G  LOW
+COLUMNS
+    X         COST      1
+    X         LOW       1
+RHS
+              LOW       1
+ENDATA
+",
     },
     Lawful {
         cards: "NAME                    FREE\n",
         lines: b"CONVERT          ROWS 2 COLUMNS 1 ENTRIES 2\nBCDOUT           CARDS 10\n",
-        deck: b"NAME\nROWS\n N  COST\n G  LOW\nCOLUMNS\n    X         COST      1\n    X         LOW       1\nRHS\n              LOW       1\nENDATA\n",
+        deck: b"NAME
+ROWS
+ N  COST
+ G  LOW
+COLUMNS
+    X         COST      1
+    X         LOW       1
+RHS
+              LOW       1
+ENDATA
+",
     },
 ];
 
 // A free revision of a fixed deck: its cards from card 23 on.
 const REVISION_AROUND: Around = Around {
-    before: b"* A free revision.\n*\n         PROGRAM\n         CONVERT\n         REVISE\n         BCDOUT\n         EXIT\n         PEND\nNAME          ONE\nROWS\n N  COST\n G  LOW\nCOLUMNS\n    X         COST      1              LOW       1\nRHS\n              LOW       1\nRANGES\n    R         LOW       2\nBOUNDS\n UP BND       X         9\nENDATA\nNAME          NEXT      FREE\n",
+    before: b"* A free revision.
+*
+         PROGRAM
+         CONVERT
+         REVISE
+         BCDOUT
+         EXIT
+         PEND
+NAME          ONE
+ROWS
+ N  COST
+ G  LOW
+COLUMNS
+    X         COST      1              LOW       1
+RHS
+              LOW       1
+RANGES
+    R         LOW       2
+BOUNDS
+ UP BND       X         9
+ENDATA
+NAME          NEXT      FREE
+",
     listing: b"CONVERT ONE      ROWS 2 COLUMNS 1 ENTRIES 2\n",
     after: b"ENDATA\n",
 };
@@ -539,102 +757,371 @@ const REVISION_DECKS: [Lawful; 20] = [
     Lawful {
         cards: "ROWS\n MODIFY\n L LOW\n",
         lines: b"REVISE  NEXT     ROWS 2 COLUMNS 1 ENTRIES 2\nBCDOUT  NEXT     CARDS 14\n",
-        deck: b"NAME          NEXT\nROWS\n N  COST\n L  LOW\nCOLUMNS\n    X         COST      1\n    X         LOW       1\nRHS\n              LOW       1\nRANGES\n    R         LOW       2\nBOUNDS\n UP BND       X         9\nENDATA\n",
+        deck: b"NAME          NEXT
+ROWS
+ N  COST
+ L  LOW
+COLUMNS
+    X         COST      1
+    X         LOW       1
+RHS
+              LOW       1
+RANGES
+    R         LOW       2
+BOUNDS
+ UP BND       X         9
+ENDATA
+",
     },
     Lawful {
         cards: "ROWS\n MODIFY LONGNAME9\n L LOW\n",
         lines: b"REVISE  NEXT     ROWS 2 COLUMNS 1 ENTRIES 2\nBCDOUT  NEXT     CARDS 14\n",
-        deck: b"NAME          NEXT\nROWS\n N  COST\n L  LOW\nCOLUMNS\n    X         COST      1\n    X         LOW       1\nRHS\n              LOW       1\nRANGES\n    R         LOW       2\nBOUNDS\n UP BND       X         9\nENDATA\n",
+        deck: b"NAME          NEXT
+ROWS
+ N  COST
+ L  LOW
+COLUMNS
+    X         COST      1
+    X         LOW       1
+RHS
+              LOW       1
+RANGES
+    R         LOW       2
+BOUNDS
+ UP BND       X         9
+ENDATA
+",
     },
     Lawful {
         cards: "ROWS\n DELETE\n LOW\n",
         lines: b"REVISE  NEXT     ROWS 1 COLUMNS 1 ENTRIES 1\nBCDOUT  NEXT     CARDS 8\n",
-        deck: b"NAME          NEXT\nROWS\n N  COST\nCOLUMNS\n    X         COST      1\nBOUNDS\n UP BND       X         9\nENDATA\n",
+        deck: b"NAME          NEXT
+ROWS
+ N  COST
+COLUMNS
+    X         COST      1
+BOUNDS
+ UP BND       X         9
+ENDATA
+",
     },
     Lawful {
         cards: "ROWS\n BEFORE LOW\n L CAP\n",
         lines: b"REVISE  NEXT     ROWS 3 COLUMNS 1 ENTRIES 2\nBCDOUT  NEXT     CARDS 15\n",
-        deck: b"NAME          NEXT\nROWS\n N  COST\n L  CAP\n G  LOW\nCOLUMNS\n    X         COST      1\n    X         LOW       1\nRHS\n              LOW       1\nRANGES\n    R         LOW       2\nBOUNDS\n UP BND       X         9\nENDATA\n",
+        deck: b"NAME          NEXT
+ROWS
+ N  COST
+ L  CAP
+ G  LOW
+COLUMNS
+    X         COST      1
+    X         LOW       1
+RHS
+              LOW       1
+RANGES
+    R         LOW       2
+BOUNDS
+ UP BND       X         9
+ENDATA
+",
     },
     Lawful {
         cards: "ROWS\n   AFTER\n L CAP\n",
         lines: b"REVISE  NEXT     ROWS 3 COLUMNS 1 ENTRIES 2\nBCDOUT  NEXT     CARDS 15\n",
-        deck: b"NAME          NEXT\nROWS\n N  COST\n G  LOW\n L  CAP\nCOLUMNS\n    X         COST      1\n    X         LOW       1\nRHS\n              LOW       1\nRANGES\n    R         LOW       2\nBOUNDS\n UP BND       X         9\nENDATA\n",
+        deck: b"NAME          NEXT
+ROWS
+ N  COST
+ G  LOW
+ L  CAP
+COLUMNS
+    X         COST      1
+    X         LOW       1
+RHS
+              LOW       1
+RANGES
+    R         LOW       2
+BOUNDS
+ UP BND       X         9
+ENDATA
+",
     },
     Lawful {
         cards: "COLUMNS\n MODIFY\n X COST 2\n",
         lines: b"REVISE  NEXT     ROWS 2 COLUMNS 1 ENTRIES 2\nBCDOUT  NEXT     CARDS 14\n",
-        deck: b"NAME          NEXT\nROWS\n N  COST\n G  LOW\nCOLUMNS\n    X         COST      2\n    X         LOW       1\nRHS\n              LOW       1\nRANGES\n    R         LOW       2\nBOUNDS\n UP BND       X         9\nENDATA\n",
+        deck: b"NAME          NEXT
+ROWS
+ N  COST
+ G  LOW
+COLUMNS
+    X         COST      2
+    X         LOW       1
+RHS
+              LOW       1
+RANGES
+    R         LOW       2
+BOUNDS
+ UP BND       X         9
+ENDATA
+",
     },
     Lawful {
         cards: "COLUMNS\n DELETE\n X\n",
         lines: b"REVISE  NEXT     ROWS 2 COLUMNS 0 ENTRIES 0\nBCDOUT  NEXT     CARDS 10\n",
-        deck: b"NAME          NEXT\nROWS\n N  COST\n G  LOW\nCOLUMNS\nRHS\n              LOW       1\nRANGES\n    R         LOW       2\nENDATA\n",
+        deck: b"NAME          NEXT
+ROWS
+ N  COST
+ G  LOW
+COLUMNS
+RHS
+              LOW       1
+RANGES
+    R         LOW       2
+ENDATA
+",
     },
     Lawful {
         cards: "COLUMNS\n DELETE\n X LOW\n",
         lines: b"REVISE  NEXT     ROWS 2 COLUMNS 1 ENTRIES 1\nBCDOUT  NEXT     CARDS 13\n",
-        deck: b"NAME          NEXT\nROWS\n N  COST\n G  LOW\nCOLUMNS\n    X         COST      1\nRHS\n              LOW       1\nRANGES\n    R         LOW       2\nBOUNDS\n UP BND       X         9\nENDATA\n",
+        deck: b"NAME          NEXT
+ROWS
+ N  COST
+ G  LOW
+COLUMNS
+    X         COST      1
+RHS
+              LOW       1
+RANGES
+    R         LOW       2
+BOUNDS
+ UP BND       X         9
+ENDATA
+",
     },
     Lawful {
         cards: "COLUMNS\n AFTER\n Y COST 1\n Y LOW 2\n",
         lines: b"REVISE  NEXT     ROWS 2 COLUMNS 2 ENTRIES 4\nBCDOUT  NEXT     CARDS 16\n",
-        deck: b"NAME          NEXT\nROWS\n N  COST\n G  LOW\nCOLUMNS\n    X         COST      1\n    X         LOW       1\n    Y         COST      1\n    Y         LOW       2\nRHS\n              LOW       1\nRANGES\n    R         LOW       2\nBOUNDS\n UP BND       X         9\nENDATA\n",
+        deck: b"NAME          NEXT
+ROWS
+ N  COST
+ G  LOW
+COLUMNS
+    X         COST      1
+    X         LOW       1
+    Y         COST      1
+    Y         LOW       2
+RHS
+              LOW       1
+RANGES
+    R         LOW       2
+BOUNDS
+ UP BND       X         9
+ENDATA
+",
     },
     Lawful {
         cards: "RHS\n MODIFY\n LOW 3\n",
         lines: b"REVISE  NEXT     ROWS 2 COLUMNS 1 ENTRIES 2\nBCDOUT  NEXT     CARDS 14\n",
-        deck: b"NAME          NEXT\nROWS\n N  COST\n G  LOW\nCOLUMNS\n    X         COST      1\n    X         LOW       1\nRHS\n              LOW       3\nRANGES\n    R         LOW       2\nBOUNDS\n UP BND       X         9\nENDATA\n",
+        deck: b"NAME          NEXT
+ROWS
+ N  COST
+ G  LOW
+COLUMNS
+    X         COST      1
+    X         LOW       1
+RHS
+              LOW       3
+RANGES
+    R         LOW       2
+BOUNDS
+ UP BND       X         9
+ENDATA
+",
     },
     Lawful {
         cards: "RHS\n MODIFY\n B LOW 3 COST 1\n",
         lines: b"REVISE  NEXT     ROWS 2 COLUMNS 1 ENTRIES 2\nBCDOUT  NEXT     CARDS 16\n",
-        deck: b"NAME          NEXT\nROWS\n N  COST\n G  LOW\nCOLUMNS\n    X         COST      1\n    X         LOW       1\nRHS\n              LOW       1\n    B         LOW       3\n    B         COST      1\nRANGES\n    R         LOW       2\nBOUNDS\n UP BND       X         9\nENDATA\n",
+        deck: b"NAME          NEXT
+ROWS
+ N  COST
+ G  LOW
+COLUMNS
+    X         COST      1
+    X         LOW       1
+RHS
+              LOW       1
+    B         LOW       3
+    B         COST      1
+RANGES
+    R         LOW       2
+BOUNDS
+ UP BND       X         9
+ENDATA
+",
     },
     Lawful {
         cards: "RANGES\n MODIFY\n R LOW 3\n",
         lines: b"REVISE  NEXT     ROWS 2 COLUMNS 1 ENTRIES 2\nBCDOUT  NEXT     CARDS 14\n",
-        deck: b"NAME          NEXT\nROWS\n N  COST\n G  LOW\nCOLUMNS\n    X         COST      1\n    X         LOW       1\nRHS\n              LOW       1\nRANGES\n    R         LOW       3\nBOUNDS\n UP BND       X         9\nENDATA\n",
+        deck: b"NAME          NEXT
+ROWS
+ N  COST
+ G  LOW
+COLUMNS
+    X         COST      1
+    X         LOW       1
+RHS
+              LOW       1
+RANGES
+    R         LOW       3
+BOUNDS
+ UP BND       X         9
+ENDATA
+",
     },
     Lawful {
         cards: "RANGES\n DELETE\n R\n",
         lines: b"REVISE  NEXT     ROWS 2 COLUMNS 1 ENTRIES 2\nBCDOUT  NEXT     CARDS 12\n",
-        deck: b"NAME          NEXT\nROWS\n N  COST\n G  LOW\nCOLUMNS\n    X         COST      1\n    X         LOW       1\nRHS\n              LOW       1\nBOUNDS\n UP BND       X         9\nENDATA\n",
+        deck: b"NAME          NEXT
+ROWS
+ N  COST
+ G  LOW
+COLUMNS
+    X         COST      1
+    X         LOW       1
+RHS
+              LOW       1
+BOUNDS
+ UP BND       X         9
+ENDATA
+",
     },
     Lawful {
         cards: "RANGES\n DELETE\n R LOW\n",
         lines: b"REVISE  NEXT     ROWS 2 COLUMNS 1 ENTRIES 2\nBCDOUT  NEXT     CARDS 12\n",
-        deck: b"NAME          NEXT\nROWS\n N  COST\n G  LOW\nCOLUMNS\n    X         COST      1\n    X         LOW       1\nRHS\n              LOW       1\nBOUNDS\n UP BND       X         9\nENDATA\n",
+        deck: b"NAME          NEXT
+ROWS
+ N  COST
+ G  LOW
+COLUMNS
+    X         COST      1
+    X         LOW       1
+RHS
+              LOW       1
+BOUNDS
+ UP BND       X         9
+ENDATA
+",
     },
     Lawful {
         cards: "BOUNDS\n MODIFY\n LO BND X 1\n",
         lines: b"REVISE  NEXT     ROWS 2 COLUMNS 1 ENTRIES 2\nBCDOUT  NEXT     CARDS 15\n",
-        deck: b"NAME          NEXT\nROWS\n N  COST\n G  LOW\nCOLUMNS\n    X         COST      1\n    X         LOW       1\nRHS\n              LOW       1\nRANGES\n    R         LOW       2\nBOUNDS\n UP BND       X         9\n LO BND       X         1\nENDATA\n",
+        deck: b"NAME          NEXT
+ROWS
+ N  COST
+ G  LOW
+COLUMNS
+    X         COST      1
+    X         LOW       1
+RHS
+              LOW       1
+RANGES
+    R         LOW       2
+BOUNDS
+ UP BND       X         9
+ LO BND       X         1
+ENDATA
+",
     },
     Lawful {
         cards: "BOUNDS\n MODIFY\n FR X\n",
         lines: b"REVISE  NEXT     ROWS 2 COLUMNS 1 ENTRIES 2\nBCDOUT  NEXT     CARDS 15\n",
-        deck: b"NAME          NEXT\nROWS\n N  COST\n G  LOW\nCOLUMNS\n    X         COST      1\n    X         LOW       1\nRHS\n              LOW       1\nRANGES\n    R         LOW       2\nBOUNDS\n UP BND       X         9\n FR           X\nENDATA\n",
+        deck: b"NAME          NEXT
+ROWS
+ N  COST
+ G  LOW
+COLUMNS
+    X         COST      1
+    X         LOW       1
+RHS
+              LOW       1
+RANGES
+    R         LOW       2
+BOUNDS
+ UP BND       X         9
+ FR           X
+ENDATA
+",
     },
     Lawful {
         cards: "BOUNDS\n DELETE\n BND\n",
         lines: b"REVISE  NEXT     ROWS 2 COLUMNS 1 ENTRIES 2\nBCDOUT  NEXT     CARDS 12\n",
-        deck: b"NAME          NEXT\nROWS\n N  COST\n G  LOW\nCOLUMNS\n    X         COST      1\n    X         LOW       1\nRHS\n              LOW       1\nRANGES\n    R         LOW       2\nENDATA\n",
+        deck: b"NAME          NEXT
+ROWS
+ N  COST
+ G  LOW
+COLUMNS
+    X         COST      1
+    X         LOW       1
+RHS
+              LOW       1
+RANGES
+    R         LOW       2
+ENDATA
+",
     },
     Lawful {
         cards: "BOUNDS\n DELETE\n BND X\n",
         lines: b"REVISE  NEXT     ROWS 2 COLUMNS 1 ENTRIES 2\nBCDOUT  NEXT     CARDS 12\n",
-        deck: b"NAME          NEXT\nROWS\n N  COST\n G  LOW\nCOLUMNS\n    X         COST      1\n    X         LOW       1\nRHS\n              LOW       1\nRANGES\n    R         LOW       2\nENDATA\n",
+        deck: b"NAME          NEXT
+ROWS
+ N  COST
+ G  LOW
+COLUMNS
+    X         COST      1
+    X         LOW       1
+RHS
+              LOW       1
+RANGES
+    R         LOW       2
+ENDATA
+",
     },
     Lawful {
         cards: "RHS\n MODIFY 3\n",
         lines: b"REVISE  NEXT     ROWS 2 COLUMNS 1 ENTRIES 2\nBCDOUT  NEXT     CARDS 14\n",
-        deck: b"NAME          NEXT\nROWS\n N  COST\n G  LOW\nCOLUMNS\n    X         COST      1\n    X         LOW       1\nRHS\n              LOW       1\nRANGES\n    R         LOW       2\nBOUNDS\n UP BND       X         9\nENDATA\n",
+        deck: b"NAME          NEXT
+ROWS
+ N  COST
+ G  LOW
+COLUMNS
+    X         COST      1
+    X         LOW       1
+RHS
+              LOW       1
+RANGES
+    R         LOW       2
+BOUNDS
+ UP BND       X         9
+ENDATA
+",
     },
     Lawful {
         cards: "RHS\n MODIFY\n MODIFY 3\n",
         lines: b"REVISE  NEXT     ROWS 2 COLUMNS 1 ENTRIES 2\nBCDOUT  NEXT     CARDS 14\n",
-        deck: b"NAME          NEXT\nROWS\n N  COST\n G  LOW\nCOLUMNS\n    X         COST      1\n    X         LOW       1\nRHS\n              LOW       1\nRANGES\n    R         LOW       2\nBOUNDS\n UP BND       X         9\nENDATA\n",
+        deck: b"NAME          NEXT
+ROWS
+ N  COST
+ G  LOW
+COLUMNS
+    X         COST      1
+    X         LOW       1
+RHS
+              LOW       1
+RANGES
+    R         LOW       2
+BOUNDS
+ UP BND       X         9
+ENDATA
+",
     },
 ];
 
