@@ -1,5 +1,5 @@
-// Plans and verdicts with numbers of more than 128 bits, worked out by hand: each number of a listing follows from those of its job by a
-// product or a quotient.
+// Plans and verdicts with numbers of more than 128 bits, worked out by hand: each number of a listing follows from those of its job
+// by a product or a quotient.
 use crate::listings::{Case, Edit, Listing};
 
 /// A column that is a great multiple of another.

@@ -46,7 +46,8 @@ NAME
     Ok(())
 }
 
-// Jobs with a control fault, its number and its card. The first nine are programs of one card, after a PROGRAM with the label TWICE.
+// Jobs with a control fault, its number and its card. The first nine are programs of one card, after a PROGRAM with the label
+// TWICE.
 const JOBS: [(&[u8], u8, u32); 13] = [
     (b"TWICE    PROGRAM\n         SOLVE\n         PEND\n", 3, 2),
     (b"TWICE    PROGRAM\nlow      EXIT\n         PEND\n", 4, 2),

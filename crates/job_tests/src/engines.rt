@@ -61,7 +61,8 @@ fn the_engine_of_runs_runs_jobs(rt: HostRuntime) -> Result<(), Fail> {
     Ok(())
 }
 
-// An engine whose calls all run out of memory ends the run where the path asks for the first of them, with all printed that came before.
+// An engine whose calls all run out of memory ends the run where the path asks for the first of them, with all printed that came
+// before.
 #[test]
 fn an_engine_without_memory_ends_the_run(rt: HostRuntime) -> Result<(), Fail> {
     let run = run_of::<Starved>(

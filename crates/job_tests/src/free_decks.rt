@@ -1,4 +1,5 @@
-// Free decks and free revisions: decks whose cards between others are changed, as CONVERT or REVISE reads them and BCDOUT writes them out.
+// Free decks and free revisions: decks whose cards between others are changed, as CONVERT or REVISE reads them and BCDOUT writes
+// them out.
 use crate::jobs::answer_of;
 use std::alloc::Global;
 use std::test::Fail;

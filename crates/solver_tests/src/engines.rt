@@ -1,6 +1,6 @@
-//! Rates that are made anew for a basis, over a whole table and over the product form, which carries directions and rows in whole numbers
-//! over one denominator, and in fractions where one of these doesn't fit. The expected numbers are worked by hand from the equations
-//! of each program.
+//! Rates that are made anew for a basis, over a whole table and over the product form, which carries directions and rows in whole
+//! numbers over one denominator, and in fractions where one of these doesn't fit. The expected numbers are worked by hand from the
+//! equations of each program.
 
 ghost use Rattle.std.specs.Prelude.{◌≡◌, ◌≢◌, ◌≤◌, length, true, IfOk, None};
 ghost use Rattle.lp_definitions.specs.LinearProgram.{size};

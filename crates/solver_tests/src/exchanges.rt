@@ -220,7 +220,8 @@ fn exchanges_there_and_back(rt: HostRuntime) -> Result<(), Fail> {
 
 const MAX: i128 = i128::MAX;
 
-/// The numbers of two rows, and then the evidence of the exchange of row 1 for column 1 (variable 3), and the rows, which are as before it.
+/// The numbers of two rows, and then the evidence of the exchange of row 1 for column 1 (variable 3), and the rows, which are as
+/// before it.
 struct Refusal {
     numbers: [Parts; 4],
     text: &'static str,

@@ -141,11 +141,11 @@ fn answer_text(
     }
 }
 
-// In the runs of the objective COST, CHANGE and the third row, r3, have the numbers 1 to 3, and X, Y and Z 4 to 6; a column that isn't
-// named stands at 0.
+// In the runs of the objective COST, CHANGE and the third row, r3, have the numbers 1 to 3, and X, Y and Z 4 to 6; a column that
+// isn't named stands at 0.
 
-/// The least -x - 2y + theta (-x), where x + y <= 4, 0 <= x <= 3 and y >= 0. At x = 0, y = 4 it is x - 2 r3 - theta x, so this is best
-/// up to theta = 1; past it x = 3 and y = 1.
+/// The least -x - 2y + theta (-x), where x + y <= 4, 0 <= x <= 3 and y >= 0. At x = 0, y = 4 it is x - 2 r3 - theta x, so this is
+/// best up to theta = 1; past it x = 3 and y = 1.
 const TWO_INTERVALS: &[u8] = b"NAME          T         FREE
 ROWS
  N COST
@@ -184,8 +184,8 @@ BOUNDS
 ENDATA
 ";
 
-/// The least (1 - theta) (x + y + z), where x <= 1, y <= 2, z <= 3 and r3 = x + y + z <= 5. All three move at the breakpoint 1: x rises to
-/// 1, y to 2, and z until r3 is 5. Then the objective is (1 - theta) r3.
+/// The least (1 - theta) (x + y + z), where x <= 1, y <= 2, z <= 3 and r3 = x + y + z <= 5. All three move at the breakpoint 1: x
+/// rises to 1, y to 2, and z until r3 is 5. Then the objective is (1 - theta) r3.
 const THREE_MOVERS: &[u8] = b"NAME          T         FREE
 ROWS
  N COST
@@ -258,8 +258,8 @@ ENDATA
 
 // In those of the right-hand side COST and the second row, r2, have the numbers 1 and 2, and X and Y 3 and 4.
 
-/// The least -2x - y, where 0 <= x <= 3, 0 <= y <= 2 and r2 = x + y <= 4 + theta. While r2 holds y back, x = 3 and y = 1 + theta; from
-/// theta = 1 on y is 2, and r2 is free to move.
+/// The least -2x - y, where 0 <= x <= 3, 0 <= y <= 2 and r2 = x + y <= 4 + theta. While r2 holds y back, x = 3 and y = 1 + theta;
+/// from theta = 1 on y is 2, and r2 is free to move.
 const UP_TO_FOUR: &[u8] = b"NAME          T         FREE
 ROWS
  N COST
@@ -275,8 +275,8 @@ BOUNDS
 ENDATA
 ";
 
-/// The same with r2 <= 3 + theta. At theta = 0 x enters for r2 and stands at its limit: the first interval is a point. There x leaves,
-/// and of r2 (at 2) and y (at 1) y brings it back at the least price.
+/// The same with r2 <= 3 + theta. At theta = 0 x enters for r2 and stands at its limit: the first interval is a point. There x
+/// leaves, and of r2 (at 2) and y (at 1) y brings it back at the least price.
 const UP_TO_THREE: &[u8] = b"NAME          T         FREE
 ROWS
  N COST

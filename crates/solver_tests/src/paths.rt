@@ -81,8 +81,8 @@ fn by_dual(alloc: Global, lp: &Lp, limit: u32) -> Result<(PathResult, Basis), Fa
     Ok((dual_end(alloc, answer)?, basis))
 }
 
-/// Which path is followed: the simplex path over the table of rates, by columns or over the product form, or over the table without a
-/// limit, or the dual path over the table.
+/// Which path is followed: the simplex path over the table of rates, by columns or over the product form, or over the table without
+/// a limit, or the dual path over the table.
 #[derive(Clone, Copy)]
 enum Way {
     Table,
