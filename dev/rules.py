@@ -177,13 +177,8 @@ def link(name: str, path: Path) -> str:
 
 
 def links(lines: list[Line]) -> str:
-    "the names of lines, each linked to its file: a job and a case as they are, and others as code"
-    shown = []
-    for line in lines:
-        jobs = run_jobs(line.place) if line.place in EXAMPLES else {}
-        for name in line.names:
-            shown.append(link(name, jobs[name]) if jobs else link(name if name.startswith('"') else f"`{name}`", line.path()))
-    return ", ".join(shown)
+    "the names of lines, each linked to its file"
+    return ", ".join(link(f"`{name}`", line.path()) for line in lines for name in line.names)
 
 
 def definition_cell(rule: Rule, numbers: dict[tuple[str, str], int]) -> str:
@@ -195,12 +190,14 @@ def definition_cell(rule: Rule, numbers: dict[tuple[str, str], int]) -> str:
     return "<br>".join(cell)
 
 
-def test_cell(rule: Rule) -> str:
-    "the tests of a rule, and under them the examples of its definitions"
-    cell = [links(rule.of("test"))] if rule.of("test") else []
-    if rule.of("example"):
-        cell.append(f"computed: {links(rule.of('example'))}")
-    return "<br>".join(cell) or "proved alone"
+def tests_of(line: Line) -> str:
+    "the jobs of a line, each linked to its file, or its file, linked, with the tests or worked examples of the line"
+    if line.place in EXAMPLES:
+        jobs = run_jobs(line.place)
+        return ", ".join(link(name, jobs[name]) for name in line.names)
+    names = ", ".join(name if name.startswith('"') else f"`{name}`" for name in line.names)
+    crate, _, file = line.place.split("/", 2)
+    return f"{'computed: ' if line.kind == 'example' else ''}{link(f'{crate}/{file}', line.path())}: {names}"
 
 
 def section(rules: list[Rule]) -> str:
@@ -213,7 +210,8 @@ def section(rules: list[Rule]) -> str:
     for part in dict.fromkeys(rule.part for rule in rules):
         lines += ["", f"### {part}", "", "| Rule | Definition, faults | Contract | Code | Test |", "|---|---|---|---|---|"]
         for rule in (rule for rule in rules if rule.part == part):
-            cells = (rule.title, definition_cell(rule, numbers), links(rule.of("contract")), links(rule.of("code")), test_cell(rule))
+            cells = (rule.title, definition_cell(rule, numbers), links(rule.of("contract")), links(rule.of("code")),
+                     "<br>".join(map(tests_of, rule.of("test", "example"))) or "proved alone")
             lines.append(f"| {' | '.join(cells)} |")
     return "\n".join(lines)
 

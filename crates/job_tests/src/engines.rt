@@ -1,7 +1,9 @@
 // The machine over more than one engine: the listing and the status of a job do not depend on what keeps the rates.
 use crate::no_memory::Starved;
 use crate::parametric_runs::PARAMETRIC;
-use crate::rows::{PLANS, RANGES, Row};
+use crate::plans::PLANS;
+use crate::ranges::RANGES;
+use crate::rows::Row;
 use card_reader::read_job;
 use control_compiler::compile;
 use control_run::{RunEngine, RunStatus, run_on};
