@@ -366,10 +366,11 @@ struct Run {
 }
 
 const TWO_INTERVALS_TEXT: &str =
-    "0..1 BS BS UL LL BS LL IS -8 0 4 0 4 0 + 0 0 0 0 0 0 AT 0 0 -2 1 0 0 + 0 0 0 -1 0 0; 1..5 BS BS UL UL BS LL IS -5 -3 4 3 1 0 + 0 0 0 0 0 0 AT 0 0 -2 1 0 0 + 0 0 0 -1 0 0; END";
+    "0..1 BS BS UL LL BS LL IS -8 0 4 0 4 0 + 0 0 0 0 0 0 AT 0 0 -2 1 0 0 + 0 0 0 -1 0 0; \
+     1..5 BS BS UL UL BS LL IS -5 -3 4 3 1 0 + 0 0 0 0 0 0 AT 0 0 -2 1 0 0 + 0 0 0 -1 0 0; END";
 
-const UP_TO_FOUR_TEXT: &str =
-    "0..1 BS UL UL BS IS -7 4 3 1 + -1 1 0 1 AT 0 -1 -1 0 + 0 0 0 0; 1..6 BS BS UL UL IS -8 5 3 2 + 0 0 0 0 AT 0 0 -2 -1 + 0 0 0 0; END";
+const UP_TO_FOUR_TEXT: &str = "0..1 BS UL UL BS IS -7 4 3 1 + -1 1 0 1 AT 0 -1 -1 0 + 0 0 0 0; \
+     1..6 BS BS UL UL IS -8 5 3 2 + 0 0 0 0 AT 0 0 -2 -1 + 0 0 0 0; END";
 
 const RUNS: [Run; 20] = [
     Run {
@@ -430,7 +431,8 @@ const RUNS: [Run; 20] = [
         from: 0,
         to: 5,
         limit: 10,
-        text: "0..0 BS BS BS FR LL LL IS 0 0 0 0 0 0 + 0 0 0 0 0 0 AT 0 0 0 0 0 0 + 0 0 0 1 0 0; 0..5 BS BS LL BS LL LL IS 0 -3 -3 -3 0 0 + 0 0 0 0 0 0 AT 0 0 0 0 0 0 + 0 0 1 0 0 0; END",
+        text: "0..0 BS BS BS FR LL LL IS 0 0 0 0 0 0 + 0 0 0 0 0 0 AT 0 0 0 0 0 0 + 0 0 0 1 0 0; \
+               0..5 BS BS LL BS LL LL IS 0 -3 -3 -3 0 0 + 0 0 0 0 0 0 AT 0 0 0 0 0 0 + 0 0 1 0 0 0; END",
     },
     Run {
         name: "three movers",
@@ -440,7 +442,8 @@ const RUNS: [Run; 20] = [
         from: 0,
         to: 4,
         limit: 3,
-        text: "0..1 BS BS BS LL LL LL IS 0 0 0 0 0 0 + 0 0 0 0 0 0 AT 0 0 0 1 1 1 + 0 0 0 -1 -1 -1; 1..4 BS BS UL UL UL BS IS 5 -5 5 1 2 2 + 0 0 0 0 0 0 AT 0 0 1 0 0 0 + 0 0 -1 0 0 0; END",
+        text: "0..1 BS BS BS LL LL LL IS 0 0 0 0 0 0 + 0 0 0 0 0 0 AT 0 0 0 1 1 1 + 0 0 0 -1 -1 -1; \
+               1..4 BS BS UL UL UL BS IS 5 -5 5 1 2 2 + 0 0 0 0 0 0 AT 0 0 1 0 0 0 + 0 0 -1 0 0 0; END",
     },
     Run {
         name: "the greatest objective",
@@ -450,7 +453,8 @@ const RUNS: [Run; 20] = [
         from: 0,
         to: 2,
         limit: 10,
-        text: "0..1 BS BS BS LL LL LL IS 0 0 0 0 0 0 + 0 0 0 0 0 0 AT 0 0 0 -1 0 0 + 0 0 0 1 0 0; 1..2 BS BS BS UL LL LL IS -3 3 0 3 0 0 + 0 0 0 0 0 0 AT 0 0 0 -1 0 0 + 0 0 0 1 0 0; END",
+        text: "0..1 BS BS BS LL LL LL IS 0 0 0 0 0 0 + 0 0 0 0 0 0 AT 0 0 0 -1 0 0 + 0 0 0 1 0 0; \
+               1..2 BS BS BS UL LL LL IS -3 3 0 3 0 0 + 0 0 0 0 0 0 AT 0 0 0 -1 0 0 + 0 0 0 1 0 0; END",
     },
     Run {
         name: "a run that ends without bound",
@@ -460,7 +464,8 @@ const RUNS: [Run; 20] = [
         from: 0,
         to: 5,
         limit: 10,
-        text: "0..1 BS BS BS LL LL LL IS 0 0 0 0 0 0 + 0 0 0 0 0 0 AT 0 0 0 1 0 0 + 0 0 0 -1 0 0; UNBOUNDED PAST 1 FROM 0 0 0 0 0 0 BY 1 -1 0 1 0 0",
+        text: "0..1 BS BS BS LL LL LL IS 0 0 0 0 0 0 + 0 0 0 0 0 0 AT 0 0 0 1 0 0 + 0 0 0 -1 0 0; \
+               UNBOUNDED PAST 1 FROM 0 0 0 0 0 0 BY 1 -1 0 1 0 0",
     },
     Run {
         name: "an objective without bound",
@@ -510,7 +515,9 @@ const RUNS: [Run; 20] = [
         from: 0,
         to: 5,
         limit: 10,
-        text: "0..0 BS UL BS LL IS -6 3 3 0 + -2 1 1 0 AT 0 -2 0 1 + 0 0 0 0; 0..2 BS UL UL BS IS -6 3 3 0 + -1 1 0 1 AT 0 -1 -1 0 + 0 0 0 0; 2..5 BS BS UL UL IS -8 5 3 2 + 0 0 0 0 AT 0 0 -2 -1 + 0 0 0 0; END",
+        text: "0..0 BS UL BS LL IS -6 3 3 0 + -2 1 1 0 AT 0 -2 0 1 + 0 0 0 0; \
+               0..2 BS UL UL BS IS -6 3 3 0 + -1 1 0 1 AT 0 -1 -1 0 + 0 0 0 0; \
+               2..5 BS BS UL UL IS -8 5 3 2 + 0 0 0 0 AT 0 0 -2 -1 + 0 0 0 0; END",
     },
     Run {
         name: "no step",

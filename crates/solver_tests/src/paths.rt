@@ -533,7 +533,8 @@ const PATHS: [Path; 33] = [
         sense: Sense::Min,
         way: Way::Table,
         limit: 10,
-        end: "FORMULA 10 WAY 0 P 0 Q 0 I 2 J 3 TERM 0 THETA 0: 999999999000000000000000000 * 999999999000000000000000000 has no exact result in 128 bits",
+        end: "FORMULA 10 WAY 0 P 0 Q 0 I 2 J 3 TERM 0 THETA 0: \
+              999999999000000000000000000 * 999999999000000000000000000 has no exact result in 128 bits",
         basis: " BS BS LL",
     },
     Path {
@@ -542,7 +543,8 @@ const PATHS: [Path; 33] = [
         sense: Sense::Min,
         way: Way::Table,
         limit: 10,
-        end: "FORMULA 7 WAY 0 P 0 Q 3 I 2 J 0 TERM 2 THETA 0: 999999999000000000000000000 / 1/10000000000000000000 has no exact result in 128 bits",
+        end: "FORMULA 7 WAY 0 P 0 Q 3 I 2 J 0 TERM 2 THETA 0: \
+              999999999000000000000000000 / 1/10000000000000000000 has no exact result in 128 bits",
         basis: " BS BS LL",
     },
     Path {
@@ -551,7 +553,8 @@ const PATHS: [Path; 33] = [
         sense: Sense::Min,
         way: Way::Table,
         limit: 10,
-        end: "FORMULA 8 WAY 0 P 3 Q 3 I 2 J 0 TERM 0 THETA 0: 999999999000000000000000000 * 999999999000000000000000000 has no exact result in 128 bits",
+        end: "FORMULA 8 WAY 0 P 3 Q 3 I 2 J 0 TERM 0 THETA 0: \
+              999999999000000000000000000 * 999999999000000000000000000 has no exact result in 128 bits",
         basis: " BS BS LL",
     },
     Path {
