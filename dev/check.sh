@@ -62,6 +62,9 @@ if command -v python3 >/dev/null; then
     # No text cites a paper by number; paths, definitions, calls and clauses that documents name are there.
     python3 dev/check_documents.py || fail "a document says what isn't so"
 
+    # Each rule has its definition, its contract, its code and its tests, and the tables of rules are fresh.
+    python3 dev/rules.py --check || fail "docs/rules.txt or the tables of rules (dev/rules.py --write makes these)"
+
     # No crate stands on one of a higher layer, crates.txt lists what files cite, and the page of layers is fresh.
     python3 dev/layers.py --check || fail "crates.txt or a page of layers (dev/layers.py --write makes these pages)"
 

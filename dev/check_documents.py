@@ -1,8 +1,7 @@
 #!/usr/bin/env python3
 """Checks what documents say of the repository: no text cites a paper by number; each path and each heading that a document names is there;
-each definition of docs/DEFINITIONS.md stands where it says, and in its tables from rules to code in the very file, each function there
-has a contract, each fault its number, its test and its place in the order of tests, and links alone lead there from README.md; each
-call and each clause of docs/CLAIMS.md is there. dev/check.sh runs it.
+each definition of docs/DEFINITIONS.md stands where it says (those of docs/rules.txt: dev/rules.py --check), and links alone lead from
+README.md to the definitions of each rule; each call and each clause of docs/CLAIMS.md is there. dev/check.sh runs it.
 
 usage: check_documents.py                     ends with 1 where something isn't so
        check_documents.py --walks [SEED]      prints ten rules, picked by a seed, with the links by which README.md leads to each"""
@@ -12,6 +11,8 @@ import re
 import sys
 from collections.abc import Iterator
 from pathlib import Path
+
+import rules
 
 TOP = pathlib.Path(__file__).resolve().parent.parent
 CRATES = TOP / "crates"
@@ -93,9 +94,7 @@ def sources(crate: str, folder: str, endings: tuple[str, ...]) -> str:
 
 def check_definitions() -> None:
     page = TOP / "docs/DEFINITIONS.md"
-    for number, heading, (_, names, places) in rows(page):
-        if heading.startswith("### "):
-            continue
+    for number, _, (_, names, places) in rows(page):
         crates, files = set(), []
         for place in quoted(places):
             found = re.fullmatch(r"(\w+)/(specs|src)(?:/(\w+))?", place)
@@ -113,84 +112,6 @@ def check_definitions() -> None:
         for name in quoted(names):
             if crates and not all(part in words for part in NAME.findall(name)):
                 told(page, number, f"{name} isn't defined in {', '.join(sorted(crates))}")
-
-
-def defined_in(name: str, path: Path) -> bool:
-    "whether a file defines this name, and a function of this name with a clause that it ensures"
-    text = path.read_text(encoding="utf-8")
-    if path.suffix == ".antt":
-        return bool(re.search(rf"^\s*(?:(?:abbrev|unfoldable) )?(?:pub )?(?:record |data )?{re.escape(name)}(?: :| \(|\s*$)", text, re.M))
-    return bool(re.search(rf"\bfn {re.escape(name)}\b[^{{}}]*?(?:requires[^{{}}]*{{.*?)?\bensures\b", text, re.S))
-
-
-def numbers_of_faults() -> dict[tuple[str, str], int]:
-    "the number of each fault, by its kind and name, as the definitions have it"
-    tables = {"deck": ("run_definitions/specs/Verbs", "deck_fault_number"), "number": ("run_definitions/specs/Verbs", "number_fault_of"),
-              "verb": ("listing_definitions/specs/Ending", "verb_fault_number"), "control": ("control_definitions/specs/Compiled", "fault_number"),
-              "card": ("listing_definitions/specs/Listing", "card_stop_text")}
-    numbers = {}
-    for kind, (place, name) in tables.items():
-        text = (CRATES / f"{place}.antt").read_text(encoding="utf-8")
-        for case, value in re.findall(rf"^{name} (.*?) = (.*)$", text, re.M):
-            if found := re.search(r"(?:^|Some |FAULT |fault_text )(\d+)", value):
-                numbers[kind, re.findall(r"[A-Z]\w*", case)[-1 if kind == "number" else 0]] = int(found[1])
-    return numbers
-
-
-def body_of(name: str, path: Path) -> str:
-    "the text of a definition, up to the empty line after it"
-    found = re.search(rf"^\s*(?:(?:abbrev|unfoldable) )?(?:pub )?{re.escape(name)} :.*?(?:\n\s*\n|\Z)", path.read_text(encoding="utf-8"), re.M | re.S)
-    return found[0] if found else ""
-
-
-# of a rule: the number of its line, what stands there, the fault or None, the name that is linked, and its file
-Line = tuple[int, str, str | None, str, Path]
-Rule = tuple[int, str, list[Line]]
-
-
-def rules() -> list[Rule]:
-    "the rules of the tables from rules to code, each with its lines: what stands there, the fault or None, the name, and its file"
-    page = TOP / "docs/DEFINITIONS.md"
-    found: list[Rule] = []
-    for number, heading, (rule, what, where) in rows(page):
-        if heading.startswith("### ") and rule != "Rule":
-            if rule:
-                found.append((number, rule, []))
-            parts = re.fullmatch(r"(?:`(\w+)`, by )?\[`([^`]+)`\]\(([^)]+)\)", where)
-            if not parts or bool(parts[1]) != what.endswith(tuple("0123456789")) or not found:
-                told(page, number, f"{where}: one name is to stand here, linked to its file, in the line of a fault after the fault's name")
-            elif not (path := (page.parent / parts[3]).resolve()).is_file():
-                told(page, number, f"there is no {parts[3]}")
-            else:
-                found[-1][2].append((number, what, parts[1], parts[2], path))
-    return found
-
-
-def check_rules() -> None:
-    page = TOP / "docs/DEFINITIONS.md"
-    numbers, given = numbers_of_faults(), set()
-    for first, rule, lines in rules():
-        last: dict[str, int] = {}
-        for number, what, fault, name, path in lines:
-            if not defined_in(name, path):
-                told(page, number, f"{name} isn't defined in {path.relative_to(TOP)}, or ensures nothing")
-            if not fault:
-                continue
-            kind = what.partition(" ")[0]
-            given.add((kind, fault))
-            if what != f"{kind} fault {numbers.get((kind, fault))}":
-                told(page, number, f"{fault} isn't {what}")
-            test = re.search(rf"\b{fault}\b", body_of(name, path))
-            if not test:
-                told(page, number, f"{name} doesn't test {fault}")
-            elif test.start() < last.get(name, 0):
-                told(page, number, f"{name} tests {fault} before the fault above")
-            else:
-                last[name] = test.start()
-        if not {"definition", "contract", "code"} <= {what for _, what, *_ in lines}:
-            told(page, first, f"{rule}: a definition, a contract and code are to stand here, each with its file")
-    for kind, fault in sorted(set(numbers) - given):
-        told(page, 1, f"{kind} fault {numbers[kind, fault]}, {fault}, stands in no rule")
 
 
 def links_of(page: Path) -> set[Path]:
@@ -214,25 +135,25 @@ def walks() -> dict[Path, list[Path]]:
     return ways
 
 
-def walk_to(lines: list[Line], ways: dict[Path, list[Path]]) -> tuple[list[Path], str] | None:
+def walk_to(rule: rules.Rule, ways: dict[Path, list[Path]]) -> tuple[list[Path], str] | None:
     "the way to a file that defines a rule, and its definition there; or None"
-    return next(((ways[path], name) for _, what, _, name, path in lines if what == "definition" and path in ways and defined_in(name, path)), None)
+    return next(((ways[line.path()], line.names[0]) for line in rule.of("definition") if line.path() in ways), None)
 
 
 def check_walks() -> None:
     "from README.md, links alone lead in three steps at most to a file that defines each rule"
     ways = walks()
-    for number, rule, lines in rules():
-        if not walk_to(lines, ways):
-            told(TOP / "docs/DEFINITIONS.md", number, f"{rule}: README.md is more than three links away from its definition")
+    for rule in rules.table():
+        if not walk_to(rule, ways):
+            told(rules.TABLE, rule.number, f"{rule.title}: README.md is more than three links away from its definition")
 
 
 def print_walks(seed: str) -> None:
     "ten rules, with the way to each"
     ways = walks()
-    for _, rule, lines in random.Random(seed).sample(rules(), 10):
-        found = walk_to(lines, ways)
-        print(f"{rule}: {' -> '.join(str(path.relative_to(TOP)) for path in found[0])}, `{found[1]}`" if found else f"{rule}: no way")
+    for rule in random.Random(seed).sample(rules.table(), 10):
+        found = walk_to(rule, ways)
+        print(f"{rule.title}: {' -> '.join(str(path.relative_to(TOP)) for path in found[0])}, `{found[1]}`" if found else f"{rule.title}: no way")
 
 
 def headings_of(page: Path) -> set[str]:
@@ -285,7 +206,6 @@ def main() -> int:
     check_paths()
     check_headings()
     check_definitions()
-    check_rules()
     check_walks()
     check_claims()
     return 1 if wrong else 0

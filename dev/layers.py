@@ -1,8 +1,7 @@
 #!/usr/bin/env python3
-"""The layers of the crates, from crates.txt and the files: docs/LAYERS.md with its picture docs/layers.svg, and the sentence with the
-longest chain of crates, which stands between markers in docs/ARCHITECTURE.md too.
+"""The layers of the crates, from crates.txt and the files: docs/LAYERS.md with its picture docs/layers.svg.
 
-usage: layers.py --write      makes docs/LAYERS.md, docs/layers.svg, and the sentence in docs/ARCHITECTURE.md
+usage: layers.py --write      makes docs/LAYERS.md and docs/layers.svg
        layers.py --trim       makes the lines of crates.txt list exactly what the crates' files cite (but of those being written)
        layers.py --check      ends with 1 where one of these isn't what --write makes; where a crate stands on one of a higher layer, or
                               of its own layer but further down in crates.txt; where crates.txt lists another crate than the files
@@ -16,7 +15,6 @@ from pathlib import Path
 
 TOP = pathlib.Path(__file__).resolve().parent.parent
 LIST, PAGE, PICTURE, MAP = TOP / "crates.txt", TOP / "docs/LAYERS.md", TOP / "docs/layers.svg", TOP / "docs/ARCHITECTURE.md"
-MARKS = "<!-- longest-chain -->", "<!-- /longest-chain -->"
 NUMBERS = "no one two three four five six seven eight nine ten eleven twelve thirteen fourteen fifteen sixteen seventeen eighteen nineteen".split()
 
 # The picture: sizes, what fills a box by its crate's kind, and the colours of lines by the layer in which they begin.
@@ -140,6 +138,7 @@ def mermaid(crates: Map) -> Iterator[str]:
 
 
 def page_of(crates: Map) -> Iterator[str]:
+    of_tests = sum(lines_in(crate, "src") for crate in crates.order if crates.kind[crate] == "tests")
     sizes = [sum(lines_in(crate, folder) for crate in crates.order) for folder in ("src", "specs", "proofs")]
     edges, shown = (sum(map(len, some.values())) for some in (crates.below, crates.reduced))
     yield "# The layers of the crates\n"
@@ -147,9 +146,9 @@ def page_of(crates: Map) -> Iterator[str]:
         "fresh. [ARCHITECTURE.md](ARCHITECTURE.md) says what each crate holds, and which kinds of crates there are.\n"
     yield f"{len(crates.order)} crates stand in {NUMBERS[len(crates.layers)]} layers, over {edges} dependencies. An edge is drawn, and a crate is " \
         f"named under \"stands on\", only where no other crate in between leads there: {shown} are left. The level of a crate is the length of " \
-        f"its longest chain down. Lines are counted as they stand, with comments: {sizes[0]:,} of code, {sizes[1]:,} of definitions, " \
-        f"{sizes[2]:,} of proofs.\n"
-    yield f"{MARKS[0]}\n{chain_text(crates)}\n{MARKS[1]}\n"
+        f"its longest chain down. Lines are counted as they stand, with comments: {sizes[0] - of_tests:,} of code, {sizes[1]:,} of definitions, " \
+        f"{sizes[2]:,} of proofs, and {of_tests:,} of tests, with the jobs and listings that stand in them.\n"
+    yield f"{chain_text(crates)}\n"
     yield "![The crates in their layers, the lowest at the foot](layers.svg)\n"
     for place, (title, _) in enumerate(crates.layers):
         yield f"## {place + 1}. {title}\n"
@@ -251,17 +250,11 @@ def picture(crates: Map) -> str:
         f'<rect width="{WIDE}" height="{top}" fill="#ffffff"/>', *legend, *parts, '<g fill="none" stroke-width="1.1">', *lines, "</g>", *boxes, "</svg>"]) + "\n"
 
 
-def with_chain(text: str, crates: Map) -> str:
-    "the text of a page with the computed sentence between its markers"
-    return re.sub(f"{re.escape(MARKS[0])}.*?{re.escape(MARKS[1])}", lambda _: f"{MARKS[0]}\n{chain_text(crates)}\n{MARKS[1]}", text, flags=re.S)
-
-
 def made(crates: Map) -> dict[Path, str]:
     "the files that are made, with their texts"
     return {
         PAGE: "\n".join(page_of(crates)) + "\n",
         PICTURE: picture(crates),
-        MAP: with_chain(MAP.read_text(encoding="utf-8"), crates),
     }
 
 
@@ -319,13 +312,9 @@ def check_fresh(crates: Map) -> Iterator[str]:
     for path, text in made(crates).items():
         if not path.exists() or path.read_text(encoding="utf-8") != text:
             yield f"{path.relative_to(TOP)} isn't fresh: dev/layers.py --write makes it"
-    for page in (PAGE, MAP):
-        if (text := page.read_text(encoding="utf-8") if page.exists() else "").count(MARKS[0]) != 1 or text.count(MARKS[1]) != 1:
-            yield f"{page.relative_to(TOP)}: the sentence with the longest chain isn't between {MARKS[0]} and {MARKS[1]}"
-    for page in sorted([*TOP.glob("*.md"), *TOP.glob("docs/*.md")]):
-        bare = re.sub(f"{re.escape(MARKS[0])}.*?{re.escape(MARKS[1])}", "", page.read_text(encoding="utf-8"), flags=re.S)
-        if re.search(r"longest chain of crates (has|is)", bare):
-            yield f"{page.relative_to(TOP)}: a sentence says the longest chain of crates outside the markers"
+    for page in sorted({*TOP.glob("*.md"), *TOP.glob("docs/*.md")} - {PAGE}):
+        if re.search(r"longest chain of crates (has|is)", page.read_text(encoding="utf-8")):
+            yield f"{page.relative_to(TOP)}: a sentence says the longest chain of crates, which {PAGE.relative_to(TOP)} says"
 
 
 def main(words: list[str]) -> int:

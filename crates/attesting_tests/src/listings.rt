@@ -111,8 +111,8 @@ pub fn answer_to<T: Checks>(alloc: Global, job: &[u8], listing: &[u8]) -> Result
     )
 }
 
-/// The first change of a listing after which a checker answers another line or another status, or which can't be made. The listing as it is
-/// comes before its changes.
+/// The first change of a listing after which a checker answers another line or another status, or which can't be made. The listing
+/// as it is comes before its changes.
 pub fn first_other<T: Checks>(
     alloc: Global,
     listing: &Listing,

@@ -1,5 +1,5 @@
-// Plans and verdicts with numbers of more than 128 bits, worked out by hand: each number of a listing follows from those of its job by a
-// product or a quotient.
+// Plans and verdicts with numbers of more than 128 bits, worked out by hand: each number of a listing follows from those of its job
+// by a product or a quotient.
 use crate::listings::{Case, Edit, Listing};
 
 /// A column that is a great multiple of another.
@@ -312,8 +312,12 @@ END 1
         Case {
             name: "the ray times three",
             edit: Edit::Text(
-                b"-999999980000000000000000000000000000000000000\n    3 LINK     1\n    4 HIGH     1/3",
-                b"-2999999940000000000000000000000000000000000000\n    3 LINK     3\n    4 HIGH     1",
+                b"-999999980000000000000000000000000000000000000
+    3 LINK     1
+    4 HIGH     1/3",
+                b"-2999999940000000000000000000000000000000000000
+    3 LINK     3
+    4 HIGH     1",
             ),
             status: 0,
             line: b"ATTESTED 3 REPORTS\n",
@@ -336,8 +340,12 @@ END 1
         Case {
             name: "the ray turned",
             edit: Edit::Text(
-                b"-999999980000000000000000000000000000000000000\n    3 LINK     1\n    4 HIGH     1/3",
-                b"999999980000000000000000000000000000000000000\n    3 LINK     -1\n    4 HIGH     -1/3",
+                b"-999999980000000000000000000000000000000000000
+    3 LINK     1
+    4 HIGH     1/3",
+                b"999999980000000000000000000000000000000000000
+    3 LINK     -1
+    4 HIGH     -1/3",
             ),
             status: 40,
             line: b"WRONG LINE 3\n",
@@ -398,8 +406,14 @@ END 2
         Case {
             name: "a direction of zeros",
             edit: Edit::Text(
-                b"2999999940000000000000000000000000000000000000000000000000000000\n    2 LINK     1/2 0\n    3 X        0 1\n    4 Y        5000000000000000000 999999980000000000000000000000000000000000000",
-                b"0\n    2 LINK     1/2 0\n    3 X        0 0\n    4 Y        5000000000000000000 0",
+                b"2999999940000000000000000000000000000000000000000000000000000000
+    2 LINK     1/2 0
+    3 X        0 1
+    4 Y        5000000000000000000 999999980000000000000000000000000000000000000",
+                b"0
+    2 LINK     1/2 0
+    3 X        0 0
+    4 Y        5000000000000000000 0",
             ),
             status: 40,
             line: b"WRONG LINE 3\n",

@@ -4,8 +4,49 @@ use crate::listings::{Case, Edit, Listing};
 /// A plan of a store, and its listing changed.
 pub const STORE: Listing = Listing {
     name: "store",
-    job: b"* What must a store spend to stay within its space and its money?\n* Nothing has to be bought, so the cheapest plan buys nothing.\n         PROGRAM\n         TITLE('THE CHEAPEST PLAN')\n         MVADR(XDONFS,NONE)\n         CONVERT\n         SETUP('MIN')\n         PRIMAL\n         SOLUTION\n         EXIT\nNONE     TITLE('NO PLAN KEEPS ALL LIMITS')\n         EXIT\n         PEND\nNAME          STORE\nROWS\n N  COST\n L  SPACE\n L  MONEY\nCOLUMNS\n    FLOUR     COST      3              SPACE     1\n    FLOUR     MONEY     3\n    SUGAR     COST      2.5            SPACE     .75\n    SUGAR     MONEY     2.5\nRHS\n    WEEK      SPACE     40             MONEY     100\nENDATA\n",
-    text: b"TITLE THE CHEAPEST PLAN\nCONVERT STORE    ROWS 3 COLUMNS 2 ENTRIES 6\nSETUP   STORE    MIN\nPRIMAL OPTIMAL STEPS 0 OBJECTIVE 0 CHECKED\nSOLUTION OPTIMAL\nSECTION 1 - ROWS\nNUMBER ROW AT ACTIVITY SLACK LOWER UPPER DUAL\n    1 COST     BS 0 0 NONE NONE 0\n    2 SPACE    BS 0 40 NONE 40 0\n    3 MONEY    BS 0 100 NONE 100 0\nSECTION 2 - COLUMNS\nNUMBER COLUMN AT ACTIVITY COST LOWER UPPER REDUCED\n    4 FLOUR    LL 0 3 0 NONE 3\n    5 SUGAR    LL 0 5/2 0 NONE 5/2\nEND 0\n",
+    job: b"* What must a store spend to stay within its space and its money?
+* Nothing has to be bought, so the cheapest plan buys nothing.
+         PROGRAM
+         TITLE('THE CHEAPEST PLAN')
+         MVADR(XDONFS,NONE)
+         CONVERT
+         SETUP('MIN')
+         PRIMAL
+         SOLUTION
+         EXIT
+NONE     TITLE('NO PLAN KEEPS ALL LIMITS')
+         EXIT
+         PEND
+NAME          STORE
+ROWS
+ N  COST
+ L  SPACE
+ L  MONEY
+COLUMNS
+    FLOUR     COST      3              SPACE     1
+    FLOUR     MONEY     3
+    SUGAR     COST      2.5            SPACE     .75
+    SUGAR     MONEY     2.5
+RHS
+    WEEK      SPACE     40             MONEY     100
+ENDATA
+",
+    text: b"TITLE THE CHEAPEST PLAN
+CONVERT STORE    ROWS 3 COLUMNS 2 ENTRIES 6
+SETUP   STORE    MIN
+PRIMAL OPTIMAL STEPS 0 OBJECTIVE 0 CHECKED
+SOLUTION OPTIMAL
+SECTION 1 - ROWS
+NUMBER ROW AT ACTIVITY SLACK LOWER UPPER DUAL
+    1 COST     BS 0 0 NONE NONE 0
+    2 SPACE    BS 0 40 NONE 40 0
+    3 MONEY    BS 0 100 NONE 100 0
+SECTION 2 - COLUMNS
+NUMBER COLUMN AT ACTIVITY COST LOWER UPPER REDUCED
+    4 FLOUR    LL 0 3 0 NONE 3
+    5 SUGAR    LL 0 5/2 0 NONE 5/2
+END 0
+",
     status: 0,
     line: b"ATTESTED 5 REPORTS\n",
     cases: &[
@@ -169,7 +210,11 @@ pub const STORE: Listing = Listing {
             name: "a ray that proves nothing",
             edit: Edit::From(
                 b"PRIMAL",
-                b"PRIMAL INFEASIBLE STEPS 0 RAY CHECKED\n    2 SPACE    1\nTITLE NO PLAN KEEPS ALL LIMITS\nEND 0\n",
+                b"PRIMAL INFEASIBLE STEPS 0 RAY CHECKED
+    2 SPACE    1
+TITLE NO PLAN KEEPS ALL LIMITS
+END 0
+",
             ),
             status: 40,
             line: b"WRONG LINE 4\n",
@@ -178,7 +223,10 @@ pub const STORE: Listing = Listing {
             name: "limits that are not crossed",
             edit: Edit::From(
                 b"PRIMAL",
-                b"PRIMAL INFEASIBLE STEPS 0 CROSSED 4 CHECKED\nTITLE NO PLAN KEEPS ALL LIMITS\nEND 0\n",
+                b"PRIMAL INFEASIBLE STEPS 0 CROSSED 4 CHECKED
+TITLE NO PLAN KEEPS ALL LIMITS
+END 0
+",
             ),
             status: 40,
             line: b"WRONG LINE 4\n",
@@ -187,7 +235,14 @@ pub const STORE: Listing = Listing {
             name: "a direction of zeros",
             edit: Edit::From(
                 b"PRIMAL",
-                b"PRIMAL UNBOUNDED STEPS 0 OBJECTIVE 0 CHECKED\n    1 COST     0 0\n    2 SPACE    0 0\n    3 MONEY    0 0\n    4 FLOUR    0 0\n    5 SUGAR    0 0\nEND 2\n",
+                b"PRIMAL UNBOUNDED STEPS 0 OBJECTIVE 0 CHECKED
+    1 COST     0 0
+    2 SPACE    0 0
+    3 MONEY    0 0
+    4 FLOUR    0 0
+    5 SUGAR    0 0
+END 2
+",
             ),
             status: 40,
             line: b"WRONG LINE 4\n",
@@ -222,8 +277,52 @@ pub const STORE: Listing = Listing {
 /// A problem with bounds.
 pub const TESTPROB: Listing = Listing {
     name: "testprob",
-    job: b"         PROGRAM\n         CONVERT\n         SETUP('BOUND','BND1')\n         PRIMAL\n         SOLUTION\n         EXIT\n         PEND\nNAME          TESTPROB\nROWS\n N  COST\n L  LIM1\n G  LIM2\n E  MYEQN\nCOLUMNS\n    XONE      COST      1              LIM1      1\n    XONE      LIM2      1\n    YTWO      COST      4              LIM1      1\n    YTWO      MYEQN     -1\n    ZTHREE    COST      9              LIM2      1\n    ZTHREE    MYEQN     1\nRHS\n    RHS       LIM1      5              LIM2      10\n    RHS       MYEQN     7\nBOUNDS\n UP BND1      XONE      4\n LO BND1      YTWO      -1\n UP BND1      YTWO      1\nENDATA\n",
-    text: b"CONVERT TESTPROB ROWS 4 COLUMNS 3 ENTRIES 9\nSETUP   TESTPROB MIN\nPRIMAL OPTIMAL STEPS 3 OBJECTIVE 54 CHECKED\nSOLUTION OPTIMAL\nSECTION 1 - ROWS\nNUMBER ROW AT ACTIVITY SLACK LOWER UPPER DUAL\n    1 COST     BS 54 -54 NONE NONE 0\n    2 LIM1     BS 3 2 NONE 5 0\n    3 LIM2     LL 10 0 10 NONE 1\n    4 MYEQN    EQ 7 0 7 7 8\nSECTION 2 - COLUMNS\nNUMBER COLUMN AT ACTIVITY COST LOWER UPPER REDUCED\n    5 XONE     BS 4 1 0 4 0\n    6 YTWO     LL -1 4 -1 1 12\n    7 ZTHREE   BS 6 9 0 NONE 0\nEND 0\n",
+    job: b"         PROGRAM
+         CONVERT
+         SETUP('BOUND','BND1')
+         PRIMAL
+         SOLUTION
+         EXIT
+         PEND
+NAME          TESTPROB
+ROWS
+ N  COST
+ L  LIM1
+ G  LIM2
+ E  MYEQN
+COLUMNS
+    XONE      COST      1              LIM1      1
+    XONE      LIM2      1
+    YTWO      COST      4              LIM1      1
+    YTWO      MYEQN     -1
+    ZTHREE    COST      9              LIM2      1
+    ZTHREE    MYEQN     1
+RHS
+    RHS       LIM1      5              LIM2      10
+    RHS       MYEQN     7
+BOUNDS
+ UP BND1      XONE      4
+ LO BND1      YTWO      -1
+ UP BND1      YTWO      1
+ENDATA
+",
+    text: b"CONVERT TESTPROB ROWS 4 COLUMNS 3 ENTRIES 9
+SETUP   TESTPROB MIN
+PRIMAL OPTIMAL STEPS 3 OBJECTIVE 54 CHECKED
+SOLUTION OPTIMAL
+SECTION 1 - ROWS
+NUMBER ROW AT ACTIVITY SLACK LOWER UPPER DUAL
+    1 COST     BS 54 -54 NONE NONE 0
+    2 LIM1     BS 3 2 NONE 5 0
+    3 LIM2     LL 10 0 10 NONE 1
+    4 MYEQN    EQ 7 0 7 7 8
+SECTION 2 - COLUMNS
+NUMBER COLUMN AT ACTIVITY COST LOWER UPPER REDUCED
+    5 XONE     BS 4 1 0 4 0
+    6 YTWO     LL -1 4 -1 1 12
+    7 ZTHREE   BS 6 9 0 NONE 0
+END 0
+",
     status: 0,
     line: b"ATTESTED 4 REPORTS\n",
     cases: &[],
@@ -232,15 +331,109 @@ pub const TESTPROB: Listing = Listing {
 /// The same problem, whose solution is shown twice.
 pub const TWO_SOLUTIONS: Listing = Listing {
     name: "two solutions",
-    job: b"         PROGRAM\n         CONVERT\n         SETUP('BOUND','BND1')\n         PRIMAL\n         SOLUTION\n         SOLUTION\n         EXIT\n         PEND\nNAME          TESTPROB\nROWS\n N  COST\n L  LIM1\n G  LIM2\n E  MYEQN\nCOLUMNS\n    XONE      COST      1              LIM1      1\n    XONE      LIM2      1\n    YTWO      COST      4              LIM1      1\n    YTWO      MYEQN     -1\n    ZTHREE    COST      9              LIM2      1\n    ZTHREE    MYEQN     1\nRHS\n    RHS       LIM1      5              LIM2      10\n    RHS       MYEQN     7\nBOUNDS\n UP BND1      XONE      4\n LO BND1      YTWO      -1\n UP BND1      YTWO      1\nENDATA\n",
-    text: b"CONVERT TESTPROB ROWS 4 COLUMNS 3 ENTRIES 9\nSETUP   TESTPROB MIN\nPRIMAL OPTIMAL STEPS 3 OBJECTIVE 54 CHECKED\nSOLUTION OPTIMAL\nSECTION 1 - ROWS\nNUMBER ROW AT ACTIVITY SLACK LOWER UPPER DUAL\n    1 COST     BS 54 -54 NONE NONE 0\n    2 LIM1     BS 3 2 NONE 5 0\n    3 LIM2     LL 10 0 10 NONE 1\n    4 MYEQN    EQ 7 0 7 7 8\nSECTION 2 - COLUMNS\nNUMBER COLUMN AT ACTIVITY COST LOWER UPPER REDUCED\n    5 XONE     BS 4 1 0 4 0\n    6 YTWO     LL -1 4 -1 1 12\n    7 ZTHREE   BS 6 9 0 NONE 0\nSOLUTION OPTIMAL\nSECTION 1 - ROWS\nNUMBER ROW AT ACTIVITY SLACK LOWER UPPER DUAL\n    1 COST     BS 54 -54 NONE NONE 0\n    2 LIM1     BS 3 2 NONE 5 0\n    3 LIM2     LL 10 0 10 NONE 1\n    4 MYEQN    EQ 7 0 7 7 8\nSECTION 2 - COLUMNS\nNUMBER COLUMN AT ACTIVITY COST LOWER UPPER REDUCED\n    5 XONE     BS 4 1 0 4 0\n    6 YTWO     LL -1 4 -1 1 12\n    7 ZTHREE   BS 6 9 0 NONE 0\nEND 0\n",
+    job: b"         PROGRAM
+         CONVERT
+         SETUP('BOUND','BND1')
+         PRIMAL
+         SOLUTION
+         SOLUTION
+         EXIT
+         PEND
+NAME          TESTPROB
+ROWS
+ N  COST
+ L  LIM1
+ G  LIM2
+ E  MYEQN
+COLUMNS
+    XONE      COST      1              LIM1      1
+    XONE      LIM2      1
+    YTWO      COST      4              LIM1      1
+    YTWO      MYEQN     -1
+    ZTHREE    COST      9              LIM2      1
+    ZTHREE    MYEQN     1
+RHS
+    RHS       LIM1      5              LIM2      10
+    RHS       MYEQN     7
+BOUNDS
+ UP BND1      XONE      4
+ LO BND1      YTWO      -1
+ UP BND1      YTWO      1
+ENDATA
+",
+    text: b"CONVERT TESTPROB ROWS 4 COLUMNS 3 ENTRIES 9
+SETUP   TESTPROB MIN
+PRIMAL OPTIMAL STEPS 3 OBJECTIVE 54 CHECKED
+SOLUTION OPTIMAL
+SECTION 1 - ROWS
+NUMBER ROW AT ACTIVITY SLACK LOWER UPPER DUAL
+    1 COST     BS 54 -54 NONE NONE 0
+    2 LIM1     BS 3 2 NONE 5 0
+    3 LIM2     LL 10 0 10 NONE 1
+    4 MYEQN    EQ 7 0 7 7 8
+SECTION 2 - COLUMNS
+NUMBER COLUMN AT ACTIVITY COST LOWER UPPER REDUCED
+    5 XONE     BS 4 1 0 4 0
+    6 YTWO     LL -1 4 -1 1 12
+    7 ZTHREE   BS 6 9 0 NONE 0
+SOLUTION OPTIMAL
+SECTION 1 - ROWS
+NUMBER ROW AT ACTIVITY SLACK LOWER UPPER DUAL
+    1 COST     BS 54 -54 NONE NONE 0
+    2 LIM1     BS 3 2 NONE 5 0
+    3 LIM2     LL 10 0 10 NONE 1
+    4 MYEQN    EQ 7 0 7 7 8
+SECTION 2 - COLUMNS
+NUMBER COLUMN AT ACTIVITY COST LOWER UPPER REDUCED
+    5 XONE     BS 4 1 0 4 0
+    6 YTWO     LL -1 4 -1 1 12
+    7 ZTHREE   BS 6 9 0 NONE 0
+END 0
+",
     status: 0,
     line: b"ATTESTED 5 REPORTS\n",
     cases: &[Case {
         name: "another second solution",
         edit: Edit::From(
-            b"SOLUTION OPTIMAL\nSECTION 1 - ROWS\nNUMBER ROW AT ACTIVITY SLACK LOWER UPPER DUAL\n    1 COST     BS 54 -54 NONE NONE 0\n    2 LIM1     BS 3 2 NONE 5 0\n    3 LIM2     LL 10 0 10 NONE 1\n    4 MYEQN    EQ 7 0 7 7 8\nSECTION 2 - COLUMNS\nNUMBER COLUMN AT ACTIVITY COST LOWER UPPER REDUCED\n    5 XONE     BS 4 1 0 4 0\n    6 YTWO     LL -1 4 -1 1 12\n    7 ZTHREE   BS 6 9 0 NONE 0\nSOLUTION",
-            b"SOLUTION OPTIMAL\nSECTION 1 - ROWS\nNUMBER ROW AT ACTIVITY SLACK LOWER UPPER DUAL\n    1 COST     BS 54 -54 NONE NONE 0\n    2 LIM1     BS 3 2 NONE 5 0\n    3 LIM2     LL 10 0 10 NONE 1\n    4 MYEQN    EQ 7 0 7 7 8\nSECTION 2 - COLUMNS\nNUMBER COLUMN AT ACTIVITY COST LOWER UPPER REDUCED\n    5 XONE     BS 4 1 0 4 0\n    6 YTWO     LL -1 4 -1 1 12\n    7 ZTHREE   BS 6 9 0 NONE 0\nSOLUTION OPTIMAL\nSECTION 1 - ROWS\nNUMBER ROW AT ACTIVITY SLACK LOWER UPPER DUAL\n    1 COST     BS 55 -55 NONE NONE 0\n    2 LIM1     BS 4 1 NONE 5 0\n    3 LIM2     LL 11 -1 10 NONE 1\n    4 MYEQN    EQ 7 0 7 7 8\nSECTION 2 - COLUMNS\nNUMBER COLUMN AT ACTIVITY COST LOWER UPPER REDUCED\n    5 XONE     BS 5 1 0 4 0\n    6 YTWO     LL -1 4 -1 1 12\n    7 ZTHREE   BS 6 9 0 NONE 0\nEND 0\n",
+            b"SOLUTION OPTIMAL
+SECTION 1 - ROWS
+NUMBER ROW AT ACTIVITY SLACK LOWER UPPER DUAL
+    1 COST     BS 54 -54 NONE NONE 0
+    2 LIM1     BS 3 2 NONE 5 0
+    3 LIM2     LL 10 0 10 NONE 1
+    4 MYEQN    EQ 7 0 7 7 8
+SECTION 2 - COLUMNS
+NUMBER COLUMN AT ACTIVITY COST LOWER UPPER REDUCED
+    5 XONE     BS 4 1 0 4 0
+    6 YTWO     LL -1 4 -1 1 12
+    7 ZTHREE   BS 6 9 0 NONE 0
+SOLUTION",
+            b"SOLUTION OPTIMAL
+SECTION 1 - ROWS
+NUMBER ROW AT ACTIVITY SLACK LOWER UPPER DUAL
+    1 COST     BS 54 -54 NONE NONE 0
+    2 LIM1     BS 3 2 NONE 5 0
+    3 LIM2     LL 10 0 10 NONE 1
+    4 MYEQN    EQ 7 0 7 7 8
+SECTION 2 - COLUMNS
+NUMBER COLUMN AT ACTIVITY COST LOWER UPPER REDUCED
+    5 XONE     BS 4 1 0 4 0
+    6 YTWO     LL -1 4 -1 1 12
+    7 ZTHREE   BS 6 9 0 NONE 0
+SOLUTION OPTIMAL
+SECTION 1 - ROWS
+NUMBER ROW AT ACTIVITY SLACK LOWER UPPER DUAL
+    1 COST     BS 55 -55 NONE NONE 0
+    2 LIM1     BS 4 1 NONE 5 0
+    3 LIM2     LL 11 -1 10 NONE 1
+    4 MYEQN    EQ 7 0 7 7 8
+SECTION 2 - COLUMNS
+NUMBER COLUMN AT ACTIVITY COST LOWER UPPER REDUCED
+    5 XONE     BS 5 1 0 4 0
+    6 YTWO     LL -1 4 -1 1 12
+    7 ZTHREE   BS 6 9 0 NONE 0
+END 0
+",
         ),
         status: 40,
         line: b"WRONG LINE 16\n",
@@ -250,8 +443,40 @@ pub const TWO_SOLUTIONS: Listing = Listing {
 /// A plan with more than one best point.
 pub const TIES: Listing = Listing {
     name: "ties",
-    job: b"         PROGRAM\n         CONVERT\n         SETUP\n         PRIMAL\n         SOLUTION\n         EXIT\n         PEND\nNAME          T\nROWS\n N  COST\n L  LIM\nCOLUMNS\n    X         COST      -1\n    X         LIM       1\n    Y         COST      -1\n    Y         LIM       1\nRHS\n    B         LIM       4\nENDATA\n",
-    text: b"CONVERT T        ROWS 2 COLUMNS 2 ENTRIES 4\nSETUP   T        MIN\nPRIMAL OPTIMAL STEPS 1 OBJECTIVE -4 CHECKED\nSOLUTION OPTIMAL\nSECTION 1 - ROWS\nNUMBER ROW AT ACTIVITY SLACK LOWER UPPER DUAL\n    1 COST     BS -4 4 NONE NONE 0\n    2 LIM      UL 4 0 NONE 4 -1\nSECTION 2 - COLUMNS\nNUMBER COLUMN AT ACTIVITY COST LOWER UPPER REDUCED\n    3 X        BS 4 -1 0 NONE 0\n    4 Y        LL 0 -1 0 NONE 0\nEND 0\n",
+    job: b"         PROGRAM
+         CONVERT
+         SETUP
+         PRIMAL
+         SOLUTION
+         EXIT
+         PEND
+NAME          T
+ROWS
+ N  COST
+ L  LIM
+COLUMNS
+    X         COST      -1
+    X         LIM       1
+    Y         COST      -1
+    Y         LIM       1
+RHS
+    B         LIM       4
+ENDATA
+",
+    text: b"CONVERT T        ROWS 2 COLUMNS 2 ENTRIES 4
+SETUP   T        MIN
+PRIMAL OPTIMAL STEPS 1 OBJECTIVE -4 CHECKED
+SOLUTION OPTIMAL
+SECTION 1 - ROWS
+NUMBER ROW AT ACTIVITY SLACK LOWER UPPER DUAL
+    1 COST     BS -4 4 NONE NONE 0
+    2 LIM      UL 4 0 NONE 4 -1
+SECTION 2 - COLUMNS
+NUMBER COLUMN AT ACTIVITY COST LOWER UPPER REDUCED
+    3 X        BS 4 -1 0 NONE 0
+    4 Y        LL 0 -1 0 NONE 0
+END 0
+",
     status: 0,
     line: b"ATTESTED 4 REPORTS\n",
     cases: &[
@@ -279,8 +504,37 @@ pub const TIES: Listing = Listing {
 /// Names with blanks in them.
 pub const BLANKS: Listing = Listing {
     name: "names with blanks",
-    job: b"         PROGRAM\n         CONVERT\n         SETUP\n         PRIMAL\n         SOLUTION\n         EXIT\n         PEND\nNAME           A\nROWS\n N   COST\n L  12 3\nCOLUMNS\n    1          COST     1\n    1         12 3      1\nRHS\n    B         12 3      4\nENDATA\n",
-    text: b"CONVERT  A       ROWS 2 COLUMNS 1 ENTRIES 2\nSETUP    A       MIN\nPRIMAL OPTIMAL STEPS 0 OBJECTIVE 0 CHECKED\nSOLUTION OPTIMAL\nSECTION 1 - ROWS\nNUMBER ROW AT ACTIVITY SLACK LOWER UPPER DUAL\n    1  COST    BS 0 0 NONE NONE 0\n    2 12 3     BS 0 4 NONE 4 0\nSECTION 2 - COLUMNS\nNUMBER COLUMN AT ACTIVITY COST LOWER UPPER REDUCED\n    3 1        LL 0 1 0 NONE 1\nEND 0\n",
+    job: b"         PROGRAM
+         CONVERT
+         SETUP
+         PRIMAL
+         SOLUTION
+         EXIT
+         PEND
+NAME           A
+ROWS
+ N   COST
+ L  12 3
+COLUMNS
+    1          COST     1
+    1         12 3      1
+RHS
+    B         12 3      4
+ENDATA
+",
+    text: b"CONVERT  A       ROWS 2 COLUMNS 1 ENTRIES 2
+SETUP    A       MIN
+PRIMAL OPTIMAL STEPS 0 OBJECTIVE 0 CHECKED
+SOLUTION OPTIMAL
+SECTION 1 - ROWS
+NUMBER ROW AT ACTIVITY SLACK LOWER UPPER DUAL
+    1  COST    BS 0 0 NONE NONE 0
+    2 12 3     BS 0 4 NONE 4 0
+SECTION 2 - COLUMNS
+NUMBER COLUMN AT ACTIVITY COST LOWER UPPER REDUCED
+    3 1        LL 0 1 0 NONE 1
+END 0
+",
     status: 0,
     line: b"ATTESTED 4 REPORTS\n",
     cases: &[],

@@ -4,8 +4,37 @@ use crate::listings::{Case, Edit, Listing};
 /// A solution with numbers of 128 bits.
 pub const GREAT: Listing = Listing {
     name: "great activities",
-    job: b"         PROGRAM\n         CONVERT\n         SETUP\n         PRIMAL\n         SOLUTION\n         EXIT\n         PEND\nNAME          T\nROWS\n N  COST\n G  LIM\nCOLUMNS\n    X         COST      2\n    X         LIM       1\nRHS\n    B         LIM       4\nENDATA\n",
-    text: b"CONVERT T        ROWS 2 COLUMNS 1 ENTRIES 2\nSETUP   T        MIN\nPRIMAL OPTIMAL STEPS 1 OBJECTIVE 8 CHECKED\nSOLUTION OPTIMAL\nSECTION 1 - ROWS\nNUMBER ROW AT ACTIVITY SLACK LOWER UPPER DUAL\n    1 COST     BS 170141183460469231731687303715884105727 -170141183460469231731687303715884105727 NONE NONE 0\n    2 LIM      LL 170141183460469231731687303715884105727 0 4 NONE 2\nSECTION 2 - COLUMNS\nNUMBER COLUMN AT ACTIVITY COST LOWER UPPER REDUCED\n    3 X        BS 170141183460469231731687303715884105727 2 0 NONE 0\nEND 0\n",
+    job: b"         PROGRAM
+         CONVERT
+         SETUP
+         PRIMAL
+         SOLUTION
+         EXIT
+         PEND
+NAME          T
+ROWS
+ N  COST
+ G  LIM
+COLUMNS
+    X         COST      2
+    X         LIM       1
+RHS
+    B         LIM       4
+ENDATA
+",
+    text: b"CONVERT T        ROWS 2 COLUMNS 1 ENTRIES 2
+SETUP   T        MIN
+PRIMAL OPTIMAL STEPS 1 OBJECTIVE 8 CHECKED
+SOLUTION OPTIMAL
+SECTION 1 - ROWS
+NUMBER ROW AT ACTIVITY SLACK LOWER UPPER DUAL
+    1 COST     BS 170141183460469231731687303715884105727 -170141183460469231731687303715884105727 NONE NONE 0
+    2 LIM      LL 170141183460469231731687303715884105727 0 4 NONE 2
+SECTION 2 - COLUMNS
+NUMBER COLUMN AT ACTIVITY COST LOWER UPPER REDUCED
+    3 X        BS 170141183460469231731687303715884105727 2 0 NONE 0
+END 0
+",
     status: 42,
     line: b"UNCHECKED LINE 4\n",
     cases: &[Case {
@@ -19,7 +48,23 @@ pub const GREAT: Listing = Listing {
 /// A range whose sum is refused, in a listing as if it were selected.
 pub const RANGE_REFUSED: Listing = Listing {
     name: "a range that is refused",
-    job: b"         PROGRAM\n         CONVERT\n         SETUP('RANGE','R')\n         EXIT\n         PEND\nNAME          T\nROWS\n N  COST\n L  LIM\nCOLUMNS\n    X         LIM       1\nRHS\n    B         LIM       999999999E18\nRANGES\n    R         LIM       .1E-18\nENDATA\n",
+    job: b"         PROGRAM
+         CONVERT
+         SETUP('RANGE','R')
+         EXIT
+         PEND
+NAME          T
+ROWS
+ N  COST
+ L  LIM
+COLUMNS
+    X         LIM       1
+RHS
+    B         LIM       999999999E18
+RANGES
+    R         LIM       .1E-18
+ENDATA
+",
     text: b"CONVERT T        ROWS 2 COLUMNS 1 ENTRIES 1\nSETUP   T        MIN\nEND 0\n",
     status: 42,
     line: b"UNCHECKED LINE 2\n",
@@ -40,7 +85,10 @@ pub const RANGE_REFUSED: Listing = Listing {
             name: "its own stop",
             edit: Edit::From(
                 b"SETUP",
-                b"STOP 20 OVERFLOW F13 SUB 999999999000000000000000000 1/10000000000000000000 P 0 Q 0 I 2 J 0 TERM 1 THETA 0 CARD 3\nBASIS NONE\nWAY NONE\n",
+                b"STOP 20 OVERFLOW F13 SUB 999999999000000000000000000 1/10000000000000000000 P 0 Q 0 I 2 J 0 TERM 1 THETA 0 CARD 3
+BASIS NONE
+WAY NONE
+",
             ),
             status: 41,
             line: b"OPEN LINE 2\n",
@@ -51,15 +99,42 @@ pub const RANGE_REFUSED: Listing = Listing {
 /// The same after a verdict that no SOLUTION shows, as if it were selected.
 pub const RANGE_AFTER_PRIMAL: Listing = Listing {
     name: "a range that is refused after a verdict",
-    job: b"         PROGRAM\n         CONVERT\n         SETUP\n         PRIMAL\n         SETUP('RANGE','R')\n         EXIT\n         PEND\nNAME          T\nROWS\n N  COST\n L  LIM\nCOLUMNS\n    X         LIM       1\nRHS\n    B         LIM       999999999E18\nRANGES\n    R         LIM       .1E-18\nENDATA\n",
-    text: b"CONVERT T        ROWS 2 COLUMNS 1 ENTRIES 1\nSETUP   T        MIN\nPRIMAL OPTIMAL STEPS 0 OBJECTIVE 0 CHECKED\nSETUP   T        MIN\nEND 0\n",
+    job: b"         PROGRAM
+         CONVERT
+         SETUP
+         PRIMAL
+         SETUP('RANGE','R')
+         EXIT
+         PEND
+NAME          T
+ROWS
+ N  COST
+ L  LIM
+COLUMNS
+    X         LIM       1
+RHS
+    B         LIM       999999999E18
+RANGES
+    R         LIM       .1E-18
+ENDATA
+",
+    text: b"CONVERT T        ROWS 2 COLUMNS 1 ENTRIES 1
+SETUP   T        MIN
+PRIMAL OPTIMAL STEPS 0 OBJECTIVE 0 CHECKED
+SETUP   T        MIN
+END 0
+",
     status: 41,
     line: b"OPEN LINE 3\n",
     cases: &[Case {
         name: "its own stop",
         edit: Edit::Text(
             b"CHECKED\nSETUP   T        MIN\nEND 0\n",
-            b"CHECKED\nSTOP 20 OVERFLOW F13 SUB 999999999000000000000000000 1/10000000000000000000 P 0 Q 0 I 2 J 0 TERM 1 THETA 0 CARD 5\nBASIS NONE\nWAY NONE\n",
+            b"CHECKED
+STOP 20 OVERFLOW F13 SUB 999999999000000000000000000 1/10000000000000000000 P 0 Q 0 I 2 J 0 TERM 1 THETA 0 CARD 5
+BASIS NONE
+WAY NONE
+",
         ),
         status: 41,
         line: b"OPEN LINE 4\n",
@@ -69,8 +144,37 @@ pub const RANGE_AFTER_PRIMAL: Listing = Listing {
 /// A parametric run whose first limits are refused.
 pub const FAR_POINT: Listing = Listing {
     name: "a point far away",
-    job: b"         PROGRAM\n         CONVERT\n         SETUP\n         MOVE(XCHCOL,'C')\n         MOVE(XPARAM,999999999E18)\n         MOVE(XPARMAX,999999999E18)\n         PARARHS\n         EXIT\n         PEND\nNAME          T\nROWS\n N  COST\n G  LOW\nCOLUMNS\n    X         COST      1\n    X         LOW       1\nRHS\n    B         LOW       .1E-18\n    C         LOW       1\nENDATA\n",
-    text: b"CONVERT T        ROWS 2 COLUMNS 1 ENTRIES 2\nSETUP   T        MIN\nPARARHS FROM 999999999000000000000000000 CHANGE C\nINTERVAL 1 FROM 999999999000000000000000000 TO 999999999000000000000000000\n    1 COST     BS 1/10000000000000000000 1 0 0\n    2 LOW      LL 1/10000000000000000000 1 1 0\n    3 X        BS 1/10000000000000000000 1 0 0\nPARARHS ENDS AT 999999999000000000000000000\nEND 0\n",
+    job: b"         PROGRAM
+         CONVERT
+         SETUP
+         MOVE(XCHCOL,'C')
+         MOVE(XPARAM,999999999E18)
+         MOVE(XPARMAX,999999999E18)
+         PARARHS
+         EXIT
+         PEND
+NAME          T
+ROWS
+ N  COST
+ G  LOW
+COLUMNS
+    X         COST      1
+    X         LOW       1
+RHS
+    B         LOW       .1E-18
+    C         LOW       1
+ENDATA
+",
+    text: b"CONVERT T        ROWS 2 COLUMNS 1 ENTRIES 2
+SETUP   T        MIN
+PARARHS FROM 999999999000000000000000000 CHANGE C
+INTERVAL 1 FROM 999999999000000000000000000 TO 999999999000000000000000000
+    1 COST     BS 1/10000000000000000000 1 0 0
+    2 LOW      LL 1/10000000000000000000 1 1 0
+    3 X        BS 1/10000000000000000000 1 0 0
+PARARHS ENDS AT 999999999000000000000000000
+END 0
+",
     status: 42,
     line: b"UNCHECKED LINE 3\n",
     cases: &[

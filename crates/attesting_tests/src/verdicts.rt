@@ -4,8 +4,41 @@ use crate::listings::{Case, Edit, Listing};
 /// Limits that conflict.
 pub const CONFLICT: Listing = Listing {
     name: "conflict",
-    job: b"* A workshop promised more than its hours allow: no plan keeps all limits.\n* It shows a ray: the rows that conflict, with the factors by which they do.\n         PROGRAM\n         TITLE('PROMISES AND HOURS')\n         CONVERT\n         SETUP('MIN')\n         PRIMAL\n         SOLUTION\n         EXIT\n         PEND\nNAME          PROMISE\nROWS\n N  COST\n L  HOURS\n G  CHAIRS\n G  TABLES\nCOLUMNS\n    CHAIR     COST      7              HOURS     2\n    CHAIR     CHAIRS    1\n    TABLE     COST      20             HOURS     5\n    TABLE     TABLES    1\nRHS\n    WEEK      HOURS     100            CHAIRS    20\n    WEEK      TABLES    14\nENDATA\n",
-    text: b"TITLE PROMISES AND HOURS\nCONVERT PROMISE  ROWS 4 COLUMNS 2 ENTRIES 6\nSETUP   PROMISE  MIN\nPRIMAL INFEASIBLE STEPS 2 RAY CHECKED\n    2 HOURS    1\n    3 CHAIRS   -2\n    4 TABLES   -5\nEND 1\n",
+    job: b"* A workshop promised more than its hours allow: no plan keeps all limits.
+* It shows a ray: the rows that conflict, with the factors by which they do.
+         PROGRAM
+         TITLE('PROMISES AND HOURS')
+         CONVERT
+         SETUP('MIN')
+         PRIMAL
+         SOLUTION
+         EXIT
+         PEND
+NAME          PROMISE
+ROWS
+ N  COST
+ L  HOURS
+ G  CHAIRS
+ G  TABLES
+COLUMNS
+    CHAIR     COST      7              HOURS     2
+    CHAIR     CHAIRS    1
+    TABLE     COST      20             HOURS     5
+    TABLE     TABLES    1
+RHS
+    WEEK      HOURS     100            CHAIRS    20
+    WEEK      TABLES    14
+ENDATA
+",
+    text: b"TITLE PROMISES AND HOURS
+CONVERT PROMISE  ROWS 4 COLUMNS 2 ENTRIES 6
+SETUP   PROMISE  MIN
+PRIMAL INFEASIBLE STEPS 2 RAY CHECKED
+    2 HOURS    1
+    3 CHAIRS   -2
+    4 TABLES   -5
+END 1
+",
     status: 0,
     line: b"ATTESTED 4 REPORTS\n",
     cases: &[
@@ -102,8 +135,34 @@ pub const CONFLICT: Listing = Listing {
 /// A lower limit above an upper one.
 pub const INFEASIBLE: Listing = Listing {
     name: "infeasible ray",
-    job: b"         PROGRAM\n         CONVERT\n         SETUP\n         PRIMAL\n         SOLUTION\n         EXIT\n         PEND\nNAME          T\nROWS\n N  COST\n G  LOW\n L  HIGH\nCOLUMNS\n    X         COST      1\n    X         LOW       1\n    X         HIGH      1\nRHS\n    B         LOW       3\n    B         HIGH      2\nENDATA\n",
-    text: b"CONVERT T        ROWS 3 COLUMNS 1 ENTRIES 3\nSETUP   T        MIN\nPRIMAL INFEASIBLE STEPS 1 RAY CHECKED\n    2 LOW      -1\n    3 HIGH     1\nEND 1\n",
+    job: b"         PROGRAM
+         CONVERT
+         SETUP
+         PRIMAL
+         SOLUTION
+         EXIT
+         PEND
+NAME          T
+ROWS
+ N  COST
+ G  LOW
+ L  HIGH
+COLUMNS
+    X         COST      1
+    X         LOW       1
+    X         HIGH      1
+RHS
+    B         LOW       3
+    B         HIGH      2
+ENDATA
+",
+    text: b"CONVERT T        ROWS 3 COLUMNS 1 ENTRIES 3
+SETUP   T        MIN
+PRIMAL INFEASIBLE STEPS 1 RAY CHECKED
+    2 LOW      -1
+    3 HIGH     1
+END 1
+",
     status: 0,
     line: b"ATTESTED 3 REPORTS\n",
     cases: &[Case {
@@ -117,8 +176,37 @@ pub const INFEASIBLE: Listing = Listing {
 /// A profit without a bound.
 pub const UNBOUNDED: Listing = Listing {
     name: "endless",
-    job: b"* A row was forgotten: nothing limits what is sold, so the profit has no bound.\n* It shows a direction along which the profit grows for ever.\n         PROGRAM\n         TITLE('A ROW IS MISSING')\n         CONVERT\n         SETUP('MAX')\n         PRIMAL\n         SOLUTION\n         EXIT\n         PEND\nNAME          ENDLESS\nROWS\n N  PROFIT\n L  MILLING\nCOLUMNS\n    BUY       PROFIT    -3             MILLING   -1\n    SELL      PROFIT    5              MILLING   1\nRHS\n    DAY       MILLING   40\nENDATA\n",
-    text: b"TITLE A ROW IS MISSING\nCONVERT ENDLESS  ROWS 2 COLUMNS 2 ENTRIES 4\nSETUP   ENDLESS  MAX\nPRIMAL UNBOUNDED STEPS 1 OBJECTIVE 200 CHECKED\n    1 PROFIT   200 2\n    2 MILLING  40 0\n    3 BUY      0 1\n    4 SELL     40 1\nEND 2\n",
+    job: b"* A row was forgotten: nothing limits what is sold, so the profit has no bound.
+* It shows a direction along which the profit grows for ever.
+         PROGRAM
+         TITLE('A ROW IS MISSING')
+         CONVERT
+         SETUP('MAX')
+         PRIMAL
+         SOLUTION
+         EXIT
+         PEND
+NAME          ENDLESS
+ROWS
+ N  PROFIT
+ L  MILLING
+COLUMNS
+    BUY       PROFIT    -3             MILLING   -1
+    SELL      PROFIT    5              MILLING   1
+RHS
+    DAY       MILLING   40
+ENDATA
+",
+    text: b"TITLE A ROW IS MISSING
+CONVERT ENDLESS  ROWS 2 COLUMNS 2 ENTRIES 4
+SETUP   ENDLESS  MAX
+PRIMAL UNBOUNDED STEPS 1 OBJECTIVE 200 CHECKED
+    1 PROFIT   200 2
+    2 MILLING  40 0
+    3 BUY      0 1
+    4 SELL     40 1
+END 2
+",
     status: 0,
     line: b"ATTESTED 4 REPORTS\n",
     cases: &[
@@ -131,8 +219,16 @@ pub const UNBOUNDED: Listing = Listing {
         Case {
             name: "a direction of zeros",
             edit: Edit::Text(
-                b"    1 PROFIT   200 2\n    2 MILLING  40 0\n    3 BUY      0 1\n    4 SELL     40 1\n",
-                b"    1 PROFIT   200 0\n    2 MILLING  40 0\n    3 BUY      0 0\n    4 SELL     40 0\n",
+                b"    1 PROFIT   200 2
+    2 MILLING  40 0
+    3 BUY      0 1
+    4 SELL     40 1
+",
+                b"    1 PROFIT   200 0
+    2 MILLING  40 0
+    3 BUY      0 0
+    4 SELL     40 0
+",
             ),
             status: 40,
             line: b"WRONG LINE 4\n",

@@ -9,12 +9,39 @@ use problem_file::Problem;
 use std::alloc::Global;
 use std::test::Fail;
 
-const SMALL: &[u8] =
-    b"NAME          SMALL\nROWS\n N  COST\n L  UPR\n G  LOR\n E  EQ\nCOLUMNS\n    A         COST      -3             UPR       1\n    A         EQ        1\n    B         COST      -2             UPR       1\n    B         LOR       1\n    C         COST      1              LOR       1\n    C         EQ        1\nRHS\n    R         UPR       4              LOR       1\n    R         EQ        3\nBOUNDS\n UP BND       A         2\n UP BND       C         5\n MI BND       B\n UP BND       B         1\nENDATA\n";
+const SMALL: &[u8] = b"NAME          SMALL
+ROWS
+ N  COST
+ L  UPR
+ G  LOR
+ E  EQ
+COLUMNS
+    A         COST      -3             UPR       1
+    A         EQ        1
+    B         COST      -2             UPR       1
+    B         LOR       1
+    C         COST      1              LOR       1
+    C         EQ        1
+RHS
+    R         UPR       4              LOR       1
+    R         EQ        3
+BOUNDS
+ UP BND       A         2
+ UP BND       C         5
+ MI BND       B
+ UP BND       B         1
+ENDATA
+";
 
 // A row and a column of one name.
-const TWINS: &[u8] =
-    b"NAME          T\nROWS\n N  COST\n G  X\nCOLUMNS\n    X         COST      1              X         1\nENDATA\n";
+const TWINS: &[u8] = b"NAME          T
+ROWS
+ N  COST
+ G  X
+COLUMNS
+    X         COST      1              X         1
+ENDATA
+";
 
 // The linear program of a problem with its set BND, if it has one.
 fn program_of(alloc: Global, problem: &Problem) -> Result<Lp, Fail> {
@@ -82,11 +109,23 @@ fn reading(
 fn basis_decks_stand_for_bases(rt: HostRuntime) -> Result<(), Fail> {
     let decks: [(&[u8], &[u8]); 5] = [
         (
-            b"NAME          START\n XU A         UPR\n XL C         EQ\n UL B\nENDATA\n",
+            b"NAME          START
+ XU A         UPR
+ XL C         EQ
+ UL B
+ENDATA
+",
             b"BUBLBUB",
         ),
         (
-            b"NAME          START\n UL B\n* a comment\n XL C         EQ\n\n XU A         UPR\nENDATA\n",
+            b"NAME          START
+ UL B
+* a comment
+ XL C         EQ
+
+ XU A         UPR
+ENDATA
+",
             b"BUBLBUB",
         ),
         (b"NAME          NOTHING       FREE\nENDATA\n", b"BBBBLUL"),

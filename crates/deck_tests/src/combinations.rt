@@ -9,7 +9,12 @@ use problem_file::{RowDecl, RowKind};
 use std::test::Fail;
 
 // The rows COST, A and B. The cards after these are the sixth and on.
-pub const THREE_ROWS: &[u8] = b"NAME          T\nROWS\n N  COST\n L  A\n L  B\n";
+pub const THREE_ROWS: &[u8] = b"NAME          T
+ROWS
+ N  COST
+ L  A
+ L  B
+";
 
 pub const COMBINATIONS: [DeckOfFault; 10] = [
     (b" DX S\n", 6, DeckFaultKind::BadRowType),
@@ -48,7 +53,12 @@ pub const COMBINATIONS: [DeckOfFault; 10] = [
         DeckFaultKind::EntryOnCombination,
     ),
     (
-        b" DN S         A         1\nCOLUMNS\n    X         A         1\nRANGES\n    R         S         1\n",
+        b" DN S         A         1
+COLUMNS
+    X         A         1
+RANGES
+    R         S         1
+",
         10,
         DeckFaultKind::RangeOnFree,
     ),
@@ -126,8 +136,19 @@ fn part_of(row: &RowDecl, place: usize) -> Result<(u32, Frac), Fail> {
 
 #[test]
 fn parts_stand_on_earlier_rows_by_number(rt: HostRuntime) -> Result<(), Fail> {
-    let deck =
-        b"NAME          T\nROWS\n N  COST\n L  A\n L  B\n DG S         B         -2             A         1\n* note\n DG S         COST      .5\n DE U         S         3\nCOLUMNS\n    X         A         1\nENDATA\n";
+    let deck = b"NAME          T
+ROWS
+ N  COST
+ L  A
+ L  B
+ DG S         B         -2             A         1
+* note
+ DG S         COST      .5
+ DE U         S         3
+COLUMNS
+    X         A         1
+ENDATA
+";
     let problem = problem_of(rt.alloc(), deck, None)?;
     let rows = problem.rows();
     let plain = rows.get(2).ok_or("a row")?;
@@ -143,9 +164,38 @@ fn parts_stand_on_earlier_rows_by_number(rt: HostRuntime) -> Result<(), Fail> {
 }
 
 const LAWFUL: [&[u8]; 3] = [
-    b"NAME          T\nROWS\n DN COST\n L  A\n DL S\n DL S         A         1\nCOLUMNS\n    X         A         1\nRHS\n    R         S         1\nENDATA\n",
-    b"NAME          T\nROWS\n N  COST\n L  'MARKER'\n DL S         'MARKER'  1\nCOLUMNS\n    X         COST      1\nENDATA\n",
-    b"NAME          ONE       FREE\nROWS\n N COST\n G LOW\n DN S\n DL T COST 1\n DL T LOW -2 S 1\nCOLUMNS\n X COST 1 LOW 1\nENDATA\n",
+    b"NAME          T
+ROWS
+ DN COST
+ L  A
+ DL S
+ DL S         A         1
+COLUMNS
+    X         A         1
+RHS
+    R         S         1
+ENDATA
+",
+    b"NAME          T
+ROWS
+ N  COST
+ L  'MARKER'
+ DL S         'MARKER'  1
+COLUMNS
+    X         COST      1
+ENDATA
+",
+    b"NAME          ONE       FREE
+ROWS
+ N COST
+ G LOW
+ DN S
+ DL T COST 1
+ DL T LOW -2 S 1
+COLUMNS
+ X COST 1 LOW 1
+ENDATA
+",
 ];
 
 #[test]

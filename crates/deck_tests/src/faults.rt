@@ -17,12 +17,22 @@ const SECTIONS: [DeckOfFault; 4] = [
         DeckFaultKind::SectionOrder,
     ),
     (
-        b"NAME          T\nROWS\n N  COST\nOBJSENSE\nENDATA\n",
+        b"NAME          T
+ROWS
+ N  COST
+OBJSENSE
+ENDATA
+",
         4,
         DeckFaultKind::UnknownSection,
     ),
     (
-        b"NAME          T\nROWS\n N  COST\n Q  R1\nENDATA\n",
+        b"NAME          T
+ROWS
+ N  COST
+ Q  R1
+ENDATA
+",
         4,
         DeckFaultKind::BadRowType,
     ),
@@ -30,7 +40,12 @@ const SECTIONS: [DeckOfFault; 4] = [
 
 const ROWS: [DeckOfFault; 5] = [
     (
-        b"NAME          T\nROWS\n N  COST\n L  COST\n Q  R1\n",
+        b"NAME          T
+ROWS
+ N  COST
+ L  COST
+ Q  R1
+",
         4,
         DeckFaultKind::DuplicateRow,
     ),
@@ -50,7 +65,12 @@ const ROWS: [DeckOfFault; 5] = [
         DeckFaultKind::ExtraField,
     ),
     (
-        b"NAME          T\nROWS\n N  COST\nCOLUMNS\n\n",
+        b"NAME          T
+ROWS
+ N  COST
+COLUMNS
+
+",
         5,
         DeckFaultKind::NoEndata,
     ),
@@ -58,27 +78,60 @@ const ROWS: [DeckOfFault; 5] = [
 
 const COLUMNS: [DeckOfFault; 5] = [
     (
-        b"NAME          T\nROWS\n N  COST\nCOLUMNS\n    X         COST      1\n    Y         COST      1\n    X         COST      2\nENDATA\n",
+        b"NAME          T
+ROWS
+ N  COST
+COLUMNS
+    X         COST      1
+    Y         COST      1
+    X         COST      2
+ENDATA
+",
         7,
         DeckFaultKind::ColumnSplit,
     ),
     (
-        b"NAME          T\nROWS\n N  COST\nCOLUMNS\n    X         COST      1\n    X         COST      1\nENDATA\n",
+        b"NAME          T
+ROWS
+ N  COST
+COLUMNS
+    X         COST      1
+    X         COST      1
+ENDATA
+",
         6,
         DeckFaultKind::DuplicateEntry,
     ),
     (
-        b"NAME          T\nROWS\n N  COST\nCOLUMNS\n    M1        'MARKER'\nENDATA\n",
+        b"NAME          T
+ROWS
+ N  COST
+COLUMNS
+    M1        'MARKER'
+ENDATA
+",
         5,
         DeckFaultKind::Marker,
     ),
     (
-        b"NAME          T\nROWS\n N  COST\nCOLUMNS\n    X         COST      1.2.3\nENDATA\n",
+        b"NAME          T
+ROWS
+ N  COST
+COLUMNS
+    X         COST      1.2.3
+ENDATA
+",
         5,
         DeckFaultKind::Number(NumberFault::BadCharacter(4), 28),
     ),
     (
-        b"NAME          T\nROWS\n N  COST\nCOLUMNS\n    X         COST      1E19\nENDATA\n",
+        b"NAME          T
+ROWS
+ N  COST
+COLUMNS
+    X         COST      1E19
+ENDATA
+",
         5,
         DeckFaultKind::Number(NumberFault::ExponentRange, 0),
     ),
@@ -86,33 +139,69 @@ const COLUMNS: [DeckOfFault; 5] = [
 
 const ENTRIES: [DeckOfFault; 6] = [
     (
-        b"NAME          T\nROWS\n N  COST\nCOLUMNS\n    X         COST      -.\nENDATA\n",
+        b"NAME          T
+ROWS
+ N  COST
+COLUMNS
+    X         COST      -.
+ENDATA
+",
         5,
         DeckFaultKind::Number(NumberFault::NoDigit, 0),
     ),
     (
-        b"NAME          T\nROWS\n N  COST\nCOLUMNS\n    X         COST\nENDATA\n",
+        b"NAME          T
+ROWS
+ N  COST
+COLUMNS
+    X         COST
+ENDATA
+",
         5,
         DeckFaultKind::Number(NumberFault::Empty, 0),
     ),
     (
-        b"NAME          T\nROWS\n N  COST\nCOLUMNS\n    X         GAIN      1\nENDATA\n",
+        b"NAME          T
+ROWS
+ N  COST
+COLUMNS
+    X         GAIN      1
+ENDATA
+",
         5,
         DeckFaultKind::UnknownRow,
     ),
     (
-        b"NAME          T\nROWS\n N  COST\nCOLUMNS\n    X         COST      1              GAIN      1\nENDATA\n",
+        b"NAME          T
+ROWS
+ N  COST
+COLUMNS
+    X         COST      1              GAIN      1
+ENDATA
+",
         5,
         DeckFaultKind::UnknownRow,
     ),
     (
-        b"NAME          T\nROWS\n N  COST\nCOLUMNS\n              COST      1\nENDATA\n",
+        b"NAME          T
+ROWS
+ N  COST
+COLUMNS
+              COST      1
+ENDATA
+",
         5,
         DeckFaultKind::EmptyName,
     ),
     // The first pair of a card is there.
     (
-        b"NAME          T\nROWS\n N  COST\nCOLUMNS\n    X                                  COST      1\nENDATA\n",
+        b"NAME          T
+ROWS
+ N  COST
+COLUMNS
+    X                                  COST      1
+ENDATA
+",
         5,
         DeckFaultKind::EmptyName,
     ),
@@ -120,27 +209,59 @@ const ENTRIES: [DeckOfFault; 6] = [
 
 const FREE_DECKS: [DeckOfFault; 6] = [
     (
-        b"NAME          ONE       FREE\nROWS\n N COST\n G LOW\nCOLUMNS\n X COST\n",
+        b"NAME          ONE       FREE
+ROWS
+ N COST
+ G LOW
+COLUMNS
+ X COST
+",
         6,
         DeckFaultKind::WordCount,
     ),
     (
-        b"NAME          ONE       FREE\nROWS\n N COST\n G LOW\nCOLUMNS\n LONGNAME9 COST 1\n",
+        b"NAME          ONE       FREE
+ROWS
+ N COST
+ G LOW
+COLUMNS
+ LONGNAME9 COST 1
+",
         6,
         DeckFaultKind::LongName,
     ),
     (
-        b"NAME          ONE       FREE\nROWS\n N COST\n G LOW\nCOLUMNS\n X COST 1234567890123\n",
+        b"NAME          ONE       FREE
+ROWS
+ N COST
+ G LOW
+COLUMNS
+ X COST 1234567890123
+",
         6,
         DeckFaultKind::LongNumber,
     ),
     (
-        b"NAME          ONE       FREE\nROWS\n N COST\n G LOW\nCOLUMNS\n X COST 1 LOW 1.2.3\n",
+        b"NAME          ONE       FREE
+ROWS
+ N COST
+ G LOW
+COLUMNS
+ X COST 1 LOW 1.2.3
+",
         6,
         DeckFaultKind::Number(NumberFault::BadCharacter(4), 18),
     ),
     (
-        b"NAME          ONE       FREE\nROWS\n N COST\n G LOW\nCOLUMNS\n X COST 1\nBOUNDS\n UP X\n",
+        b"NAME          ONE       FREE
+ROWS
+ N COST
+ G LOW
+COLUMNS
+ X COST 1
+BOUNDS
+ UP X
+",
         8,
         DeckFaultKind::WordCount,
     ),
@@ -160,8 +281,13 @@ struct Group {
 }
 
 // The rows COST and LIM and the column X on COST. The cards after these are the seventh and on.
-pub const A_COLUMN: &[u8] =
-    b"NAME          T\nROWS\n N  COST\n L  LIM\nCOLUMNS\n    X         COST      1\n";
+pub const A_COLUMN: &[u8] = b"NAME          T
+ROWS
+ N  COST
+ L  LIM
+COLUMNS
+    X         COST      1
+";
 
 const GROUPS: [Group; 12] = [
     Group {

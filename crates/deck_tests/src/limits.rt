@@ -63,8 +63,8 @@ fn deck_of_full_columns(alloc: Global, end: u32) -> Result<Vec<u8>, Fail> {
     Ok(deck)
 }
 
-// A deck at a limit: rows up to that before a number, columns up to that before a number, or 1,000 rows with 50 full columns and these
-// cards after them.
+// A deck at a limit: rows up to that before a number, columns up to that before a number, or 1,000 rows with 50 full columns and
+// these cards after them.
 #[derive(Clone, Copy)]
 enum LargeDeck {
     Rows(u32),

@@ -42,8 +42,8 @@ fn counts(problem: &Problem) -> (usize, usize, usize) {
     )
 }
 
-// With enough memory the whole problem, and otherwise the answer that memory ran out: `scripts/try_memory.sh` has each allocation fail
-// once.
+// With enough memory the whole problem, and otherwise the answer that memory ran out: `scripts/try_memory.sh` has each allocation
+// fail once.
 #[test]
 fn testprob_is_converted_or_memory_is_wanted(rt: HostRuntime) -> Result<(), Fail> {
     let Some(problem) = converted(rt.alloc())? else {

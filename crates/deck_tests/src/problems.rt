@@ -56,8 +56,16 @@ fn a_name_is_given_or_the_decks_own(rt: HostRuntime) -> Result<(), Fail> {
 
 #[test]
 fn blanks_in_front_and_inside_belong_to_names(rt: HostRuntime) -> Result<(), Fail> {
-    let deck =
-        b"NAME\nROWS\n  N  COST\n L  A B\nCOLUMNS\n     X        A B       1\nRHS\n              A B       2\nENDATA\n";
+    let deck = b"NAME
+ROWS
+  N  COST
+ L  A B
+COLUMNS
+     X        A B       1
+RHS
+              A B       2
+ENDATA
+";
     let problem = problem_of(rt.alloc(), deck, None)?;
     assert_eq!(rt; problem.name().bytes(), b"".as_slice());
     let row = problem.rows().first().ok_or("a row")?;

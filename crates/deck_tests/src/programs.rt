@@ -29,8 +29,14 @@ fn verb_at(program: &Program, place: u32) -> Option<&Verb<u32>> {
 #[test]
 fn labels_stand_for_positions(rt: HostRuntime) -> Result<(), Fail> {
     let alloc = rt.alloc();
-    let job =
-        b"START    PROGRAM('ANY')\n* a note\n         GOTO(START)\nMIDDLE   GOTO(LAST) it's a remark\n         MVADR(XDONFS,MIDDLE)\nLAST     PEND\nNAME\n";
+    let job = b"START    PROGRAM('ANY')
+* a note
+         GOTO(START)
+MIDDLE   GOTO(LAST) it's a remark
+         MVADR(XDONFS,MIDDLE)
+LAST     PEND
+NAME
+";
     let program = compile(alloc, &cards_of(alloc, job)?)?;
     assert_eq!(rt; program.count(), 3);
     assert_eq!(rt; program.decks_from(), 7);
@@ -40,7 +46,8 @@ fn labels_stand_for_positions(rt: HostRuntime) -> Result<(), Fail> {
     Ok(())
 }
 
-// Jobs with a control fault, its number and its card. The first nine are programs of one card, after a PROGRAM with the label TWICE.
+// Jobs with a control fault, its number and its card. The first nine are programs of one card, after a PROGRAM with the label
+// TWICE.
 const JOBS: [(&[u8], u8, u32); 13] = [
     (b"TWICE    PROGRAM\n         SOLVE\n         PEND\n", 3, 2),
     (b"TWICE    PROGRAM\nlow      EXIT\n         PEND\n", 4, 2),

@@ -7,32 +7,80 @@ use std::test::Fail;
 
 pub const SETS: [DeckOfFault; 6] = [
     (
-        b"NAME          T\nROWS\n N  COST\nCOLUMNS\n    X         COST      1\nRANGES\n    RNG       COST      4\nENDATA\n",
+        b"NAME          T
+ROWS
+ N  COST
+COLUMNS
+    X         COST      1
+RANGES
+    RNG       COST      4
+ENDATA
+",
         7,
         DeckFaultKind::RangeOnFree,
     ),
     (
-        b"NAME          T\nROWS\n N  COST\nCOLUMNS\n    X         COST      1\nBOUNDS\n BV BND       X         1\nENDATA\n",
+        b"NAME          T
+ROWS
+ N  COST
+COLUMNS
+    X         COST      1
+BOUNDS
+ BV BND       X         1
+ENDATA
+",
         7,
         DeckFaultKind::BadBoundType,
     ),
     (
-        b"NAME          T\nROWS\n N  COST\nCOLUMNS\n    X         COST      1\nBOUNDS\n UP BND       Y         1\nENDATA\n",
+        b"NAME          T
+ROWS
+ N  COST
+COLUMNS
+    X         COST      1
+BOUNDS
+ UP BND       Y         1
+ENDATA
+",
         7,
         DeckFaultKind::UnknownColumn,
     ),
     (
-        b"NAME          T\nROWS\n N  COST\nCOLUMNS\n    X         COST      1\nBOUNDS\n MI BND       X\n FX BND       X         1\n",
+        b"NAME          T
+ROWS
+ N  COST
+COLUMNS
+    X         COST      1
+BOUNDS
+ MI BND       X
+ FX BND       X         1
+",
         8,
         DeckFaultKind::BoundTwice,
     ),
     (
-        b"NAME          T\nROWS\n N  COST\nCOLUMNS\n    X         COST      1\nRHS\n    A         COST      1\n    A         COST      2\n",
+        b"NAME          T
+ROWS
+ N  COST
+COLUMNS
+    X         COST      1
+RHS
+    A         COST      1
+    A         COST      2
+",
         8,
         DeckFaultKind::DuplicateEntry,
     ),
     (
-        b"NAME          T\nROWS\n N  COST\nCOLUMNS\n    X         COST      1\nBOUNDS\nRHS\nENDATA\n",
+        b"NAME          T
+ROWS
+ N  COST
+COLUMNS
+    X         COST      1
+BOUNDS
+RHS
+ENDATA
+",
         7,
         DeckFaultKind::SectionOrder,
     ),
@@ -131,8 +179,16 @@ pub const BOUNDS: [DeckOfFault; 5] = [
 
 #[test]
 fn sets_may_be_mixed_and_free_bounds_have_no_number(rt: HostRuntime) -> Result<(), Fail> {
-    let cards =
-        b"RHS\n    A         COST      1\n    B         COST      2\n    A         LIM       3\nBOUNDS\n FR B         X         1..2\n MI           X\n UP           X         1\nENDATA\n";
+    let cards = b"RHS
+    A         COST      1
+    B         COST      2
+    A         LIM       3
+BOUNDS
+ FR B         X         1..2
+ MI           X
+ UP           X         1
+ENDATA
+";
     assert_eq!(rt; fault_after(rt.alloc(), A_COLUMN, cards)?, None);
     Ok(())
 }

@@ -1,223 +1,766 @@
-// Bases that go out as decks and come in again, and paths that the dual simplex method follows.
+// Bases that go out as decks and come in again.
 use crate::rows::DeckRow;
 
-/// Programs of PUNCH, INSERT and DUAL, with their listings and the cards that they punch.
-pub const BASES: [DeckRow; 31] = [
+/// Programs of PUNCH and INSERT, with their listings and the cards that they punch.
+pub const BASES: [DeckRow; 17] = [
     DeckRow {
         name: "punch basis",
-        job: b"         PROGRAM\n         CONVERT\n         SETUP('BOUND','BND1')\n         PRIMAL\n         PUNCH\n         EXIT\n         PEND\nNAME          TESTPROB\nROWS\n N  COST\n L  LIM1\n G  LIM2\n E  MYEQN\nCOLUMNS\n    XONE      COST      1              LIM1      1\n    XONE      LIM2      1\n    YTWO      COST      4              LIM1      1\n    YTWO      MYEQN     -1\n    ZTHREE    COST      9              LIM2      1\n    ZTHREE    MYEQN     1\nRHS\n    RHS       LIM1      5              LIM2      10\n    RHS       MYEQN     7\nBOUNDS\n UP BND1      XONE      4\n LO BND1      YTWO      -1\n UP BND1      YTWO      1\nENDATA\n",
+        job: b"         PROGRAM
+         CONVERT
+         SETUP('BOUND','BND1')
+         PRIMAL
+         PUNCH
+         EXIT
+         PEND
+NAME          TESTPROB
+ROWS
+ N  COST
+ L  LIM1
+ G  LIM2
+ E  MYEQN
+COLUMNS
+    XONE      COST      1              LIM1      1
+    XONE      LIM2      1
+    YTWO      COST      4              LIM1      1
+    YTWO      MYEQN     -1
+    ZTHREE    COST      9              LIM2      1
+    ZTHREE    MYEQN     1
+RHS
+    RHS       LIM1      5              LIM2      10
+    RHS       MYEQN     7
+BOUNDS
+ UP BND1      XONE      4
+ LO BND1      YTWO      -1
+ UP BND1      YTWO      1
+ENDATA
+",
         status: 0,
-        listing: b"CONVERT TESTPROB ROWS 4 COLUMNS 3 ENTRIES 9\nSETUP   TESTPROB MIN\nPRIMAL OPTIMAL STEPS 3 OBJECTIVE 54 CHECKED\nPUNCH   TESTPROB CARDS 4\nEND 0\n",
+        listing: b"CONVERT TESTPROB ROWS 4 COLUMNS 3 ENTRIES 9
+SETUP   TESTPROB MIN
+PRIMAL OPTIMAL STEPS 3 OBJECTIVE 54 CHECKED
+PUNCH   TESTPROB CARDS 4
+END 0
+",
         cards: b"NAME          TESTPROB\n XL XONE      LIM2\n XL ZTHREE    MYEQN\nENDATA\n",
     },
     DeckRow {
         name: "insert basis",
-        job: b"         PROGRAM\n         CONVERT\n         SETUP('BOUND','BND1')\n         INSERT\n         PRIMAL\n         PUNCH\n         EXIT\n         PEND\nNAME          TESTPROB\nROWS\n N  COST\n L  LIM1\n G  LIM2\n E  MYEQN\nCOLUMNS\n    XONE      COST      1              LIM1      1\n    XONE      LIM2      1\n    YTWO      COST      4              LIM1      1\n    YTWO      MYEQN     -1\n    ZTHREE    COST      9              LIM2      1\n    ZTHREE    MYEQN     1\nRHS\n    RHS       LIM1      5              LIM2      10\n    RHS       MYEQN     7\nBOUNDS\n UP BND1      XONE      4\n LO BND1      YTWO      -1\n UP BND1      YTWO      1\nENDATA\nNAME          TESTPROB\n XL XONE      LIM2\n XL ZTHREE    MYEQN\nENDATA\n",
+        job: b"         PROGRAM
+         CONVERT
+         SETUP('BOUND','BND1')
+         INSERT
+         PRIMAL
+         PUNCH
+         EXIT
+         PEND
+NAME          TESTPROB
+ROWS
+ N  COST
+ L  LIM1
+ G  LIM2
+ E  MYEQN
+COLUMNS
+    XONE      COST      1              LIM1      1
+    XONE      LIM2      1
+    YTWO      COST      4              LIM1      1
+    YTWO      MYEQN     -1
+    ZTHREE    COST      9              LIM2      1
+    ZTHREE    MYEQN     1
+RHS
+    RHS       LIM1      5              LIM2      10
+    RHS       MYEQN     7
+BOUNDS
+ UP BND1      XONE      4
+ LO BND1      YTWO      -1
+ UP BND1      YTWO      1
+ENDATA
+NAME          TESTPROB
+ XL XONE      LIM2
+ XL ZTHREE    MYEQN
+ENDATA
+",
         status: 0,
-        listing: b"CONVERT TESTPROB ROWS 4 COLUMNS 3 ENTRIES 9\nSETUP   TESTPROB MIN\nINSERT  TESTPROB BASIC 2\nPRIMAL OPTIMAL STEPS 0 OBJECTIVE 54 CHECKED\nPUNCH   TESTPROB CARDS 4\nEND 0\n",
+        listing: b"CONVERT TESTPROB ROWS 4 COLUMNS 3 ENTRIES 9
+SETUP   TESTPROB MIN
+INSERT  TESTPROB BASIC 2
+PRIMAL OPTIMAL STEPS 0 OBJECTIVE 54 CHECKED
+PUNCH   TESTPROB CARDS 4
+END 0
+",
         cards: b"NAME          TESTPROB\n XL XONE      LIM2\n XL ZTHREE    MYEQN\nENDATA\n",
     },
     DeckRow {
         name: "insert singular",
-        job: b"         PROGRAM\n         CONVERT\n         SETUP\n         INSERT\n         EXIT\n         PEND\nNAME          T\nROWS\n N  COST\n G  A\n G  B\nCOLUMNS\n    X         COST      1\n    X         A         1\n    X         B         1\n    Y         COST      2\n    Y         A         1\n    Y         B         1\nENDATA\nNAME          S\n XL X         A\n XL Y         B\nENDATA\n",
+        job: b"         PROGRAM
+         CONVERT
+         SETUP
+         INSERT
+         EXIT
+         PEND
+NAME          T
+ROWS
+ N  COST
+ G  A
+ G  B
+COLUMNS
+    X         COST      1
+    X         A         1
+    X         B         1
+    Y         COST      2
+    Y         A         1
+    Y         B         1
+ENDATA
+NAME          S
+ XL X         A
+ XL Y         B
+ENDATA
+",
         status: 10,
-        listing: b"CONVERT T        ROWS 3 COLUMNS 2 ENTRIES 6\nSETUP   T        MIN\nSTOP 10 VERB FAULT 15 CARD 4\n    1 COST     1\n    4 X        -1\n    5 Y        1\n",
+        listing: b"CONVERT T        ROWS 3 COLUMNS 2 ENTRIES 6
+SETUP   T        MIN
+STOP 10 VERB FAULT 15 CARD 4
+    1 COST     1
+    4 X        -1
+    5 Y        1
+",
         cards: b"",
     },
     DeckRow {
         name: "insert bad code",
-        job: b"         PROGRAM\n         CONVERT\n         SETUP\n         INSERT\n         EXIT\n         PEND\nNAME          T\nROWS\n N  COST\n G  A\n G  B\nCOLUMNS\n    X         COST      1\n    X         A         1\n    X         B         1\n    Y         COST      2\n    Y         A         1\n    Y         B         1\nENDATA\nNAME          S\n XX X         A\n XL Y         B\nENDATA\n",
+        job: b"         PROGRAM
+         CONVERT
+         SETUP
+         INSERT
+         EXIT
+         PEND
+NAME          T
+ROWS
+ N  COST
+ G  A
+ G  B
+COLUMNS
+    X         COST      1
+    X         A         1
+    X         B         1
+    Y         COST      2
+    Y         A         1
+    Y         B         1
+ENDATA
+NAME          S
+ XX X         A
+ XL Y         B
+ENDATA
+",
         status: 12,
-        listing: b"CONVERT T        ROWS 3 COLUMNS 2 ENTRIES 6\nSETUP   T        MIN\nSTOP 12 DECK FAULT 30 CARD 21\n",
-        cards: b"",
-    },
-    DeckRow {
-        name: "dual testprob",
-        job: b"         PROGRAM\n         CONVERT\n         SETUP('BOUND','BND1')\n         DUAL\n         SOLUTION\n         EXIT\n         PEND\nNAME          TESTPROB\nROWS\n N  COST\n L  LIM1\n G  LIM2\n E  MYEQN\nCOLUMNS\n    XONE      COST      1              LIM1      1\n    XONE      LIM2      1\n    YTWO      COST      4              LIM1      1\n    YTWO      MYEQN     -1\n    ZTHREE    COST      9              LIM2      1\n    ZTHREE    MYEQN     1\nRHS\n    RHS       LIM1      5              LIM2      10\n    RHS       MYEQN     7\nBOUNDS\n UP BND1      XONE      4\n LO BND1      YTWO      -1\n UP BND1      YTWO      1\nENDATA\n",
-        status: 0,
-        listing: b"CONVERT TESTPROB ROWS 4 COLUMNS 3 ENTRIES 9\nSETUP   TESTPROB MIN\nDUAL OPTIMAL STEPS 3 OBJECTIVE 54 CHECKED\nSOLUTION OPTIMAL\nSECTION 1 - ROWS\nNUMBER ROW AT ACTIVITY SLACK LOWER UPPER DUAL\n    1 COST     BS 54 -54 NONE NONE 0\n    2 LIM1     BS 3 2 NONE 5 0\n    3 LIM2     LL 10 0 10 NONE 1\n    4 MYEQN    EQ 7 0 7 7 8\nSECTION 2 - COLUMNS\nNUMBER COLUMN AT ACTIVITY COST LOWER UPPER REDUCED\n    5 XONE     BS 4 1 0 4 0\n    6 YTWO     LL -1 4 -1 1 12\n    7 ZTHREE   BS 6 9 0 NONE 0\nEND 0\n",
-        cards: b"",
-    },
-    DeckRow {
-        name: "dual infeasible",
-        job: b"         PROGRAM\n         CONVERT\n         SETUP\n         DUAL\n         SOLUTION\n         EXIT\n         PEND\nNAME          T\nROWS\n N  COST\n G  LOW\n L  HIGH\nCOLUMNS\n    X         COST      1\n    X         LOW       1\n    X         HIGH      1\nRHS\n    B         LOW       3\n    B         HIGH      2\nENDATA\n",
-        status: 1,
-        listing: b"CONVERT T        ROWS 3 COLUMNS 1 ENTRIES 3\nSETUP   T        MIN\nDUAL INFEASIBLE STEPS 1 RAY CHECKED\n    2 LOW      -1\n    3 HIGH     1\nEND 1\n",
-        cards: b"",
-    },
-    DeckRow {
-        name: "dual wrong prices",
-        job: b"         PROGRAM\n         CONVERT\n         SETUP\n         DUAL\n         SOLUTION\n         EXIT\n         PEND\nNAME          T\nROWS\n N  COST\nCOLUMNS\n    X         COST      -1\nENDATA\n",
-        status: 10,
-        listing: b"CONVERT T        ROWS 1 COLUMNS 1 ENTRIES 1\nSETUP   T        MIN\nSTOP 10 VERB FAULT 16 CARD 4 VARIABLE 2\n",
-        cards: b"",
-    },
-    DeckRow {
-        name: "dual of a plan",
-        job: b"         PROGRAM\n         CONVERT\n         SETUP('BOUND','BND')\n         DUAL\n         SOLUTION\n         EXIT\n         PEND\nNAME          PLAN\nROWS\n N  COST\n G  A\n G  B\n L  C\nCOLUMNS\n    X         COST      3\n    X         A         1\n    X         B         2\n    X         C         1\n    Y         COST      2\n    Y         A         1\n    Y         B         1\n    Y         C         1\n    Z         COST      4\n    Z         A         2\n    Z         B         1\n    Z         C         3\nRHS\n    R         A         4\n    R         B         5\n    R         C         6\n    S         A         3\n    S         B         8\n    S         C         6\nBOUNDS\n UP BND       X         2\n UP BND       Z         1\nENDATA\n",
-        status: 0,
-        listing: b"CONVERT PLAN     ROWS 4 COLUMNS 3 ENTRIES 12\nSETUP   PLAN     MIN\nDUAL OPTIMAL STEPS 2 OBJECTIVE 9 CHECKED\nSOLUTION OPTIMAL\nSECTION 1 - ROWS\nNUMBER ROW AT ACTIVITY SLACK LOWER UPPER DUAL\n    1 COST     BS 9 -9 NONE NONE 0\n    2 A        LL 4 0 4 NONE 1\n    3 B        LL 5 0 5 NONE 1\n    4 C        BS 4 2 NONE 6 0\nSECTION 2 - COLUMNS\nNUMBER COLUMN AT ACTIVITY COST LOWER UPPER REDUCED\n    5 X        BS 1 3 0 2 0\n    6 Y        BS 3 2 0 NONE 0\n    7 Z        LL 0 4 0 1 1\nEND 0\n",
-        cards: b"",
-    },
-    DeckRow {
-        name: "dual and primal at an optimal basis",
-        job: b"         PROGRAM\n         CONVERT\n         SETUP('BOUND','BND')\n         DUAL\n         DUAL\n         PRIMAL\n         EXIT\n         PEND\nNAME          PLAN\nROWS\n N  COST\n G  A\n G  B\n L  C\nCOLUMNS\n    X         COST      3\n    X         A         1\n    X         B         2\n    X         C         1\n    Y         COST      2\n    Y         A         1\n    Y         B         1\n    Y         C         1\n    Z         COST      4\n    Z         A         2\n    Z         B         1\n    Z         C         3\nRHS\n    R         A         4\n    R         B         5\n    R         C         6\n    S         A         3\n    S         B         8\n    S         C         6\nBOUNDS\n UP BND       X         2\n UP BND       Z         1\nENDATA\n",
-        status: 0,
-        listing: b"CONVERT PLAN     ROWS 4 COLUMNS 3 ENTRIES 12\nSETUP   PLAN     MIN\nDUAL OPTIMAL STEPS 2 OBJECTIVE 9 CHECKED\nDUAL OPTIMAL STEPS 0 OBJECTIVE 9 CHECKED\nPRIMAL OPTIMAL STEPS 0 OBJECTIVE 9 CHECKED\nEND 0\n",
-        cards: b"",
-    },
-    DeckRow {
-        name: "dual past its limit",
-        job: b"         PROGRAM\n         CONVERT\n         SETUP('BOUND','BND')\n         MOVE(XITERLIM,1)\n         DUAL\n         EXIT\n         PEND\nNAME          PLAN\nROWS\n N  COST\n G  A\n G  B\n L  C\nCOLUMNS\n    X         COST      3\n    X         A         1\n    X         B         2\n    X         C         1\n    Y         COST      2\n    Y         A         1\n    Y         B         1\n    Y         C         1\n    Z         COST      4\n    Z         A         2\n    Z         B         1\n    Z         C         3\nRHS\n    R         A         4\n    R         B         5\n    R         C         6\n    S         A         3\n    S         B         8\n    S         C         6\nBOUNDS\n UP BND       X         2\n UP BND       Z         1\nENDATA\n",
-        status: 16,
-        listing: b"CONVERT PLAN     ROWS 4 COLUMNS 3 ENTRIES 12\nSETUP   PLAN     MIN\nSTOP 16 ITERATION LIMIT 1 CARD 5\n",
-        cards: b"",
-    },
-    DeckRow {
-        name: "dual at its limit",
-        job: b"         PROGRAM\n         CONVERT\n         SETUP('BOUND','BND')\n         MOVE(XITERLIM,2)\n         DUAL\n         EXIT\n         PEND\nNAME          PLAN\nROWS\n N  COST\n G  A\n G  B\n L  C\nCOLUMNS\n    X         COST      3\n    X         A         1\n    X         B         2\n    X         C         1\n    Y         COST      2\n    Y         A         1\n    Y         B         1\n    Y         C         1\n    Z         COST      4\n    Z         A         2\n    Z         B         1\n    Z         C         3\nRHS\n    R         A         4\n    R         B         5\n    R         C         6\n    S         A         3\n    S         B         8\n    S         C         6\nBOUNDS\n UP BND       X         2\n UP BND       Z         1\nENDATA\n",
-        status: 0,
-        listing: b"CONVERT PLAN     ROWS 4 COLUMNS 3 ENTRIES 12\nSETUP   PLAN     MIN\nDUAL OPTIMAL STEPS 2 OBJECTIVE 9 CHECKED\nEND 0\n",
-        cards: b"",
-    },
-    DeckRow {
-        name: "dual after another right hand side",
-        job: b"         PROGRAM\n         CONVERT\n         SETUP('BOUND','BND')\n         PRIMAL\n         MOVE(XRHS,'S')\n         DUAL\n         SOLUTION\n         EXIT\n         PEND\nNAME          PLAN\nROWS\n N  COST\n G  A\n G  B\n L  C\nCOLUMNS\n    X         COST      3\n    X         A         1\n    X         B         2\n    X         C         1\n    Y         COST      2\n    Y         A         1\n    Y         B         1\n    Y         C         1\n    Z         COST      4\n    Z         A         2\n    Z         B         1\n    Z         C         3\nRHS\n    R         A         4\n    R         B         5\n    R         C         6\n    S         A         3\n    S         B         8\n    S         C         6\nBOUNDS\n UP BND       X         2\n UP BND       Z         1\nENDATA\n",
-        status: 0,
-        listing: b"CONVERT PLAN     ROWS 4 COLUMNS 3 ENTRIES 12\nSETUP   PLAN     MIN\nPRIMAL OPTIMAL STEPS 3 OBJECTIVE 9 CHECKED\nDUAL OPTIMAL STEPS 1 OBJECTIVE 14 CHECKED\nSOLUTION OPTIMAL\nSECTION 1 - ROWS\nNUMBER ROW AT ACTIVITY SLACK LOWER UPPER DUAL\n    1 COST     BS 14 -14 NONE NONE 0\n    2 A        BS 6 -3 3 NONE 0\n    3 B        LL 8 0 8 NONE 2\n    4 C        BS 6 0 NONE 6 0\nSECTION 2 - COLUMNS\nNUMBER COLUMN AT ACTIVITY COST LOWER UPPER REDUCED\n    5 X        UL 2 3 0 2 -1\n    6 Y        BS 4 2 0 NONE 0\n    7 Z        LL 0 4 0 1 2\nEND 0\n",
-        cards: b"",
-    },
-    DeckRow {
-        name: "ties of the ratio test",
-        job: b"         PROGRAM\n         CONVERT\n         SETUP\n         DUAL\n         SOLUTION\n         EXIT\n         PEND\nNAME          T\nROWS\n N  COST\n G  A\nCOLUMNS\n    X         COST      2\n    X         A         1\n    Y         COST      4\n    Y         A         2\nRHS\n    B         A         4\nENDATA\n",
-        status: 0,
-        listing: b"CONVERT T        ROWS 2 COLUMNS 2 ENTRIES 4\nSETUP   T        MIN\nDUAL OPTIMAL STEPS 1 OBJECTIVE 8 CHECKED\nSOLUTION OPTIMAL\nSECTION 1 - ROWS\nNUMBER ROW AT ACTIVITY SLACK LOWER UPPER DUAL\n    1 COST     BS 8 -8 NONE NONE 0\n    2 A        LL 4 0 4 NONE 2\nSECTION 2 - COLUMNS\nNUMBER COLUMN AT ACTIVITY COST LOWER UPPER REDUCED\n    3 X        BS 4 2 0 NONE 0\n    4 Y        LL 0 4 0 NONE 0\nEND 0\n",
-        cards: b"",
-    },
-    DeckRow {
-        name: "dual maximises",
-        job: b"         PROGRAM\n         CONVERT\n         SETUP('MAX')\n         DUAL\n         SOLUTION\n         EXIT\n         PEND\nNAME          T\nROWS\n N  COST\n L  A\n L  B\nCOLUMNS\n    X         COST      -1\n    X         A         -1\n    X         B         1\n    Y         COST      -2\n    Y         A         -1\n    Y         B         -1\nRHS\n    B         A         -3\n    B         B         1\nENDATA\n",
-        status: 0,
-        listing: b"CONVERT T        ROWS 3 COLUMNS 2 ENTRIES 6\nSETUP   T        MAX\nDUAL OPTIMAL STEPS 2 OBJECTIVE -4 CHECKED\nSOLUTION OPTIMAL\nSECTION 1 - ROWS\nNUMBER ROW AT ACTIVITY SLACK LOWER UPPER DUAL\n    1 COST     BS -4 4 NONE NONE 0\n    2 A        UL -3 0 NONE -3 3/2\n    3 B        UL 1 0 NONE 1 1/2\nSECTION 2 - COLUMNS\nNUMBER COLUMN AT ACTIVITY COST LOWER UPPER REDUCED\n    4 X        BS 2 -1 0 NONE 0\n    5 Y        BS 1 -2 0 NONE 0\nEND 0\n",
-        cards: b"",
-    },
-    DeckRow {
-        name: "free and fixed columns",
-        job: b"         PROGRAM\n         CONVERT\n         SETUP('BOUND','BND')\n         DUAL\n         SOLUTION\n         EXIT\n         PEND\nNAME          T\nROWS\n N  COST\n G  A\nCOLUMNS\n    X         COST      1\n    X         A         1\n    W         A         1\nRHS\n    B         A         4\nBOUNDS\n FX BND       X         1\n FR BND       W\nENDATA\n",
-        status: 0,
-        listing: b"CONVERT T        ROWS 2 COLUMNS 2 ENTRIES 3\nSETUP   T        MIN\nDUAL OPTIMAL STEPS 1 OBJECTIVE 1 CHECKED\nSOLUTION OPTIMAL\nSECTION 1 - ROWS\nNUMBER ROW AT ACTIVITY SLACK LOWER UPPER DUAL\n    1 COST     BS 1 -1 NONE NONE 0\n    2 A        LL 4 0 4 NONE 0\nSECTION 2 - COLUMNS\nNUMBER COLUMN AT ACTIVITY COST LOWER UPPER REDUCED\n    3 X        EQ 1 1 1 1 1\n    4 W        BS 3 0 NONE NONE 0\nEND 0\n",
-        cards: b"",
-    },
-    DeckRow {
-        name: "dual with a range",
-        job: b"         PROGRAM\n         CONVERT\n         SETUP('RANGE','RG')\n         DUAL\n         SOLUTION\n         EXIT\n         PEND\nNAME          T\nROWS\n N  COST\n L  A\nCOLUMNS\n    X         COST      1\n    X         A         -1\nRHS\n    B         A         -3\nRANGES\n    RG        A         2\nENDATA\n",
-        status: 0,
-        listing: b"CONVERT T        ROWS 2 COLUMNS 1 ENTRIES 2\nSETUP   T        MIN\nDUAL OPTIMAL STEPS 1 OBJECTIVE 3 CHECKED\nSOLUTION OPTIMAL\nSECTION 1 - ROWS\nNUMBER ROW AT ACTIVITY SLACK LOWER UPPER DUAL\n    1 COST     BS 3 -3 NONE NONE 0\n    2 A        UL -3 0 -5 -3 -1\nSECTION 2 - COLUMNS\nNUMBER COLUMN AT ACTIVITY COST LOWER UPPER REDUCED\n    3 X        BS 3 1 0 NONE 0\nEND 0\n",
-        cards: b"",
-    },
-    DeckRow {
-        name: "dual with crossed limits",
-        job: b"         PROGRAM\n         CONVERT\n         SETUP('BOUND','BND')\n         DUAL\n         SOLUTION\n         EXIT\n         PEND\nNAME          T\nROWS\n N  COST\n G  A\nCOLUMNS\n    X         COST      1\n    X         A         1\nRHS\n    B         A         4\nBOUNDS\n UP BND       X         -1\nENDATA\n",
-        status: 1,
-        listing: b"CONVERT T        ROWS 2 COLUMNS 1 ENTRIES 2\nSETUP   T        MIN\nDUAL INFEASIBLE STEPS 0 CROSSED 3 CHECKED\nEND 1\n",
-        cards: b"",
-    },
-    DeckRow {
-        name: "dual and a demand",
-        job: b"         PROGRAM\n         CONVERT\n         SETUP\n         MVADR(XDONFS,L)\n         DUAL\n         EXIT\nL        SOLUTION\n         EXIT\n         PEND\nNAME          T\nROWS\n N  COST\n G  LOW\n L  HIGH\nCOLUMNS\n    X         COST      1\n    X         LOW       1\n    X         HIGH      1\nRHS\n    B         LOW       3\n    B         HIGH      2\nENDATA\n",
-        status: 0,
-        listing: b"CONVERT T        ROWS 3 COLUMNS 1 ENTRIES 3\nSETUP   T        MIN\nDUAL INFEASIBLE STEPS 1 RAY CHECKED\n    2 LOW      -1\n    3 HIGH     1\nSOLUTION INFEASIBLE\nSECTION 1 - ROWS\nNUMBER ROW AT ACTIVITY SLACK LOWER UPPER DUAL\n    1 COST     BS 3 -3 NONE NONE 0\n    2 LOW      LL 3 0 3 NONE 1\n    3 HIGH     ** 3 -1 NONE 2 0\nSECTION 2 - COLUMNS\nNUMBER COLUMN AT ACTIVITY COST LOWER UPPER REDUCED\n    4 X        BS 3 1 0 NONE 0\nEND 0\n",
+        listing: b"CONVERT T        ROWS 3 COLUMNS 2 ENTRIES 6
+SETUP   T        MIN
+STOP 12 DECK FAULT 30 CARD 21
+",
         cards: b"",
     },
     DeckRow {
         name: "punch with upper limits",
-        job: b"         PROGRAM\n         CONVERT\n         SETUP('BOUND','BND')\n         PRIMAL\n         PUNCH\n         EXIT\n         PEND\nNAME          SMALL\nROWS\n N  COST\n L  UPR\n G  LOR\n E  EQ\nCOLUMNS\n    A         COST      -3\n    A         UPR       1\n    A         EQ        1\n    B         COST      -2\n    B         UPR       1\n    B         LOR       1\n    C         COST      1\n    C         LOR       1\n    C         EQ        1\nRHS\n    B         UPR       4\n    B         LOR       1\n    B         EQ        3\nBOUNDS\n UP BND       A         2\n UP BND       C         5\n MI BND       B\n UP BND       B         1\nENDATA\n",
+        job: b"         PROGRAM
+         CONVERT
+         SETUP('BOUND','BND')
+         PRIMAL
+         PUNCH
+         EXIT
+         PEND
+NAME          SMALL
+ROWS
+ N  COST
+ L  UPR
+ G  LOR
+ E  EQ
+COLUMNS
+    A         COST      -3
+    A         UPR       1
+    A         EQ        1
+    B         COST      -2
+    B         UPR       1
+    B         LOR       1
+    C         COST      1
+    C         LOR       1
+    C         EQ        1
+RHS
+    B         UPR       4
+    B         LOR       1
+    B         EQ        3
+BOUNDS
+ UP BND       A         2
+ UP BND       C         5
+ MI BND       B
+ UP BND       B         1
+ENDATA
+",
         status: 0,
-        listing: b"CONVERT SMALL    ROWS 4 COLUMNS 3 ENTRIES 9\nSETUP   SMALL    MIN\nPRIMAL OPTIMAL STEPS 2 OBJECTIVE -7 CHECKED\nPUNCH   SMALL    CARDS 4\nEND 0\n",
+        listing: b"CONVERT SMALL    ROWS 4 COLUMNS 3 ENTRIES 9
+SETUP   SMALL    MIN
+PRIMAL OPTIMAL STEPS 2 OBJECTIVE -7 CHECKED
+PUNCH   SMALL    CARDS 4
+END 0
+",
         cards: b"NAME          SMALL\n XL C         EQ\n UL A\nENDATA\n",
     },
     DeckRow {
         name: "punch of the opening basis",
-        job: b"         PROGRAM\n         CONVERT\n         SETUP('BOUND','BND')\n         PUNCH\n         EXIT\n         PEND\nNAME          SMALL\nROWS\n N  COST\n L  UPR\n G  LOR\n E  EQ\nCOLUMNS\n    A         COST      -3\n    A         UPR       1\n    A         EQ        1\n    B         COST      -2\n    B         UPR       1\n    B         LOR       1\n    C         COST      1\n    C         LOR       1\n    C         EQ        1\nRHS\n    B         UPR       4\n    B         LOR       1\n    B         EQ        3\nBOUNDS\n UP BND       A         2\n UP BND       C         5\n MI BND       B\n UP BND       B         1\nENDATA\n",
+        job: b"         PROGRAM
+         CONVERT
+         SETUP('BOUND','BND')
+         PUNCH
+         EXIT
+         PEND
+NAME          SMALL
+ROWS
+ N  COST
+ L  UPR
+ G  LOR
+ E  EQ
+COLUMNS
+    A         COST      -3
+    A         UPR       1
+    A         EQ        1
+    B         COST      -2
+    B         UPR       1
+    B         LOR       1
+    C         COST      1
+    C         LOR       1
+    C         EQ        1
+RHS
+    B         UPR       4
+    B         LOR       1
+    B         EQ        3
+BOUNDS
+ UP BND       A         2
+ UP BND       C         5
+ MI BND       B
+ UP BND       B         1
+ENDATA
+",
         status: 0,
-        listing: b"CONVERT SMALL    ROWS 4 COLUMNS 3 ENTRIES 9\nSETUP   SMALL    MIN\nPUNCH   SMALL    CARDS 2\nEND 0\n",
+        listing: b"CONVERT SMALL    ROWS 4 COLUMNS 3 ENTRIES 9
+SETUP   SMALL    MIN
+PUNCH   SMALL    CARDS 2
+END 0
+",
         cards: b"NAME          SMALL\nENDATA\n",
     },
     DeckRow {
         name: "insert and punch",
-        job: b"         PROGRAM\n         CONVERT\n         SETUP('BOUND','BND')\n         INSERT\n         PUNCH\n         PRIMAL\n         EXIT\n         PEND\nNAME          SMALL\nROWS\n N  COST\n L  UPR\n G  LOR\n E  EQ\nCOLUMNS\n    A         COST      -3\n    A         UPR       1\n    A         EQ        1\n    B         COST      -2\n    B         UPR       1\n    B         LOR       1\n    C         COST      1\n    C         LOR       1\n    C         EQ        1\nRHS\n    B         UPR       4\n    B         LOR       1\n    B         EQ        3\nBOUNDS\n UP BND       A         2\n UP BND       C         5\n MI BND       B\n UP BND       B         1\nENDATA\nNAME          START\n XU A         UPR\n XL C         EQ\n UL B\nENDATA\n",
+        job: b"         PROGRAM
+         CONVERT
+         SETUP('BOUND','BND')
+         INSERT
+         PUNCH
+         PRIMAL
+         EXIT
+         PEND
+NAME          SMALL
+ROWS
+ N  COST
+ L  UPR
+ G  LOR
+ E  EQ
+COLUMNS
+    A         COST      -3
+    A         UPR       1
+    A         EQ        1
+    B         COST      -2
+    B         UPR       1
+    B         LOR       1
+    C         COST      1
+    C         LOR       1
+    C         EQ        1
+RHS
+    B         UPR       4
+    B         LOR       1
+    B         EQ        3
+BOUNDS
+ UP BND       A         2
+ UP BND       C         5
+ MI BND       B
+ UP BND       B         1
+ENDATA
+NAME          START
+ XU A         UPR
+ XL C         EQ
+ UL B
+ENDATA
+",
         status: 0,
-        listing: b"CONVERT SMALL    ROWS 4 COLUMNS 3 ENTRIES 9\nSETUP   SMALL    MIN\nINSERT  START    BASIC 2\nPUNCH   SMALL    CARDS 4\nPRIMAL OPTIMAL STEPS 1 OBJECTIVE -7 CHECKED\nEND 0\n",
+        listing: b"CONVERT SMALL    ROWS 4 COLUMNS 3 ENTRIES 9
+SETUP   SMALL    MIN
+INSERT  START    BASIC 2
+PUNCH   SMALL    CARDS 4
+PRIMAL OPTIMAL STEPS 1 OBJECTIVE -7 CHECKED
+END 0
+",
         cards: b"NAME          SMALL\n XU A         UPR\n XL C         EQ\nENDATA\n",
     },
     DeckRow {
         name: "insert of no card",
-        job: b"         PROGRAM\n         CONVERT\n         SETUP('BOUND','BND')\n         INSERT\n         PRIMAL\n         EXIT\n         PEND\nNAME          SMALL\nROWS\n N  COST\n L  UPR\n G  LOR\n E  EQ\nCOLUMNS\n    A         COST      -3\n    A         UPR       1\n    A         EQ        1\n    B         COST      -2\n    B         UPR       1\n    B         LOR       1\n    C         COST      1\n    C         LOR       1\n    C         EQ        1\nRHS\n    B         UPR       4\n    B         LOR       1\n    B         EQ        3\nBOUNDS\n UP BND       A         2\n UP BND       C         5\n MI BND       B\n UP BND       B         1\nENDATA\nNAME          NOTHING   FREE\nENDATA\n",
+        job: b"         PROGRAM
+         CONVERT
+         SETUP('BOUND','BND')
+         INSERT
+         PRIMAL
+         EXIT
+         PEND
+NAME          SMALL
+ROWS
+ N  COST
+ L  UPR
+ G  LOR
+ E  EQ
+COLUMNS
+    A         COST      -3
+    A         UPR       1
+    A         EQ        1
+    B         COST      -2
+    B         UPR       1
+    B         LOR       1
+    C         COST      1
+    C         LOR       1
+    C         EQ        1
+RHS
+    B         UPR       4
+    B         LOR       1
+    B         EQ        3
+BOUNDS
+ UP BND       A         2
+ UP BND       C         5
+ MI BND       B
+ UP BND       B         1
+ENDATA
+NAME          NOTHING   FREE
+ENDATA
+",
         status: 0,
-        listing: b"CONVERT SMALL    ROWS 4 COLUMNS 3 ENTRIES 9\nSETUP   SMALL    MIN\nINSERT  NOTHING  BASIC 0\nPRIMAL OPTIMAL STEPS 2 OBJECTIVE -7 CHECKED\nEND 0\n",
+        listing: b"CONVERT SMALL    ROWS 4 COLUMNS 3 ENTRIES 9
+SETUP   SMALL    MIN
+INSERT  NOTHING  BASIC 0
+PRIMAL OPTIMAL STEPS 2 OBJECTIVE -7 CHECKED
+END 0
+",
         cards: b"",
     },
     DeckRow {
         name: "insert of limits",
-        job: b"         PROGRAM\n         CONVERT\n         SETUP('BOUND','BND')\n         INSERT\n         PUNCH\n         EXIT\n         PEND\nNAME          SMALL\nROWS\n N  COST\n L  UPR\n G  LOR\n E  EQ\nCOLUMNS\n    A         COST      -3\n    A         UPR       1\n    A         EQ        1\n    B         COST      -2\n    B         UPR       1\n    B         LOR       1\n    C         COST      1\n    C         LOR       1\n    C         EQ        1\nRHS\n    B         UPR       4\n    B         LOR       1\n    B         EQ        3\nBOUNDS\n UP BND       A         2\n UP BND       C         5\n MI BND       B\n UP BND       B         1\nENDATA\nNAME          S\n LL A\n UL C\nENDATA\n",
+        job: b"         PROGRAM
+         CONVERT
+         SETUP('BOUND','BND')
+         INSERT
+         PUNCH
+         EXIT
+         PEND
+NAME          SMALL
+ROWS
+ N  COST
+ L  UPR
+ G  LOR
+ E  EQ
+COLUMNS
+    A         COST      -3
+    A         UPR       1
+    A         EQ        1
+    B         COST      -2
+    B         UPR       1
+    B         LOR       1
+    C         COST      1
+    C         LOR       1
+    C         EQ        1
+RHS
+    B         UPR       4
+    B         LOR       1
+    B         EQ        3
+BOUNDS
+ UP BND       A         2
+ UP BND       C         5
+ MI BND       B
+ UP BND       B         1
+ENDATA
+NAME          S
+ LL A
+ UL C
+ENDATA
+",
         status: 0,
-        listing: b"CONVERT SMALL    ROWS 4 COLUMNS 3 ENTRIES 9\nSETUP   SMALL    MIN\nINSERT  S        BASIC 0\nPUNCH   SMALL    CARDS 3\nEND 0\n",
+        listing: b"CONVERT SMALL    ROWS 4 COLUMNS 3 ENTRIES 9
+SETUP   SMALL    MIN
+INSERT  S        BASIC 0
+PUNCH   SMALL    CARDS 3
+END 0
+",
         cards: b"NAME          SMALL\n UL C\nENDATA\n",
     },
     DeckRow {
         name: "insert by the name of the deck",
-        job: b"         PROGRAM\n         CONVERT\n         SETUP('BOUND','BND')\n         MOVE(XDATA,'SECOND')\n         INSERT\n         INSERT\n         EXIT\n         PEND\nNAME          SMALL\nROWS\n N  COST\n L  UPR\n G  LOR\n E  EQ\nCOLUMNS\n    A         COST      -3\n    A         UPR       1\n    A         EQ        1\n    B         COST      -2\n    B         UPR       1\n    B         LOR       1\n    C         COST      1\n    C         LOR       1\n    C         EQ        1\nRHS\n    B         UPR       4\n    B         LOR       1\n    B         EQ        3\nBOUNDS\n UP BND       A         2\n UP BND       C         5\n MI BND       B\n UP BND       B         1\nENDATA\nNAME          FIRST\nENDATA\nNAME          SECOND\nENDATA\nNAME          THIRD\nENDATA\n",
+        job: b"         PROGRAM
+         CONVERT
+         SETUP('BOUND','BND')
+         MOVE(XDATA,'SECOND')
+         INSERT
+         INSERT
+         EXIT
+         PEND
+NAME          SMALL
+ROWS
+ N  COST
+ L  UPR
+ G  LOR
+ E  EQ
+COLUMNS
+    A         COST      -3
+    A         UPR       1
+    A         EQ        1
+    B         COST      -2
+    B         UPR       1
+    B         LOR       1
+    C         COST      1
+    C         LOR       1
+    C         EQ        1
+RHS
+    B         UPR       4
+    B         LOR       1
+    B         EQ        3
+BOUNDS
+ UP BND       A         2
+ UP BND       C         5
+ MI BND       B
+ UP BND       B         1
+ENDATA
+NAME          FIRST
+ENDATA
+NAME          SECOND
+ENDATA
+NAME          THIRD
+ENDATA
+",
         status: 10,
-        listing: b"CONVERT SMALL    ROWS 4 COLUMNS 3 ENTRIES 9\nSETUP   SMALL    MIN\nINSERT  SECOND   BASIC 0\nSTOP 10 VERB FAULT 1 CARD 6\n",
+        listing: b"CONVERT SMALL    ROWS 4 COLUMNS 3 ENTRIES 9
+SETUP   SMALL    MIN
+INSERT  SECOND   BASIC 0
+STOP 10 VERB FAULT 1 CARD 6
+",
         cards: b"",
     },
     DeckRow {
         name: "insert clears the mark",
-        job: b"         PROGRAM\n         CONVERT\n         SETUP('BOUND','BND')\n         PRIMAL\n         INSERT\n         SOLUTION\n         EXIT\n         PEND\nNAME          SMALL\nROWS\n N  COST\n L  UPR\n G  LOR\n E  EQ\nCOLUMNS\n    A         COST      -3\n    A         UPR       1\n    A         EQ        1\n    B         COST      -2\n    B         UPR       1\n    B         LOR       1\n    C         COST      1\n    C         LOR       1\n    C         EQ        1\nRHS\n    B         UPR       4\n    B         LOR       1\n    B         EQ        3\nBOUNDS\n UP BND       A         2\n UP BND       C         5\n MI BND       B\n UP BND       B         1\nENDATA\nNAME          S\nENDATA\n",
+        job: b"         PROGRAM
+         CONVERT
+         SETUP('BOUND','BND')
+         PRIMAL
+         INSERT
+         SOLUTION
+         EXIT
+         PEND
+NAME          SMALL
+ROWS
+ N  COST
+ L  UPR
+ G  LOR
+ E  EQ
+COLUMNS
+    A         COST      -3
+    A         UPR       1
+    A         EQ        1
+    B         COST      -2
+    B         UPR       1
+    B         LOR       1
+    C         COST      1
+    C         LOR       1
+    C         EQ        1
+RHS
+    B         UPR       4
+    B         LOR       1
+    B         EQ        3
+BOUNDS
+ UP BND       A         2
+ UP BND       C         5
+ MI BND       B
+ UP BND       B         1
+ENDATA
+NAME          S
+ENDATA
+",
         status: 10,
-        listing: b"CONVERT SMALL    ROWS 4 COLUMNS 3 ENTRIES 9\nSETUP   SMALL    MIN\nPRIMAL OPTIMAL STEPS 2 OBJECTIVE -7 CHECKED\nINSERT  S        BASIC 0\nSTOP 10 VERB FAULT 4 CARD 6\n",
+        listing: b"CONVERT SMALL    ROWS 4 COLUMNS 3 ENTRIES 9
+SETUP   SMALL    MIN
+PRIMAL OPTIMAL STEPS 2 OBJECTIVE -7 CHECKED
+INSERT  S        BASIC 0
+STOP 10 VERB FAULT 4 CARD 6
+",
         cards: b"",
     },
     DeckRow {
         name: "no basis deck",
-        job: b"         PROGRAM\n         CONVERT\n         SETUP('BOUND','BND')\n         INSERT\n         EXIT\n         PEND\nNAME          SMALL\nROWS\n N  COST\n L  UPR\n G  LOR\n E  EQ\nCOLUMNS\n    A         COST      -3\n    A         UPR       1\n    A         EQ        1\n    B         COST      -2\n    B         UPR       1\n    B         LOR       1\n    C         COST      1\n    C         LOR       1\n    C         EQ        1\nRHS\n    B         UPR       4\n    B         LOR       1\n    B         EQ        3\nBOUNDS\n UP BND       A         2\n UP BND       C         5\n MI BND       B\n UP BND       B         1\nENDATA\n",
+        job: b"         PROGRAM
+         CONVERT
+         SETUP('BOUND','BND')
+         INSERT
+         EXIT
+         PEND
+NAME          SMALL
+ROWS
+ N  COST
+ L  UPR
+ G  LOR
+ E  EQ
+COLUMNS
+    A         COST      -3
+    A         UPR       1
+    A         EQ        1
+    B         COST      -2
+    B         UPR       1
+    B         LOR       1
+    C         COST      1
+    C         LOR       1
+    C         EQ        1
+RHS
+    B         UPR       4
+    B         LOR       1
+    B         EQ        3
+BOUNDS
+ UP BND       A         2
+ UP BND       C         5
+ MI BND       B
+ UP BND       B         1
+ENDATA
+",
         status: 10,
-        listing: b"CONVERT SMALL    ROWS 4 COLUMNS 3 ENTRIES 9\nSETUP   SMALL    MIN\nSTOP 10 VERB FAULT 1 CARD 4\n",
+        listing: b"CONVERT SMALL    ROWS 4 COLUMNS 3 ENTRIES 9
+SETUP   SMALL    MIN
+STOP 10 VERB FAULT 1 CARD 4
+",
         cards: b"",
     },
     DeckRow {
         name: "a row named twice",
-        job: b"         PROGRAM\n         CONVERT\n         SETUP('BOUND','BND')\n         INSERT\n         EXIT\n         PEND\nNAME          SMALL\nROWS\n N  COST\n L  UPR\n G  LOR\n E  EQ\nCOLUMNS\n    A         COST      -3\n    A         UPR       1\n    A         EQ        1\n    B         COST      -2\n    B         UPR       1\n    B         LOR       1\n    C         COST      1\n    C         LOR       1\n    C         EQ        1\nRHS\n    B         UPR       4\n    B         LOR       1\n    B         EQ        3\nBOUNDS\n UP BND       A         2\n UP BND       C         5\n MI BND       B\n UP BND       B         1\nENDATA\nNAME          S\n XU A         UPR\n XU B         UPR\nENDATA\n",
+        job: b"         PROGRAM
+         CONVERT
+         SETUP('BOUND','BND')
+         INSERT
+         EXIT
+         PEND
+NAME          SMALL
+ROWS
+ N  COST
+ L  UPR
+ G  LOR
+ E  EQ
+COLUMNS
+    A         COST      -3
+    A         UPR       1
+    A         EQ        1
+    B         COST      -2
+    B         UPR       1
+    B         LOR       1
+    C         COST      1
+    C         LOR       1
+    C         EQ        1
+RHS
+    B         UPR       4
+    B         LOR       1
+    B         EQ        3
+BOUNDS
+ UP BND       A         2
+ UP BND       C         5
+ MI BND       B
+ UP BND       B         1
+ENDATA
+NAME          S
+ XU A         UPR
+ XU B         UPR
+ENDATA
+",
         status: 12,
-        listing: b"CONVERT SMALL    ROWS 4 COLUMNS 3 ENTRIES 9\nSETUP   SMALL    MIN\nSTOP 12 DECK FAULT 31 CARD 35\n",
+        listing: b"CONVERT SMALL    ROWS 4 COLUMNS 3 ENTRIES 9
+SETUP   SMALL    MIN
+STOP 12 DECK FAULT 31 CARD 35
+",
         cards: b"",
     },
     DeckRow {
         name: "a third name",
-        job: b"         PROGRAM\n         CONVERT\n         SETUP('BOUND','BND')\n         INSERT\n         EXIT\n         PEND\nNAME          SMALL\nROWS\n N  COST\n L  UPR\n G  LOR\n E  EQ\nCOLUMNS\n    A         COST      -3\n    A         UPR       1\n    A         EQ        1\n    B         COST      -2\n    B         UPR       1\n    B         LOR       1\n    C         COST      1\n    C         LOR       1\n    C         EQ        1\nRHS\n    B         UPR       4\n    B         LOR       1\n    B         EQ        3\nBOUNDS\n UP BND       A         2\n UP BND       C         5\n MI BND       B\n UP BND       B         1\nENDATA\nNAME          S\n LL B         UPR\nENDATA\n",
+        job: b"         PROGRAM
+         CONVERT
+         SETUP('BOUND','BND')
+         INSERT
+         EXIT
+         PEND
+NAME          SMALL
+ROWS
+ N  COST
+ L  UPR
+ G  LOR
+ E  EQ
+COLUMNS
+    A         COST      -3
+    A         UPR       1
+    A         EQ        1
+    B         COST      -2
+    B         UPR       1
+    B         LOR       1
+    C         COST      1
+    C         LOR       1
+    C         EQ        1
+RHS
+    B         UPR       4
+    B         LOR       1
+    B         EQ        3
+BOUNDS
+ UP BND       A         2
+ UP BND       C         5
+ MI BND       B
+ UP BND       B         1
+ENDATA
+NAME          S
+ LL B         UPR
+ENDATA
+",
         status: 12,
-        listing: b"CONVERT SMALL    ROWS 4 COLUMNS 3 ENTRIES 9\nSETUP   SMALL    MIN\nSTOP 12 DECK FAULT 32 CARD 34\n",
+        listing: b"CONVERT SMALL    ROWS 4 COLUMNS 3 ENTRIES 9
+SETUP   SMALL    MIN
+STOP 12 DECK FAULT 32 CARD 34
+",
         cards: b"",
     },
     DeckRow {
         name: "a basis deck without its end",
-        job: b"         PROGRAM\n         CONVERT\n         SETUP('BOUND','BND')\n         INSERT\n         EXIT\n         PEND\nNAME          SMALL\nROWS\n N  COST\n L  UPR\n G  LOR\n E  EQ\nCOLUMNS\n    A         COST      -3\n    A         UPR       1\n    A         EQ        1\n    B         COST      -2\n    B         UPR       1\n    B         LOR       1\n    C         COST      1\n    C         LOR       1\n    C         EQ        1\nRHS\n    B         UPR       4\n    B         LOR       1\n    B         EQ        3\nBOUNDS\n UP BND       A         2\n UP BND       C         5\n MI BND       B\n UP BND       B         1\nENDATA\nNAME          S\n UL A\n",
+        job: b"         PROGRAM
+         CONVERT
+         SETUP('BOUND','BND')
+         INSERT
+         EXIT
+         PEND
+NAME          SMALL
+ROWS
+ N  COST
+ L  UPR
+ G  LOR
+ E  EQ
+COLUMNS
+    A         COST      -3
+    A         UPR       1
+    A         EQ        1
+    B         COST      -2
+    B         UPR       1
+    B         LOR       1
+    C         COST      1
+    C         LOR       1
+    C         EQ        1
+RHS
+    B         UPR       4
+    B         LOR       1
+    B         EQ        3
+BOUNDS
+ UP BND       A         2
+ UP BND       C         5
+ MI BND       B
+ UP BND       B         1
+ENDATA
+NAME          S
+ UL A
+",
         status: 12,
-        listing: b"CONVERT SMALL    ROWS 4 COLUMNS 3 ENTRIES 9\nSETUP   SMALL    MIN\nSTOP 12 DECK FAULT 13 CARD 34\n",
+        listing: b"CONVERT SMALL    ROWS 4 COLUMNS 3 ENTRIES 9
+SETUP   SMALL    MIN
+STOP 12 DECK FAULT 13 CARD 34
+",
         cards: b"",
     },
     DeckRow {
         name: "a singular basis",
-        job: b"         PROGRAM\n         CONVERT\n         SETUP\n         INSERT\n         EXIT\n         PEND\nNAME          SING\nROWS\n N  COST\n E  A\n E  B\n G  D\nCOLUMNS\n    P         COST      1\n    P         A         1\n    P         B         2\n    Q         COST      1\n    Q         A         2\n    Q         B         4\n    Q         D         1\n    T         COST      5\n    T         A         1\n    T         D         1\nRHS\n    B         A         3\nENDATA\nNAME          S\n XL Q         A\n XL P         B\nENDATA\n",
+        job: b"         PROGRAM
+         CONVERT
+         SETUP
+         INSERT
+         EXIT
+         PEND
+NAME          SING
+ROWS
+ N  COST
+ E  A
+ E  B
+ G  D
+COLUMNS
+    P         COST      1
+    P         A         1
+    P         B         2
+    Q         COST      1
+    Q         A         2
+    Q         B         4
+    Q         D         1
+    T         COST      5
+    T         A         1
+    T         D         1
+RHS
+    B         A         3
+ENDATA
+NAME          S
+ XL Q         A
+ XL P         B
+ENDATA
+",
         status: 10,
-        listing: b"CONVERT SING     ROWS 4 COLUMNS 3 ENTRIES 10\nSETUP   SING     MIN\nSTOP 10 VERB FAULT 15 CARD 4\n    1 COST     -1\n    4 D        1\n    5 P        -2\n    6 Q        1\n",
+        listing: b"CONVERT SING     ROWS 4 COLUMNS 3 ENTRIES 10
+SETUP   SING     MIN
+STOP 10 VERB FAULT 15 CARD 4
+    1 COST     -1
+    4 D        1
+    5 P        -2
+    6 Q        1
+",
         cards: b"",
     },
     DeckRow {
         name: "a basis of three columns",
-        job: b"         PROGRAM\n         CONVERT\n         SETUP\n         INSERT\n         PUNCH\n         EXIT\n         PEND\nNAME          SING\nROWS\n N  COST\n E  A\n E  B\n G  D\nCOLUMNS\n    P         COST      1\n    P         A         1\n    P         B         2\n    Q         COST      1\n    Q         A         2\n    Q         B         4\n    Q         D         1\n    T         COST      5\n    T         A         1\n    T         D         1\nRHS\n    B         A         3\nENDATA\nNAME          S\n XL Q         A\n XL P         B\n XL T         D\nENDATA\n",
+        job: b"         PROGRAM
+         CONVERT
+         SETUP
+         INSERT
+         PUNCH
+         EXIT
+         PEND
+NAME          SING
+ROWS
+ N  COST
+ E  A
+ E  B
+ G  D
+COLUMNS
+    P         COST      1
+    P         A         1
+    P         B         2
+    Q         COST      1
+    Q         A         2
+    Q         B         4
+    Q         D         1
+    T         COST      5
+    T         A         1
+    T         D         1
+RHS
+    B         A         3
+ENDATA
+NAME          S
+ XL Q         A
+ XL P         B
+ XL T         D
+ENDATA
+",
         status: 0,
-        listing: b"CONVERT SING     ROWS 4 COLUMNS 3 ENTRIES 10\nSETUP   SING     MIN\nINSERT  S        BASIC 3\nPUNCH   SING     CARDS 5\nEND 0\n",
-        cards: b"NAME          SING\n XL P         A\n XL Q         B\n XL T         D\nENDATA\n",
+        listing: b"CONVERT SING     ROWS 4 COLUMNS 3 ENTRIES 10
+SETUP   SING     MIN
+INSERT  S        BASIC 3
+PUNCH   SING     CARDS 5
+END 0
+",
+        cards: b"NAME          SING
+ XL P         A
+ XL Q         B
+ XL T         D
+ENDATA
+",
     },
 ];

@@ -2,7 +2,9 @@
 ghost use Rattle.std.specs.Prelude.{◌<◌};
 
 use crate::jobs::{Answer, Call, answer_from, answer_to};
-use crate::rows::{DECKS, PLANS, Row};
+use crate::plans::PLANS;
+use crate::punched::DECKS;
+use crate::rows::Row;
 use job_devices::MemorySource;
 use std::alloc::Global;
 use std::test::Fail;

@@ -1,7 +1,9 @@
 // The machine over more than one engine: the listing and the status of a job do not depend on what keeps the rates.
 use crate::no_memory::Starved;
 use crate::parametric_runs::PARAMETRIC;
-use crate::rows::{PLANS, RANGES, Row};
+use crate::plans::PLANS;
+use crate::ranges::RANGES;
+use crate::rows::Row;
 use card_reader::read_job;
 use control_compiler::compile;
 use control_run::{RunEngine, RunStatus, run_on};
@@ -61,12 +63,29 @@ fn the_engine_of_runs_runs_jobs(rt: HostRuntime) -> Result<(), Fail> {
     Ok(())
 }
 
-// An engine whose calls all run out of memory ends the run where the path asks for the first of them, with all printed that came before.
+// An engine whose calls all run out of memory ends the run where the path asks for the first of them, with all printed that came
+// before.
 #[test]
 fn an_engine_without_memory_ends_the_run(rt: HostRuntime) -> Result<(), Fail> {
     let run = run_of::<Starved>(
         rt.alloc(),
-        b"         PROGRAM\n         CONVERT\n         SETUP\n         PRIMAL\n         EXIT\n         PEND\nNAME          ONE\nROWS\n N  COST\n G  LOW\nCOLUMNS\n    X         COST      1\n    X         LOW       1\nRHS\n    B         LOW       1\nENDATA\n",
+        b"         PROGRAM
+         CONVERT
+         SETUP
+         PRIMAL
+         EXIT
+         PEND
+NAME          ONE
+ROWS
+ N  COST
+ G  LOW
+COLUMNS
+    X         COST      1
+    X         LOW       1
+RHS
+    B         LOW       1
+ENDATA
+",
     )?;
     assert_eq!(rt; run.status, RunStatus::Memory);
     let listing: &[u8] =

@@ -1,26 +1,26 @@
-// Free decks and free revisions: decks whose cards between others are changed, as CONVERT or REVISE reads them and BCDOUT writes them out.
+// Free decks: decks whose cards between others are changed, as CONVERT reads them and BCDOUT writes them out.
 use crate::jobs::answer_of;
 use std::alloc::Global;
 use std::test::Fail;
 
 /// Cards with which a deck has a fault, and the line on which the listing ends.
-struct Faulty {
-    cards: &'static str,
-    line: &'static [u8],
+pub struct Faulty {
+    pub cards: &'static str,
+    pub line: &'static [u8],
 }
 
 /// Cards with which a deck has no fault, the lines of the listing that tell sizes, and the deck that is written out.
-struct Lawful {
-    cards: &'static str,
-    lines: &'static [u8],
-    deck: &'static [u8],
+pub struct Lawful {
+    pub cards: &'static str,
+    pub lines: &'static [u8],
+    pub deck: &'static [u8],
 }
 
 /// What stands before the cards of a case, what the listing has before its line, and what stands after the cards.
-struct Around {
-    before: &'static [u8],
-    listing: &'static [u8],
-    after: &'static [u8],
+pub struct Around {
+    pub before: &'static [u8],
+    pub listing: &'static [u8],
+    pub after: &'static [u8],
 }
 
 // The job of a case.
@@ -39,8 +39,8 @@ fn listing_of(alloc: Global, around: &Around, lines: &[u8], end: &[u8]) -> Resul
     Ok(listing)
 }
 
-// The cards of the first of these cases that hasn't this fault.
-fn first_unrefused(
+/// The cards of the first of these cases that hasn't this fault.
+pub fn first_unrefused(
     alloc: Global,
     around: &Around,
     cases: &[Faulty],
@@ -54,8 +54,8 @@ fn first_unrefused(
     Ok(None)
 }
 
-// The cards of the first of these cases that isn't read as this deck.
-fn first_misread(
+/// The cards of the first of these cases that isn't read as this deck.
+pub fn first_misread(
     alloc: Global,
     around: &Around,
     cases: &[Lawful],
@@ -72,7 +72,19 @@ fn first_misread(
 
 // A card of COLUMNS, card 13 of the job.
 const ENTRY_AROUND: Around = Around {
-    before: b"* A free deck, with one card or two changed.\n*\n         PROGRAM\n         CONVERT\n         BCDOUT\n         EXIT\n         PEND\nNAME          ONE       FREE\nROWS\n N COST\n G LOW\nCOLUMNS\n",
+    before: b"* A free deck, with one card or two changed.
+*
+         PROGRAM
+         CONVERT
+         BCDOUT
+         EXIT
+         PEND
+NAME          ONE       FREE
+ROWS
+ N COST
+ G LOW
+COLUMNS
+",
     listing: b"",
     after: b"RHS\n LOW 1\nENDATA\n",
 };
@@ -156,20 +168,56 @@ const ENTRY_DECKS: [Lawful; 2] = [
     Lawful {
         cards: " EIGHTLET COST 123456789012 LOW 1\n",
         lines: b"CONVERT ONE      ROWS 2 COLUMNS 1 ENTRIES 2\nBCDOUT  ONE      CARDS 10\n",
-        deck: b"NAME          ONE\nROWS\n N  COST\n G  LOW\nCOLUMNS\n    EIGHTLET  COST      123456789012\n    EIGHTLET  LOW       1\nRHS\n              LOW       1\nENDATA\n",
+        deck: b"NAME          ONE
+ROWS
+ N  COST
+ G  LOW
+COLUMNS
+    EIGHTLET  COST      123456789012
+    EIGHTLET  LOW       1
+RHS
+              LOW       1
+ENDATA
+",
     },
     Lawful {
         cards: "                                                            X COST 1 LOW 1\n",
         lines: b"CONVERT ONE      ROWS 2 COLUMNS 1 ENTRIES 2\nBCDOUT  ONE      CARDS 10\n",
-        deck: b"NAME          ONE\nROWS\n N  COST\n G  LOW\nCOLUMNS\n    X         COST      1\n    X         LOW       1\nRHS\n              LOW       1\nENDATA\n",
+        deck: b"NAME          ONE
+ROWS
+ N  COST
+ G  LOW
+COLUMNS
+    X         COST      1
+    X         LOW       1
+RHS
+              LOW       1
+ENDATA
+",
     },
 ];
 
 // A third card of ROWS, card 12.
 const ROW_AROUND: Around = Around {
-    before: b"* A free deck, with one card or two changed.\n*\n         PROGRAM\n         CONVERT\n         BCDOUT\n         EXIT\n         PEND\nNAME          ONE       FREE\nROWS\n N COST\n G LOW\n",
+    before: b"* A free deck, with one card or two changed.
+*
+         PROGRAM
+         CONVERT
+         BCDOUT
+         EXIT
+         PEND
+NAME          ONE       FREE
+ROWS
+ N COST
+ G LOW
+",
     listing: b"",
-    after: b"COLUMNS\n X COST 1 LOW 1\nRHS\n LOW 1\nENDATA\n",
+    after: b"COLUMNS
+ X COST 1 LOW 1
+RHS
+ LOW 1
+ENDATA
+",
 };
 
 const ROW_FAULTS: [Faulty; 16] = [
@@ -243,18 +291,59 @@ const ROW_DECKS: [Lawful; 2] = [
     Lawful {
         cards: " L A\n",
         lines: b"CONVERT ONE      ROWS 3 COLUMNS 1 ENTRIES 2\nBCDOUT  ONE      CARDS 11\n",
-        deck: b"NAME          ONE\nROWS\n N  COST\n G  LOW\n L  A\nCOLUMNS\n    X         COST      1\n    X         LOW       1\nRHS\n              LOW       1\nENDATA\n",
+        deck: b"NAME          ONE
+ROWS
+ N  COST
+ G  LOW
+ L  A
+COLUMNS
+    X         COST      1
+    X         LOW       1
+RHS
+              LOW       1
+ENDATA
+",
     },
     Lawful {
         cards: " DN S\n DL T COST 1\n DG U COST 1 LOW -2\n DG U T 3\n",
         lines: b"CONVERT ONE      ROWS 5 COLUMNS 1 ENTRIES 2\nBCDOUT  ONE      CARDS 15\n",
-        deck: b"NAME          ONE\nROWS\n N  COST\n G  LOW\n DN S\n DL T         COST      1\n DG U         COST      1\n DG U         LOW       -2\n DG U         T         3\nCOLUMNS\n    X         COST      1\n    X         LOW       1\nRHS\n              LOW       1\nENDATA\n",
+        deck: b"NAME          ONE
+ROWS
+ N  COST
+ G  LOW
+ DN S
+ DL T         COST      1
+ DG U         COST      1
+ DG U         LOW       -2
+ DG U         T         3
+COLUMNS
+    X         COST      1
+    X         LOW       1
+RHS
+              LOW       1
+ENDATA
+",
     },
 ];
 
 // A section between RHS and ENDATA, whose first data card is card 17.
 const SET_AROUND: Around = Around {
-    before: b"* A free deck, with one card or two changed.\n*\n         PROGRAM\n         CONVERT\n         BCDOUT\n         EXIT\n         PEND\nNAME          ONE       FREE\nROWS\n N COST\n G LOW\nCOLUMNS\n X COST 1 LOW 1\nRHS\n LOW 1\n",
+    before: b"* A free deck, with one card or two changed.
+*
+         PROGRAM
+         CONVERT
+         BCDOUT
+         EXIT
+         PEND
+NAME          ONE       FREE
+ROWS
+ N COST
+ G LOW
+COLUMNS
+ X COST 1 LOW 1
+RHS
+ LOW 1
+",
     listing: b"",
     after: b"ENDATA\n",
 };
@@ -314,40 +403,127 @@ const SET_DECKS: [Lawful; 6] = [
     Lawful {
         cards: "BOUNDS\n FR X\n",
         lines: b"CONVERT ONE      ROWS 2 COLUMNS 1 ENTRIES 2\nBCDOUT  ONE      CARDS 12\n",
-        deck: b"NAME          ONE\nROWS\n N  COST\n G  LOW\nCOLUMNS\n    X         COST      1\n    X         LOW       1\nRHS\n              LOW       1\nBOUNDS\n FR           X\nENDATA\n",
+        deck: b"NAME          ONE
+ROWS
+ N  COST
+ G  LOW
+COLUMNS
+    X         COST      1
+    X         LOW       1
+RHS
+              LOW       1
+BOUNDS
+ FR           X
+ENDATA
+",
     },
     Lawful {
         cards: "BOUNDS\n FR B X\n",
         lines: b"CONVERT ONE      ROWS 2 COLUMNS 1 ENTRIES 2\nBCDOUT  ONE      CARDS 12\n",
-        deck: b"NAME          ONE\nROWS\n N  COST\n G  LOW\nCOLUMNS\n    X         COST      1\n    X         LOW       1\nRHS\n              LOW       1\nBOUNDS\n FR B         X\nENDATA\n",
+        deck: b"NAME          ONE
+ROWS
+ N  COST
+ G  LOW
+COLUMNS
+    X         COST      1
+    X         LOW       1
+RHS
+              LOW       1
+BOUNDS
+ FR B         X
+ENDATA
+",
     },
     Lawful {
         cards: "BOUNDS\n UP X 1\n",
         lines: b"CONVERT ONE      ROWS 2 COLUMNS 1 ENTRIES 2\nBCDOUT  ONE      CARDS 12\n",
-        deck: b"NAME          ONE\nROWS\n N  COST\n G  LOW\nCOLUMNS\n    X         COST      1\n    X         LOW       1\nRHS\n              LOW       1\nBOUNDS\n UP           X         1\nENDATA\n",
+        deck: b"NAME          ONE
+ROWS
+ N  COST
+ G  LOW
+COLUMNS
+    X         COST      1
+    X         LOW       1
+RHS
+              LOW       1
+BOUNDS
+ UP           X         1
+ENDATA
+",
     },
     Lawful {
         cards: "BOUNDS\n UP B X 1\n",
         lines: b"CONVERT ONE      ROWS 2 COLUMNS 1 ENTRIES 2\nBCDOUT  ONE      CARDS 12\n",
-        deck: b"NAME          ONE\nROWS\n N  COST\n G  LOW\nCOLUMNS\n    X         COST      1\n    X         LOW       1\nRHS\n              LOW       1\nBOUNDS\n UP B         X         1\nENDATA\n",
+        deck: b"NAME          ONE
+ROWS
+ N  COST
+ G  LOW
+COLUMNS
+    X         COST      1
+    X         LOW       1
+RHS
+              LOW       1
+BOUNDS
+ UP B         X         1
+ENDATA
+",
     },
     Lawful {
         cards: "RANGES\n LOW 1\n",
         lines: b"CONVERT ONE      ROWS 2 COLUMNS 1 ENTRIES 2\nBCDOUT  ONE      CARDS 12\n",
-        deck: b"NAME          ONE\nROWS\n N  COST\n G  LOW\nCOLUMNS\n    X         COST      1\n    X         LOW       1\nRHS\n              LOW       1\nRANGES\n              LOW       1\nENDATA\n",
+        deck: b"NAME          ONE
+ROWS
+ N  COST
+ G  LOW
+COLUMNS
+    X         COST      1
+    X         LOW       1
+RHS
+              LOW       1
+RANGES
+              LOW       1
+ENDATA
+",
     },
     Lawful {
         cards: "RANGES\n R LOW 1\n",
         lines: b"CONVERT ONE      ROWS 2 COLUMNS 1 ENTRIES 2\nBCDOUT  ONE      CARDS 12\n",
-        deck: b"NAME          ONE\nROWS\n N  COST\n G  LOW\nCOLUMNS\n    X         COST      1\n    X         LOW       1\nRHS\n              LOW       1\nRANGES\n    R         LOW       1\nENDATA\n",
+        deck: b"NAME          ONE
+ROWS
+ N  COST
+ G  LOW
+COLUMNS
+    X         COST      1
+    X         LOW       1
+RHS
+              LOW       1
+RANGES
+    R         LOW       1
+ENDATA
+",
     },
 ];
 
 // The NAME card, card 8: it begins a free deck, or a fixed one, of which card 10 has a fault.
 const NAME_AROUND: Around = Around {
-    before: b"* A free deck, with one card or two changed.\n*\n         PROGRAM\n         CONVERT\n         BCDOUT\n         EXIT\n         PEND\n",
+    before: b"* A free deck, with one card or two changed.
+*
+         PROGRAM
+         CONVERT
+         BCDOUT
+         EXIT
+         PEND
+",
     listing: b"",
-    after: b"ROWS\n N COST\n G LOW\nCOLUMNS\n X COST 1 LOW 1\nRHS\n LOW 1\nENDATA\n",
+    after: b"ROWS
+ N COST
+ G LOW
+COLUMNS
+ X COST 1 LOW 1
+RHS
+ LOW 1
+ENDATA
+",
 };
 
 const NAME_FAULTS: [Faulty; 9] = [
@@ -393,248 +569,32 @@ const NAME_DECKS: [Lawful; 2] = [
     Lawful {
         cards: "NAME          A NAME    FREE\n",
         lines: b"CONVERT A NAME   ROWS 2 COLUMNS 1 ENTRIES 2\nBCDOUT  A NAME   CARDS 10\n",
-        deck: b"NAME          A NAME\nROWS\n N  COST\n G  LOW\nCOLUMNS\n    X         COST      1\n    X         LOW       1\nRHS\n              LOW       1\nENDATA\n",
+        deck: b"NAME          A NAME
+ROWS
+ N  COST
+ G  LOW
+COLUMNS
+    X         COST      1
+    X         LOW       1
+RHS
+              LOW       1
+ENDATA
+",
     },
     Lawful {
         cards: "NAME                    FREE\n",
         lines: b"CONVERT          ROWS 2 COLUMNS 1 ENTRIES 2\nBCDOUT           CARDS 10\n",
-        deck: b"NAME\nROWS\n N  COST\n G  LOW\nCOLUMNS\n    X         COST      1\n    X         LOW       1\nRHS\n              LOW       1\nENDATA\n",
-    },
-];
-
-// A free revision of a fixed deck: its cards from card 23 on.
-const REVISION_AROUND: Around = Around {
-    before: b"* A free revision.\n*\n         PROGRAM\n         CONVERT\n         REVISE\n         BCDOUT\n         EXIT\n         PEND\nNAME          ONE\nROWS\n N  COST\n G  LOW\nCOLUMNS\n    X         COST      1              LOW       1\nRHS\n              LOW       1\nRANGES\n    R         LOW       2\nBOUNDS\n UP BND       X         9\nENDATA\nNAME          NEXT      FREE\n",
-    listing: b"CONVERT ONE      ROWS 2 COLUMNS 1 ENTRIES 2\n",
-    after: b"ENDATA\n",
-};
-
-const REVISION_FAULTS_1: [Faulty; 25] = [
-    Faulty {
-        cards: "ROWS\n MODIFY\n N LOW\n",
-        line: b"STOP 12 DECK FAULT 9 CARD 25\n",
-    },
-    Faulty {
-        cards: "ROWS\n MODIFY\n L NOROW\n",
-        line: b"STOP 12 DECK FAULT 24 CARD 25\n",
-    },
-    Faulty {
-        cards: "ROWS\n MODIFY\n Q NOROW\n",
-        line: b"STOP 12 DECK FAULT 3 CARD 25\n",
-    },
-    Faulty {
-        cards: "ROWS\n MODIFY\n DL LOW\n",
-        line: b"STOP 12 DECK FAULT 3 CARD 25\n",
-    },
-    Faulty {
-        cards: "ROWS\n MODIFY\n LOW\n",
-        line: b"STOP 12 DECK FAULT 3 CARD 25\n",
-    },
-    Faulty {
-        cards: "ROWS\n DELETE\n NOROW\n",
-        line: b"STOP 12 DECK FAULT 23 CARD 25\n",
-    },
-    Faulty {
-        cards: "ROWS\n DELETE\n G LOW\n",
-        line: b"STOP 12 DECK FAULT 25 CARD 25\n",
-    },
-    Faulty {
-        cards: "ROWS\n DELETE\n DN\n",
-        line: b"STOP 12 DECK FAULT 23 CARD 25\n",
-    },
-    Faulty {
-        cards: "ROWS\n DELETE\n LONGNAME9\n",
-        line: b"STOP 12 DECK FAULT 26 CARD 25\n",
-    },
-    Faulty {
-        cards: "ROWS\n AFTER LOW\n G LOW\n",
-        line: b"STOP 12 DECK FAULT 4 CARD 25\n",
-    },
-    Faulty {
-        cards: "ROWS\n AFTER LONGNAME9\n L CAP\n",
-        line: b"STOP 12 DECK FAULT 22 CARD 24\n",
-    },
-    Faulty {
-        cards: "ROWS\n AFTER NOROW\n L CAP\n",
-        line: b"STOP 12 DECK FAULT 22 CARD 24\n",
-    },
-    Faulty {
-        cards: "ROWS\n BEFORE LOW CAP\n L CAP\n",
-        line: b"STOP 12 DECK FAULT 21 CARD 24\n",
-    },
-    Faulty {
-        cards: "ROWS\n Q R X Y\n",
-        line: b"STOP 12 DECK FAULT 21 CARD 24\n",
-    },
-    Faulty {
-        cards: "ROWS\n BEFOR LOW\n",
-        line: b"STOP 12 DECK FAULT 21 CARD 24\n",
-    },
-    Faulty {
-        cards: "COLUMNS\n MODIFY\n Y COST 2\n",
-        line: b"STOP 12 DECK FAULT 24 CARD 25\n",
-    },
-    Faulty {
-        cards: "COLUMNS\n DELETE\n X LOW 1\n",
-        line: b"STOP 12 DECK FAULT 25 CARD 25\n",
-    },
-    Faulty {
-        cards: "COLUMNS\n DELETE\n Y\n",
-        line: b"STOP 12 DECK FAULT 23 CARD 25\n",
-    },
-    Faulty {
-        cards: "COLUMNS\n BEFORE X\n X COST 1\n",
-        line: b"STOP 12 DECK FAULT 5 CARD 25\n",
-    },
-    Faulty {
-        cards: "RHS\n DELETE\n LOW\n",
-        line: b"STOP 12 DECK FAULT 23 CARD 25\n",
-    },
-    Faulty {
-        cards: "RHS\n BEFORE\n LOW 3\n",
-        line: b"STOP 12 DECK FAULT 21 CARD 24\n",
-    },
-    Faulty {
-        cards: "RANGES\n MODIFY\n COST 3\n",
-        line: b"STOP 12 DECK FAULT 9 CARD 25\n",
-    },
-    Faulty {
-        cards: "RANGES\n DELETE\n R COST\n",
-        line: b"STOP 12 DECK FAULT 23 CARD 25\n",
-    },
-    Faulty {
-        cards: "RANGES\n DELETE\n R NOROW\n",
-        line: b"STOP 12 DECK FAULT 6 CARD 25\n",
-    },
-    Faulty {
-        cards: "BOUNDS\n MODIFY\n BV BND X\n",
-        line: b"STOP 12 DECK FAULT 10 CARD 25\n",
-    },
-];
-
-const REVISION_FAULTS_2: [Faulty; 5] = [
-    Faulty {
-        cards: "BOUNDS\n DELETE\n X\n",
-        line: b"STOP 12 DECK FAULT 23 CARD 25\n",
-    },
-    Faulty {
-        cards: "BOUNDS\n DELETE\n BND Y\n",
-        line: b"STOP 12 DECK FAULT 11 CARD 25\n",
-    },
-    Faulty {
-        cards: "BOUNDS\n DELETE\n UP BND X\n",
-        line: b"STOP 12 DECK FAULT 25 CARD 25\n",
-    },
-    Faulty {
-        cards: " MODIFY\n L LOW\n",
-        line: b"STOP 12 DECK FAULT 1 CARD 23\n",
-    },
-    Faulty {
-        cards: " X COST 1\n",
-        line: b"STOP 12 DECK FAULT 1 CARD 23\n",
-    },
-];
-
-const REVISION_DECKS: [Lawful; 20] = [
-    Lawful {
-        cards: "ROWS\n MODIFY\n L LOW\n",
-        lines: b"REVISE  NEXT     ROWS 2 COLUMNS 1 ENTRIES 2\nBCDOUT  NEXT     CARDS 14\n",
-        deck: b"NAME          NEXT\nROWS\n N  COST\n L  LOW\nCOLUMNS\n    X         COST      1\n    X         LOW       1\nRHS\n              LOW       1\nRANGES\n    R         LOW       2\nBOUNDS\n UP BND       X         9\nENDATA\n",
-    },
-    Lawful {
-        cards: "ROWS\n MODIFY LONGNAME9\n L LOW\n",
-        lines: b"REVISE  NEXT     ROWS 2 COLUMNS 1 ENTRIES 2\nBCDOUT  NEXT     CARDS 14\n",
-        deck: b"NAME          NEXT\nROWS\n N  COST\n L  LOW\nCOLUMNS\n    X         COST      1\n    X         LOW       1\nRHS\n              LOW       1\nRANGES\n    R         LOW       2\nBOUNDS\n UP BND       X         9\nENDATA\n",
-    },
-    Lawful {
-        cards: "ROWS\n DELETE\n LOW\n",
-        lines: b"REVISE  NEXT     ROWS 1 COLUMNS 1 ENTRIES 1\nBCDOUT  NEXT     CARDS 8\n",
-        deck: b"NAME          NEXT\nROWS\n N  COST\nCOLUMNS\n    X         COST      1\nBOUNDS\n UP BND       X         9\nENDATA\n",
-    },
-    Lawful {
-        cards: "ROWS\n BEFORE LOW\n L CAP\n",
-        lines: b"REVISE  NEXT     ROWS 3 COLUMNS 1 ENTRIES 2\nBCDOUT  NEXT     CARDS 15\n",
-        deck: b"NAME          NEXT\nROWS\n N  COST\n L  CAP\n G  LOW\nCOLUMNS\n    X         COST      1\n    X         LOW       1\nRHS\n              LOW       1\nRANGES\n    R         LOW       2\nBOUNDS\n UP BND       X         9\nENDATA\n",
-    },
-    Lawful {
-        cards: "ROWS\n   AFTER\n L CAP\n",
-        lines: b"REVISE  NEXT     ROWS 3 COLUMNS 1 ENTRIES 2\nBCDOUT  NEXT     CARDS 15\n",
-        deck: b"NAME          NEXT\nROWS\n N  COST\n G  LOW\n L  CAP\nCOLUMNS\n    X         COST      1\n    X         LOW       1\nRHS\n              LOW       1\nRANGES\n    R         LOW       2\nBOUNDS\n UP BND       X         9\nENDATA\n",
-    },
-    Lawful {
-        cards: "COLUMNS\n MODIFY\n X COST 2\n",
-        lines: b"REVISE  NEXT     ROWS 2 COLUMNS 1 ENTRIES 2\nBCDOUT  NEXT     CARDS 14\n",
-        deck: b"NAME          NEXT\nROWS\n N  COST\n G  LOW\nCOLUMNS\n    X         COST      2\n    X         LOW       1\nRHS\n              LOW       1\nRANGES\n    R         LOW       2\nBOUNDS\n UP BND       X         9\nENDATA\n",
-    },
-    Lawful {
-        cards: "COLUMNS\n DELETE\n X\n",
-        lines: b"REVISE  NEXT     ROWS 2 COLUMNS 0 ENTRIES 0\nBCDOUT  NEXT     CARDS 10\n",
-        deck: b"NAME          NEXT\nROWS\n N  COST\n G  LOW\nCOLUMNS\nRHS\n              LOW       1\nRANGES\n    R         LOW       2\nENDATA\n",
-    },
-    Lawful {
-        cards: "COLUMNS\n DELETE\n X LOW\n",
-        lines: b"REVISE  NEXT     ROWS 2 COLUMNS 1 ENTRIES 1\nBCDOUT  NEXT     CARDS 13\n",
-        deck: b"NAME          NEXT\nROWS\n N  COST\n G  LOW\nCOLUMNS\n    X         COST      1\nRHS\n              LOW       1\nRANGES\n    R         LOW       2\nBOUNDS\n UP BND       X         9\nENDATA\n",
-    },
-    Lawful {
-        cards: "COLUMNS\n AFTER\n Y COST 1\n Y LOW 2\n",
-        lines: b"REVISE  NEXT     ROWS 2 COLUMNS 2 ENTRIES 4\nBCDOUT  NEXT     CARDS 16\n",
-        deck: b"NAME          NEXT\nROWS\n N  COST\n G  LOW\nCOLUMNS\n    X         COST      1\n    X         LOW       1\n    Y         COST      1\n    Y         LOW       2\nRHS\n              LOW       1\nRANGES\n    R         LOW       2\nBOUNDS\n UP BND       X         9\nENDATA\n",
-    },
-    Lawful {
-        cards: "RHS\n MODIFY\n LOW 3\n",
-        lines: b"REVISE  NEXT     ROWS 2 COLUMNS 1 ENTRIES 2\nBCDOUT  NEXT     CARDS 14\n",
-        deck: b"NAME          NEXT\nROWS\n N  COST\n G  LOW\nCOLUMNS\n    X         COST      1\n    X         LOW       1\nRHS\n              LOW       3\nRANGES\n    R         LOW       2\nBOUNDS\n UP BND       X         9\nENDATA\n",
-    },
-    Lawful {
-        cards: "RHS\n MODIFY\n B LOW 3 COST 1\n",
-        lines: b"REVISE  NEXT     ROWS 2 COLUMNS 1 ENTRIES 2\nBCDOUT  NEXT     CARDS 16\n",
-        deck: b"NAME          NEXT\nROWS\n N  COST\n G  LOW\nCOLUMNS\n    X         COST      1\n    X         LOW       1\nRHS\n              LOW       1\n    B         LOW       3\n    B         COST      1\nRANGES\n    R         LOW       2\nBOUNDS\n UP BND       X         9\nENDATA\n",
-    },
-    Lawful {
-        cards: "RANGES\n MODIFY\n R LOW 3\n",
-        lines: b"REVISE  NEXT     ROWS 2 COLUMNS 1 ENTRIES 2\nBCDOUT  NEXT     CARDS 14\n",
-        deck: b"NAME          NEXT\nROWS\n N  COST\n G  LOW\nCOLUMNS\n    X         COST      1\n    X         LOW       1\nRHS\n              LOW       1\nRANGES\n    R         LOW       3\nBOUNDS\n UP BND       X         9\nENDATA\n",
-    },
-    Lawful {
-        cards: "RANGES\n DELETE\n R\n",
-        lines: b"REVISE  NEXT     ROWS 2 COLUMNS 1 ENTRIES 2\nBCDOUT  NEXT     CARDS 12\n",
-        deck: b"NAME          NEXT\nROWS\n N  COST\n G  LOW\nCOLUMNS\n    X         COST      1\n    X         LOW       1\nRHS\n              LOW       1\nBOUNDS\n UP BND       X         9\nENDATA\n",
-    },
-    Lawful {
-        cards: "RANGES\n DELETE\n R LOW\n",
-        lines: b"REVISE  NEXT     ROWS 2 COLUMNS 1 ENTRIES 2\nBCDOUT  NEXT     CARDS 12\n",
-        deck: b"NAME          NEXT\nROWS\n N  COST\n G  LOW\nCOLUMNS\n    X         COST      1\n    X         LOW       1\nRHS\n              LOW       1\nBOUNDS\n UP BND       X         9\nENDATA\n",
-    },
-    Lawful {
-        cards: "BOUNDS\n MODIFY\n LO BND X 1\n",
-        lines: b"REVISE  NEXT     ROWS 2 COLUMNS 1 ENTRIES 2\nBCDOUT  NEXT     CARDS 15\n",
-        deck: b"NAME          NEXT\nROWS\n N  COST\n G  LOW\nCOLUMNS\n    X         COST      1\n    X         LOW       1\nRHS\n              LOW       1\nRANGES\n    R         LOW       2\nBOUNDS\n UP BND       X         9\n LO BND       X         1\nENDATA\n",
-    },
-    Lawful {
-        cards: "BOUNDS\n MODIFY\n FR X\n",
-        lines: b"REVISE  NEXT     ROWS 2 COLUMNS 1 ENTRIES 2\nBCDOUT  NEXT     CARDS 15\n",
-        deck: b"NAME          NEXT\nROWS\n N  COST\n G  LOW\nCOLUMNS\n    X         COST      1\n    X         LOW       1\nRHS\n              LOW       1\nRANGES\n    R         LOW       2\nBOUNDS\n UP BND       X         9\n FR           X\nENDATA\n",
-    },
-    Lawful {
-        cards: "BOUNDS\n DELETE\n BND\n",
-        lines: b"REVISE  NEXT     ROWS 2 COLUMNS 1 ENTRIES 2\nBCDOUT  NEXT     CARDS 12\n",
-        deck: b"NAME          NEXT\nROWS\n N  COST\n G  LOW\nCOLUMNS\n    X         COST      1\n    X         LOW       1\nRHS\n              LOW       1\nRANGES\n    R         LOW       2\nENDATA\n",
-    },
-    Lawful {
-        cards: "BOUNDS\n DELETE\n BND X\n",
-        lines: b"REVISE  NEXT     ROWS 2 COLUMNS 1 ENTRIES 2\nBCDOUT  NEXT     CARDS 12\n",
-        deck: b"NAME          NEXT\nROWS\n N  COST\n G  LOW\nCOLUMNS\n    X         COST      1\n    X         LOW       1\nRHS\n              LOW       1\nRANGES\n    R         LOW       2\nENDATA\n",
-    },
-    Lawful {
-        cards: "RHS\n MODIFY 3\n",
-        lines: b"REVISE  NEXT     ROWS 2 COLUMNS 1 ENTRIES 2\nBCDOUT  NEXT     CARDS 14\n",
-        deck: b"NAME          NEXT\nROWS\n N  COST\n G  LOW\nCOLUMNS\n    X         COST      1\n    X         LOW       1\nRHS\n              LOW       1\nRANGES\n    R         LOW       2\nBOUNDS\n UP BND       X         9\nENDATA\n",
-    },
-    Lawful {
-        cards: "RHS\n MODIFY\n MODIFY 3\n",
-        lines: b"REVISE  NEXT     ROWS 2 COLUMNS 1 ENTRIES 2\nBCDOUT  NEXT     CARDS 14\n",
-        deck: b"NAME          NEXT\nROWS\n N  COST\n G  LOW\nCOLUMNS\n    X         COST      1\n    X         LOW       1\nRHS\n              LOW       1\nRANGES\n    R         LOW       2\nBOUNDS\n UP BND       X         9\nENDATA\n",
+        deck: b"NAME
+ROWS
+ N  COST
+ G  LOW
+COLUMNS
+    X         COST      1
+    X         LOW       1
+RHS
+              LOW       1
+ENDATA
+",
     },
 ];
 
@@ -661,23 +621,5 @@ fn name_cards_of_free_decks(rt: HostRuntime) -> Result<(), Fail> {
     let alloc = rt.alloc();
     assert_eq!(rt; first_unrefused(alloc, &NAME_AROUND, &NAME_FAULTS)?, None);
     assert_eq!(rt; first_misread(alloc, &NAME_AROUND, &NAME_DECKS)?, None);
-    Ok(())
-}
-
-#[test]
-fn free_revisions(rt: HostRuntime) -> Result<(), Fail> {
-    let alloc = rt.alloc();
-    assert_eq!(rt;
-        first_unrefused(alloc, &REVISION_AROUND, &REVISION_FAULTS_1)?,
-        None
-    );
-    assert_eq!(rt;
-        first_unrefused(alloc, &REVISION_AROUND, &REVISION_FAULTS_2)?,
-        None
-    );
-    assert_eq!(rt;
-        first_misread(alloc, &REVISION_AROUND, &REVISION_DECKS)?,
-        None
-    );
     Ok(())
 }

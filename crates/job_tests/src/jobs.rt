@@ -3,8 +3,8 @@ use mps_cli::run_job;
 use std::alloc::Global;
 use std::test::Fail;
 
-/// A job with the words of its command line, and the numbers of the reads, of the writes to the print and of those to the punch that
-/// fail.
+/// A job with the words of its command line, and the numbers of the reads, of the writes to the print and of those to the punch
+/// that fail.
 #[derive(Clone, Copy)]
 pub struct Call<'a> {
     pub words: &'a [String],

@@ -1,11 +1,16 @@
 // Jobs without words over devices that don't fail.
 use crate::bases::BASES;
+use crate::dual_paths::DUAL_PATHS;
+use crate::faults::{CONTROL_FAULTS, DECK_FAULTS, VERB_FAULTS};
 use crate::jobs::answer_of;
+use crate::overflows::OVERFLOWS;
 use crate::parametric_runs::PARAMETRIC;
-use crate::rows::{
-    CONTROL_FAULTS, DECK_FAULTS, DECKS, DeckRow, OVERFLOWS, PLANS, RANGES, REVISIONS, Row,
-    VERB_FAULTS, VERDICTS,
-};
+use crate::plans::PLANS;
+use crate::punched::DECKS;
+use crate::ranges::RANGES;
+use crate::revisions::REVISIONS;
+use crate::rows::{DeckRow, Row};
+use crate::verdicts::VERDICTS;
 use std::alloc::Global;
 use std::test::Fail;
 
@@ -109,5 +114,11 @@ fn decks_are_punched(rt: HostRuntime) -> Result<(), Fail> {
 #[test]
 fn bases_go_out_and_come_in(rt: HostRuntime) -> Result<(), Fail> {
     assert_eq!(rt; first_unpunched(rt.alloc(), &BASES)?, None);
+    Ok(())
+}
+
+#[test]
+fn dual_paths_are_followed(rt: HostRuntime) -> Result<(), Fail> {
+    assert_eq!(rt; first_unpunched(rt.alloc(), &DUAL_PATHS)?, None);
     Ok(())
 }

@@ -5,8 +5,41 @@ use std::alloc::Global;
 use std::test::Fail;
 
 // The generated job with two sources and two destinations.
-const OF_SIZE_2: &[u8] =
-    b"         PROGRAM\n         INITIALZ\n         MOVE(XITERLIM,1000000)\n         CONVERT\n         SETUP\n         PRIMAL\n         EXIT\n         PEND\nNAME          TRANSP\nROWS\n N  COST\n L  S001\n L  S002\n G  D001\n G  D002\nCOLUMNS\n    X001001   COST      19\n    X001001   S001      1\n    X001001   D001      1\n    X001002   COST      11\n    X001002   S001      1\n    X001002   D002      1\n    X002001   COST      7\n    X002001   S002      1\n    X002001   D001      1\n    X002002   COST      18\n    X002002   S002      1\n    X002002   D002      1\nRHS\n    RHS       S001      10\n    RHS       S002      10\n    RHS       D001      10\n    RHS       D002      10\nENDATA\n";
+const OF_SIZE_2: &[u8] = b"         PROGRAM
+         INITIALZ
+         MOVE(XITERLIM,1000000)
+         CONVERT
+         SETUP
+         PRIMAL
+         EXIT
+         PEND
+NAME          TRANSP
+ROWS
+ N  COST
+ L  S001
+ L  S002
+ G  D001
+ G  D002
+COLUMNS
+    X001001   COST      19
+    X001001   S001      1
+    X001001   D001      1
+    X001002   COST      11
+    X001002   S001      1
+    X001002   D002      1
+    X002001   COST      7
+    X002001   S002      1
+    X002001   D001      1
+    X002002   COST      18
+    X002002   S002      1
+    X002002   D002      1
+RHS
+    RHS       S001      10
+    RHS       S002      10
+    RHS       D001      10
+    RHS       D002      10
+ENDATA
+";
 
 // What is answered to these words, where a read would fail.
 fn answer_by(alloc: Global, words: &[&str]) -> Result<Answer, Fail> {
@@ -33,10 +66,16 @@ fn a_job_is_made(rt: HostRuntime) -> Result<(), Fail> {
 
 #[test]
 fn a_made_job_is_run(rt: HostRuntime) -> Result<(), Fail> {
-    let one =
-        b"CONVERT TRANSP   ROWS 3 COLUMNS 1 ENTRIES 3\nSETUP   TRANSP   MIN\nPRIMAL OPTIMAL STEPS 1 OBJECTIVE 190 CHECKED\nEND 0\n";
-    let two =
-        b"CONVERT TRANSP   ROWS 5 COLUMNS 4 ENTRIES 12\nSETUP   TRANSP   MIN\nPRIMAL OPTIMAL STEPS 4 OBJECTIVE 180 CHECKED\nEND 0\n";
+    let one = b"CONVERT TRANSP   ROWS 3 COLUMNS 1 ENTRIES 3
+SETUP   TRANSP   MIN
+PRIMAL OPTIMAL STEPS 1 OBJECTIVE 190 CHECKED
+END 0
+";
+    let two = b"CONVERT TRANSP   ROWS 5 COLUMNS 4 ENTRIES 12
+SETUP   TRANSP   MIN
+PRIMAL OPTIMAL STEPS 4 OBJECTIVE 180 CHECKED
+END 0
+";
     assert!(rt; answer_by(rt.alloc(), &["--make=1"])?.is(0, one));
     assert!(rt; answer_by(rt.alloc(), &["--make", "2"])?.is(0, two));
     assert!(rt; answer_by(rt.alloc(), &["--make", "2", "--"])?.is(0, two));

@@ -8,8 +8,22 @@ use std::alloc::Global;
 use std::test::Fail;
 
 // The deck of the old problem.
-const OLD: &[u8] =
-    b"NAME          OLD\nROWS\n N  COST\n L  LIM\nCOLUMNS\n    X         COST      1              LIM       1\n    Y         COST      2\nRHS\n    B         LIM       4\nRANGES\n    R         LIM       2\nBOUNDS\n LO BND       X         1\n UP BND       X         3\nENDATA\n";
+const OLD: &[u8] = b"NAME          OLD
+ROWS
+ N  COST
+ L  LIM
+COLUMNS
+    X         COST      1              LIM       1
+    Y         COST      2
+RHS
+    B         LIM       4
+RANGES
+    R         LIM       2
+BOUNDS
+ LO BND       X         1
+ UP BND       X         3
+ENDATA
+";
 
 fn cards_of(alloc: Global, text: &[u8]) -> Result<Cards, Fail> {
     let mut source = SureSource::new(alloc, text)?;

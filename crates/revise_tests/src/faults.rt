@@ -43,7 +43,12 @@ const COMBINATIONS: [Fault; 13] = [
         DeckFaultKind::DuplicateRow,
     ),
     (
-        b"ROWS\n AFTER\n DL S         COST      1\n AFTER\n DL S         LIM       1\n",
+        b"ROWS
+ AFTER
+ DL S         COST      1
+ AFTER
+ DL S         LIM       1
+",
         6,
         DeckFaultKind::DuplicateRow,
     ),
@@ -63,27 +68,54 @@ const COMBINATIONS: [Fault; 13] = [
         DeckFaultKind::BadRowType,
     ),
     (
-        b"ROWS\n AFTER\n DL S         COST      1\n MODIFY\n L  S\n",
+        b"ROWS
+ AFTER
+ DL S         COST      1
+ MODIFY
+ L  S
+",
         6,
         DeckFaultKind::BadRowType,
     ),
     (
-        b"ROWS\n AFTER\n DL S         COST      1\n MODIFY\n DL S         S         1\n",
+        b"ROWS
+ AFTER
+ DL S         COST      1
+ MODIFY
+ DL S         S         1
+",
         6,
         DeckFaultKind::UnknownRow,
     ),
     (
-        b"ROWS\n AFTER\n DL S         COST      1\n DELETE\n    S         COST      \n",
+        b"ROWS
+ AFTER
+ DL S         COST      1
+ DELETE
+    S         COST     \x20
+",
         6,
         DeckFaultKind::ExtraField,
     ),
     (
-        b"ROWS\n AFTER\n DL S         COST      1\nCOLUMNS\n MODIFY\n    X         S         1\n",
+        b"ROWS
+ AFTER
+ DL S         COST      1
+COLUMNS
+ MODIFY
+    X         S         1
+",
         7,
         DeckFaultKind::EntryOnCombination,
     ),
     (
-        b"ROWS\n AFTER\n DL S         COST      1\nCOLUMNS\n AFTER\n    Z         S         1\n",
+        b"ROWS
+ AFTER
+ DL S         COST      1
+COLUMNS
+ AFTER
+    Z         S         1
+",
         7,
         DeckFaultKind::EntryOnCombination,
     ),

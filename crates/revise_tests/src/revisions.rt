@@ -20,7 +20,13 @@ const SECTIONS: [Revision; 17] = [
         b"COST R1 R2 LIM /X 1:1 4:1;Y 1:2;/B 4:4;/R 4:2;/BND 1 1;",
     ),
     (
-        b"ROWS\n AFTER        COST\n G  R1\n G  R2\n AFTER\n G  R3\n",
+        b"ROWS
+ AFTER        COST
+ G  R1
+ G  R2
+ AFTER
+ G  R3
+",
         b"COST R1 R2 LIM R3 /X 1:1 4:1;Y 1:2;/B 4:4;/R 4:2;/BND 1 1;",
     ),
     (
@@ -36,15 +42,29 @@ const SECTIONS: [Revision; 17] = [
         b"COST LIM /X 2:1;Y 1:2;/B 2:4;/R 2:2;/BND 1 1;",
     ),
     (
-        b"COLUMNS\n BEFORE       Y\n    Z         COST      3\n    Z         LIM       4\n    W         LIM       5\n",
+        b"COLUMNS
+ BEFORE       Y
+    Z         COST      3
+    Z         LIM       4
+    W         LIM       5
+",
         b"COST LIM /X 1:1 2:1;Z 1:3 2:4;W 2:5;Y 1:2;/B 2:4;/R 2:2;/BND 1 1;",
     ),
     (
-        b"COLUMNS\n AFTER        X\n    Z         COST      3\n BEFORE\n    V         COST      6\n",
+        b"COLUMNS
+ AFTER        X
+    Z         COST      3
+ BEFORE
+    V         COST      6
+",
         b"COST LIM /V 1:6;X 1:1 2:1;Z 1:3;Y 1:2;/B 2:4;/R 2:2;/BND 2 2;",
     ),
     (
-        b"RHS\n MODIFY\n    B         LIM       5              COST      1\n    C         LIM       6\n",
+        b"RHS
+ MODIFY
+    B         LIM       5              COST      1
+    C         LIM       6
+",
         b"COST LIM /X 1:1 2:1;Y 1:2;/B 2:5 1:1;C 2:6;/R 2:2;/BND 1 1;",
     ),
     (
@@ -79,31 +99,69 @@ const COMBINATIONS: [Revision; 8] = [
         b"COST LIM SUM=1:1,2:2 /X 1:1 2:1;Y 1:2;/B 2:4;/R 2:2;/BND 1 1;",
     ),
     (
-        b"ROWS\n AFTER\n DL SUM       LIM       2\n DL SUM       COST      1\n DG TWO       SUM       3\n",
+        b"ROWS
+ AFTER
+ DL SUM       LIM       2
+ DL SUM       COST      1
+ DG TWO       SUM       3
+",
         b"COST LIM SUM=2:2,1:1 TWO=3:3 /X 1:1 2:1;Y 1:2;/B 2:4;/R 2:2;/BND 1 1;",
     ),
     (
-        b"ROWS\n AFTER        COST\n DL U         COST      1\n DL U\n G  W\n DN Z         U         1\n",
+        b"ROWS
+ AFTER        COST
+ DL U         COST      1
+ DL U
+ G  W
+ DN Z         U         1
+",
         b"COST U=1:1 W Z=2:1 LIM /X 1:1 5:1;Y 1:2;/B 5:4;/R 5:2;/BND 1 1;",
     ),
     (
-        b"ROWS\n BEFORE       LIM\n DG U         COST      2\n G  W\n DG V         U         1\n DG V         COST      3\n",
+        b"ROWS
+ BEFORE       LIM
+ DG U         COST      2
+ G  W
+ DG V         U         1
+ DG V         COST      3
+",
         b"COST U=1:2 W V=2:1,1:3 LIM /X 1:1 5:1;Y 1:2;/B 5:4;/R 5:2;/BND 1 1;",
     ),
     (
-        b"ROWS\n AFTER\n DL SUM       COST      1              LIM       2\n MODIFY\n DG SUM       LIM       7\n",
+        b"ROWS
+ AFTER
+ DL SUM       COST      1              LIM       2
+ MODIFY
+ DG SUM       LIM       7
+",
         b"COST LIM SUM=1:1,2:7 /X 1:1 2:1;Y 1:2;/B 2:4;/R 2:2;/BND 1 1;",
     ),
     (
-        b"ROWS\n AFTER\n DL SUM       LIM       2\n MODIFY\n DL SUM       LIM       7              COST      5\n",
+        b"ROWS
+ AFTER
+ DL SUM       LIM       2
+ MODIFY
+ DL SUM       LIM       7              COST      5
+",
         b"COST LIM SUM=2:7,1:5 /X 1:1 2:1;Y 1:2;/B 2:4;/R 2:2;/BND 1 1;",
     ),
     (
-        b"ROWS\n AFTER\n DL SUM       COST      1              LIM       2\n DELETE\n    LIM\n",
+        b"ROWS
+ AFTER
+ DL SUM       COST      1              LIM       2
+ DELETE
+    LIM
+",
         b"COST SUM=1:1 /X 1:1;Y 1:2;///BND 1 1;",
     ),
     (
-        b"ROWS\n AFTER\n DN SUM       LIM       2\n DN TWO       SUM       1\n DELETE\n    SUM\n",
+        b"ROWS
+ AFTER
+ DN SUM       LIM       2
+ DN TWO       SUM       1
+ DELETE
+    SUM
+",
         b"COST LIM TWO= /X 1:1 2:1;Y 1:2;/B 2:4;/R 2:2;/BND 1 1;",
     ),
 ];

@@ -104,21 +104,53 @@ fn verdict_of(found: Found) -> Verdict {
 }
 
 /// COST has the number 1, and X 2, whose cost is -1.
-const FALLS: &[u8] = b"NAME          FALLS     FREE\nROWS\n N COST\nCOLUMNS\n X COST -1\nENDATA\n";
+const FALLS: &[u8] = b"NAME          FALLS     FREE
+ROWS
+ N COST
+COLUMNS
+ X COST -1
+ENDATA
+";
 
 /// The same with X at most 5, and at most -1.
-const UP_TO_FIVE: &[u8] =
-    b"NAME          FALLS     FREE\nROWS\n N COST\nCOLUMNS\n X COST -1\nBOUNDS\n UP S X 5\nENDATA\n";
+const UP_TO_FIVE: &[u8] = b"NAME          FALLS     FREE
+ROWS
+ N COST
+COLUMNS
+ X COST -1
+BOUNDS
+ UP S X 5
+ENDATA
+";
 
-const CROSSED: &[u8] =
-    b"NAME          FALLS     FREE\nROWS\n N COST\nCOLUMNS\n X COST -1\nBOUNDS\n UP S X -1\nENDATA\n";
+const CROSSED: &[u8] = b"NAME          FALLS     FREE
+ROWS
+ N COST
+COLUMNS
+ X COST -1
+BOUNDS
+ UP S X -1
+ENDATA
+";
 
 /// The cost of X is the large number; and X is at most that number, too.
-const DEAR: &[u8] =
-    b"NAME          DEAR      FREE\nROWS\n N COST\nCOLUMNS\n X COST 999999999E18\nENDATA\n";
+const DEAR: &[u8] = b"NAME          DEAR      FREE
+ROWS
+ N COST
+COLUMNS
+ X COST 999999999E18
+ENDATA
+";
 
-const DEAR_LIMITED: &[u8] =
-    b"NAME          DEAR      FREE\nROWS\n N COST\nCOLUMNS\n X COST 999999999E18\nBOUNDS\n UP S X 999999999E18\nENDATA\n";
+const DEAR_LIMITED: &[u8] = b"NAME          DEAR      FREE
+ROWS
+ N COST
+COLUMNS
+ X COST 999999999E18
+BOUNDS
+ UP S X 999999999E18
+ENDATA
+";
 
 /// A deck, what is checked, the values (the second ones where a verdict has two), and what is found.
 type Case = (

@@ -1,6 +1,6 @@
-//! Rates that are made anew for a basis, over a whole table and over the product form, which carries directions and rows in whole numbers
-//! over one denominator, and in fractions where one of these doesn't fit. The expected numbers are worked by hand from the equations
-//! of each program.
+//! Rates that are made anew for a basis, over a whole table and over the product form, which carries directions and rows in whole
+//! numbers over one denominator, and in fractions where one of these doesn't fit. The expected numbers are worked by hand from the
+//! equations of each program.
 
 ghost use Rattle.std.specs.Prelude.{◌≡◌, ◌≢◌, ◌≤◌, length, true, IfOk, None};
 ghost use Rattle.lp_definitions.specs.LinearProgram.{size};
@@ -177,20 +177,63 @@ fn answer_by<E: Engine>(
 }
 
 /// COST, A, B and D have the numbers 1 to 4, and P, Q and T 5 to 7. Row D is Q + T, so P doubled and B say the same of P and Q.
-const SINGULAR: &[u8] =
-    b"NAME          SING      FREE\nROWS\n N COST\n E A\n E B\n G D\nCOLUMNS\n P COST 1 A 1\n P B 2\n Q COST 1 A 2\n Q B 4 D 1\n T COST 5 A 1\n T D 1\nRHS\n R A 3\nENDATA\n";
+const SINGULAR: &[u8] = b"NAME          SING      FREE
+ROWS
+ N COST
+ E A
+ E B
+ G D
+COLUMNS
+ P COST 1 A 1
+ P B 2
+ Q COST 1 A 2
+ Q B 4 D 1
+ T COST 5 A 1
+ T D 1
+RHS
+ R A 3
+ENDATA
+";
 
 /// COST, A and B have the numbers 1 to 3, and X and Y 4 and 5, which have the same numbers on A and B.
-const ALIKE: &[u8] =
-    b"NAME          ALIKE     FREE\nROWS\n N COST\n G A\n G B\nCOLUMNS\n X COST 1 A 1\n X B 1\n Y COST 2 A 1\n Y B 1\nENDATA\n";
+const ALIKE: &[u8] = b"NAME          ALIKE     FREE
+ROWS
+ N COST
+ G A
+ G B
+COLUMNS
+ X COST 1 A 1
+ X B 1
+ Y COST 2 A 1
+ Y B 1
+ENDATA
+";
 
 /// COST and LOW have the numbers 1 and 2, and X 3: its number on COST over that on LOW is too large for 128 bits.
-const BIG: &[u8] =
-    b"NAME          BIG       FREE\nROWS\n N COST\n G LOW\nCOLUMNS\n X COST 999999999E18 LOW .1E-18\nRHS\n R LOW .1E-18\nENDATA\n";
+const BIG: &[u8] = b"NAME          BIG       FREE
+ROWS
+ N COST
+ G LOW
+COLUMNS
+ X COST 999999999E18 LOW .1E-18
+RHS
+ R LOW .1E-18
+ENDATA
+";
 
 /// COST, A and B have the numbers 1 to 3, and X and Y 4 and 5. X is (3A - B)/5, and Y is (2B - A)/5.
-const FIFTHS: &[u8] =
-    b"NAME          FIFTHS    FREE\nROWS\n N COST\n G A\n G B\nCOLUMNS\n X COST 1 A 2\n X B 1\n Y COST 1 A 1\n Y B 3\nENDATA\n";
+const FIFTHS: &[u8] = b"NAME          FIFTHS    FREE
+ROWS
+ N COST
+ G A
+ G B
+COLUMNS
+ X COST 1 A 2
+ X B 1
+ Y COST 1 A 1
+ Y B 3
+ENDATA
+";
 
 /// A deck, columns in place of rows, what is asked, and the answers by the table and by the product form.
 struct Case {

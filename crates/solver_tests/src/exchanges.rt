@@ -220,7 +220,8 @@ fn exchanges_there_and_back(rt: HostRuntime) -> Result<(), Fail> {
 
 const MAX: i128 = i128::MAX;
 
-/// The numbers of two rows, and then the evidence of the exchange of row 1 for column 1 (variable 3), and the rows, which are as before it.
+/// The numbers of two rows, and then the evidence of the exchange of row 1 for column 1 (variable 3), and the rows, which are as
+/// before it.
 struct Refusal {
     numbers: [Parts; 4],
     text: &'static str,
@@ -229,19 +230,27 @@ struct Refusal {
 const REFUSALS: [Refusal; 4] = [
     Refusal {
         numbers: [(1, MAX), (2, 1), (0, 1), (1, 1)],
-        text: "FORMULA 1 WAY 0 P 1 Q 3 I 0 J 4 TERM 0 THETA 0: 2 / 1/170141183460469231731687303715884105727 has no exact result in 128 bits; 0 0 1/170141183460469231731687303715884105727 2; 0 0 0 1",
+        text: "FORMULA 1 WAY 0 P 1 Q 3 I 0 J 4 TERM 0 THETA 0: \
+               2 / 1/170141183460469231731687303715884105727 has no exact result in 128 bits; \
+               0 0 1/170141183460469231731687303715884105727 2; 0 0 0 1",
     },
     Refusal {
         numbers: [(1, 1), (MAX, 1), (2, 1), (1, 1)],
-        text: "FORMULA 2 WAY 0 P 1 Q 3 I 2 J 4 TERM 0 THETA 0: 170141183460469231731687303715884105727 * 2 has no exact result in 128 bits; 0 0 1 170141183460469231731687303715884105727; 0 0 2 1",
+        text: "FORMULA 2 WAY 0 P 1 Q 3 I 2 J 4 TERM 0 THETA 0: \
+               170141183460469231731687303715884105727 * 2 has no exact result in 128 bits; \
+               0 0 1 170141183460469231731687303715884105727; 0 0 2 1",
     },
     Refusal {
         numbers: [(1, 1), (MAX, 1), (1, 1), (-1, 1)],
-        text: "FORMULA 3 WAY 0 P 1 Q 3 I 2 J 4 TERM 0 THETA 0: -1 - 170141183460469231731687303715884105727 has no exact result in 128 bits; 0 0 1 170141183460469231731687303715884105727; 0 0 1 -1",
+        text: "FORMULA 3 WAY 0 P 1 Q 3 I 2 J 4 TERM 0 THETA 0: \
+               -1 - 170141183460469231731687303715884105727 has no exact result in 128 bits; \
+               0 0 1 170141183460469231731687303715884105727; 0 0 1 -1",
     },
     Refusal {
         numbers: [(1, MAX), (0, 1), (2, 1), (1, 1)],
-        text: "FORMULA 5 WAY 0 P 1 Q 3 I 2 J 0 TERM 0 THETA 0: 170141183460469231731687303715884105727 * 2 has no exact result in 128 bits; 0 0 1/170141183460469231731687303715884105727 0; 0 0 2 1",
+        text: "FORMULA 5 WAY 0 P 1 Q 3 I 2 J 0 TERM 0 THETA 0: \
+               170141183460469231731687303715884105727 * 2 has no exact result in 128 bits; \
+               0 0 1/170141183460469231731687303715884105727 0; 0 0 2 1",
     },
 ];
 

@@ -141,63 +141,217 @@ fn answer_text(
     }
 }
 
-// In the runs of the objective COST, CHANGE and the third row, r3, have the numbers 1 to 3, and X, Y and Z 4 to 6; a column that isn't
-// named stands at 0.
+// In the runs of the objective COST, CHANGE and the third row, r3, have the numbers 1 to 3, and X, Y and Z 4 to 6; a column that
+// isn't named stands at 0.
 
-/// The least -x - 2y + theta (-x), where x + y <= 4, 0 <= x <= 3 and y >= 0. At x = 0, y = 4 it is x - 2 r3 - theta x, so this is best
-/// up to theta = 1; past it x = 3 and y = 1.
-const TWO_INTERVALS: &[u8] =
-    b"NAME          T         FREE\nROWS\n N COST\n N CHANGE\n L R3\nCOLUMNS\n X COST -1 CHANGE -1\n X R3 1\n Y COST -2 R3 1\n Z COST 0\nRHS\n B R3 4\nBOUNDS\n UP S X 3\n FX S Z 0\nENDATA\n";
+/// The least -x - 2y + theta (-x), where x + y <= 4, 0 <= x <= 3 and y >= 0. At x = 0, y = 4 it is x - 2 r3 - theta x, so this is
+/// best up to theta = 1; past it x = 3 and y = 1.
+const TWO_INTERVALS: &[u8] = b"NAME          T         FREE
+ROWS
+ N COST
+ N CHANGE
+ L R3
+COLUMNS
+ X COST -1 CHANGE -1
+ X R3 1
+ Y COST -2 R3 1
+ Z COST 0
+RHS
+ B R3 4
+BOUNDS
+ UP S X 3
+ FX S Z 0
+ENDATA
+";
 
 /// The least theta x, where x is free and r3 = x >= -3. At theta = 0 each x is best, and the free nonbasic x stands at 0: the first
 /// interval is a point. There x falls until r3 stops it, and r3 has the price theta.
-const FREE_COLUMN: &[u8] =
-    b"NAME          T         FREE\nROWS\n N COST\n N CHANGE\n G R3\nCOLUMNS\n X CHANGE 1 R3 1\n Y COST 0\n Z COST 0\nRHS\n B R3 -3\nBOUNDS\n FR S X\n FX S Y 0\n FX S Z 0\nENDATA\n";
+const FREE_COLUMN: &[u8] = b"NAME          T         FREE
+ROWS
+ N COST
+ N CHANGE
+ G R3
+COLUMNS
+ X CHANGE 1 R3 1
+ Y COST 0
+ Z COST 0
+RHS
+ B R3 -3
+BOUNDS
+ FR S X
+ FX S Y 0
+ FX S Z 0
+ENDATA
+";
 
-/// The least (1 - theta) (x + y + z), where x <= 1, y <= 2, z <= 3 and r3 = x + y + z <= 5. All three move at the breakpoint 1: x rises to
-/// 1, y to 2, and z until r3 is 5. Then the objective is (1 - theta) r3.
-const THREE_MOVERS: &[u8] =
-    b"NAME          T         FREE\nROWS\n N COST\n N CHANGE\n L R3\nCOLUMNS\n X COST 1 CHANGE -1\n X R3 1\n Y COST 1 CHANGE -1\n Y R3 1\n Z COST 1 CHANGE -1\n Z R3 1\nRHS\n B R3 5\nBOUNDS\n UP S X 1\n UP S Y 2\n UP S Z 3\nENDATA\n";
+/// The least (1 - theta) (x + y + z), where x <= 1, y <= 2, z <= 3 and r3 = x + y + z <= 5. All three move at the breakpoint 1: x
+/// rises to 1, y to 2, and z until r3 is 5. Then the objective is (1 - theta) r3.
+const THREE_MOVERS: &[u8] = b"NAME          T         FREE
+ROWS
+ N COST
+ N CHANGE
+ L R3
+COLUMNS
+ X COST 1 CHANGE -1
+ X R3 1
+ Y COST 1 CHANGE -1
+ Y R3 1
+ Z COST 1 CHANGE -1
+ Z R3 1
+RHS
+ B R3 5
+BOUNDS
+ UP S X 1
+ UP S Y 2
+ UP S Z 3
+ENDATA
+";
 
 /// The greatest (theta - 1) x, where 0 <= x <= 3: x stands at 0 up to theta = 1, and at 3 past it.
-const GREATEST: &[u8] =
-    b"NAME          T         FREE\nROWS\n N COST\n N CHANGE\n N R3\nCOLUMNS\n X COST -1 CHANGE 1\n Y COST 0\n Z COST 0\nBOUNDS\n UP S X 3\n FX S Y 0\n FX S Z 0\nENDATA\n";
+const GREATEST: &[u8] = b"NAME          T         FREE
+ROWS
+ N COST
+ N CHANGE
+ N R3
+COLUMNS
+ X COST -1 CHANGE 1
+ Y COST 0
+ Z COST 0
+BOUNDS
+ UP S X 3
+ FX S Y 0
+ FX S Z 0
+ENDATA
+";
 
 /// The least (1 - theta) x, where x >= 0: past theta = 1 there is no bound, as x rises from 0.
-const UNBOUNDED: &[u8] =
-    b"NAME          T         FREE\nROWS\n N COST\n N CHANGE\n N R3\nCOLUMNS\n X COST 1 CHANGE -1\n Y COST 0\n Z COST 0\nBOUNDS\n FX S Y 0\n FX S Z 0\nENDATA\n";
+const UNBOUNDED: &[u8] = b"NAME          T         FREE
+ROWS
+ N COST
+ N CHANGE
+ N R3
+COLUMNS
+ X COST 1 CHANGE -1
+ Y COST 0
+ Z COST 0
+BOUNDS
+ FX S Y 0
+ FX S Z 0
+ENDATA
+";
 
 /// The least -x, where x >= 0, has no bound at theta = 0 already.
-const UNBOUNDED_AT_ONCE: &[u8] =
-    b"NAME          T         FREE\nROWS\n N COST\n N CHANGE\n N R3\nCOLUMNS\n X COST -1\n Y COST 0\n Z COST 0\nBOUNDS\n FX S Y 0\n FX S Z 0\nENDATA\n";
+const UNBOUNDED_AT_ONCE: &[u8] = b"NAME          T         FREE
+ROWS
+ N COST
+ N CHANGE
+ N R3
+COLUMNS
+ X COST -1
+ Y COST 0
+ Z COST 0
+BOUNDS
+ FX S Y 0
+ FX S Z 0
+ENDATA
+";
 
 // In those of the right-hand side COST and the second row, r2, have the numbers 1 and 2, and X and Y 3 and 4.
 
-/// The least -2x - y, where 0 <= x <= 3, 0 <= y <= 2 and r2 = x + y <= 4 + theta. While r2 holds y back, x = 3 and y = 1 + theta; from
-/// theta = 1 on y is 2, and r2 is free to move.
-const UP_TO_FOUR: &[u8] =
-    b"NAME          T         FREE\nROWS\n N COST\n L R2\nCOLUMNS\n X COST -2 R2 1\n Y COST -1 R2 1\nRHS\n B R2 4\nBOUNDS\n UP S X 3\n UP S Y 2\nENDATA\n";
+/// The least -2x - y, where 0 <= x <= 3, 0 <= y <= 2 and r2 = x + y <= 4 + theta. While r2 holds y back, x = 3 and y = 1 + theta;
+/// from theta = 1 on y is 2, and r2 is free to move.
+const UP_TO_FOUR: &[u8] = b"NAME          T         FREE
+ROWS
+ N COST
+ L R2
+COLUMNS
+ X COST -2 R2 1
+ Y COST -1 R2 1
+RHS
+ B R2 4
+BOUNDS
+ UP S X 3
+ UP S Y 2
+ENDATA
+";
 
-/// The same with r2 <= 3 + theta. At theta = 0 x enters for r2 and stands at its limit: the first interval is a point. There x leaves,
-/// and of r2 (at 2) and y (at 1) y brings it back at the least price.
-const UP_TO_THREE: &[u8] =
-    b"NAME          T         FREE\nROWS\n N COST\n L R2\nCOLUMNS\n X COST -2 R2 1\n Y COST -1 R2 1\nRHS\n B R2 3\nBOUNDS\n UP S X 3\n UP S Y 2\nENDATA\n";
+/// The same with r2 <= 3 + theta. At theta = 0 x enters for r2 and stands at its limit: the first interval is a point. There x
+/// leaves, and of r2 (at 2) and y (at 1) y brings it back at the least price.
+const UP_TO_THREE: &[u8] = b"NAME          T         FREE
+ROWS
+ N COST
+ L R2
+COLUMNS
+ X COST -2 R2 1
+ Y COST -1 R2 1
+RHS
+ B R2 3
+BOUNDS
+ UP S X 3
+ UP S Y 2
+ENDATA
+";
 
 /// The least x, where r2 = x >= 1 + theta and x <= 3: past theta = 2 no x meets both, as r2 - x is 0.
-const AT_LEAST_ONE: &[u8] =
-    b"NAME          T         FREE\nROWS\n N COST\n G R2\nCOLUMNS\n X COST 1 R2 1\n Y COST 0\nRHS\n B R2 1\nBOUNDS\n UP S X 3\n FX S Y 0\nENDATA\n";
+const AT_LEAST_ONE: &[u8] = b"NAME          T         FREE
+ROWS
+ N COST
+ G R2
+COLUMNS
+ X COST 1 R2 1
+ Y COST 0
+RHS
+ B R2 1
+BOUNDS
+ UP S X 3
+ FX S Y 0
+ENDATA
+";
 
 /// The least x + y, where r2 = x + y <= 4 + theta: x and y stay at 0, with no step.
-const STAYS: &[u8] =
-    b"NAME          T         FREE\nROWS\n N COST\n L R2\nCOLUMNS\n X COST 1 R2 1\n Y COST 1 R2 1\nRHS\n B R2 4\nBOUNDS\n UP S X 3\n UP S Y 2\nENDATA\n";
+const STAYS: &[u8] = b"NAME          T         FREE
+ROWS
+ N COST
+ L R2
+COLUMNS
+ X COST 1 R2 1
+ Y COST 1 R2 1
+RHS
+ B R2 4
+BOUNDS
+ UP S X 3
+ UP S Y 2
+ENDATA
+";
 
 /// At theta = 0 no x meets r2 = x >= 5 and x <= 3.
-const AT_LEAST_FIVE: &[u8] =
-    b"NAME          T         FREE\nROWS\n N COST\n G R2\nCOLUMNS\n X COST 1 R2 1\n Y COST 0\nRHS\n B R2 5\nBOUNDS\n UP S X 3\n FX S Y 0\nENDATA\n";
+const AT_LEAST_FIVE: &[u8] = b"NAME          T         FREE
+ROWS
+ N COST
+ G R2
+COLUMNS
+ X COST 1 R2 1
+ Y COST 0
+RHS
+ B R2 5
+BOUNDS
+ UP S X 3
+ FX S Y 0
+ENDATA
+";
 
 /// The least -x, where x >= 0, has no bound.
-const UNBOUNDED_COLUMN: &[u8] =
-    b"NAME          T         FREE\nROWS\n N COST\n N R2\nCOLUMNS\n X COST -1\n Y COST 0\nBOUNDS\n FX S Y 0\nENDATA\n";
+const UNBOUNDED_COLUMN: &[u8] = b"NAME          T         FREE
+ROWS
+ N COST
+ N R2
+COLUMNS
+ X COST -1
+ Y COST 0
+BOUNDS
+ FX S Y 0
+ENDATA
+";
 
 /// A run that may take so many steps while theta goes from one value to another, and what it comes to.
 struct Run {
@@ -212,10 +366,11 @@ struct Run {
 }
 
 const TWO_INTERVALS_TEXT: &str =
-    "0..1 BS BS UL LL BS LL IS -8 0 4 0 4 0 + 0 0 0 0 0 0 AT 0 0 -2 1 0 0 + 0 0 0 -1 0 0; 1..5 BS BS UL UL BS LL IS -5 -3 4 3 1 0 + 0 0 0 0 0 0 AT 0 0 -2 1 0 0 + 0 0 0 -1 0 0; END";
+    "0..1 BS BS UL LL BS LL IS -8 0 4 0 4 0 + 0 0 0 0 0 0 AT 0 0 -2 1 0 0 + 0 0 0 -1 0 0; \
+     1..5 BS BS UL UL BS LL IS -5 -3 4 3 1 0 + 0 0 0 0 0 0 AT 0 0 -2 1 0 0 + 0 0 0 -1 0 0; END";
 
-const UP_TO_FOUR_TEXT: &str =
-    "0..1 BS UL UL BS IS -7 4 3 1 + -1 1 0 1 AT 0 -1 -1 0 + 0 0 0 0; 1..6 BS BS UL UL IS -8 5 3 2 + 0 0 0 0 AT 0 0 -2 -1 + 0 0 0 0; END";
+const UP_TO_FOUR_TEXT: &str = "0..1 BS UL UL BS IS -7 4 3 1 + -1 1 0 1 AT 0 -1 -1 0 + 0 0 0 0; \
+     1..6 BS BS UL UL IS -8 5 3 2 + 0 0 0 0 AT 0 0 -2 -1 + 0 0 0 0; END";
 
 const RUNS: [Run; 20] = [
     Run {
@@ -276,7 +431,8 @@ const RUNS: [Run; 20] = [
         from: 0,
         to: 5,
         limit: 10,
-        text: "0..0 BS BS BS FR LL LL IS 0 0 0 0 0 0 + 0 0 0 0 0 0 AT 0 0 0 0 0 0 + 0 0 0 1 0 0; 0..5 BS BS LL BS LL LL IS 0 -3 -3 -3 0 0 + 0 0 0 0 0 0 AT 0 0 0 0 0 0 + 0 0 1 0 0 0; END",
+        text: "0..0 BS BS BS FR LL LL IS 0 0 0 0 0 0 + 0 0 0 0 0 0 AT 0 0 0 0 0 0 + 0 0 0 1 0 0; \
+               0..5 BS BS LL BS LL LL IS 0 -3 -3 -3 0 0 + 0 0 0 0 0 0 AT 0 0 0 0 0 0 + 0 0 1 0 0 0; END",
     },
     Run {
         name: "three movers",
@@ -286,7 +442,8 @@ const RUNS: [Run; 20] = [
         from: 0,
         to: 4,
         limit: 3,
-        text: "0..1 BS BS BS LL LL LL IS 0 0 0 0 0 0 + 0 0 0 0 0 0 AT 0 0 0 1 1 1 + 0 0 0 -1 -1 -1; 1..4 BS BS UL UL UL BS IS 5 -5 5 1 2 2 + 0 0 0 0 0 0 AT 0 0 1 0 0 0 + 0 0 -1 0 0 0; END",
+        text: "0..1 BS BS BS LL LL LL IS 0 0 0 0 0 0 + 0 0 0 0 0 0 AT 0 0 0 1 1 1 + 0 0 0 -1 -1 -1; \
+               1..4 BS BS UL UL UL BS IS 5 -5 5 1 2 2 + 0 0 0 0 0 0 AT 0 0 1 0 0 0 + 0 0 -1 0 0 0; END",
     },
     Run {
         name: "the greatest objective",
@@ -296,7 +453,8 @@ const RUNS: [Run; 20] = [
         from: 0,
         to: 2,
         limit: 10,
-        text: "0..1 BS BS BS LL LL LL IS 0 0 0 0 0 0 + 0 0 0 0 0 0 AT 0 0 0 -1 0 0 + 0 0 0 1 0 0; 1..2 BS BS BS UL LL LL IS -3 3 0 3 0 0 + 0 0 0 0 0 0 AT 0 0 0 -1 0 0 + 0 0 0 1 0 0; END",
+        text: "0..1 BS BS BS LL LL LL IS 0 0 0 0 0 0 + 0 0 0 0 0 0 AT 0 0 0 -1 0 0 + 0 0 0 1 0 0; \
+               1..2 BS BS BS UL LL LL IS -3 3 0 3 0 0 + 0 0 0 0 0 0 AT 0 0 0 -1 0 0 + 0 0 0 1 0 0; END",
     },
     Run {
         name: "a run that ends without bound",
@@ -306,7 +464,8 @@ const RUNS: [Run; 20] = [
         from: 0,
         to: 5,
         limit: 10,
-        text: "0..1 BS BS BS LL LL LL IS 0 0 0 0 0 0 + 0 0 0 0 0 0 AT 0 0 0 1 0 0 + 0 0 0 -1 0 0; UNBOUNDED PAST 1 FROM 0 0 0 0 0 0 BY 1 -1 0 1 0 0",
+        text: "0..1 BS BS BS LL LL LL IS 0 0 0 0 0 0 + 0 0 0 0 0 0 AT 0 0 0 1 0 0 + 0 0 0 -1 0 0; \
+               UNBOUNDED PAST 1 FROM 0 0 0 0 0 0 BY 1 -1 0 1 0 0",
     },
     Run {
         name: "an objective without bound",
@@ -356,7 +515,9 @@ const RUNS: [Run; 20] = [
         from: 0,
         to: 5,
         limit: 10,
-        text: "0..0 BS UL BS LL IS -6 3 3 0 + -2 1 1 0 AT 0 -2 0 1 + 0 0 0 0; 0..2 BS UL UL BS IS -6 3 3 0 + -1 1 0 1 AT 0 -1 -1 0 + 0 0 0 0; 2..5 BS BS UL UL IS -8 5 3 2 + 0 0 0 0 AT 0 0 -2 -1 + 0 0 0 0; END",
+        text: "0..0 BS UL BS LL IS -6 3 3 0 + -2 1 1 0 AT 0 -2 0 1 + 0 0 0 0; \
+               0..2 BS UL UL BS IS -6 3 3 0 + -1 1 0 1 AT 0 -1 -1 0 + 0 0 0 0; \
+               2..5 BS BS UL UL IS -8 5 3 2 + 0 0 0 0 AT 0 0 -2 -1 + 0 0 0 0; END",
     },
     Run {
         name: "no step",

@@ -81,8 +81,8 @@ fn by_dual(alloc: Global, lp: &Lp, limit: u32) -> Result<(PathResult, Basis), Fa
     Ok((dual_end(alloc, answer)?, basis))
 }
 
-/// Which path is followed: the simplex path over the table of rates, by columns or over the product form, or over the table without a
-/// limit, or the dual path over the table.
+/// Which path is followed: the simplex path over the table of rates, by columns or over the product form, or over the table without
+/// a limit, or the dual path over the table.
 #[derive(Clone, Copy)]
 enum Way {
     Table,
@@ -154,62 +154,226 @@ fn end_text(alloc: Global, lp: &Lp, end: PathResult) -> Result<String, Fail> {
 }
 
 /// COST, LIM and X have the numbers 1 to 3 in each of these decks of one row, whose names say what lies between which limits.
-const UP_TO_FOUR: &[u8] =
-    b"NAME          T         FREE\nROWS\n N COST\n L LIM\nCOLUMNS\n X COST 3 LIM 1\nRHS\n B LIM 4\nENDATA\n";
+const UP_TO_FOUR: &[u8] = b"NAME          T         FREE
+ROWS
+ N COST
+ L LIM
+COLUMNS
+ X COST 3 LIM 1
+RHS
+ B LIM 4
+ENDATA
+";
 
-const COLUMN_UP_TO_FIVE: &[u8] =
-    b"NAME          T         FREE\nROWS\n N COST\n L LIM\nCOLUMNS\n X COST 3 LIM 1\nRHS\n B LIM 9\nBOUNDS\n UP S X 5\nENDATA\n";
+const COLUMN_UP_TO_FIVE: &[u8] = b"NAME          T         FREE
+ROWS
+ N COST
+ L LIM
+COLUMNS
+ X COST 3 LIM 1
+RHS
+ B LIM 9
+BOUNDS
+ UP S X 5
+ENDATA
+";
 
-const TWO_TO_FIVE: &[u8] =
-    b"NAME          T         FREE\nROWS\n N COST\n E LIM\nCOLUMNS\n X COST 1 LIM 1\nRHS\n B LIM 2\nRANGES\n R LIM 3\nENDATA\n";
+const TWO_TO_FIVE: &[u8] = b"NAME          T         FREE
+ROWS
+ N COST
+ E LIM
+COLUMNS
+ X COST 1 LIM 1
+RHS
+ B LIM 2
+RANGES
+ R LIM 3
+ENDATA
+";
 
-const COLUMN_UP_TO_MINUS_ONE: &[u8] =
-    b"NAME          T         FREE\nROWS\n N COST\n N LIM\nCOLUMNS\n X COST 3 LIM 1\nBOUNDS\n MI S X\n UP S X -1\nENDATA\n";
+const COLUMN_UP_TO_MINUS_ONE: &[u8] = b"NAME          T         FREE
+ROWS
+ N COST
+ N LIM
+COLUMNS
+ X COST 3 LIM 1
+BOUNDS
+ MI S X
+ UP S X -1
+ENDATA
+";
 
-const FREE_COLUMN: &[u8] =
-    b"NAME          T         FREE\nROWS\n N COST\n G LIM\nCOLUMNS\n X COST 1 LIM 1\nRHS\n B LIM -3\nBOUNDS\n FR S X\nENDATA\n";
+const FREE_COLUMN: &[u8] = b"NAME          T         FREE
+ROWS
+ N COST
+ G LIM
+COLUMNS
+ X COST 1 LIM 1
+RHS
+ B LIM -3
+BOUNDS
+ FR S X
+ENDATA
+";
 
-const CROSSED: &[u8] =
-    b"NAME          T         FREE\nROWS\n N COST\n N LIM\nCOLUMNS\n X COST 1 LIM 1\nBOUNDS\n UP S X -1\nENDATA\n";
+const CROSSED: &[u8] = b"NAME          T         FREE
+ROWS
+ N COST
+ N LIM
+COLUMNS
+ X COST 1 LIM 1
+BOUNDS
+ UP S X -1
+ENDATA
+";
 
-const UNBOUNDED: &[u8] =
-    b"NAME          T         FREE\nROWS\n N COST\n G LIM\nCOLUMNS\n X COST -1 LIM 1\nENDATA\n";
+const UNBOUNDED: &[u8] = b"NAME          T         FREE
+ROWS
+ N COST
+ G LIM
+COLUMNS
+ X COST -1 LIM 1
+ENDATA
+";
 
 /// COST, two rows with the value of X, and X have the numbers 1 to 4.
-const TWO_LIMITS: &[u8] =
-    b"NAME          T         FREE\nROWS\n N COST\n L ONE\n L TWO\nCOLUMNS\n X COST -1 ONE 1\n X TWO 1\nENDATA\n";
+const TWO_LIMITS: &[u8] = b"NAME          T         FREE
+ROWS
+ N COST
+ L ONE
+ L TWO
+COLUMNS
+ X COST -1 ONE 1
+ X TWO 1
+ENDATA
+";
 
-const APART: &[u8] =
-    b"NAME          T         FREE\nROWS\n N COST\n G ONE\n L TWO\nCOLUMNS\n X COST 1 ONE 1\n X TWO 1\nRHS\n B ONE 3 TWO 2\nENDATA\n";
+const APART: &[u8] = b"NAME          T         FREE
+ROWS
+ N COST
+ G ONE
+ L TWO
+COLUMNS
+ X COST 1 ONE 1
+ X TWO 1
+RHS
+ B ONE 3 TWO 2
+ENDATA
+";
 
 /// The large number is 999 999 999 and 18 zeros more, and the small one 1 by 10 000 000 000 000 000 000.
-const LARGE_POINT: &[u8] =
-    b"NAME          T         FREE\nROWS\n N COST\n L LIM\nCOLUMNS\n X COST 1 LIM 999999999E18\nBOUNDS\n LO S X 999999999E18\nENDATA\n";
+const LARGE_POINT: &[u8] = b"NAME          T         FREE
+ROWS
+ N COST
+ L LIM
+COLUMNS
+ X COST 1 LIM 999999999E18
+BOUNDS
+ LO S X 999999999E18
+ENDATA
+";
 
-const LARGE_LENGTH: &[u8] =
-    b"NAME          T         FREE\nROWS\n N COST\n L LIM\nCOLUMNS\n X COST -1 LIM .1E-18\nRHS\n B LIM 999999999E18\nENDATA\n";
+const LARGE_LENGTH: &[u8] = b"NAME          T         FREE
+ROWS
+ N COST
+ L LIM
+COLUMNS
+ X COST -1 LIM .1E-18
+RHS
+ B LIM 999999999E18
+ENDATA
+";
 
-const LARGE_STEP: &[u8] =
-    b"NAME          T         FREE\nROWS\n N COST\n G LIM\nCOLUMNS\n X COST -1 LIM 999999999E18\nBOUNDS\n UP S X 999999999E18\nENDATA\n";
+const LARGE_STEP: &[u8] = b"NAME          T         FREE
+ROWS
+ N COST
+ G LIM
+COLUMNS
+ X COST -1 LIM 999999999E18
+BOUNDS
+ UP S X 999999999E18
+ENDATA
+";
 
-const SHORTER_STEP: &[u8] =
-    b"NAME          T         FREE\nROWS\n N COST\n L LIM\nCOLUMNS\n X COST -1 LIM .1E-18\nRHS\n B LIM 999999999E18\nBOUNDS\n UP S X 1\nENDATA\n";
+const SHORTER_STEP: &[u8] = b"NAME          T         FREE
+ROWS
+ N COST
+ L LIM
+COLUMNS
+ X COST -1 LIM .1E-18
+RHS
+ B LIM 999999999E18
+BOUNDS
+ UP S X 1
+ENDATA
+";
 
 /// Decks whose dual paths are followed.
-const RISES: &[u8] =
-    b"NAME          T         FREE\nROWS\n N COST\n G LIM\nCOLUMNS\n X COST 1 LIM -1\nRHS\n B LIM -5\nRANGES\n R LIM 2\nENDATA\n";
+const RISES: &[u8] = b"NAME          T         FREE
+ROWS
+ N COST
+ G LIM
+COLUMNS
+ X COST 1 LIM -1
+RHS
+ B LIM -5
+RANGES
+ R LIM 2
+ENDATA
+";
 
-const FALLS: &[u8] =
-    b"NAME          T         FREE\nROWS\n N COST\n L LIM\nCOLUMNS\n X COST -1 LIM 1\nRHS\n B LIM 3\nBOUNDS\n MI S X\n UP S X 5\nENDATA\n";
+const FALLS: &[u8] = b"NAME          T         FREE
+ROWS
+ N COST
+ L LIM
+COLUMNS
+ X COST -1 LIM 1
+RHS
+ B LIM 3
+BOUNDS
+ MI S X
+ UP S X 5
+ENDATA
+";
 
-const FIXED_BELOW: &[u8] =
-    b"NAME          T         FREE\nROWS\n N COST\n G LIM\nCOLUMNS\n X COST -1 LIM 1\nRHS\n B LIM 4\nBOUNDS\n FX S X 1\nENDATA\n";
+const FIXED_BELOW: &[u8] = b"NAME          T         FREE
+ROWS
+ N COST
+ G LIM
+COLUMNS
+ X COST -1 LIM 1
+RHS
+ B LIM 4
+BOUNDS
+ FX S X 1
+ENDATA
+";
 
-const CROSSED_BELOW: &[u8] =
-    b"NAME          T         FREE\nROWS\n N COST\n G LIM\nCOLUMNS\n X COST 1 LIM 1\nRHS\n B LIM 4\nBOUNDS\n UP S X -1\nENDATA\n";
+const CROSSED_BELOW: &[u8] = b"NAME          T         FREE
+ROWS
+ N COST
+ G LIM
+COLUMNS
+ X COST 1 LIM 1
+RHS
+ B LIM 4
+BOUNDS
+ UP S X -1
+ENDATA
+";
 
-const WRONG_PRICE: &[u8] =
-    b"NAME          T         FREE\nROWS\n N COST\n G LIM\nCOLUMNS\n X COST -1 LIM 1\nRHS\n B LIM 4\nBOUNDS\n UP S X -1\nENDATA\n";
+const WRONG_PRICE: &[u8] = b"NAME          T         FREE
+ROWS
+ N COST
+ G LIM
+COLUMNS
+ X COST -1 LIM 1
+RHS
+ B LIM 4
+BOUNDS
+ UP S X -1
+ENDATA
+";
 
 /// A path within a limit of steps: its end, and the basis that it reaches, where that is looked at.
 struct Path {
@@ -369,7 +533,8 @@ const PATHS: [Path; 33] = [
         sense: Sense::Min,
         way: Way::Table,
         limit: 10,
-        end: "FORMULA 10 WAY 0 P 0 Q 0 I 2 J 3 TERM 0 THETA 0: 999999999000000000000000000 * 999999999000000000000000000 has no exact result in 128 bits",
+        end: "FORMULA 10 WAY 0 P 0 Q 0 I 2 J 3 TERM 0 THETA 0: \
+              999999999000000000000000000 * 999999999000000000000000000 has no exact result in 128 bits",
         basis: " BS BS LL",
     },
     Path {
@@ -378,7 +543,8 @@ const PATHS: [Path; 33] = [
         sense: Sense::Min,
         way: Way::Table,
         limit: 10,
-        end: "FORMULA 7 WAY 0 P 0 Q 3 I 2 J 0 TERM 2 THETA 0: 999999999000000000000000000 / 1/10000000000000000000 has no exact result in 128 bits",
+        end: "FORMULA 7 WAY 0 P 0 Q 3 I 2 J 0 TERM 2 THETA 0: \
+              999999999000000000000000000 / 1/10000000000000000000 has no exact result in 128 bits",
         basis: " BS BS LL",
     },
     Path {
@@ -387,7 +553,8 @@ const PATHS: [Path; 33] = [
         sense: Sense::Min,
         way: Way::Table,
         limit: 10,
-        end: "FORMULA 8 WAY 0 P 3 Q 3 I 2 J 0 TERM 0 THETA 0: 999999999000000000000000000 * 999999999000000000000000000 has no exact result in 128 bits",
+        end: "FORMULA 8 WAY 0 P 3 Q 3 I 2 J 0 TERM 0 THETA 0: \
+              999999999000000000000000000 * 999999999000000000000000000 has no exact result in 128 bits",
         basis: " BS BS LL",
     },
     Path {

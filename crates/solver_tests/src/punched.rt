@@ -11,8 +11,29 @@ use std::alloc::Global;
 use std::test::Fail;
 
 /// COST, UPR, LOR and EQ have the numbers 1 to 4, and A, B and C 5 to 7. B opens at its upper limit.
-const SMALL: &[u8] =
-    b"NAME          SMALL     FREE\nROWS\n N COST\n L UPR\n G LOR\n E EQ\nCOLUMNS\n A COST -3 UPR 1\n A EQ 1\n B COST -2 UPR 1\n B LOR 1\n C COST 1 LOR 1\n C EQ 1\nRHS\n R UPR 4 LOR 1\n R EQ 3\nBOUNDS\n UP BND A 2\n MI BND B\n UP BND B 1\n UP BND C 5\nENDATA\n";
+const SMALL: &[u8] = b"NAME          SMALL     FREE
+ROWS
+ N COST
+ L UPR
+ G LOR
+ E EQ
+COLUMNS
+ A COST -3 UPR 1
+ A EQ 1
+ B COST -2 UPR 1
+ B LOR 1
+ C COST 1 LOR 1
+ C EQ 1
+RHS
+ R UPR 4 LOR 1
+ R EQ 3
+BOUNDS
+ UP BND A 2
+ MI BND B
+ UP BND B 1
+ UP BND C 5
+ENDATA
+";
 
 /// Takes a nonbasic to its upper limit, if it has one.
 fn raise(lp: &Lp, basis: &mut Basis, q: u32) -> bool

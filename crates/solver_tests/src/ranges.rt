@@ -53,8 +53,23 @@ fn list_text(alloc: Global, list: &Intervals) -> Result<String, AllocError> {
 // A cost c: that of x gives c r2 + (2 - c) y - c z, so c >= 2; those of y and z (which has no entry) give a rate of c - 3, so
 // c <= 3.
 // t times r3 added gives (3 + t) r2 + (2t - 1) y + (t - 3) z, so -3 <= t <= 1/2.
-const GREATEST: &[u8] =
-    b"NAME          T         FREE\nROWS\n N GAIN\n L R2\n L R3\nCOLUMNS\n X GAIN 3 R2 1\n X R3 1\n Y GAIN 2 R2 1\n Y R3 3\n Z R2 1 R3 2\nRHS\n B R2 4 R3 6\nBOUNDS\n UP S Z 1\nENDATA\n";
+const GREATEST: &[u8] = b"NAME          T         FREE
+ROWS
+ N GAIN
+ L R2
+ L R3
+COLUMNS
+ X GAIN 3 R2 1
+ X R3 1
+ Y GAIN 2 R2 1
+ Y R3 3
+ Z R2 1 R3 2
+RHS
+ B R2 4 R3 6
+BOUNDS
+ UP S Z 1
+ENDATA
+";
 
 // The least x + 2y, where x + y >= 2, x - y + z <= 2, x and y >= 0 and z is free. At the best point, x = 2, r3 stands at its limit
 // too:
@@ -64,8 +79,23 @@ const GREATEST: &[u8] =
 // A cost c: that of x gives c r2 + (2 - c) y, so 0 <= c <= 2; that of y gives a rate of c - 1, so c >= 1; that of z gives a rate
 // of c, and z is free, so c = 0.
 // t times r3 added gives z a rate of t, so t = 0.
-const DEGENERATE: &[u8] =
-    b"NAME          T         FREE\nROWS\n N COST\n G R2\n L R3\nCOLUMNS\n X COST 1 R2 1\n X R3 1\n Y COST 2 R2 1\n Y R3 -1\n Z R3 1\nRHS\n B R2 2 R3 2\nBOUNDS\n FR S Z\nENDATA\n";
+const DEGENERATE: &[u8] = b"NAME          T         FREE
+ROWS
+ N COST
+ G R2
+ L R3
+COLUMNS
+ X COST 1 R2 1
+ X R3 1
+ Y COST 2 R2 1
+ Y R3 -1
+ Z R3 1
+RHS
+ B R2 2 R3 2
+BOUNDS
+ FR S Z
+ENDATA
+";
 
 // The least x + 2y, where x + y + z >= 3, -4 <= x - y - z <= 5, x and y >= 0 and z = 1. At the best point, x = 2:
 //     x = r2 - y - z,    r3 = r2 - 2y - 2z = 1,    objective = r2 + y - z
@@ -75,8 +105,25 @@ const DEGENERATE: &[u8] =
 // A cost c: that of x gives c r2 + (2 - c) y and a multiple of z, so 0 <= c <= 2; that of y gives a rate of c - 1, so c >= 1; that
 // of z may be any.
 // t times r3 added gives (1 + t) r2 + (1 - 2t) y and a multiple of z, so -1 <= t <= 1/2.
-const FIXED: &[u8] =
-    b"NAME          T         FREE\nROWS\n N COST\n G R2\n G R3\nCOLUMNS\n X COST 1 R2 1\n X R3 1\n Y COST 2 R2 1\n Y R3 -1\n Z R2 1 R3 -1\nRHS\n B R2 3 R3 -4\nRANGES\n R R3 9\nBOUNDS\n FX S Z 1\nENDATA\n";
+const FIXED: &[u8] = b"NAME          T         FREE
+ROWS
+ N COST
+ G R2
+ G R3
+COLUMNS
+ X COST 1 R2 1
+ X R3 1
+ Y COST 2 R2 1
+ Y R3 -1
+ Z R2 1 R3 -1
+RHS
+ B R2 3 R3 -4
+RANGES
+ R R3 9
+BOUNDS
+ FX S Z 1
+ENDATA
+";
 
 /// A deck, what is best, and the intervals of the limits, of the costs and of the rows.
 type Case = (&'static [u8], Sense, &'static str);

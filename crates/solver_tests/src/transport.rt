@@ -120,8 +120,9 @@ fn files_of(alloc: Global, deck: &[u8]) -> Result<((u32, Frac), Files), Fail> {
 }
 
 // The transportation program of 10 sources and 10 destinations. Its numbers are those of a table in Python's exact fractions
-// (`scripts/path_expected.py`): 103 steps, a cost of 310, and 19 basic columns, each of which has an eta once the file is made anew. Of
-// the two rows that leave in testprob, row 4 has a number in column 7 alone, so that enters first, and the other eta gains no number.
+// (`scripts/path_expected.py`): 103 steps, a cost of 310, and 19 basic columns, each of which has an eta once the file is made
+// anew. Of the two rows that leave in testprob, row 4 has a number in column 7 alone, so that enters first, and the other eta gains
+// no number.
 #[test]
 fn a_path_ends_with_a_short_file(rt: HostRuntime) -> Result<(), Fail> {
     let deck = transportation_deck(rt.alloc())?;

@@ -1,0 +1,700 @@
+// Combination rows: cards that are refused for one, and revisions that state them.
+use crate::rows::{DeckRow, Row};
+
+/// Cards that are refused for a combination.
+pub const FAULTS: [Row; 16] = [
+    Row {
+        name: "an entry on a combination",
+        job: b"         PROGRAM
+         CONVERT
+         SETUP
+         PRIMAL
+         SOLUTION
+         EXIT
+         PEND
+NAME          T
+ROWS
+ N  COST
+ L  A
+ L  B
+ DL S         A         1              B         1
+COLUMNS
+    X         COST      -1
+    X         A         1
+    X         S         1
+    Y         COST      -1
+    Y         B         1
+RHS
+    B1        A         3
+    B1        B         3
+    B1        S         4
+ENDATA
+",
+        status: 12,
+        listing: b"STOP 12 DECK FAULT 28 CARD 17\n",
+    },
+    Row {
+        name: "a range on a free combination",
+        job: b"         PROGRAM
+         CONVERT
+         EXIT
+         PEND
+NAME          T
+ROWS
+ N  COST
+ DN S         COST      1
+COLUMNS
+    X         COST      1
+RANGES
+    R         S         1
+ENDATA
+",
+        status: 12,
+        listing: b"STOP 12 DECK FAULT 9 CARD 12\n",
+    },
+    Row {
+        name: "a part on the combination itself",
+        job: b"         PROGRAM
+         CONVERT
+         EXIT
+         PEND
+NAME          T
+ROWS
+ N  COST
+ DL S         S         1
+COLUMNS
+    X         COST      1
+ENDATA
+",
+        status: 12,
+        listing: b"STOP 12 DECK FAULT 6 CARD 8\n",
+    },
+    Row {
+        name: "a part on a later row",
+        job: b"         PROGRAM
+         CONVERT
+         EXIT
+         PEND
+NAME          T
+ROWS
+ N  COST
+ DL S         A         1
+ L  A
+COLUMNS
+    X         COST      1
+ENDATA
+",
+        status: 12,
+        listing: b"STOP 12 DECK FAULT 6 CARD 8\n",
+    },
+    Row {
+        name: "a part twice",
+        job: b"         PROGRAM
+         CONVERT
+         EXIT
+         PEND
+NAME          T
+ROWS
+ N  COST
+ L  A
+ DL S         A         1              COST      1
+ DL S         A         2
+COLUMNS
+    X         COST      1
+ENDATA
+",
+        status: 12,
+        listing: b"STOP 12 DECK FAULT 7 CARD 10\n",
+    },
+    Row {
+        name: "another type for a combination",
+        job: b"         PROGRAM
+         CONVERT
+         EXIT
+         PEND
+NAME          T
+ROWS
+ N  COST
+ L  A
+ DL S         A         1
+ DG S         COST      2
+COLUMNS
+    X         COST      1
+ENDATA
+",
+        status: 12,
+        listing: b"STOP 12 DECK FAULT 4 CARD 10\n",
+    },
+    Row {
+        name: "a plain row with a part",
+        job: b"         PROGRAM
+         CONVERT
+         EXIT
+         PEND
+NAME          T
+ROWS
+ N  COST
+ L  A         COST      1
+COLUMNS
+    X         COST      1
+ENDATA
+",
+        status: 12,
+        listing: b"STOP 12 DECK FAULT 20 CARD 8\n",
+    },
+    Row {
+        name: "a part without a number",
+        job: b"         PROGRAM
+         CONVERT
+         EXIT
+         PEND
+NAME          T
+ROWS
+ N  COST
+ DL S         COST
+COLUMNS
+    X         COST      1
+ENDATA
+",
+        status: 12,
+        listing: b"STOP 12 DECK FAULT 8 CARD 8 NUMBER 1\n",
+    },
+    Row {
+        name: "a part without a row",
+        job: b"         PROGRAM
+         CONVERT
+         EXIT
+         PEND
+NAME          T
+ROWS
+ N  COST
+ DL S                   2
+COLUMNS
+ENDATA
+",
+        status: 12,
+        listing: b"STOP 12 DECK FAULT 15 CARD 8\n",
+    },
+    Row {
+        name: "a combination after another row",
+        job: b"         PROGRAM
+         CONVERT
+         EXIT
+         PEND
+NAME          T
+ROWS
+ N  COST
+ DL S         COST      1
+ L  A
+ DL S         A         1
+COLUMNS
+    X         COST      1
+ENDATA
+",
+        status: 12,
+        listing: b"STOP 12 DECK FAULT 4 CARD 10\n",
+    },
+    Row {
+        name: "a part on a row that comes later",
+        job: b"         PROGRAM
+         CONVERT
+         REVISE
+         EXIT
+         PEND
+NAME          T
+ROWS
+ N  COST
+ L  A
+ L  B
+ DL S         A         1              B         1
+COLUMNS
+    X         COST      -1             A         1
+    Y         COST      -1             B         1
+RHS
+    B         A         3              B         3
+    B         S         4
+ENDATA
+NAME          NEXT
+ROWS
+ BEFORE       B
+ DL U         B         1
+ENDATA
+",
+        status: 12,
+        listing: b"CONVERT T        ROWS 4 COLUMNS 2 ENTRIES 4\nSTOP 12 DECK FAULT 6 CARD 22\n",
+    },
+    Row {
+        name: "a plain type for a combination",
+        job: b"         PROGRAM
+         CONVERT
+         REVISE
+         EXIT
+         PEND
+NAME          T
+ROWS
+ N  COST
+ L  A
+ L  B
+ DL S         A         1              B         1
+COLUMNS
+    X         COST      -1             A         1
+    Y         COST      -1             B         1
+RHS
+    B         A         3              B         3
+    B         S         4
+ENDATA
+NAME          NEXT
+ROWS
+ MODIFY
+ L  S
+ENDATA
+",
+        status: 12,
+        listing: b"CONVERT T        ROWS 4 COLUMNS 2 ENTRIES 4\nSTOP 12 DECK FAULT 3 CARD 22\n",
+    },
+    Row {
+        name: "a combination's type for a plain row",
+        job: b"         PROGRAM
+         CONVERT
+         REVISE
+         EXIT
+         PEND
+NAME          T
+ROWS
+ N  COST
+ L  A
+ L  B
+ DL S         A         1              B         1
+COLUMNS
+    X         COST      -1             A         1
+    Y         COST      -1             B         1
+RHS
+    B         A         3              B         3
+    B         S         4
+ENDATA
+NAME          NEXT
+ROWS
+ MODIFY
+ DL A         COST      1
+ENDATA
+",
+        status: 12,
+        listing: b"CONVERT T        ROWS 4 COLUMNS 2 ENTRIES 4\nSTOP 12 DECK FAULT 3 CARD 22\n",
+    },
+    Row {
+        name: "a row without a name modified",
+        job: b"         PROGRAM
+         CONVERT
+         REVISE
+         EXIT
+         PEND
+NAME          T
+ROWS
+ N  COST
+ L  A
+ L  B
+ DL S         A         1              B         1
+COLUMNS
+    X         COST      -1             A         1
+    Y         COST      -1             B         1
+RHS
+    B         A         3              B         3
+    B         S         4
+ENDATA
+NAME          NEXT
+ROWS
+ MODIFY
+ Q
+ENDATA
+",
+        status: 12,
+        listing: b"CONVERT T        ROWS 4 COLUMNS 2 ENTRIES 4\nSTOP 12 DECK FAULT 15 CARD 22\n",
+    },
+    Row {
+        name: "an unknown row of an unknown type",
+        job: b"         PROGRAM
+         CONVERT
+         REVISE
+         EXIT
+         PEND
+NAME          T
+ROWS
+ N  COST
+ L  A
+ L  B
+ DL S         A         1              B         1
+COLUMNS
+    X         COST      -1             A         1
+    Y         COST      -1             B         1
+RHS
+    B         A         3              B         3
+    B         S         4
+ENDATA
+NAME          NEXT
+ROWS
+ MODIFY
+ Q  NOROW
+ENDATA
+",
+        status: 12,
+        listing: b"CONVERT T        ROWS 4 COLUMNS 2 ENTRIES 4\nSTOP 12 DECK FAULT 24 CARD 22\n",
+    },
+    Row {
+        name: "an entry put on a combination",
+        job: b"         PROGRAM
+         CONVERT
+         REVISE
+         EXIT
+         PEND
+NAME          T
+ROWS
+ N  COST
+ L  A
+ L  B
+ DL S         A         1              B         1
+COLUMNS
+    X         COST      -1             A         1
+    Y         COST      -1             B         1
+RHS
+    B         A         3              B         3
+    B         S         4
+ENDATA
+NAME          NEXT
+COLUMNS
+ MODIFY
+    X         S         1
+ENDATA
+",
+        status: 12,
+        listing: b"CONVERT T        ROWS 4 COLUMNS 2 ENTRIES 4\nSTOP 12 DECK FAULT 28 CARD 22\n",
+    },
+];
+
+/// Revisions of combinations, and the decks that are written of them.
+pub const REVISIONS: [DeckRow; 5] = [
+    DeckRow {
+        name: "a part replaced and another type",
+        job: b"         PROGRAM
+         CONVERT
+         REVISE
+         SETUP
+         PRIMAL
+         SOLUTION
+         BCDOUT
+         EXIT
+         PEND
+NAME          T
+ROWS
+ N  COST
+ L  A
+ L  B
+ DL S         A         1              B         1
+COLUMNS
+    X         COST      -1             A         1
+    Y         COST      -1             B         1
+RHS
+    B         A         3              B         3
+    B         S         4
+ENDATA
+NAME          NEXT
+ROWS
+ MODIFY
+ DG S         A         2
+ENDATA
+",
+        status: 0,
+        listing: b"CONVERT T        ROWS 4 COLUMNS 2 ENTRIES 4
+REVISE  NEXT     ROWS 4 COLUMNS 2 ENTRIES 4
+SETUP   NEXT     MIN
+PRIMAL OPTIMAL STEPS 3 OBJECTIVE -6 CHECKED
+SOLUTION OPTIMAL
+SECTION 1 - ROWS
+NUMBER ROW AT ACTIVITY SLACK LOWER UPPER DUAL
+    1 COST     BS -6 6 NONE NONE 0
+    2 A        UL 3 0 NONE 3 -1
+    3 B        UL 3 0 NONE 3 -1
+    4 S        BS 9 -5 4 NONE 0
+SECTION 2 - COLUMNS
+NUMBER COLUMN AT ACTIVITY COST LOWER UPPER REDUCED
+    5 X        BS 3 -1 0 NONE 0
+    6 Y        BS 3 -1 0 NONE 0
+BCDOUT  NEXT     CARDS 17
+END 0
+",
+        cards: b"NAME          NEXT
+ROWS
+ N  COST
+ L  A
+ L  B
+ DG S         A         2
+ DG S         B         1
+COLUMNS
+    X         COST      -1
+    X         A         1
+    Y         COST      -1
+    Y         B         1
+RHS
+    B         A         3
+    B         B         3
+    B         S         4
+ENDATA
+",
+    },
+    DeckRow {
+        name: "a part's row deleted",
+        job: b"         PROGRAM
+         CONVERT
+         REVISE
+         SETUP
+         PRIMAL
+         BCDOUT
+         EXIT
+         PEND
+NAME          T
+ROWS
+ N  COST
+ L  A
+ L  B
+ DL S         A         1              B         1
+COLUMNS
+    X         COST      -1             A         1
+    Y         COST      -1             B         1
+RHS
+    B         A         3              B         3
+    B         S         4
+ENDATA
+NAME          NEXT
+ROWS
+ DELETE
+    A
+ENDATA
+",
+        status: 2,
+        listing: b"CONVERT T        ROWS 4 COLUMNS 2 ENTRIES 4
+REVISE  NEXT     ROWS 3 COLUMNS 2 ENTRIES 3
+SETUP   NEXT     MIN
+PRIMAL UNBOUNDED STEPS 0 OBJECTIVE 0 CHECKED
+    1 COST     0 -1
+    2 B        0 0
+    3 S        0 0
+    4 X        0 1
+    5 Y        0 0
+END 2
+",
+        cards: b"",
+    },
+    DeckRow {
+        name: "a combination inserted on two cards",
+        job: b"         PROGRAM
+         CONVERT
+         REVISE
+         SETUP
+         PRIMAL
+         SOLUTION
+         BCDOUT
+         EXIT
+         PEND
+NAME          T
+ROWS
+ N  COST
+ L  A
+ L  B
+ DL S         A         1              B         1
+COLUMNS
+    X         COST      -1             A         1
+    Y         COST      -1             B         1
+RHS
+    B         A         3              B         3
+    B         S         4
+ENDATA
+NAME          NEXT
+ROWS
+ BEFORE       B
+ DL U         A         1
+ DL U         COST      0
+ENDATA
+",
+        status: 0,
+        listing: b"CONVERT T        ROWS 4 COLUMNS 2 ENTRIES 4
+REVISE  NEXT     ROWS 5 COLUMNS 2 ENTRIES 4
+SETUP   NEXT     MIN
+PRIMAL OPTIMAL STEPS 2 OBJECTIVE -3 CHECKED
+SOLUTION OPTIMAL
+SECTION 1 - ROWS
+NUMBER ROW AT ACTIVITY SLACK LOWER UPPER DUAL
+    1 COST     BS -3 3 NONE NONE 0
+    2 A        BS 0 3 NONE 3 0
+    3 U        UL 0 0 NONE 0 -1
+    4 B        UL 3 0 NONE 3 -1
+    5 S        BS 3 1 NONE 4 0
+SECTION 2 - COLUMNS
+NUMBER COLUMN AT ACTIVITY COST LOWER UPPER REDUCED
+    6 X        BS 0 -1 0 NONE 0
+    7 Y        BS 3 -1 0 NONE 0
+BCDOUT  NEXT     CARDS 19
+END 0
+",
+        cards: b"NAME          NEXT
+ROWS
+ N  COST
+ L  A
+ DL U         A         1
+ DL U         COST      0
+ L  B
+ DL S         A         1
+ DL S         B         1
+COLUMNS
+    X         COST      -1
+    X         A         1
+    Y         COST      -1
+    Y         B         1
+RHS
+    B         A         3
+    B         B         3
+    B         S         4
+ENDATA
+",
+    },
+    DeckRow {
+        name: "no parts left",
+        job: b"         PROGRAM
+         CONVERT
+         REVISE
+         SETUP
+         PRIMAL
+         SOLUTION
+         BCDOUT
+         EXIT
+         PEND
+NAME          T
+ROWS
+ N  COST
+ L  A
+ L  B
+ DL S         A         1              B         1
+COLUMNS
+    X         COST      -1             A         1
+    Y         COST      -1             B         1
+RHS
+    B         A         3              B         3
+    B         S         4
+ENDATA
+NAME          NEXT
+ROWS
+ DELETE
+    A
+    B
+COLUMNS
+ MODIFY
+    X         COST      1
+    Y         COST      1
+ENDATA
+",
+        status: 0,
+        listing: b"CONVERT T        ROWS 4 COLUMNS 2 ENTRIES 4
+REVISE  NEXT     ROWS 2 COLUMNS 2 ENTRIES 2
+SETUP   NEXT     MIN
+PRIMAL OPTIMAL STEPS 0 OBJECTIVE 0 CHECKED
+SOLUTION OPTIMAL
+SECTION 1 - ROWS
+NUMBER ROW AT ACTIVITY SLACK LOWER UPPER DUAL
+    1 COST     BS 0 0 NONE NONE 0
+    2 S        BS 0 4 NONE 4 0
+SECTION 2 - COLUMNS
+NUMBER COLUMN AT ACTIVITY COST LOWER UPPER REDUCED
+    3 X        LL 0 1 0 NONE 1
+    4 Y        LL 0 1 0 NONE 1
+BCDOUT  NEXT     CARDS 10
+END 0
+",
+        cards: b"NAME          NEXT
+ROWS
+ N  COST
+ DL S
+COLUMNS
+    X         COST      1
+    Y         COST      1
+RHS
+    B         S         4
+ENDATA
+",
+    },
+    DeckRow {
+        name: "written and converted again",
+        job: b"         PROGRAM
+         CONVERT
+         BCDOUT
+         REVISE
+         BCDOUT
+         EXIT
+         PEND
+NAME          T
+ROWS
+ DL S
+ N  COST
+ L  A
+ DG U         A         .50            COST      -2
+ DN V         U         1              A         0
+COLUMNS
+    X         A         1
+    Y         A         1
+RHS
+    B         U         1
+RANGES
+    R         U         2
+ENDATA
+NAME          NEXT
+ROWS
+ AFTER
+ DE W         V         1              U         1E1
+COLUMNS
+ DELETE
+    X         A
+ENDATA
+",
+        status: 0,
+        listing: b"CONVERT T        ROWS 5 COLUMNS 2 ENTRIES 2
+BCDOUT  T        CARDS 17
+REVISE  NEXT     ROWS 6 COLUMNS 2 ENTRIES 1
+BCDOUT  NEXT     CARDS 19
+END 0
+",
+        cards: b"NAME          T
+ROWS
+ DL S
+ N  COST
+ L  A
+ DG U         A         .50
+ DG U         COST      -2
+ DN V         U         1
+ DN V         A         0
+COLUMNS
+    X         A         1
+    Y         A         1
+RHS
+    B         U         1
+RANGES
+    R         U         2
+ENDATA
+NAME          NEXT
+ROWS
+ DL S
+ N  COST
+ L  A
+ DG U         A         .50
+ DG U         COST      -2
+ DN V         U         1
+ DN V         A         0
+ DE W         V         1
+ DE W         U         1E1
+COLUMNS
+    X         COST      0
+    Y         A         1
+RHS
+    B         U         1
+RANGES
+    R         U         2
+ENDATA
+",
+    },
+];

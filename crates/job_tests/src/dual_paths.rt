@@ -1,0 +1,618 @@
+// Paths that the dual simplex method follows.
+use crate::rows::DeckRow;
+
+/// Programs of DUAL, with their listings.
+pub const DUAL_PATHS: [DeckRow; 14] = [
+    DeckRow {
+        name: "dual testprob",
+        job: b"         PROGRAM
+         CONVERT
+         SETUP('BOUND','BND1')
+         DUAL
+         SOLUTION
+         EXIT
+         PEND
+NAME          TESTPROB
+ROWS
+ N  COST
+ L  LIM1
+ G  LIM2
+ E  MYEQN
+COLUMNS
+    XONE      COST      1              LIM1      1
+    XONE      LIM2      1
+    YTWO      COST      4              LIM1      1
+    YTWO      MYEQN     -1
+    ZTHREE    COST      9              LIM2      1
+    ZTHREE    MYEQN     1
+RHS
+    RHS       LIM1      5              LIM2      10
+    RHS       MYEQN     7
+BOUNDS
+ UP BND1      XONE      4
+ LO BND1      YTWO      -1
+ UP BND1      YTWO      1
+ENDATA
+",
+        status: 0,
+        listing: b"CONVERT TESTPROB ROWS 4 COLUMNS 3 ENTRIES 9
+SETUP   TESTPROB MIN
+DUAL OPTIMAL STEPS 3 OBJECTIVE 54 CHECKED
+SOLUTION OPTIMAL
+SECTION 1 - ROWS
+NUMBER ROW AT ACTIVITY SLACK LOWER UPPER DUAL
+    1 COST     BS 54 -54 NONE NONE 0
+    2 LIM1     BS 3 2 NONE 5 0
+    3 LIM2     LL 10 0 10 NONE 1
+    4 MYEQN    EQ 7 0 7 7 8
+SECTION 2 - COLUMNS
+NUMBER COLUMN AT ACTIVITY COST LOWER UPPER REDUCED
+    5 XONE     BS 4 1 0 4 0
+    6 YTWO     LL -1 4 -1 1 12
+    7 ZTHREE   BS 6 9 0 NONE 0
+END 0
+",
+        cards: b"",
+    },
+    DeckRow {
+        name: "dual infeasible",
+        job: b"         PROGRAM
+         CONVERT
+         SETUP
+         DUAL
+         SOLUTION
+         EXIT
+         PEND
+NAME          T
+ROWS
+ N  COST
+ G  LOW
+ L  HIGH
+COLUMNS
+    X         COST      1
+    X         LOW       1
+    X         HIGH      1
+RHS
+    B         LOW       3
+    B         HIGH      2
+ENDATA
+",
+        status: 1,
+        listing: b"CONVERT T        ROWS 3 COLUMNS 1 ENTRIES 3
+SETUP   T        MIN
+DUAL INFEASIBLE STEPS 1 RAY CHECKED
+    2 LOW      -1
+    3 HIGH     1
+END 1
+",
+        cards: b"",
+    },
+    DeckRow {
+        name: "dual wrong prices",
+        job: b"         PROGRAM
+         CONVERT
+         SETUP
+         DUAL
+         SOLUTION
+         EXIT
+         PEND
+NAME          T
+ROWS
+ N  COST
+COLUMNS
+    X         COST      -1
+ENDATA
+",
+        status: 10,
+        listing: b"CONVERT T        ROWS 1 COLUMNS 1 ENTRIES 1
+SETUP   T        MIN
+STOP 10 VERB FAULT 16 CARD 4 VARIABLE 2
+",
+        cards: b"",
+    },
+    DeckRow {
+        name: "dual of a plan",
+        job: b"         PROGRAM
+         CONVERT
+         SETUP('BOUND','BND')
+         DUAL
+         SOLUTION
+         EXIT
+         PEND
+NAME          PLAN
+ROWS
+ N  COST
+ G  A
+ G  B
+ L  C
+COLUMNS
+    X         COST      3
+    X         A         1
+    X         B         2
+    X         C         1
+    Y         COST      2
+    Y         A         1
+    Y         B         1
+    Y         C         1
+    Z         COST      4
+    Z         A         2
+    Z         B         1
+    Z         C         3
+RHS
+    R         A         4
+    R         B         5
+    R         C         6
+    S         A         3
+    S         B         8
+    S         C         6
+BOUNDS
+ UP BND       X         2
+ UP BND       Z         1
+ENDATA
+",
+        status: 0,
+        listing: b"CONVERT PLAN     ROWS 4 COLUMNS 3 ENTRIES 12
+SETUP   PLAN     MIN
+DUAL OPTIMAL STEPS 2 OBJECTIVE 9 CHECKED
+SOLUTION OPTIMAL
+SECTION 1 - ROWS
+NUMBER ROW AT ACTIVITY SLACK LOWER UPPER DUAL
+    1 COST     BS 9 -9 NONE NONE 0
+    2 A        LL 4 0 4 NONE 1
+    3 B        LL 5 0 5 NONE 1
+    4 C        BS 4 2 NONE 6 0
+SECTION 2 - COLUMNS
+NUMBER COLUMN AT ACTIVITY COST LOWER UPPER REDUCED
+    5 X        BS 1 3 0 2 0
+    6 Y        BS 3 2 0 NONE 0
+    7 Z        LL 0 4 0 1 1
+END 0
+",
+        cards: b"",
+    },
+    DeckRow {
+        name: "dual and primal at an optimal basis",
+        job: b"         PROGRAM
+         CONVERT
+         SETUP('BOUND','BND')
+         DUAL
+         DUAL
+         PRIMAL
+         EXIT
+         PEND
+NAME          PLAN
+ROWS
+ N  COST
+ G  A
+ G  B
+ L  C
+COLUMNS
+    X         COST      3
+    X         A         1
+    X         B         2
+    X         C         1
+    Y         COST      2
+    Y         A         1
+    Y         B         1
+    Y         C         1
+    Z         COST      4
+    Z         A         2
+    Z         B         1
+    Z         C         3
+RHS
+    R         A         4
+    R         B         5
+    R         C         6
+    S         A         3
+    S         B         8
+    S         C         6
+BOUNDS
+ UP BND       X         2
+ UP BND       Z         1
+ENDATA
+",
+        status: 0,
+        listing: b"CONVERT PLAN     ROWS 4 COLUMNS 3 ENTRIES 12
+SETUP   PLAN     MIN
+DUAL OPTIMAL STEPS 2 OBJECTIVE 9 CHECKED
+DUAL OPTIMAL STEPS 0 OBJECTIVE 9 CHECKED
+PRIMAL OPTIMAL STEPS 0 OBJECTIVE 9 CHECKED
+END 0
+",
+        cards: b"",
+    },
+    DeckRow {
+        name: "dual past its limit",
+        job: b"         PROGRAM
+         CONVERT
+         SETUP('BOUND','BND')
+         MOVE(XITERLIM,1)
+         DUAL
+         EXIT
+         PEND
+NAME          PLAN
+ROWS
+ N  COST
+ G  A
+ G  B
+ L  C
+COLUMNS
+    X         COST      3
+    X         A         1
+    X         B         2
+    X         C         1
+    Y         COST      2
+    Y         A         1
+    Y         B         1
+    Y         C         1
+    Z         COST      4
+    Z         A         2
+    Z         B         1
+    Z         C         3
+RHS
+    R         A         4
+    R         B         5
+    R         C         6
+    S         A         3
+    S         B         8
+    S         C         6
+BOUNDS
+ UP BND       X         2
+ UP BND       Z         1
+ENDATA
+",
+        status: 16,
+        listing: b"CONVERT PLAN     ROWS 4 COLUMNS 3 ENTRIES 12
+SETUP   PLAN     MIN
+STOP 16 ITERATION LIMIT 1 CARD 5
+",
+        cards: b"",
+    },
+    DeckRow {
+        name: "dual at its limit",
+        job: b"         PROGRAM
+         CONVERT
+         SETUP('BOUND','BND')
+         MOVE(XITERLIM,2)
+         DUAL
+         EXIT
+         PEND
+NAME          PLAN
+ROWS
+ N  COST
+ G  A
+ G  B
+ L  C
+COLUMNS
+    X         COST      3
+    X         A         1
+    X         B         2
+    X         C         1
+    Y         COST      2
+    Y         A         1
+    Y         B         1
+    Y         C         1
+    Z         COST      4
+    Z         A         2
+    Z         B         1
+    Z         C         3
+RHS
+    R         A         4
+    R         B         5
+    R         C         6
+    S         A         3
+    S         B         8
+    S         C         6
+BOUNDS
+ UP BND       X         2
+ UP BND       Z         1
+ENDATA
+",
+        status: 0,
+        listing: b"CONVERT PLAN     ROWS 4 COLUMNS 3 ENTRIES 12
+SETUP   PLAN     MIN
+DUAL OPTIMAL STEPS 2 OBJECTIVE 9 CHECKED
+END 0
+",
+        cards: b"",
+    },
+    DeckRow {
+        name: "dual after another right hand side",
+        job: b"         PROGRAM
+         CONVERT
+         SETUP('BOUND','BND')
+         PRIMAL
+         MOVE(XRHS,'S')
+         DUAL
+         SOLUTION
+         EXIT
+         PEND
+NAME          PLAN
+ROWS
+ N  COST
+ G  A
+ G  B
+ L  C
+COLUMNS
+    X         COST      3
+    X         A         1
+    X         B         2
+    X         C         1
+    Y         COST      2
+    Y         A         1
+    Y         B         1
+    Y         C         1
+    Z         COST      4
+    Z         A         2
+    Z         B         1
+    Z         C         3
+RHS
+    R         A         4
+    R         B         5
+    R         C         6
+    S         A         3
+    S         B         8
+    S         C         6
+BOUNDS
+ UP BND       X         2
+ UP BND       Z         1
+ENDATA
+",
+        status: 0,
+        listing: b"CONVERT PLAN     ROWS 4 COLUMNS 3 ENTRIES 12
+SETUP   PLAN     MIN
+PRIMAL OPTIMAL STEPS 3 OBJECTIVE 9 CHECKED
+DUAL OPTIMAL STEPS 1 OBJECTIVE 14 CHECKED
+SOLUTION OPTIMAL
+SECTION 1 - ROWS
+NUMBER ROW AT ACTIVITY SLACK LOWER UPPER DUAL
+    1 COST     BS 14 -14 NONE NONE 0
+    2 A        BS 6 -3 3 NONE 0
+    3 B        LL 8 0 8 NONE 2
+    4 C        BS 6 0 NONE 6 0
+SECTION 2 - COLUMNS
+NUMBER COLUMN AT ACTIVITY COST LOWER UPPER REDUCED
+    5 X        UL 2 3 0 2 -1
+    6 Y        BS 4 2 0 NONE 0
+    7 Z        LL 0 4 0 1 2
+END 0
+",
+        cards: b"",
+    },
+    DeckRow {
+        name: "ties of the ratio test",
+        job: b"         PROGRAM
+         CONVERT
+         SETUP
+         DUAL
+         SOLUTION
+         EXIT
+         PEND
+NAME          T
+ROWS
+ N  COST
+ G  A
+COLUMNS
+    X         COST      2
+    X         A         1
+    Y         COST      4
+    Y         A         2
+RHS
+    B         A         4
+ENDATA
+",
+        status: 0,
+        listing: b"CONVERT T        ROWS 2 COLUMNS 2 ENTRIES 4
+SETUP   T        MIN
+DUAL OPTIMAL STEPS 1 OBJECTIVE 8 CHECKED
+SOLUTION OPTIMAL
+SECTION 1 - ROWS
+NUMBER ROW AT ACTIVITY SLACK LOWER UPPER DUAL
+    1 COST     BS 8 -8 NONE NONE 0
+    2 A        LL 4 0 4 NONE 2
+SECTION 2 - COLUMNS
+NUMBER COLUMN AT ACTIVITY COST LOWER UPPER REDUCED
+    3 X        BS 4 2 0 NONE 0
+    4 Y        LL 0 4 0 NONE 0
+END 0
+",
+        cards: b"",
+    },
+    DeckRow {
+        name: "dual maximises",
+        job: b"         PROGRAM
+         CONVERT
+         SETUP('MAX')
+         DUAL
+         SOLUTION
+         EXIT
+         PEND
+NAME          T
+ROWS
+ N  COST
+ L  A
+ L  B
+COLUMNS
+    X         COST      -1
+    X         A         -1
+    X         B         1
+    Y         COST      -2
+    Y         A         -1
+    Y         B         -1
+RHS
+    B         A         -3
+    B         B         1
+ENDATA
+",
+        status: 0,
+        listing: b"CONVERT T        ROWS 3 COLUMNS 2 ENTRIES 6
+SETUP   T        MAX
+DUAL OPTIMAL STEPS 2 OBJECTIVE -4 CHECKED
+SOLUTION OPTIMAL
+SECTION 1 - ROWS
+NUMBER ROW AT ACTIVITY SLACK LOWER UPPER DUAL
+    1 COST     BS -4 4 NONE NONE 0
+    2 A        UL -3 0 NONE -3 3/2
+    3 B        UL 1 0 NONE 1 1/2
+SECTION 2 - COLUMNS
+NUMBER COLUMN AT ACTIVITY COST LOWER UPPER REDUCED
+    4 X        BS 2 -1 0 NONE 0
+    5 Y        BS 1 -2 0 NONE 0
+END 0
+",
+        cards: b"",
+    },
+    DeckRow {
+        name: "free and fixed columns",
+        job: b"         PROGRAM
+         CONVERT
+         SETUP('BOUND','BND')
+         DUAL
+         SOLUTION
+         EXIT
+         PEND
+NAME          T
+ROWS
+ N  COST
+ G  A
+COLUMNS
+    X         COST      1
+    X         A         1
+    W         A         1
+RHS
+    B         A         4
+BOUNDS
+ FX BND       X         1
+ FR BND       W
+ENDATA
+",
+        status: 0,
+        listing: b"CONVERT T        ROWS 2 COLUMNS 2 ENTRIES 3
+SETUP   T        MIN
+DUAL OPTIMAL STEPS 1 OBJECTIVE 1 CHECKED
+SOLUTION OPTIMAL
+SECTION 1 - ROWS
+NUMBER ROW AT ACTIVITY SLACK LOWER UPPER DUAL
+    1 COST     BS 1 -1 NONE NONE 0
+    2 A        LL 4 0 4 NONE 0
+SECTION 2 - COLUMNS
+NUMBER COLUMN AT ACTIVITY COST LOWER UPPER REDUCED
+    3 X        EQ 1 1 1 1 1
+    4 W        BS 3 0 NONE NONE 0
+END 0
+",
+        cards: b"",
+    },
+    DeckRow {
+        name: "dual with a range",
+        job: b"         PROGRAM
+         CONVERT
+         SETUP('RANGE','RG')
+         DUAL
+         SOLUTION
+         EXIT
+         PEND
+NAME          T
+ROWS
+ N  COST
+ L  A
+COLUMNS
+    X         COST      1
+    X         A         -1
+RHS
+    B         A         -3
+RANGES
+    RG        A         2
+ENDATA
+",
+        status: 0,
+        listing: b"CONVERT T        ROWS 2 COLUMNS 1 ENTRIES 2
+SETUP   T        MIN
+DUAL OPTIMAL STEPS 1 OBJECTIVE 3 CHECKED
+SOLUTION OPTIMAL
+SECTION 1 - ROWS
+NUMBER ROW AT ACTIVITY SLACK LOWER UPPER DUAL
+    1 COST     BS 3 -3 NONE NONE 0
+    2 A        UL -3 0 -5 -3 -1
+SECTION 2 - COLUMNS
+NUMBER COLUMN AT ACTIVITY COST LOWER UPPER REDUCED
+    3 X        BS 3 1 0 NONE 0
+END 0
+",
+        cards: b"",
+    },
+    DeckRow {
+        name: "dual with crossed limits",
+        job: b"         PROGRAM
+         CONVERT
+         SETUP('BOUND','BND')
+         DUAL
+         SOLUTION
+         EXIT
+         PEND
+NAME          T
+ROWS
+ N  COST
+ G  A
+COLUMNS
+    X         COST      1
+    X         A         1
+RHS
+    B         A         4
+BOUNDS
+ UP BND       X         -1
+ENDATA
+",
+        status: 1,
+        listing: b"CONVERT T        ROWS 2 COLUMNS 1 ENTRIES 2
+SETUP   T        MIN
+DUAL INFEASIBLE STEPS 0 CROSSED 3 CHECKED
+END 1
+",
+        cards: b"",
+    },
+    DeckRow {
+        name: "dual and a demand",
+        job: b"         PROGRAM
+         CONVERT
+         SETUP
+         MVADR(XDONFS,L)
+         DUAL
+         EXIT
+L        SOLUTION
+         EXIT
+         PEND
+NAME          T
+ROWS
+ N  COST
+ G  LOW
+ L  HIGH
+COLUMNS
+    X         COST      1
+    X         LOW       1
+    X         HIGH      1
+RHS
+    B         LOW       3
+    B         HIGH      2
+ENDATA
+",
+        status: 0,
+        listing: b"CONVERT T        ROWS 3 COLUMNS 1 ENTRIES 3
+SETUP   T        MIN
+DUAL INFEASIBLE STEPS 1 RAY CHECKED
+    2 LOW      -1
+    3 HIGH     1
+SOLUTION INFEASIBLE
+SECTION 1 - ROWS
+NUMBER ROW AT ACTIVITY SLACK LOWER UPPER DUAL
+    1 COST     BS 3 -3 NONE NONE 0
+    2 LOW      LL 3 0 3 NONE 1
+    3 HIGH     ** 3 -1 NONE 2 0
+SECTION 2 - COLUMNS
+NUMBER COLUMN AT ACTIVITY COST LOWER UPPER REDUCED
+    4 X        BS 3 1 0 NONE 0
+END 0
+",
+        cards: b"",
+    },
+];

@@ -1,0 +1,158 @@
+// Worked jobs in which a number grows too large.
+use crate::rows::Row;
+
+/// Jobs in which a number grows too large: what their listings begin with. Which operation is refused first is free.
+pub const OVERFLOWS: [Row; 6] = [
+    Row {
+        name: "opening point overflow",
+        job: b"         PROGRAM
+         CONVERT
+         SETUP('BOUND','BND')
+         PRIMAL
+         SOLUTION
+         EXIT
+         PEND
+NAME          BIG
+ROWS
+ N  COST
+ L  BIG
+COLUMNS
+    X         COST      1
+    X         BIG       999999999E18
+BOUNDS
+ LO BND       X         999999999E18
+ENDATA
+",
+        status: 20,
+        listing: b"CONVERT BIG      ROWS 2 COLUMNS 1 ENTRIES 2
+SETUP   BIG      MIN
+STOP 20 OVERFLOW F10\x20",
+    },
+    Row {
+        name: "range sum overflow",
+        job: b"         PROGRAM
+         CONVERT
+         SETUP('RANGE','R')
+         PRIMAL
+         SOLUTION
+         EXIT
+         PEND
+NAME          T
+ROWS
+ N  COST
+ L  LIM
+COLUMNS
+    X         LIM       1
+RHS
+    B         LIM       999999999E18
+RANGES
+    R         LIM       .1E-18
+ENDATA
+",
+        status: 20,
+        listing: b"CONVERT T        ROWS 2 COLUMNS 1 ENTRIES 1\nSTOP 20 OVERFLOW F13 ",
+    },
+    Row {
+        name: "slack overflow",
+        job: b"         PROGRAM
+         CONVERT
+         SETUP('BOUND','BND')
+         PRIMAL
+         SOLUTION
+         EXIT
+         PEND
+NAME          T
+ROWS
+ N  COST
+ L  LIM
+COLUMNS
+    X         COST      1
+    X         LIM       1
+RHS
+    B         LIM       999999999E18
+BOUNDS
+ LO BND       X         .1E-18
+ENDATA
+",
+        status: 20,
+        listing: b"CONVERT T        ROWS 2 COLUMNS 1 ENTRIES 2
+SETUP   T        MIN
+PRIMAL OPTIMAL STEPS 0 OBJECTIVE 1/10000000000000000000 CHECKED
+STOP 20 OVERFLOW F6\x20",
+    },
+    Row {
+        name: "step overflow",
+        job: b"         PROGRAM
+         CONVERT
+         SETUP
+         PRIMAL
+         SOLUTION
+         EXIT
+         PEND
+NAME          T
+ROWS
+ N  COST
+ L  LIM
+COLUMNS
+    X         COST      -1
+    X         LIM       .1E-18
+RHS
+    B         LIM       999999999E18
+ENDATA
+",
+        status: 20,
+        listing: b"CONVERT T        ROWS 2 COLUMNS 1 ENTRIES 2
+SETUP   T        MIN
+STOP 20 OVERFLOW F7\x20",
+    },
+    Row {
+        name: "objective overflow",
+        job: b"         PROGRAM
+         CONVERT
+         SETUP
+         PRIMAL
+         SOLUTION
+         EXIT
+         PEND
+NAME          T
+ROWS
+ N  COST
+ L  LIM
+COLUMNS
+    X         COST      -99999999E18
+    X         LIM       1
+RHS
+    B         LIM       999999999E18
+ENDATA
+",
+        status: 20,
+        listing: b"CONVERT T        ROWS 2 COLUMNS 1 ENTRIES 2
+SETUP   T        MIN
+STOP 20 OVERFLOW F",
+    },
+    Row {
+        name: "price overflow",
+        job: b"         PROGRAM
+         CONVERT
+         SETUP
+         PRIMAL
+         SOLUTION
+         EXIT
+         PEND
+NAME          T
+ROWS
+ N  COST
+ G  LOW
+COLUMNS
+    X         COST      999999999E18
+    X         LOW       .1E-18
+RHS
+    B         LOW       .1E-18
+ENDATA
+",
+        status: 20,
+        listing: b"CONVERT T        ROWS 2 COLUMNS 1 ENTRIES 2
+SETUP   T        MIN
+STOP 20 OVERFLOW F",
+    },
+];

@@ -1,0 +1,638 @@
+// Worked jobs whose plans are solved.
+use crate::rows::Row;
+
+/// Plans that are solved, and programs that come to their end.
+pub const PLANS: [Row; 17] = [
+    Row {
+        name: "testprob primal",
+        job: b"         PROGRAM
+         CONVERT
+         SETUP('BOUND','BND1')
+         PRIMAL
+         SOLUTION
+         EXIT
+         PEND
+NAME          TESTPROB
+ROWS
+ N  COST
+ L  LIM1
+ G  LIM2
+ E  MYEQN
+COLUMNS
+    XONE      COST      1              LIM1      1
+    XONE      LIM2      1
+    YTWO      COST      4              LIM1      1
+    YTWO      MYEQN     -1
+    ZTHREE    COST      9              LIM2      1
+    ZTHREE    MYEQN     1
+RHS
+    RHS       LIM1      5              LIM2      10
+    RHS       MYEQN     7
+BOUNDS
+ UP BND1      XONE      4
+ LO BND1      YTWO      -1
+ UP BND1      YTWO      1
+ENDATA
+",
+        status: 0,
+        listing: b"CONVERT TESTPROB ROWS 4 COLUMNS 3 ENTRIES 9
+SETUP   TESTPROB MIN
+PRIMAL OPTIMAL STEPS 3 OBJECTIVE 54 CHECKED
+SOLUTION OPTIMAL
+SECTION 1 - ROWS
+NUMBER ROW AT ACTIVITY SLACK LOWER UPPER DUAL
+    1 COST     BS 54 -54 NONE NONE 0
+    2 LIM1     BS 3 2 NONE 5 0
+    3 LIM2     LL 10 0 10 NONE 1
+    4 MYEQN    EQ 7 0 7 7 8
+SECTION 2 - COLUMNS
+NUMBER COLUMN AT ACTIVITY COST LOWER UPPER REDUCED
+    5 XONE     BS 4 1 0 4 0
+    6 YTWO     LL -1 4 -1 1 12
+    7 ZTHREE   BS 6 9 0 NONE 0
+END 0
+",
+    },
+    Row {
+        name: "free deck",
+        job: b"         PROGRAM
+         CONVERT
+         SETUP
+         PRIMAL
+         SOLUTION
+         EXIT
+         PEND
+NAME          ONE       FREE
+ROWS
+ N COST
+ G LOW
+COLUMNS
+ X COST 1 LOW 1
+RHS
+ LOW 1
+ENDATA
+",
+        status: 0,
+        listing: b"CONVERT ONE      ROWS 2 COLUMNS 1 ENTRIES 2
+SETUP   ONE      MIN
+PRIMAL OPTIMAL STEPS 1 OBJECTIVE 1 CHECKED
+SOLUTION OPTIMAL
+SECTION 1 - ROWS
+NUMBER ROW AT ACTIVITY SLACK LOWER UPPER DUAL
+    1 COST     BS 1 -1 NONE NONE 0
+    2 LOW      LL 1 0 1 NONE 1
+SECTION 2 - COLUMNS
+NUMBER COLUMN AT ACTIVITY COST LOWER UPPER REDUCED
+    3 X        BS 1 1 0 NONE 0
+END 0
+",
+    },
+    Row {
+        name: "beale cycling",
+        job: b"         PROGRAM
+         CONVERT
+         SETUP
+         PRIMAL
+         SOLUTION
+         EXIT
+         PEND
+NAME          BEALE
+ROWS
+ N  COST
+ L  R1
+ L  R2
+ L  R3
+COLUMNS
+    X1        COST      -.75
+    X1        R1        .25
+    X1        R2        .5
+    X2        COST      150
+    X2        R1        -60
+    X2        R2        -90
+    X3        COST      -.02
+    X3        R1        -.04
+    X3        R2        -.02
+    X3        R3        1
+    X4        COST      6
+    X4        R1        9
+    X4        R2        3
+RHS
+    B         R3        1
+ENDATA
+",
+        status: 0,
+        listing: b"CONVERT BEALE    ROWS 4 COLUMNS 4 ENTRIES 13
+SETUP   BEALE    MIN
+PRIMAL OPTIMAL STEPS 6 OBJECTIVE -1/20 CHECKED
+SOLUTION OPTIMAL
+SECTION 1 - ROWS
+NUMBER ROW AT ACTIVITY SLACK LOWER UPPER DUAL
+    1 COST     BS -1/20 1/20 NONE NONE 0
+    2 R1       BS -3/100 3/100 NONE 0 0
+    3 R2       UL 0 0 NONE 0 -3/2
+    4 R3       UL 1 0 NONE 1 -1/20
+SECTION 2 - COLUMNS
+NUMBER COLUMN AT ACTIVITY COST LOWER UPPER REDUCED
+    5 X1       BS 1/25 -3/4 0 NONE 0
+    6 X2       LL 0 150 0 NONE 15
+    7 X3       BS 1 -1/50 0 NONE 0
+    8 X4       LL 0 6 0 NONE 21/2
+END 0
+",
+    },
+    Row {
+        name: "no iteration limit",
+        job: b"         PROGRAM
+         CONVERT
+         SETUP
+         MOVE(XITERLIM,'NONE')
+         PRIMAL
+         SOLUTION
+         EXIT
+         PEND
+NAME          BEALE
+ROWS
+ N  COST
+ L  R1
+ L  R2
+ L  R3
+COLUMNS
+    X1        COST      -.75
+    X1        R1        .25
+    X1        R2        .5
+    X2        COST      150
+    X2        R1        -60
+    X2        R2        -90
+    X3        COST      -.02
+    X3        R1        -.04
+    X3        R2        -.02
+    X3        R3        1
+    X4        COST      6
+    X4        R1        9
+    X4        R2        3
+RHS
+    B         R3        1
+ENDATA
+",
+        status: 0,
+        listing: b"CONVERT BEALE    ROWS 4 COLUMNS 4 ENTRIES 13
+SETUP   BEALE    MIN
+PRIMAL OPTIMAL STEPS 6 OBJECTIVE -1/20 CHECKED
+SOLUTION OPTIMAL
+SECTION 1 - ROWS
+NUMBER ROW AT ACTIVITY SLACK LOWER UPPER DUAL
+    1 COST     BS -1/20 1/20 NONE NONE 0
+    2 R1       BS -3/100 3/100 NONE 0 0
+    3 R2       UL 0 0 NONE 0 -3/2
+    4 R3       UL 1 0 NONE 1 -1/20
+SECTION 2 - COLUMNS
+NUMBER COLUMN AT ACTIVITY COST LOWER UPPER REDUCED
+    5 X1       BS 1/25 -3/4 0 NONE 0
+    6 X2       LL 0 150 0 NONE 15
+    7 X3       BS 1 -1/50 0 NONE 0
+    8 X4       LL 0 6 0 NONE 21/2
+END 0
+",
+    },
+    Row {
+        name: "no columns",
+        job: b"         PROGRAM
+         CONVERT
+         SETUP
+         PRIMAL
+         SOLUTION
+         EXIT
+         PEND
+NAME          NIL
+ROWS
+ N  COST
+COLUMNS
+ENDATA
+",
+        status: 0,
+        listing: b"CONVERT NIL      ROWS 1 COLUMNS 0 ENTRIES 0
+SETUP   NIL      MIN
+PRIMAL OPTIMAL STEPS 0 OBJECTIVE 0 CHECKED
+SOLUTION OPTIMAL
+SECTION 1 - ROWS
+NUMBER ROW AT ACTIVITY SLACK LOWER UPPER DUAL
+    1 COST     BS 0 0 NONE NONE 0
+SECTION 2 - COLUMNS
+NUMBER COLUMN AT ACTIVITY COST LOWER UPPER REDUCED
+END 0
+",
+    },
+    Row {
+        name: "unbounded demand solution",
+        job: b"         PROGRAM
+         CONVERT
+         SETUP
+         MVADR(XDOUNB,LAB)
+         PRIMAL
+         EXIT
+LAB      SOLUTION
+         EXIT
+         PEND
+NAME          T
+ROWS
+ N  COST
+COLUMNS
+    X         COST      -1
+ENDATA
+",
+        status: 0,
+        listing: b"CONVERT T        ROWS 1 COLUMNS 1 ENTRIES 1
+SETUP   T        MIN
+PRIMAL UNBOUNDED STEPS 0 OBJECTIVE 0 CHECKED
+    1 COST     0 -1
+    2 X        0 1
+SOLUTION UNBOUNDED
+SECTION 1 - ROWS
+NUMBER ROW AT ACTIVITY SLACK LOWER UPPER DUAL
+    1 COST     BS 0 0 NONE NONE 0
+SECTION 2 - COLUMNS
+NUMBER COLUMN AT ACTIVITY COST LOWER UPPER REDUCED
+    2 X        LL 0 -1 0 NONE -1
+END 0
+",
+    },
+    Row {
+        name: "crossed demand solution",
+        job: b"         PROGRAM
+         CONVERT
+         SETUP('BOUND','BND')
+         MVADR(XDONFS,LAB)
+         PRIMAL
+         EXIT
+LAB      SOLUTION
+         EXIT
+         PEND
+NAME          T
+ROWS
+ N  COST
+COLUMNS
+    X         COST      1
+BOUNDS
+ UP BND       X         -1
+ENDATA
+",
+        status: 0,
+        listing: b"CONVERT T        ROWS 1 COLUMNS 1 ENTRIES 1
+SETUP   T        MIN
+PRIMAL INFEASIBLE STEPS 0 CROSSED 2 CHECKED
+SOLUTION INFEASIBLE
+SECTION 1 - ROWS
+NUMBER ROW AT ACTIVITY SLACK LOWER UPPER DUAL
+    1 COST     BS 0 0 NONE NONE 0
+SECTION 2 - COLUMNS
+NUMBER COLUMN AT ACTIVITY COST LOWER UPPER REDUCED
+    2 X        LL 0 1 0 -1 1
+END 0
+",
+    },
+    Row {
+        name: "negative range on equality",
+        job: b"         PROGRAM
+         CONVERT
+         SETUP('RANGE','R')
+         PRIMAL
+         SOLUTION
+         EXIT
+         PEND
+NAME          T
+ROWS
+ N  COST
+ E  BAND
+COLUMNS
+    X         COST      1
+    X         BAND      1
+RHS
+    B         BAND      5
+RANGES
+    R         BAND      -3
+ENDATA
+",
+        status: 0,
+        listing: b"CONVERT T        ROWS 2 COLUMNS 1 ENTRIES 2
+SETUP   T        MIN
+PRIMAL OPTIMAL STEPS 1 OBJECTIVE 2 CHECKED
+SOLUTION OPTIMAL
+SECTION 1 - ROWS
+NUMBER ROW AT ACTIVITY SLACK LOWER UPPER DUAL
+    1 COST     BS 2 -2 NONE NONE 0
+    2 BAND     LL 2 3 2 5 1
+SECTION 2 - COLUMNS
+NUMBER COLUMN AT ACTIVITY COST LOWER UPPER REDUCED
+    3 X        BS 2 1 0 NONE 0
+END 0
+",
+    },
+    Row {
+        name: "card with trailing blanks",
+        job: b"         PROGRAM
+         CONVERT
+         SETUP                                                                 X                   \x20
+         PRIMAL
+         SOLUTION
+         EXIT
+         PEND
+NAME          ONE
+ROWS
+ N  COST
+ G  LOW
+COLUMNS
+    X         COST      1
+    X         LOW       1
+RHS
+    B         LOW       1
+ENDATA
+",
+        status: 0,
+        listing: b"CONVERT ONE      ROWS 2 COLUMNS 1 ENTRIES 2
+SETUP   ONE      MIN
+PRIMAL OPTIMAL STEPS 1 OBJECTIVE 1 CHECKED
+SOLUTION OPTIMAL
+SECTION 1 - ROWS
+NUMBER ROW AT ACTIVITY SLACK LOWER UPPER DUAL
+    1 COST     BS 1 -1 NONE NONE 0
+    2 LOW      LL 1 0 1 NONE 1
+SECTION 2 - COLUMNS
+NUMBER COLUMN AT ACTIVITY COST LOWER UPPER REDUCED
+    3 X        BS 1 1 0 NONE 0
+END 0
+",
+    },
+    Row {
+        name: "right hand side moved",
+        job: b"         PROGRAM
+         CONVERT
+         SETUP
+         PRIMAL
+         MOVE(XRHS,'C')
+         PRIMAL
+         EXIT
+         PEND
+NAME          ONE
+ROWS
+ N  COST
+ G  LOW
+COLUMNS
+    X         COST      1
+    X         LOW       1
+RHS
+    B         LOW       1
+    C         LOW       2
+ENDATA
+",
+        status: 0,
+        listing: b"CONVERT ONE      ROWS 2 COLUMNS 1 ENTRIES 2
+SETUP   ONE      MIN
+PRIMAL OPTIMAL STEPS 1 OBJECTIVE 1 CHECKED
+PRIMAL OPTIMAL STEPS 0 OBJECTIVE 2 CHECKED
+END 0
+",
+    },
+    Row {
+        name: "iteration limit 3",
+        job: b"         PROGRAM
+         CONVERT
+         SETUP('BOUND','BND1')
+         MOVE(XITERLIM,3)
+         PRIMAL
+         SOLUTION
+         EXIT
+         PEND
+NAME          TESTPROB
+ROWS
+ N  COST
+ L  LIM1
+ G  LIM2
+ E  MYEQN
+COLUMNS
+    XONE      COST      1              LIM1      1
+    XONE      LIM2      1
+    YTWO      COST      4              LIM1      1
+    YTWO      MYEQN     -1
+    ZTHREE    COST      9              LIM2      1
+    ZTHREE    MYEQN     1
+RHS
+    RHS       LIM1      5              LIM2      10
+    RHS       MYEQN     7
+BOUNDS
+ UP BND1      XONE      4
+ LO BND1      YTWO      -1
+ UP BND1      YTWO      1
+ENDATA
+",
+        status: 0,
+        listing: b"CONVERT TESTPROB ROWS 4 COLUMNS 3 ENTRIES 9
+SETUP   TESTPROB MIN
+PRIMAL OPTIMAL STEPS 3 OBJECTIVE 54 CHECKED
+SOLUTION OPTIMAL
+SECTION 1 - ROWS
+NUMBER ROW AT ACTIVITY SLACK LOWER UPPER DUAL
+    1 COST     BS 54 -54 NONE NONE 0
+    2 LIM1     BS 3 2 NONE 5 0
+    3 LIM2     LL 10 0 10 NONE 1
+    4 MYEQN    EQ 7 0 7 7 8
+SECTION 2 - COLUMNS
+NUMBER COLUMN AT ACTIVITY COST LOWER UPPER REDUCED
+    5 XONE     BS 4 1 0 4 0
+    6 YTWO     LL -1 4 -1 1 12
+    7 ZTHREE   BS 6 9 0 NONE 0
+END 0
+",
+    },
+    Row {
+        name: "maximise",
+        job: b"         PROGRAM
+         CONVERT
+         SETUP('MAX')
+         PRIMAL
+         SOLUTION
+         EXIT
+         PEND
+NAME          T
+ROWS
+ N  COST
+ L  LIM
+COLUMNS
+    X         COST      3
+    X         LIM       1
+RHS
+    B         LIM       4
+ENDATA
+",
+        status: 0,
+        listing: b"CONVERT T        ROWS 2 COLUMNS 1 ENTRIES 2
+SETUP   T        MAX
+PRIMAL OPTIMAL STEPS 1 OBJECTIVE 12 CHECKED
+SOLUTION OPTIMAL
+SECTION 1 - ROWS
+NUMBER ROW AT ACTIVITY SLACK LOWER UPPER DUAL
+    1 COST     BS 12 -12 NONE NONE 0
+    2 LIM      UL 4 0 NONE 4 3
+SECTION 2 - COLUMNS
+NUMBER COLUMN AT ACTIVITY COST LOWER UPPER REDUCED
+    3 X        BS 4 3 0 NONE 0
+END 0
+",
+    },
+    Row {
+        name: "plain first",
+        job: b"         PROGRAM
+         CONVERT
+         SETUP
+         MOVE(XITERLIM,0)
+         PRIMAL
+         SOLUTION
+         EXIT
+         PEND
+NAME          FIRST
+ROWS
+ N  COST
+ L  LIM
+COLUMNS
+    X         COST      1
+    X         LIM       1
+RHS
+    B         LIM       4
+ENDATA
+",
+        status: 0,
+        listing: b"CONVERT FIRST    ROWS 2 COLUMNS 1 ENTRIES 2
+SETUP   FIRST    MIN
+PRIMAL OPTIMAL STEPS 0 OBJECTIVE 0 CHECKED
+SOLUTION OPTIMAL
+SECTION 1 - ROWS
+NUMBER ROW AT ACTIVITY SLACK LOWER UPPER DUAL
+    1 COST     BS 0 0 NONE NONE 0
+    2 LIM      BS 0 4 NONE 4 0
+SECTION 2 - COLUMNS
+NUMBER COLUMN AT ACTIVITY COST LOWER UPPER REDUCED
+    3 X        LL 0 1 0 NONE 1
+END 0
+",
+    },
+    Row {
+        name: "lower bound",
+        job: b"         PROGRAM
+         CONVERT
+         SETUP('BOUND','BND')
+         PRIMAL
+         SOLUTION
+         EXIT
+         PEND
+NAME          T
+ROWS
+ N  COST
+COLUMNS
+    X         COST      1
+BOUNDS
+ LO BND       X         2
+ENDATA
+",
+        status: 0,
+        listing: b"CONVERT T        ROWS 1 COLUMNS 1 ENTRIES 1
+SETUP   T        MIN
+PRIMAL OPTIMAL STEPS 0 OBJECTIVE 2 CHECKED
+SOLUTION OPTIMAL
+SECTION 1 - ROWS
+NUMBER ROW AT ACTIVITY SLACK LOWER UPPER DUAL
+    1 COST     BS 2 -2 NONE NONE 0
+SECTION 2 - COLUMNS
+NUMBER COLUMN AT ACTIVITY COST LOWER UPPER REDUCED
+    2 X        LL 2 1 2 NONE 1
+END 0
+",
+    },
+    Row {
+        name: "without last byte",
+        job: b"         PROGRAM
+         CONVERT
+         SETUP('BOUND','BND1')
+         PRIMAL
+         SOLUTION
+         EXIT
+         PEND
+NAME          TESTPROB
+ROWS
+ N  COST
+ L  LIM1
+ G  LIM2
+ E  MYEQN
+COLUMNS
+    XONE      COST      1              LIM1      1
+    XONE      LIM2      1
+    YTWO      COST      4              LIM1      1
+    YTWO      MYEQN     -1
+    ZTHREE    COST      9              LIM2      1
+    ZTHREE    MYEQN     1
+RHS
+    RHS       LIM1      5              LIM2      10
+    RHS       MYEQN     7
+BOUNDS
+ UP BND1      XONE      4
+ LO BND1      YTWO      -1
+ UP BND1      YTWO      1
+ENDATA",
+        status: 0,
+        listing: b"CONVERT TESTPROB ROWS 4 COLUMNS 3 ENTRIES 9
+SETUP   TESTPROB MIN
+PRIMAL OPTIMAL STEPS 3 OBJECTIVE 54 CHECKED
+SOLUTION OPTIMAL
+SECTION 1 - ROWS
+NUMBER ROW AT ACTIVITY SLACK LOWER UPPER DUAL
+    1 COST     BS 54 -54 NONE NONE 0
+    2 LIM1     BS 3 2 NONE 5 0
+    3 LIM2     LL 10 0 10 NONE 1
+    4 MYEQN    EQ 7 0 7 7 8
+SECTION 2 - COLUMNS
+NUMBER COLUMN AT ACTIVITY COST LOWER UPPER REDUCED
+    5 XONE     BS 4 1 0 4 0
+    6 YTWO     LL -1 4 -1 1 12
+    7 ZTHREE   BS 6 9 0 NONE 0
+END 0
+",
+    },
+    Row {
+        name: "slack not printed",
+        job: b"         PROGRAM
+         CONVERT
+         SETUP('BOUND','BND')
+         PRIMAL
+         EXIT
+         PEND
+NAME          T
+ROWS
+ N  COST
+ L  LIM
+COLUMNS
+    X         COST      1
+    X         LIM       1
+RHS
+    B         LIM       999999999E18
+BOUNDS
+ LO BND       X         .1E-18
+ENDATA
+",
+        status: 0,
+        listing: b"CONVERT T        ROWS 2 COLUMNS 1 ENTRIES 2
+SETUP   T        MIN
+PRIMAL OPTIMAL STEPS 0 OBJECTIVE 1/10000000000000000000 CHECKED
+END 0
+",
+    },
+    Row {
+        name: "title and label",
+        job: b"         PROGRAM
+         TITLE('FIRST RUN')
+         GOTO(LAST)
+         SETUP
+LAST     EXIT
+         PEND
+",
+        status: 0,
+        listing: b"TITLE FIRST RUN\nEND 0\n",
+    },
+];
