@@ -108,6 +108,7 @@ module _ (C : Checker) (card : ℕ) (cards : List (List ℕ)) (machine : Machine
     insert_refused stands is (unselected.Fault fault) h result passes = unselected_walks C Insert card (insert_move card) (inserting_move card) cards machine old new chosen is_setup problem on_file fault h result passes
     insert_refused stands is unselected.Unchecked h (Ok (went.Finds found)) u = unmade_walks h (sym is ∙ u.0) found u.1
     insert_refused stands is unselected.Unchecked h (Ok went.Next) u = absurd u.1
+    insert_refused stands is unselected.Unchecked h (Ok (went.Leaves last)) u = absurd u.1
     insert_refused stands is unselected.Unchecked h (Ok (went.Jump to)) u = absurd u.1
     insert_refused stands is unselected.Unchecked h (Err stop) u = tt
     insert_refused stands is unselected.NoMemory h (Ok w') u = absurd u

@@ -170,6 +170,7 @@ module _ (C : Checker) (verb : Verb ℕ) (card : ℕ) (go : State → Present �
     refusal_walks opens (unselected.Fault fault) h result refuses = unselected_walks fault h result refuses
     refusal_walks opens unselected.Unchecked h (Ok (went.Finds found)) refuses = refused_walks opens h found refuses
     refusal_walks opens unselected.Unchecked h (Ok went.Next) refuses = absurd refuses
+    refusal_walks opens unselected.Unchecked h (Ok (went.Leaves last)) refuses = absurd refuses
     refusal_walks opens unselected.Unchecked h (Ok (went.Jump to)) refuses = absurd refuses
     refusal_walks opens unselected.Unchecked h (Err stop) refuses = tt
     refusal_walks opens unselected.NoMemory h (Ok w') refuses = absurd refuses
