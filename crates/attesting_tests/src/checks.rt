@@ -5,7 +5,9 @@ use crate::parametric_runs::{
     INFEASIBLE_PAST, LAMPS, MILK, RHS_INTERVALS, RHS_POINT, TWO_INTERVALS, UNBOUNDED_OPENING,
 };
 use crate::plans::{BLANKS, STORE, TESTPROB, TIES, TWO_SOLUTIONS};
-use crate::refused::{FAR_POINT, GREAT, RANGE_AFTER_PRIMAL, RANGE_REFUSED};
+use crate::refused::{
+    BAD_INSERT_REFUSED, FAR_POINT, GREAT, INSERT_REFUSED, RANGE_AFTER_PRIMAL, RANGE_REFUSED,
+};
 use crate::verdicts::{CONFLICT, INFEASIBLE, UNBOUNDED};
 use checks_of_128_bits::Of128Bits;
 use std::test::Fail;
@@ -56,7 +58,14 @@ fn refused_operations_are_reported(rt: HostRuntime) -> Result<(), Fail> {
     assert_eq!(rt;
         first_wrong::<Of128Bits>(
             rt.alloc(),
-            &[&GREAT, &RANGE_REFUSED, &RANGE_AFTER_PRIMAL, &FAR_POINT]
+            &[
+                &GREAT,
+                &RANGE_REFUSED,
+                &RANGE_AFTER_PRIMAL,
+                &INSERT_REFUSED,
+                &BAD_INSERT_REFUSED,
+                &FAR_POINT
+            ]
         )?,
         None
     );

@@ -5,7 +5,9 @@ use crate::parametric_runs::{
     INFEASIBLE_PAST, LAMPS, MILK, RHS_INTERVALS, RHS_POINT, TWO_INTERVALS, UNBOUNDED_OPENING,
 };
 use crate::plans::{BLANKS, STORE, TIES, TWO_SOLUTIONS};
-use crate::refused::{FAR_POINT, GREAT, RANGE_AFTER_PRIMAL, RANGE_REFUSED};
+use crate::refused::{
+    BAD_INSERT_REFUSED, FAR_POINT, GREAT, INSERT_REFUSED, RANGE_AFTER_PRIMAL, RANGE_REFUSED,
+};
 use crate::verdicts::{INFEASIBLE, UNBOUNDED};
 use crate::wide_attested::{FIRST_PLAN, SECOND_PLAN, THIRD_PLAN};
 use crate::wide_changed::{MISSING_ROW, WRONG_LETTER, WRONG_SLACK};
@@ -75,7 +77,9 @@ fn short_numbers_are_answered_alike(rt: HostRuntime) -> Result<(), Fail> {
                 &RHS_INTERVALS,
                 &RHS_POINT,
                 &RANGE_REFUSED,
-                &RANGE_AFTER_PRIMAL
+                &RANGE_AFTER_PRIMAL,
+                &INSERT_REFUSED,
+                &BAD_INSERT_REFUSED
             ]
         )?,
         None

@@ -141,6 +141,48 @@ WAY NONE
     }],
 };
 
+/// INSERT, at whose selection the range is refused, as if the basis were taken. Its deck puts the row at the limit that the range gives.
+pub const INSERT_REFUSED: Listing = Listing {
+    name: "a range that is refused at INSERT",
+    job: b"         PROGRAM\n         CONVERT\n         SETUP('RANGE','R')\n         MOVE(XRHS,'B')\n         INSERT\n         EXIT\n         PEND\nNAME          T\nROWS\n N  COST\n L  LIM\nCOLUMNS\n    X         LIM       1\nRHS\n    A         LIM       4\n    B         LIM       999999999E18\nRANGES\n    R         LIM       .1E-18\nENDATA\nNAME          D\n XL X         LIM\nENDATA\n",
+    text: b"CONVERT T        ROWS 2 COLUMNS 1 ENTRIES 1\nSETUP   T        MIN\nINSERT  D        BASIC 1\nEND 0\n",
+    status: 41,
+    line: b"OPEN LINE 3\n",
+    cases: &[
+        Case {
+            name: "another deck's line",
+            edit: Edit::Text(b"INSERT  D", b"INSERT  T"),
+            status: 42,
+            line: b"UNCHECKED LINE 3\n",
+        },
+        Case {
+            name: "no line",
+            edit: Edit::From(b"INSERT", b"END 0\n"),
+            status: 42,
+            line: b"UNCHECKED LINE 3\n",
+        },
+        Case {
+            name: "its own stop",
+            edit: Edit::From(
+                b"INSERT",
+                b"STOP 20 OVERFLOW F13 SUB 999999999000000000000000000 1/10000000000000000000 P 0 Q 0 I 2 J 0 TERM 1 THETA 0 CARD 5\nBASIS NONE\nWAY NONE\n",
+            ),
+            status: 41,
+            line: b"OPEN LINE 3\n",
+        },
+    ],
+};
+
+/// The same with a deck that puts a row at a limit that it hasn't.
+pub const BAD_INSERT_REFUSED: Listing = Listing {
+    name: "a range that is refused at INSERT of a bad deck",
+    job: b"         PROGRAM\n         CONVERT\n         SETUP('RANGE','R')\n         MOVE(XRHS,'B')\n         INSERT\n         EXIT\n         PEND\nNAME          T\nROWS\n N  COST\n L  LIM\nCOLUMNS\n    X         LIM       1\nRHS\n    A         LIM       4\n    B         LIM       999999999E18\nRANGES\n    R         LIM       .1E-18\nENDATA\nNAME          D\n XL X         COST\nENDATA\n",
+    text: b"CONVERT T        ROWS 2 COLUMNS 1 ENTRIES 1\nSETUP   T        MIN\nINSERT  D        BASIC 1\nEND 0\n",
+    status: 42,
+    line: b"UNCHECKED LINE 3\n",
+    cases: &[],
+};
+
 /// A parametric run whose first limits are refused.
 pub const FAR_POINT: Listing = Listing {
     name: "a point far away",

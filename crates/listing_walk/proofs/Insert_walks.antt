@@ -1,14 +1,18 @@
 -- What INSERT comes to in the walk.
-use Rattle.std.proofs.Common.{◌≡◌, ℕ, ◌-◌, Bool, true, false, List, [], Option, Some, None, Result, Ok, Err, IfOk, drop, refl, sym, ap, subst, ◌∙◌}
+use Rattle.std.proofs.Common.{◌≡◌, ℕ, ◌-◌, Bool, ◌&&◌, List, [], Option, Some, None, Result, Ok, Err, is_ok, IfOk, IfSome, drop, refl, sym, ap, subst, ◌∙◌}
+use Rattle.std.proofs.lemmas.Option.{same_Some}
 use Rattle.job_devices.specs.declared.device.NoMemory.{NoMemory}
 use Rattle.card_definitions.specs.Cards.{Card, live, numbered_cards, cards_between}
 use Rattle.lp_definitions.specs.LinearProgram.{LinearProgram}
 use Rattle.problem_definitions.specs.Names.{Name}
 use Rattle.problem_definitions.specs.Problem.{Problem}
-use Rattle.problem_file.specs.Filed.{filed_under}
+use Rattle.problem_file.specs.Filed.{Filed, filed_under}
 use Rattle.deck_definitions.specs.declared.DeckFault.{DeckFault}
 use Rattle.deck_definitions.specs.Conversion.{deck_name}
 use Rattle.deck_definitions.specs.Decks.{decks_of, deck_taken}
+use Rattle.selection_definitions.specs.Choice.{Choice}
+use Rattle.selection_definitions.specs.Selection.{selected}
+use Rattle.basis_deck_definitions.specs.Placings.{HasNames}
 use Rattle.basis_deck_definitions.specs.Reading.{basis_reading}
 use Rattle.job_decks.specs.declared.deck.Deck.{Deck}
 use Rattle.control_definitions.specs.Cells.{Cells}
@@ -33,11 +37,13 @@ use Rattle.listing_walk.specs.declared.selecting.Unselected.TheVariants as unsel
 use Rattle.listing_walk.specs.declared.went.Went.{Went}
 use Rattle.listing_walk.specs.declared.went.Went.TheVariants as went
 use Rattle.listing_walk.specs.Choosing.{IsMade, IsRefused, IsNotMade}
-use Rattle.listing_walk.specs.Standing.{IsView, Faces}
-use Rattle.listing_walk.specs.Walking.{open_by, Comes, Passes, IsUnchecked, Walks}
-use Rattle.listing_walk.specs.Inserting.{taken_of, is_line_of, open_install, IsInstallDue, RefusesInstall}
+use Rattle.listing_walk.specs.Standing.{IsView, IsReady, Faces}
+use Rattle.listing_walk.specs.Walking.{Comes, Passes, Walks}
+use Rattle.listing_walk.specs.Inserting.{taken_of, is_line_of, is_line_due, open_install, IsInstallDue, IsInstallRefused, RefusesInstall}
+use Rattle.listing_walk.proofs.Same_limits.{read_alike}
+use Rattle.listing_walk.proofs.Selected.{as_many_rows, as_many_columns}
 use Rattle.listing_walk.proofs.Setting_up.{faulted}
-use Rattle.listing_walk.proofs.Solving_walks.{present_with, present_at, selecting, no_setup_walks, unselected_walks, made_walks, unmade_here}
+use Rattle.listing_walk.proofs.Solving_walks.{present_with, present_at, ready_of, selecting, no_setup_walks, unselected_walks, made_walks, unmade_here}
 
 -- what INSERT does with the basis that a deck stands for, and with the deck that is taken
 abbrev asks_install : ℕ → State → Present → LinearProgram → List Card × List (List Card) → Basis → StatementMove
@@ -61,17 +67,45 @@ deck_faulted C cards machine old new fault card w' passes w move position execut
     (passes C w card (Does (stops (deck_stop fault))) cards position executed Nothing f refl refl refl)
 
 module _ (card : ℕ) (state : State) (present : Present) (lp : LinearProgram) (w : walks.Walker) where
-  -- where the line doesn't stand, a stop and what is pending are what is open
-  opened_read : (taken : List Card × List (List Card)) (read : Result Basis DeckFault) → is_inserted (deck_name (live taken.0)) w.rest ≡ false →
-      walks.opened w (or_deck_fault read (asks_install card state present lp taken)) ≡ open_by true true w
-  opened_read taken (Err fault) none = refl
-  opened_read taken (Ok s) none = ap (λ (b : Bool). open_install b w) none
+  -- a stop is open, the line where the deck has no fault and the line stands, and what is pending
+  opened_read : (taken : List Card × List (List Card)) (read : Result Basis DeckFault) →
+      walks.opened w (or_deck_fault read (asks_install card state present lp taken)) ≡ open_install (is_ok read && is_inserted (deck_name (live taken.0)) w.rest) w
+  opened_read taken (Err fault) = refl
+  opened_read taken (Ok s) = refl
 
-  opened_so : (cards : List (List ℕ)) (deck : Option Deck) → is_line_of cards deck w.rest ≡ false → walks.opened w (insert_by card state present lp (taken_of cards deck)) ≡ open_by true true w
-  opened_so cards None none = refl
-  opened_so cards (Some deck) none =
+  opened_so : (cards : List (List ℕ)) (deck : Option Deck) → walks.opened w (insert_by card state present lp (taken_of cards deck)) ≡ open_install (is_line_due present.problem lp cards deck w.rest) w
+  opened_so cards None = refl
+  opened_so cards (Some deck) =
       let taken : List Card × List (List Card) = (cards_between deck.first deck.last cards, decks_of (drop deck.last (numbered_cards cards))) in
-      opened_read taken (basis_reading present.problem lp taken.0) none
+      opened_read taken (basis_reading present.problem lp taken.0)
+
+-- ---- the linear program that was selected last
+
+-- the names of a choice don't count here, its options do
+due_alike : (problem : Problem ℕ) (c d : Choice) → c.options ≡ d.options → (p q : LinearProgram) → selected problem c ≡ Ok p → selected problem d ≡ Ok q → (cards : List (List ℕ)) (deck : Option Deck) (rest : List ℕ) →
+    is_line_due problem p cards deck rest ≡ is_line_due problem q cards deck rest
+due_alike problem c d same p q is_p is_q cards None rest = refl
+due_alike problem c d same p q is_p is_q cards (Some deck) rest =
+    ap (λ (read : Result Basis DeckFault). is_ok read && is_line_of cards (Some deck) rest) (read_alike problem c d same p q is_p is_q (cards_between deck.first deck.last cards))
+
+-- it is one of the problem, with the options that are kept
+pub record IsKept (problem : Problem ℕ) (chosen : Chosen) : Type 0 where
+  pub choice : Choice
+  pub has_options : choice.options ≡ chosen.options
+  pub is_selected : selected problem choice ≡ Ok chosen.lp
+
+pub kept_of : (file : Filed) (setup : Option Chosen) (chosen : Chosen) → setup ≡ Some chosen → IfSome setup (IsReady file) → (problem : Problem ℕ) → filed_under chosen.name file ≡ Some problem → IsKept problem chosen
+kept_of file setup chosen is ready problem on_file =
+    let r = ready_of file setup chosen is ready in
+    let same : r.problem ≡ problem = same_Some r.problem problem (sym r.on_file ∙ on_file) in
+    record {
+      choice = r.choice;
+      has_options = r.has_options;
+      is_selected = subst (λ (q : Problem ℕ). selected q r.choice ≡ Ok chosen.lp) same r.is_selected;
+    }
+
+pub kept_names : (problem : Problem ℕ) (chosen : Chosen) → IsKept problem chosen → HasNames problem chosen.lp
+kept_names problem chosen kept = record { rows = as_many_rows problem kept.choice chosen.lp kept.is_selected; columns = as_many_columns problem kept.choice chosen.lp kept.is_selected }
 
 -- the deck that is taken of the machine's cards
 pub taken_by : (cards : List (List ℕ)) (machine : Machine Chosen) (wanted : Option Name) → wanted ≡ machine.cells.xdata → (deck : Option Deck) →
@@ -94,24 +128,28 @@ module _ (C : Checker) (card : ℕ) (cards : List (List ℕ)) (machine : Machine
 
     -- ---- a selection is refused
 
-    unmade_walks : IsRefused problem (choice_of machine.cells chosen.options) → is_line_of cards deck old.cursor ≡ false → (found : Found) → IsUnchecked old found → Walks C Insert card cards machine machine old new (went.Finds found)
-    unmade_walks refused none found u = λ position executed state w s f.
+    unmade_walks : IsRefused problem (choice_of machine.cells chosen.options) → IsKept problem chosen → (due : Bool) → due ≡ is_line_due problem chosen.lp cards deck old.cursor → (found : Found) → IsInstallRefused old due found →
+        Walks C Insert card cards machine machine old new (went.Finds found)
+    unmade_walks refused kept due is found u = λ position executed state w s f.
         let p = present_at s chosen is_setup problem on_file in
         let present = present_with problem chosen.options p.opening p.steps in
         let q = unmade_here C card cards machine s (insert_move card state) chosen problem p w refused in
+        let same : is_line_due problem q.0 cards deck w.rest ≡ due =
+        due_alike problem (choice_of state.cells chosen.options) kept.choice (sym kept.has_options) q.0 chosen.lp q.2 kept.is_selected cards deck w.rest ∙ ap (is_line_due problem chosen.lp cards deck) f.rest ∙ sym is in
         ap (walks.walk_move C w) (inserting_move card state) ∙ q.1 ∙
         ap (λ (o : Option (List Card × List (List Card))). walks.unless_found (walks.opened w (insert_by card state present q.0 o)) (walks.Finds (walks.Unchecked w.rest))) (deck_at s) ∙
-        ap (λ (o : Option walks.Found). walks.unless_found o (walks.Finds (walks.Unchecked w.rest))) (opened_so card state present q.0 w cards deck (ap (is_line_of cards deck) f.rest ∙ none)) ∙ u w f
+        ap (λ (o : Option walks.Found). walks.unless_found o (walks.Finds (walks.Unchecked w.rest))) (opened_so card state present q.0 w cards deck ∙ ap (λ (b : Bool). open_install b w) same) ∙ u w f
 
-    pub insert_refused : (stands : Bool) → stands ≡ is_line_of cards deck old.cursor → (refusal : Unselected) → IsNotMade problem (choice_of machine.cells chosen.options) refusal → (result : Result Went NoMemory) →
-        IfOk result (RefusesInstall machine old new card stands refusal) → IfOk result (Walks C Insert card cards machine machine old new)
-    insert_refused stands is (unselected.Fault fault) h result passes = unselected_walks C Insert card (insert_move card) (inserting_move card) cards machine old new chosen is_setup problem on_file fault h result passes
-    insert_refused stands is unselected.Unchecked h (Ok (went.Finds found)) u = unmade_walks h (sym is ∙ u.0) found u.1
-    insert_refused stands is unselected.Unchecked h (Ok went.Next) u = absurd u.1
-    insert_refused stands is unselected.Unchecked h (Ok (went.Jump to)) u = absurd u.1
-    insert_refused stands is unselected.Unchecked h (Err stop) u = tt
-    insert_refused stands is unselected.NoMemory h (Ok w') u = absurd u
-    insert_refused stands is unselected.NoMemory h (Err stop) u = tt
+    pub insert_refused : IsKept problem chosen → (due : Bool) → due ≡ is_line_due problem chosen.lp cards deck old.cursor → (refusal : Unselected) → IsNotMade problem (choice_of machine.cells chosen.options) refusal →
+        (result : Result Went NoMemory) → IfOk result (RefusesInstall machine old new card due refusal) → IfOk result (Walks C Insert card cards machine machine old new)
+    insert_refused kept due is (unselected.Fault fault) h result passes = unselected_walks C Insert card (insert_move card) (inserting_move card) cards machine old new chosen is_setup problem on_file fault h result passes
+    insert_refused kept due is unselected.Unchecked h (Ok (went.Finds found)) u = unmade_walks h kept due is found u
+    insert_refused kept due is unselected.Unchecked h (Ok went.Next) u = absurd u
+    insert_refused kept due is unselected.Unchecked h (Ok (went.Leaves last)) u = absurd u
+    insert_refused kept due is unselected.Unchecked h (Ok (went.Jump to)) u = absurd u
+    insert_refused kept due is unselected.Unchecked h (Err stop) u = tt
+    insert_refused kept due is unselected.NoMemory h (Ok w') u = absurd u
+    insert_refused kept due is unselected.NoMemory h (Err stop) u = tt
 
     -- ---- with a linear program
 

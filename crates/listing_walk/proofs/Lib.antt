@@ -2,6 +2,7 @@ mod Settled
 mod Follow_on
 mod Stating
 mod Selected
+mod Same_limits
 mod Setting_up
 mod Sound
 mod Clamping

@@ -57,6 +57,7 @@ use Rattle.listing_walk.specs.Standing.{IsView, IsSound, Faces}
 use Rattle.listing_walk.specs.Walking.{open_by, Comes, IsOutcome, Finishes, Passes, Walks, Refuses}
 use Rattle.listing_walk.specs.Asking.{asked_turn, Answered, WentBy}
 use Rattle.listing_walk.specs.Parametric_verbs.{finding_of, left_by, IsUnasked}
+use Rattle.listing_walk.proofs.Follow_on.{finished_next}
 use Rattle.listing_walk.proofs.Selected.{fault_move, found_move, as_many_rows}
 use Rattle.listing_walk.proofs.Setting_up.{faulted}
 use Rattle.listing_walk.proofs.Solving_walks.{present_with, selecting, fault_stop, no_setup_walks, refusal_walks, made_walks, verdict_comes}
@@ -253,6 +254,15 @@ module _ (C : Checker) (verb : ParametricVerb) (card : ℕ) (cards : List (List 
               (walks.walk_move C w (tested_move verb card state (present_with problem chosen.options opening steps) lp)) a.walker a.answer (turn_asked w opening steps s ∙ a.is_turn) a.faces a.holds))
           parametric_ended x answered after is act is_act (Err stop) finishes = tt
 
+        -- a last value that no cell holds is handed out
+        pub parametric_long : AreDemands machine.cells → (x : ParametricRunAnswer) (last : ℚ) → x ≡ RanThrough last →
+            ((limit : ℕ) → Answered C (OfParametricRun (parametric_run_of limit request)) (record { problem = problem; lp = lp }) old new IsParametricRunAnswer (Ok x)) →
+            Walks C (verb_of verb) card cards machine (record machine { mark = None }) old new (went.Leaves last)
+        parametric_long demands x last is answered =
+            parametric_ended demands new (RanThrough last)
+            (subst (λ (y : ParametricRunAnswer). (limit : ℕ) → Answered C (OfParametricRun (parametric_run_of limit request)) (record { problem = problem; lp = lp }) old new IsParametricRunAnswer (Ok y)) is answered)
+            (left_by (Reached last) machine) refl acts.Next refl (Ok went.Next) (finished_next new)
+
 -- the machine after what was found, by the answer
 pub left_so : (machine : Machine Chosen) (finding found : Finding) → finding ≡ found → (after : Machine Chosen) → after ≡ left_by finding machine → after ≡ left_by found machine
 left_so machine finding found same after is = is ∙ ap (λ (f : Finding). left_by f machine) same
@@ -267,6 +277,9 @@ sound_by cards machine (RanThrough last) sound = record {
   ready = sound.ready;
   solved = tt;
 }
+
+pub parametric_long_sound : (cards : List (List ℕ)) (machine : Machine Chosen) → IsSound cards machine → IsSound cards (record machine { mark = None })
+parametric_long_sound cards machine sound = record { first = sound.first; last = sound.last; demands = sound.demands; ready = sound.ready; solved = tt }
 
 pub parametric_sound : (cards : List (List ℕ)) (machine : Machine Chosen) (x : ParametricRunAnswer) (after : Machine Chosen) → after ≡ left_by (finding_of x) machine → IsSound cards machine → IsSound cards after
 parametric_sound cards machine x after is sound = subst (IsSound cards) (sym is) (sound_by cards machine x sound)

@@ -126,6 +126,7 @@ module _ (C : Checker) (card : ℕ) (cards : List (List ℕ)) (machine : Machine
     punch_refused (unselected.Fault fault) h result passes = unselected_walks C Punch card (punch_move card) (punching_move card) cards machine old new chosen is_setup problem on_file fault h result passes
     punch_refused unselected.Unchecked h (Ok (went.Finds found)) reported = unmade_walks h found reported
     punch_refused unselected.Unchecked h (Ok went.Next) reported = absurd reported
+    punch_refused unselected.Unchecked h (Ok (went.Leaves last)) reported = absurd reported
     punch_refused unselected.Unchecked h (Ok (went.Jump to)) reported = absurd reported
     punch_refused unselected.Unchecked h (Err stop) reported = tt
     punch_refused unselected.NoMemory h (Ok w') reported = absurd reported

@@ -90,7 +90,7 @@ module _ (C : Checker) (w : walks.Walker) (problem : Problem ℕ) (choice : Choi
 
 -- ---- what is selected is the program of the choice
 
-is_program : (problem : Problem ℕ) (choice : Choice) (p : LinearProgram) → selected problem choice ≡ Ok p → program_of_choice problem choice ≡ p
+pub is_program : (problem : Problem ℕ) (choice : Choice) (p : LinearProgram) → selected problem choice ≡ Ok p → program_of_choice problem choice ≡ p
 unfolding selected
 is_program problem choice p e = unless-Ok (selection_fault problem choice) (program_of_choice problem choice) p e
 

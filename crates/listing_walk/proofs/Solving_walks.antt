@@ -114,10 +114,11 @@ module _ (C : Checker) (card : ℕ) (cards : List (List ℕ)) (machine : Machine
         ap (walks.walk_move C w) (selected_here lp k.is_selected) ∙ made_turn C w problem (choice state.cells) (go present lp) k.is_made
 
     -- an operation of the selection is refused, at whatever comes of it
-    pub unmade_here : (w : walks.Walker) → IsRefused problem (choice machine.cells) → (lp : LinearProgram) × (walks.walk_move C w (selecting card state go) ≡ walks.unless_found (walks.opened w (go present lp)) (walks.Finds (walks.Unchecked w.rest)))
+    pub unmade_here : (w : walks.Walker) → IsRefused problem (choice machine.cells) →
+        (lp : LinearProgram) × (walks.walk_move C w (selecting card state go) ≡ walks.unless_found (walks.opened w (go present lp)) (walks.Finds (walks.Unchecked w.rest))) × (selected problem (choice state.cells) ≡ Ok lp)
     unmade_here w refused =
         let k : IsRefused problem (choice state.cells) = subst (λ (c : Cells). IsRefused problem (choice c)) (sym s.cells) refused in
-        (k.lp, ap (walks.walk_move C w) (selected_here k.lp k.is_selected) ∙ refused_turn C w problem (choice state.cells) (go present k.lp) k.is_refused)
+        (k.lp, ap (walks.walk_move C w) (selected_here k.lp k.is_selected) ∙ refused_turn C w problem (choice state.cells) (go present k.lp) k.is_refused, k.is_selected)
 
     -- an operation of the selection is refused
     pub refused_here : (opens : (w : walks.Walker) (lp : LinearProgram) → walks.opened w (go present lp) ≡ open_by true true w) → IsRefused problem (choice machine.cells) → (found : Found) (place : ListingPlace) → IsUnchecked place found →
@@ -170,6 +171,7 @@ module _ (C : Checker) (verb : Verb ℕ) (card : ℕ) (go : State → Present �
     refusal_walks opens (unselected.Fault fault) h result refuses = unselected_walks fault h result refuses
     refusal_walks opens unselected.Unchecked h (Ok (went.Finds found)) refuses = refused_walks opens h found refuses
     refusal_walks opens unselected.Unchecked h (Ok went.Next) refuses = absurd refuses
+    refusal_walks opens unselected.Unchecked h (Ok (went.Leaves last)) refuses = absurd refuses
     refusal_walks opens unselected.Unchecked h (Ok (went.Jump to)) refuses = absurd refuses
     refusal_walks opens unselected.Unchecked h (Err stop) refuses = tt
     refusal_walks opens unselected.NoMemory h (Ok w') refuses = absurd refuses

@@ -1,6 +1,7 @@
 -- A statement at a position, and where it leads.
-use Rattle.std.proofs.Common.{◌≡◌, ℕ, ◌+◌, ◌-◌, ◌≤◌, ◌<◌, Bool, true, false, List, [], Some, None, Result, IfOk, Ok, Err, slice_get, drop, length, refl, sym, ap, subst, ◌∙◌, if◌then◌else◌, arith, rules}
+use Rattle.std.proofs.Common.{◌≡◌, ℕ, ◌+◌, ◌-◌, ◌≤◌, ◌<◌, Bool, true, false, List, [], Option, Some, None, Result, IfOk, Ok, Err, slice_get, drop, length, refl, sym, ap, subst, ◌∙◌, if◌then◌else◌, arith, rules}
 use Rattle.std.specs.Prelude.{nat_lt}
+use Rattle.exact_values.specs.Rational.{ℚ}
 use Rattle.card_definitions.specs.Cards.{numbered_cards}
 use Rattle.deck_definitions.specs.Decks.{decks_of}
 use Rattle.control_definitions.specs.Program.{Statement, Program}
@@ -19,7 +20,7 @@ use Rattle.listing_walk.specs.declared.place.ListingPlace.{ListingPlace}
 use Rattle.listing_walk.specs.declared.went.Went.TheVariants as went
 use Rattle.listing_walk.specs.declared.went.Onward.TheVariants as onward
 use Rattle.listing_walk.specs.Ended.{found_view, decks_after, IsFoundBy}
-use Rattle.listing_walk.specs.Standing.{IsView, IsSound, Faces, Represents}
+use Rattle.listing_walk.specs.Standing.{IsView, IsSound, Faces, holding, Represents}
 use Rattle.listing_walk.specs.Walking.{Walks, Steps}
 
 -- the state with one more statement counted
@@ -69,6 +70,10 @@ turn_at C program w statement within more there =
 
 -- ---- a statement
 
+held_last : (before : Option ℚ) (machine : Machine Chosen) (last : ℚ) → holding (Some last) (holding before machine) ≡ holding (Some last) machine
+held_last None machine last = refl
+held_last (Some value) machine last = refl
+
 module _ (C : Checker) (program : Program) (cards : List (List ℕ)) (position : ℕ) (statement : Statement ℕ) (there : slice_get program.statements (position - 1) ≡ Some statement) (within : position ≤ length program.statements)
     (old new : Machine Chosen) (place_old place_new : ListingPlace) where
   turn_here : (executed : ℕ) (w : walks.Walker) → executed < 100000 → Represents cards old position executed place_old w → walks.turn C program w ≡ walks.walk_statement C w (Some statement)
@@ -79,6 +84,13 @@ module _ (C : Checker) (program : Program) (cards : List (List ℕ)) (position :
   steps_next h = λ executed w more s.
       let c = h position (executed + 1) (counted w.state) w (counted_stands s.state) s.faces in
       (c.0, turn_here executed w more s ∙ c.1, c.2, omega arith)
+
+  -- a value that is left stands in place of the one before it
+  pub steps_leaves : (before : Option ℚ) (machine : Machine Chosen) → new ≡ holding before machine → (last : ℚ) → Walks C statement.verb statement.card cards old new place_old place_new (went.Leaves last) →
+      Steps C program cards position old (holding (Some last) machine) place_old place_new (onward.Goes (position + 1))
+  steps_leaves before machine is last h = λ executed w more s.
+      let c = h position (executed + 1) (counted w.state) w (counted_stands s.state) s.faces in
+      (c.0, turn_here executed w more s ∙ c.1, subst (λ (m : Machine Chosen). Represents cards m (position + 1) (executed + 1) place_new c.0) (ap (holding (Some last)) is ∙ held_last before machine last) c.2, omega arith)
 
   pub steps_jump : (to : ℕ) → Walks C statement.verb statement.card cards old new place_old place_new (went.Jump to) → Steps C program cards position old new place_old place_new (onward.Goes to)
   steps_jump to h = λ executed w more s.
@@ -93,18 +105,18 @@ module _ (C : Checker) (program : Program) (cards : List (List ℕ)) (position :
 
 module _ (C : Checker) (program : Program) (cards : List (List ℕ)) (listing : List ℕ) where
   -- a walker is reached that stands here
-  pub record IsUnderway (machine : Machine Chosen) (place : ListingPlace) (position executed : ℕ) : Type 0 where
+  pub record IsUnderway (last : Option ℚ) (machine : Machine Chosen) (place : ListingPlace) (position executed : ℕ) : Type 0 where
     pub sound : IsSound cards machine
     pub first : 1 ≤ position
     pub within : executed ≤ 100000
     pub few : place.reports ≤ executed
     pub walker : walks.Walker
     pub reaches : Reaches C program (decks_after program cards) listing walker
-    pub stands : Represents cards machine position executed place walker
+    pub stands : Represents cards (holding last machine) position executed place walker
 
   pub underway_first : (machine : Machine Chosen) (place : ListingPlace) (decks_from : ℕ) → drop (decks_from - 1) (numbered_cards cards) ≡ drop (program.decks_from - 1) (numbered_cards cards) →
       IsSound cards machine → machines.Represents IsView cards machine 1 0 (start (decks_of (drop (decks_from - 1) (numbered_cards cards)))) →
-      place.cursor ≡ listing → place.pending ≡ None → place.reports ≡ 0 → IsUnderway machine place 1 0
+      place.cursor ≡ listing → place.pending ≡ None → place.reports ≡ 0 → IsUnderway None machine place 1 0
   underway_first machine place decks_from same sound stands rest none no_reports = record {
     sound = sound;
     first = omega arith;
@@ -118,10 +130,10 @@ module _ (C : Checker) (program : Program) (cards : List (List ℕ)) (listing : 
     };
   }
 
-  module _ {machine : Machine Chosen} {place : ListingPlace} {position executed : ℕ} (u : IsUnderway machine place position executed) where
-    pub underway_more : (new : Machine Chosen) (later : ListingPlace) (to : ℕ) → executed < 100000 → IsSound cards new → later.reports ≤ place.reports + 1 →
-        Steps C program cards position machine new place later (onward.Goes to) → IsUnderway new later to (executed + 1)
-    underway_more new later to more sound few steps =
+  module _ {last : Option ℚ} {machine : Machine Chosen} {place : ListingPlace} {position executed : ℕ} (u : IsUnderway last machine place position executed) where
+    pub underway_more : (left : Option ℚ) (new : Machine Chosen) (later : ListingPlace) (to : ℕ) → executed < 100000 → IsSound cards new → later.reports ≤ place.reports + 1 →
+        Steps C program cards position (holding last machine) (holding left new) place later (onward.Goes to) → IsUnderway left new later to (executed + 1)
+    underway_more left new later to more sound few steps =
         let c = steps executed u.walker more u.stands in
         let before : place.reports ≤ executed = u.few in
         record {
@@ -134,7 +146,7 @@ module _ (C : Checker) (program : Program) (cards : List (List ℕ)) (listing : 
           stands = c.2;
         }
 
-    pub underway_found : (new : Machine Chosen) (later : ListingPlace) (found : Found) → executed < 100000 → Steps C program cards position machine new place later (onward.Finds found) → IsFoundBy C program cards listing found
+    pub underway_found : (new : Machine Chosen) (later : ListingPlace) (found : Found) → executed < 100000 → Steps C program cards position (holding last machine) new place later (onward.Finds found) → IsFoundBy C program cards listing found
     underway_found new later found more steps = record { walker = u.walker; reaches = u.reaches; finds = steps executed u.walker more u.stands }
 
     pub underway_over : (found : Found) → length program.statements < position → ((w : walks.Walker) → Faces place w → walks.closes w (Ended 0) ≡ walks.Finds (found_view found)) → IsFoundBy C program cards listing found
@@ -154,7 +166,7 @@ module _ (C : Checker) (program : Program) (cards : List (List ℕ)) (listing : 
 
   -- ---- by the result of a comparison with an end
 
-  module _ {machine : Machine Chosen} {place : ListingPlace} {position executed : ℕ} (u : IsUnderway machine place position executed) (result : Result Found NoMemory) where
+  module _ {last : Option ℚ} {machine : Machine Chosen} {place : ListingPlace} {position executed : ℕ} (u : IsUnderway last machine place position executed) (result : Result Found NoMemory) where
     pub over_by : length program.statements < position → IfOk result (λ found. (w : walks.Walker) → Faces place w → walks.closes w (Ended 0) ≡ walks.Finds (found_view found)) → IfOk result (IsFoundBy C program cards listing)
     over_by over closes = by result closes
       where

@@ -1,13 +1,18 @@
 -- What INSERT comes to in the walk.
 --     taken_of cards deck          the cards of the deck that is taken, and the decks that are left
 --     is_line_of cards deck rest   the line of INSERT stands here, for the deck that is taken
+--     is_line_due .. deck rest     and the deck has no fault
 --     IsInstallDue place stands found   the line of INSERT is due here
---     RefusesInstall .. went       a selection is refused, where it is due
-use Rattle.std.specs.Prelude.{◌≡◌, ℕ, ◌≤◌, Bool, false, List, [], Option, Some, None, length, drop, option_map}
+--     IsInstallRefused place due found  an operation of the selection is refused, where the line is due or isn't
+--     RefusesInstall .. went       a selection is refused
+use Rattle.std.specs.Prelude.{◌≡◌, ℕ, ◌≤◌, Bool, false, ◌&&◌, List, [], Option, Some, None, is_ok, length, drop, option_map}
 use Rattle.std.specs.Option.{option_or}
 use Rattle.card_definitions.specs.Cards.{Card, live, numbered_cards, cards_between}
 use Rattle.deck_definitions.specs.Conversion.{deck_name}
 use Rattle.deck_definitions.specs.Decks.{decks_of}
+use Rattle.lp_definitions.specs.LinearProgram.{LinearProgram}
+use Rattle.problem_definitions.specs.Problem.{Problem}
+use Rattle.basis_deck_definitions.specs.Reading.{basis_reading}
 use Rattle.job_decks.specs.declared.deck.Deck.{Deck}
 use Rattle.run_machine.specs.declared.act.Act.TheVariants as acts
 use Rattle.run_machine.specs.declared.end.End.TheVariants as ends
@@ -20,9 +25,10 @@ use Rattle.listing_walk.specs.declared.place.ListingPlace.{ListingPlace}
 use Rattle.listing_walk.specs.declared.selecting.Unselected.{Unselected}
 use Rattle.listing_walk.specs.declared.selecting.Unselected.TheVariants.{Fault, Unchecked, NoMemory}
 use Rattle.listing_walk.specs.declared.went.Went.{Went}
+use Rattle.listing_walk.specs.declared.went.Went.TheVariants.{Finds}
 use Rattle.listing_walk.specs.Ended.{found_view}
 use Rattle.listing_walk.specs.Standing.{Faces}
-use Rattle.listing_walk.specs.Walking.{Passes, FindsUnchecked}
+use Rattle.listing_walk.specs.Walking.{Passes}
 
 -- the numbers of a deck are those of cards, in order
 abbrev pub LiesWithin : List (List ℕ) → Deck → Type 0
@@ -35,6 +41,10 @@ abbrev pub is_line_of : List (List ℕ) → Option Deck → List ℕ → Bool
 is_line_of cards None rest = false
 is_line_of cards (Some deck) rest = is_inserted (deck_name (live (cards_between deck.first deck.last cards))) rest
 
+abbrev pub is_line_due : Problem ℕ → LinearProgram → List (List ℕ) → Option Deck → List ℕ → Bool
+is_line_due problem lp cards None rest = false
+is_line_due problem lp cards (Some deck) rest = is_ok (basis_reading problem lp (cards_between deck.first deck.last cards)) && is_line_of cards (Some deck) rest
+
 -- a stop comes first, then the line, if it stands, and then what is pending
 abbrev pub open_install : Bool → walks.Walker → Option walks.Found
 open_install stands w = option_or (walks.open_stop w) (option_or (walks.open_if stands w) (walks.open_pending w))
@@ -42,8 +52,15 @@ open_install stands w = option_or (walks.open_stop w) (option_or (walks.open_if 
 abbrev pub IsInstallDue : ListingPlace → Bool → Found → Type 0
 IsInstallDue place stands found = (w : walks.Walker) → Faces place w → walks.unless_found (open_install stands w) (walks.Finds (walks.Wrong w.rest)) ≡ walks.Finds (found_view found)
 
--- where the line stands, nothing is said of a refused operation
+-- the walk ends here, with what is open or unchecked
+abbrev pub IsInstallRefused : ListingPlace → Bool → Found → Type 0
+IsInstallRefused place due found = (w : walks.Walker) → Faces place w → walks.unless_found (open_install due w) (walks.Finds (walks.Unchecked w.rest)) ≡ walks.Finds (found_view found)
+
+abbrev pub FindsInstallRefused : ListingPlace → Bool → Went → Type 0
+FindsInstallRefused place due (Finds found) = IsInstallRefused place due found
+FindsInstallRefused place due went = ⊥
+
 abbrev pub RefusesInstall : Machine Chosen → ListingPlace → ListingPlace → ℕ → Bool → Unselected → Went → Type 0
-RefusesInstall machine old new card stands (Fault fault) went = Passes machine old new (acts.Ends (ends.Verb fault card)) [] went
-RefusesInstall machine old new card stands Unchecked went = (stands ≡ false) × FindsUnchecked old went
-RefusesInstall machine old new card stands NoMemory went = ⊥
+RefusesInstall machine old new card due (Fault fault) went = Passes machine old new (acts.Ends (ends.Verb fault card)) [] went
+RefusesInstall machine old new card due Unchecked went = FindsInstallRefused old due went
+RefusesInstall machine old new card due NoMemory went = ⊥

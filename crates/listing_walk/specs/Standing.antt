@@ -1,8 +1,10 @@
 -- Where the walk stands.
 --     IsReady, IsSolved, IsView    what SETUP keeps, without a basis
 --     Faces place walker           this is left of the listing, this verdict is pending, and so many reports were read
+--     holding last machine         the machine, with this value in XPARAM where there is one
 --     Represents cards machine ..  the machine and the place show this walker
 use Rattle.std.specs.Prelude.{◌≡◌, ℕ, List, Option, None, Some, Ok}
+use Rattle.exact_values.specs.Rational.{ℚ}
 use Rattle.problem_definitions.specs.Names.{Name}
 use Rattle.problem_definitions.specs.Problem.{Problem}
 use Rattle.problem_file.specs.Filed.{Filed, filed_under}
@@ -56,6 +58,11 @@ pub record Faces (place : ListingPlace) (w : walks.Walker) : Type 0 where
   pub reports : w.reports ≡ place.reports
 
 -- ---- both
+
+-- the machine's cells, but for XPARAM where a run left a value there that no cell holds
+abbrev pub holding : Option ℚ → Machine Chosen → Machine Chosen
+holding None machine = machine
+holding (Some last) machine = record machine { cells = record (machine.cells) { xparam = last } }
 
 pub record Represents (cards : List (List ℕ)) (machine : Machine Chosen) (position executed : ℕ) (place : ListingPlace) (w : walks.Walker) : Type 0 where
   pub state : machines.Represents IsView cards machine position executed w.state

@@ -2,7 +2,7 @@
 --     looks_by, clears_by          where a stop is looked for, and where what is pending has to be settled
 --     Comes turn .. went           the turn is this: the walk goes on, or it ends
 --     Walks C verb card ..         from each walker that stands here, the statement comes to this
-use Rattle.std.specs.Prelude.{◌≡◌, ℕ, ◌+◌, ◌≤◌, ◌<◌, Bool, true, false, List, [], ◌∷◌, Option, None, if◌then◌else◌}
+use Rattle.std.specs.Prelude.{◌≡◌, ℕ, ◌+◌, ◌≤◌, ◌<◌, Bool, true, false, List, [], ◌∷◌, Option, None, Some, if◌then◌else◌}
 use Rattle.std.specs.Option.{option_or}
 use Rattle.control_definitions.specs.Program.{Verb, Program}
 use Rattle.run_definitions.specs.State.{State}
@@ -22,11 +22,11 @@ use Rattle.listing_walk.specs.declared.found.Found.{Found}
 use Rattle.listing_walk.specs.declared.selecting.Unselected.{Unselected}
 use Rattle.listing_walk.specs.declared.selecting.Unselected.TheVariants.{Fault, Unchecked, NoMemory}
 use Rattle.listing_walk.specs.declared.went.Went.{Went}
-use Rattle.listing_walk.specs.declared.went.Went.TheVariants.{Next, Jump, Finds}
+use Rattle.listing_walk.specs.declared.went.Went.TheVariants.{Next, Leaves, Jump, Finds}
 use Rattle.listing_walk.specs.declared.went.Onward.{Onward}
 use Rattle.listing_walk.specs.declared.went.Onward.TheVariants as onward
 use Rattle.listing_walk.specs.Ended.{found_view}
-use Rattle.listing_walk.specs.Standing.{IsView, Faces, Represents}
+use Rattle.listing_walk.specs.Standing.{IsView, Faces, holding, Represents}
 
 -- ---- what is open
 
@@ -54,6 +54,7 @@ ends_run (acts.Ends end) = true
 -- the walk goes on with a walker that stands here, or it ends
 abbrev pub Comes : walks.WalkTurn → List (List ℕ) → Machine Chosen → ℕ → ℕ → ListingPlace → Went → Type 0
 Comes turn cards machine position executed place Next = (v : walks.Walker) × (turn ≡ walks.Walks v) × Represents cards machine (position + 1) executed place v
+Comes turn cards machine position executed place (Leaves last) = (v : walks.Walker) × (turn ≡ walks.Walks v) × Represents cards (holding (Some last) machine) (position + 1) executed place v
 Comes turn cards machine position executed place (Jump to) = (v : walks.Walker) × (turn ≡ walks.Walks v) × Represents cards machine to executed place v × (1 ≤ to)
 Comes turn cards machine position executed place (Finds found) = turn ≡ walks.Finds (found_view found)
 

@@ -43,6 +43,7 @@ pub fn walk<'a, T: Checks>(
 {
     let mut machine = Machine::<Chosen>::new(alloc, first_after(program, cards));
     let mut place = ListingPlace::new(listing);
+    let mut last = None;
     let mut position = 1;
     let mut executed = 0;
     while position <= program.count() {
@@ -50,7 +51,15 @@ pub fn walk<'a, T: Checks>(
             return place.close(alloc, &Ending::Statements);
         }
         executed += 1;
-        match step::<T>(alloc, &mut machine, program, cards, &mut place, position) {
+        match step::<T>(
+            alloc,
+            &mut machine,
+            program,
+            cards,
+            &mut place,
+            &mut last,
+            position,
+        ) {
             Ok(Onward::Goes(to)) => position = to,
             Ok(Onward::Finds(found)) => return Ok(found),
             Err(refused) => return Err(refused),

@@ -1,9 +1,11 @@
 // The statements of a program.
-ghost use Rattle.std.specs.Prelude.{◌≡◌, ◌+◌, ◌≤◌, ◌<◌, IfOk, length};
+ghost use Rattle.std.specs.Prelude.{◌≡◌, ◌+◌, ◌≤◌, ◌<◌, ℕ, List, Some, IfOk, length};
 ghost use Rattle.control_verbs.specs.Views.{viewed};
 ghost use Rattle.control_compiler.specs.Valid.{IsProgram};
 ghost use Rattle.run_machine.specs.Statements.{IsSoundVerb};
-ghost use Rattle.listing_walk.specs.Standing.{IsSound};
+ghost use Rattle.exact_values.specs.Rational.{ℚ};
+ghost use Rattle.walk_definitions.specs.Checkers.{Checker};
+ghost use Rattle.listing_walk.specs.Standing.{IsSound, holding};
 ghost use Rattle.listing_walk.specs.Walking.{Walks, Steps};
 
 use crate::chosen::Chosen;
@@ -21,8 +23,9 @@ use card_reader::Cards;
 use control_compiler::{Program, Verb};
 use job_devices::NoMemory;
 use listing_claims::Checks;
+use listing_words::Number;
 use parametric_request::ParametricVerb;
-use run_machine::Machine;
+use run_machine::{Act, End, Machine};
 use std::alloc::Global;
 
 // Follows the statement of a verb on a card.
@@ -86,13 +89,57 @@ fn execute<'a, T: Checks>(
     }
 }
 
-/// Follows the statement at a position.
+// Follows the statement of a verb where XPARAM has a value that no cell holds. One that may touch the cells finds no memory.
+fn execute_holding<'a>(
+    alloc: Global,
+    machine: &Machine<Chosen>,
+    place: &mut ListingPlace<'a>,
+    verb: &Verb<u32>,
+) -> Result<Went<'a>, NoMemory>
+    requires verb { IsSoundVerb (viewed verb.now) }
+    requires few { place.old.reports < 4294967295 }
+    ensures walks { (C : Checker) (last : ℚ) (card : ℕ) (cards : List (List ℕ)) → IfOk result
+        (Walks C (viewed verb.now) card cards (holding (Some last) machine.now) (holding (Some last) machine.now) place.old place.new) }
+    ensures few { place.new.reports ≤ place.old.reports + 1 }
+{
+    match verb {
+        Verb::Goto(position) => follow(alloc, machine, place, &Act::Jump(*position), &[]),
+        Verb::Exit => follow(alloc, machine, place, &Act::Ends(End::Done), &[]),
+        _ => Err(NoMemory),
+    }
+}
+
+// Follows a statement, with what a run left in XPARAM where no cell holds it.
+fn execute_with<'a, T: Checks>(
+    alloc: Global,
+    machine: &mut Machine<Chosen>,
+    cards: &Cards,
+    place: &mut ListingPlace<'a>,
+    last: &Option<Number<'a>>,
+    card: u32,
+    verb: &Verb<u32>,
+) -> Result<Went<'a>, NoMemory>
+    requires sound { IsSound cards.now machine.old }
+    requires verb { IsSoundVerb (viewed verb.now) }
+    requires few { place.old.reports < 4294967295 }
+    ensures walks { IfOk result (Walks T.checker (viewed verb.now) card cards.now (holding last.now machine.old) (holding last.now machine.new) place.old place.new) }
+    ensures sound { IsSound cards.now machine.new }
+    ensures few { place.new.reports ≤ place.old.reports + 1 }
+{
+    match last {
+        None => execute::<T>(alloc, machine, cards, place, card, verb),
+        Some(_) => execute_holding(alloc, machine, place, verb),
+    }
+}
+
+/// Follows the statement at a position, with what a run left in XPARAM where no cell holds it.
 pub fn step<'a, T: Checks>(
     alloc: Global,
     machine: &mut Machine<Chosen>,
     program: &Program,
     cards: &Cards,
     place: &mut ListingPlace<'a>,
+    last: &mut Option<Number<'a>>,
     position: u32,
 ) -> Result<Onward<'a>, NoMemory>
     requires valid { IsProgram program.now }
@@ -100,13 +147,17 @@ pub fn step<'a, T: Checks>(
     requires within { position ≤ length program.now.statements }
     requires sound { IsSound cards.now machine.old }
     requires few { place.old.reports < 4294967295 }
-    ensures steps { IfOk result (Steps T.checker program.now cards.now position machine.old machine.new place.old place.new) }
+    ensures steps { IfOk result (Steps T.checker program.now cards.now position (holding last.old machine.old) (holding last.new machine.new) place.old place.new) }
     ensures sound { IsSound cards.now machine.new }
     ensures few { place.new.reports ≤ place.old.reports + 1 }
 {
     let next = program.statement(position);
-    match execute::<T>(alloc, machine, cards, place, next.card, &next.verb) {
+    match execute_with::<T>(alloc, machine, cards, place, last, next.card, &next.verb) {
         Ok(Went::Next) => Ok(Onward::Goes(position + 1)),
+        Ok(Went::Leaves(value)) => {
+            *last = Some(value);
+            Ok(Onward::Goes(position + 1))
+        }
         Ok(Went::Jump(to)) => Ok(Onward::Goes(to)),
         Ok(Went::Finds(found)) => Ok(Onward::Finds(found)),
         Err(refused) => Err(refused),

@@ -4,7 +4,8 @@ ghost use Rattle.control_definitions.specs.Program as program;
 ghost use Rattle.walk_definitions.specs.Checkers.{Checker};
 ghost use Rattle.listing_walk.specs.Standing.{IsSound};
 ghost use Rattle.listing_walk.specs.Walking.{Walks};
-ghost use Rattle.listing_walk.specs.Inserting.{is_line_of, LiesWithin, IsInstallDue, RefusesInstall};
+ghost use Rattle.listing_walk.specs.Inserting.{is_line_of, is_line_due, LiesWithin, IsInstallDue, IsInstallRefused, RefusesInstall};
+ghost use Rattle.basis_deck_definitions.specs.Placings.{HasNames};
 
 use crate::chosen::Chosen;
 use crate::follow::{fault, follow};
@@ -19,7 +20,9 @@ use job_decks::{Deck, take_deck};
 use job_devices::NoMemory;
 use listing_definitions::VerbFault;
 use listing_readers::is_inserted;
+use lp_model::Lp;
 use mps_convert::problem_name;
+use problem_file::Problem;
 use run_cells::NameCell;
 use run_machine::{Act, End, Machine};
 use std::alloc::Global;
@@ -38,6 +41,30 @@ fn is_line_of(cards: &Cards, taken: Option<Deck>, rest: &[u8]) -> bool
     }
 }
 
+// Whether the deck that is taken has no fault, and the line of INSERT stands here for it. The deck's faults go by the limits that are there,
+// and not by their values.
+fn is_line_due(
+    alloc: Global,
+    problem: &Problem,
+    lp: &Lp,
+    cards: &Cards,
+    taken: Option<Deck>,
+    rest: &[u8],
+) -> Result<bool, NoMemory>
+    requires names { HasNames problem.now lp.now }
+    requires within { IfSome taken (LiesWithin cards.now) }
+    ensures { IfOk result (λ due. due ≡ is_line_due problem.now lp.now cards.now taken rest.now) }
+{
+    let Some(deck) = taken else {
+        return Ok(false);
+    };
+    match read_basis(alloc, problem, lp, cards, deck.first, deck.last) {
+        Ok(_basis) => Ok(is_line_of(cards, taken, rest)),
+        Err(CardStop::Fault(_)) => Ok(false),
+        Err(CardStop::NoMemory) => Err(NoMemory),
+    }
+}
+
 // The line of INSERT is due here, and stands or doesn't: a stop comes first; where the line doesn't stand, the verdict that is pending
 // comes, and else it is wrong.
 fn install_due<'a>(place: &ListingPlace<'a>, stands: bool) -> Found<'a>
@@ -53,34 +80,40 @@ fn install_due<'a>(place: &ListingPlace<'a>, stands: bool) -> Found<'a>
     }
 }
 
-// What is refused, where the line of INSERT stands or doesn't. A deck can't be judged without the linear program.
+// An operation of the selection is refused, where the line of INSERT is due or isn't: a stop comes first, then the line, and then the verdict
+// that is pending.
+fn install_refused<'a>(place: &ListingPlace<'a>, due: bool) -> Found<'a>
+    ensures { IsInstallRefused place.now due result }
+{
+    if due {
+        return Found::Open(place.cursor.left());
+    }
+    place.unchecked()
+}
+
+// What is refused, where the line of INSERT is due or isn't.
 fn refuse_install<'a>(
     alloc: Global,
     machine: &Machine<Chosen>,
     place: &mut ListingPlace<'a>,
     refusal: Unselected,
-    stands: bool,
+    due: bool,
     card: u32,
 ) -> Result<Went<'a>, NoMemory>
     requires { place.old.reports < 4294967295 }
-    ensures refuses { IfOk result (RefusesInstall machine.now place.old place.new card stands refusal) }
+    ensures refuses { IfOk result (RefusesInstall machine.now place.old place.new card due refusal) }
     ensures few { place.new.reports ≤ place.old.reports + 1 }
 {
     match refusal {
         Unselected::Fault(why) => fault(alloc, machine, place, why, card),
-        Unselected::Unchecked => {
-            if stands {
-                return Err(NoMemory);
-            }
-            Ok(Went::Finds(place.unchecked()))
-        }
+        Unselected::Unchecked => Ok(Went::Finds(install_refused(place, due))),
         Unselected::NoMemory => Err(NoMemory),
     }
 }
 
 /// INSERT. It needs a setup, selects again by the cells as they stand, takes a deck, and reads the basis that the deck stands for. The
-/// walk doesn't go past its report. Where an operation of the selection is refused and a line of INSERT stands, it answers that there is
-/// no memory, since the deck can't be judged then.
+/// walk doesn't go past its report. Where an operation of the selection is refused, the deck is read by the linear program that was
+/// selected last: with the same options it has its limits at the same places.
 pub fn insert<'a>(
     alloc: Global,
     machine: &Machine<Chosen>,
@@ -105,7 +138,11 @@ pub fn insert<'a>(
     let stands = is_line_of(cards, taken, place.cursor.left());
     let lp = match select_present(alloc, problem, &machine.cells, chosen.options) {
         Ok(lp) => lp,
-        Err(refusal) => return refuse_install(alloc, machine, place, refusal, stands, card),
+        Err(refusal) => {
+            let rest = place.cursor.left();
+            let due = is_line_due(alloc, problem, &chosen.lp, cards, taken, rest)?;
+            return refuse_install(alloc, machine, place, refusal, due, card);
+        }
     };
     let Some(deck) = taken else {
         return fault(alloc, machine, place, VerbFault::DeckNotFound, card);

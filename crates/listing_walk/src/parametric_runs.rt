@@ -1,7 +1,8 @@
 // PARAOBJ and PARARHS.
-ghost use Rattle.std.specs.Prelude.{◌≡◌, ◌+◌, ◌≤◌, ◌<◌, ℕ, List, IfOk, IfSome};
+ghost use Rattle.std.specs.Prelude.{◌≡◌, ◌+◌, ◌≤◌, ◌<◌, ℕ, List, IfOk, IfErr, IfSome};
 ghost use Rattle.run_machine.specs.Standing.{AreDemands};
 ghost use Rattle.parametric_request.specs.Asking.{verb_of};
+ghost use Rattle.listing_answers.specs.declared.answer.ParametricRunAnswer.TheVariants.{RanThrough};
 ghost use Rattle.listing_walk.specs.Parametric_verbs.{finding_of, left_by, IsUnasked};
 ghost use Rattle.listing_walk.specs.Standing.{IsReady, IsSound};
 ghost use Rattle.listing_walk.specs.Walking.{Walks};
@@ -17,6 +18,7 @@ use listing_answers::ParametricRunAnswer;
 use listing_claims::Checks;
 use listing_definitions::VerbFault;
 use listing_tables::Sheet;
+use listing_words::Number;
 use parametric_request::{ParametricVerb, RequestStop, request_of};
 use run_cells::NumberCell;
 use run_machine::{Finding, Machine, act_of};
@@ -40,13 +42,17 @@ fn unasked<'a>(
     }
 }
 
-// What was found, in the machine's words, if a last value has no more than the 128 bits of a cell.
-fn finding_of(answer: &ParametricRunAnswer<'_>) -> Option<Finding>
-    ensures { IfSome result (λ finding. finding ≡ finding_of answer.now) }
+// What was found, in the machine's words, or the last value of a run, where it has more than the 128 bits of a cell.
+fn finding_of<'a>(answer: &ParametricRunAnswer<'a>) -> Result<Finding, Number<'a>>
+    ensures found { IfOk result (λ finding. finding ≡ finding_of answer.now) }
+    ensures long { IfErr result (λ last. answer.now ≡ RanThrough last) }
 {
     match answer {
-        ParametricRunAnswer::Opened(mark) => Some(Finding::Ended(*mark)),
-        ParametricRunAnswer::RanThrough(last) => Some(Finding::RanThrough(last.fraction()?)),
+        ParametricRunAnswer::Opened(mark) => Ok(Finding::Ended(*mark)),
+        ParametricRunAnswer::RanThrough(last) => match last.fraction() {
+            Some(value) => Ok(Finding::RanThrough(value)),
+            None => Err(last.again()),
+        },
     }
 }
 
@@ -61,8 +67,8 @@ fn leave(machine: &mut Machine<Chosen>, finding: &Finding)
 }
 
 /// PARAOBJ and PARARHS: selects again by the cells as they stand, and takes the parametric run that is asked for from the listing. Its
-/// last value is left in XPARAM, where one of more than 128 bits, which is more than the cell holds, comes to no memory. An opening that
-/// isn't optimal goes by the demand of its verdict. Neither leaves a mark.
+/// last value is left in XPARAM; one of more than 128 bits, which is more than the cell holds, is handed out. An opening that isn't
+/// optimal goes by the demand of its verdict. Neither leaves a mark.
 pub fn parametric_run<'a, T: Checks>(
     alloc: Global,
     machine: &mut Machine<Chosen>,
@@ -97,8 +103,12 @@ pub fn parametric_run<'a, T: Checks>(
         Ok(answer) => answer,
         Err(stopped) => return stop_walk(stopped),
     };
-    let Some(finding) = finding_of(&answer) else {
-        return Err(NoMemory);
+    let finding = match finding_of(&answer) {
+        Ok(finding) => finding,
+        Err(last) => {
+            machine.mark = None;
+            return Ok(Went::Leaves(last));
+        }
     };
     leave(machine, &finding);
     let act = act_of(&machine.cells, card, finding);

@@ -1,12 +1,15 @@
 // Where a statement leads the walk.
 
 use crate::found::Found;
+use listing_words::Number;
 
 /// Where a statement leads the walk.
-#[derive(Clone, Copy, Debug)]
+#[derive(Drop)]
 pub enum Went<'a> {
     /// To the next statement.
     Next,
+    /// To the next statement, with this value in XPARAM, which is more than the cell holds.
+    Leaves(Number<'a>),
     /// To the statement with this number, from 1, or to the program's end.
     Jump(u32),
     /// To its end.

@@ -4,7 +4,7 @@ use Rattle.run_definitions.specs.State.{choice_of}
 use Rattle.run_machine.specs.declared.finding.Finding.{Finding}
 use Rattle.run_machine.specs.Findings.{act_of}
 use Rattle.listing_walk.proofs.Selected.{as_many_rows, as_many_columns, no_change}
-use Rattle.listing_walk.proofs.Parametric_walks.{serves, parametric_no_setup, parametric_refused, parametric_unasked, parametric_stopped, left_so, parametric_ended, parametric_sound}
+use Rattle.listing_walk.proofs.Parametric_walks.{serves, parametric_no_setup, parametric_refused, parametric_unasked, parametric_stopped, left_so, parametric_long, parametric_ended, parametric_long_sound, parametric_sound}
 use Rattle.listing_walk.proofs.parametric_runs.parametric_run.Goals as goal
 
 pub returns-in_default-clause-walks : goal.returns-in_default-clause-walks
@@ -41,8 +41,16 @@ returns-in-Err-answer_parametric_run-clause-walks g c = λ cards.
 pub returns-clause-walks : goal.returns-clause-walks
 returns-clause-walks g c = λ cards.
     parametric_ended g.T.Checks.checker c.args.verb c.args.card cards c.args.machine.now c.args.place.now c.finish.new.place c.in-Some.chosen c.in-Some.is c.in-Some-get.problem.now (sym c.in-Some-get.ensures) c.in-Ok.lp c.in-Ok.ensures.made
-    c.in-Ok-request_of.request c.in-Ok-request_of.ensures.asked c.requires.demands c.answer_parametric_run.new.place c.in-Ok-answer_parametric_run.answer c.in-Ok-answer_parametric_run.ensures.answered c.leave.new.machine (left_so c.args.machine.now _ _ c.in-Some-finding_of.ensures c.leave.new.machine c.leave.ensures) c.act_of-act.result
-    (c.act_of-act.ensures ∙ ap (λ (f : Finding). act_of c.leave.new.machine.cells c.args.card f) c.in-Some-finding_of.ensures) c.finish.result c.finish.ensures.finishes
+    c.in-Ok-request_of.request c.in-Ok-request_of.ensures.asked c.requires.demands c.answer_parametric_run.new.place c.in-Ok-answer_parametric_run.answer c.in-Ok-answer_parametric_run.ensures.answered c.leave.new.machine (left_so c.args.machine.now _ _ c.in-Ok-finding_of.ensures.found c.leave.new.machine c.leave.ensures) c.act_of-act.result
+    (c.act_of-act.ensures ∙ ap (λ (f : Finding). act_of c.leave.new.machine.cells c.args.card f) c.in-Ok-finding_of.ensures.found) c.finish.result c.finish.ensures.finishes
 
 pub returns-clause-sound : goal.returns-clause-sound
-returns-clause-sound g c = λ cards sound. parametric_sound cards c.args.machine.now c.in-Ok-answer_parametric_run.answer c.leave.new.machine (left_so c.args.machine.now _ _ c.in-Some-finding_of.ensures c.leave.new.machine c.leave.ensures) sound
+returns-clause-sound g c = λ cards sound. parametric_sound cards c.args.machine.now c.in-Ok-answer_parametric_run.answer c.leave.new.machine (left_so c.args.machine.now _ _ c.in-Ok-finding_of.ensures.found c.leave.new.machine c.leave.ensures) sound
+
+pub returns-in-Err-finding_of-clause-walks : goal.returns-in-Err-finding_of-clause-walks
+returns-in-Err-finding_of-clause-walks g c = λ cards.
+    parametric_long g.T.Checks.checker c.args.verb c.args.card cards c.args.machine.now c.args.place.now c.answer_parametric_run.new.place c.in-Some.chosen c.in-Some.is c.in-Some-get.problem.now (sym c.in-Some-get.ensures) c.in-Ok.lp c.in-Ok.ensures.made
+    c.in-Ok-request_of.request c.in-Ok-request_of.ensures.asked c.requires.demands c.in-Ok-answer_parametric_run.answer c.in-Err-finding_of.last c.in-Err-finding_of.ensures.long c.in-Ok-answer_parametric_run.ensures.answered
+
+pub returns-in-Err-finding_of-clause-sound : goal.returns-in-Err-finding_of-clause-sound
+returns-in-Err-finding_of-clause-sound g c = λ cards sound. parametric_long_sound cards c.args.machine.now sound
