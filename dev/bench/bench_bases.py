@@ -2,26 +2,33 @@
 """Counts how many bases that another solver wrote are inserted, solved and printed, by rows and decimals of random sparse models; and times
 PRIMAL from the opening basis against INSERT of the solver's basis and PRIMAL.
 
-usage: bench_bases.py [--with SOLVER] [--models N] [--rows N,N..] [--seconds S] PROGRAM | --times [--with SOLVER] PROGRAM | --model ROWS DECIMALS N
+usage: bench_bases.py [--with SOLVER] [--models N] [--rows N,N..] [--seconds S] PROGRAM | --opening [--models N] [--rows N,N..] [--seconds S] PROGRAM |
+       bench_bases.py --times [--with SOLVER] [--seconds S] PROGRAM | --model ROWS DECIMALS N
 
   PROGRAM           a program that reads a job from standard input
   --with SOLVER     clp (without it), esolver, lp_solve or glpsol
   --models N        N models of each kind (10)
   --rows N,N..      10,20,50,100,200,300 without it
-  --seconds S       a run, or the solver, is ended after S seconds (60), and counted apart
+  --seconds S       a run, or the solver, is ended after S seconds of processor time (40, a whole number), and counted apart
+  --opening         the counts of PRIMAL from the opening basis alone: of no solver
   --times           times, in place of the counts
   --model           prints the N-th model of so many rows, with numbers of 0, 1 or 2 decimals
 
 Each model has a third of its rows as limits on all its columns, so that it has an optimum; the others are L, G and E rows, kept by a plan of
 whole numbers. There are 7 columns for 6 rows, each with an entry above 0 in one of the first rows and with two of either sign in others; an
 entry is a number from 1 to 9, or of .1 to 9.9, or of .01 to 9.99. Of the runs that stopped since a number doesn't fit it is counted in how
-many the objective itself, which has but one value, doesn't fit in a fraction of 127 bits: esolver of qsopt-ex has it exactly."""
+many the objective itself, which has but one value, doesn't fit in a fraction of 127 bits: esolver of qsopt-ex has it exactly.
+
+How busy the machine is changes no count: a run is ended by its own processor seconds. One that hasn't had them after 100 times as many seconds by
+the clock ends the script, which then prints no line for its kind."""
 import argparse
+import contextlib
 import os
 import pathlib
 import random
 import re
 import resource
+import signal
 import subprocess
 import sys
 import tempfile
@@ -39,8 +46,10 @@ from mps360.model import Model
 
 SOLVERS = ("clp", "esolver", "lp_solve", "glpsol")
 ROWS, DECIMALS, RUNS, SPARSE, MOST_NUMBER = (10, 20, 50, 100, 200, 300), (0, 1, 2), 5, (299, 0, 1), 2 ** 127 - 1
+BY_CLOCK = 100   # times its processor seconds, after which a run ends the script
 STOPS, OTHERS = ("INSERT", "PRIMAL", "SOLUTION"), ("singular", "no basis", "no end")
 ENDS = ("printed", *STOPS, *OTHERS)
+OUT_OF_TIME = (-signal.SIGXCPU, 128 + signal.SIGXCPU)   # of a program itself, and of one that a shell runs
 
 
 def made_model(rows: int, decimals: int, number: int) -> Model:
@@ -79,26 +88,43 @@ def transport(count: int) -> Model:
     return model
 
 
-def run(program: str, job: str, seconds: float) -> tuple[int | None, str, float]:
+def limit(process: int, seconds: int) -> None:
+    "ends a process, 0 is this one, by a signal once it has had so many seconds of processor time"
+    with contextlib.suppress(ProcessLookupError):
+        resource.prlimit(process, resource.RLIMIT_CPU, (seconds, seconds + 5))
+
+
+def late(what: str, seconds: int) -> SystemExit:
+    "the end of the script for a run that had too little of the machine"
+    return SystemExit(f"bench_bases.py: {what} hasn't had {seconds} seconds of processor time after {BY_CLOCK * seconds} by the clock")
+
+
+def limited(command: list[str], seconds: int, given: bytes = b"") -> tuple[int | None, bytes]:
+    "the status and the output of a command; no status where it was ended for its processor time"
+    try:
+        # (between fork and exec no other thread of this script is there)
+        ended = subprocess.run(command, input=given, stdout=subprocess.PIPE, stderr=subprocess.DEVNULL, timeout=BY_CLOCK * seconds, check=False,
+                               preexec_fn=lambda: limit(0, seconds))
+    except subprocess.TimeoutExpired:
+        raise late(os.path.basename(command[0]), seconds) from None
+    return None if ended.returncode in OUT_OF_TIME else ended.returncode, ended.stdout
+
+
+def run(program: str, job: str, seconds: int) -> tuple[int | None, str, float]:
     "the status, the listing and the processor time of a run; no status where it was ended"
     before = resource.getrusage(resource.RUSAGE_CHILDREN)
-    try:
-        ended = subprocess.run([program], input=job.encode("ascii"), stdout=subprocess.PIPE, timeout=seconds, check=False)
-    except subprocess.TimeoutExpired:
-        return None, "", seconds
+    status, listing = limited([program], seconds, job.encode("ascii"))
     after = resource.getrusage(resource.RUSAGE_CHILDREN)
-    return ended.returncode, ended.stdout.decode("ascii"), after.ru_utime + after.ru_stime - before.ru_utime - before.ru_stime
+    return status, listing.decode("ascii"), after.ru_utime + after.ru_stime - before.ru_utime - before.ru_stime
 
 
-def has_wide_objective(model: Model, seconds: float) -> bool:
+def has_wide_objective(model: Model, seconds: int) -> bool:
     "whether the best objective, as QSopt_ex has it in exact fractions, doesn't fit in a number of the program; False where there is none in time"
     with tempfile.TemporaryDirectory() as folder:
         path, solution = pathlib.Path(folder, "model.mps"), pathlib.Path(folder, "solution")
         path.write_text(Plain(model).text)
-        try:
-            subprocess.run(["esolver", "-O", solution, path], capture_output=True, timeout=seconds, check=False)
-        except (subprocess.TimeoutExpired, FileNotFoundError):
-            return False
+        with contextlib.suppress(FileNotFoundError):
+            limited(["esolver", "-O", str(solution), str(path)], seconds)
         found = re.search(r"Value = (\S+)", solution.read_text()) if solution.exists() else None
     value = Fraction(found[1]) if found else Fraction(0)
     return max(abs(value.numerator), value.denominator) > MOST_NUMBER
@@ -109,8 +135,9 @@ def asked(options: argparse.Namespace, model: Model) -> Basis | None:
     with Processes() as processes:
         found: solvers.Solver = options.found
         request = found.ask(Plain(model), processes)
-        if not processes.wait([request.process], time.monotonic() + options.seconds):
-            return None
+        limit(request.process.child.pid, options.seconds)
+        if not processes.wait([request.process], time.monotonic() + BY_CLOCK * options.seconds):
+            raise late(options.solver, options.seconds)
         try:
             return request.basis()[0]
         except solver_names.NoBasis:
@@ -118,7 +145,7 @@ def asked(options: argparse.Namespace, model: Model) -> Basis | None:
 
 
 def end_of(status: int | None, listing: str) -> str:
-    "whether all was printed, or where the run stopped"
+    "whether all was printed, or where the run stopped, or hadn't ended in its processor time"
     if status is None:
         return "no end"
     if status in (0, 1, 2):
@@ -159,7 +186,20 @@ def counts(options: argparse.Namespace) -> None:
             print("| " + " | ".join(str(cell) for cell in cells) + " |", flush=True)
 
 
-def least(program: str, job: str, seconds: float) -> tuple[int | None, str, float]:
+def of_opening(options: argparse.Namespace) -> None:
+    "a line for each number of decimals: how many came to their own answer, and how many hadn't ended; the others stopped since a number doesn't fit"
+    print("| Decimals of the numbers | " + " | ".join(f"{rows} rows" for rows in options.rows) + " |")
+    print("|" + "---|" * (1 + len(options.rows)), flush=True)
+    for decimals in DECIMALS:
+        cells = [str(decimals)]
+        for rows in options.rows:
+            ends = [end_of(*run(options.program, job_of(made_model(rows, decimals, number)).text, options.seconds)[:2]) for number in range(1, options.models + 1)]
+            without = ends.count("no end")
+            cells.append(f"{ends.count('printed')}" + f", {without} not ended" * bool(without))
+        print("| " + " | ".join(cells) + " |", flush=True)
+
+
+def least(program: str, job: str, seconds: int) -> tuple[int | None, str, float]:
     "the status, the listing and the least processor time of so many runs"
     ended = [run(program, job, seconds) for _ in range(RUNS)]
     return min(ended, key=lambda one: one[2])
@@ -202,11 +242,18 @@ def main(words: list[str]) -> int:
     parser.add_argument("--with", dest="solver", choices=SOLVERS, default="clp")
     parser.add_argument("--models", type=int, default=10)
     parser.add_argument("--rows", type=lambda word: [int(part) for part in word.split(",")], default=ROWS)
-    parser.add_argument("--seconds", type=float, default=60)
+    parser.add_argument("--seconds", type=int, default=40)
+    parser.add_argument("--opening", action="store_true")
     parser.add_argument("--times", action="store_true")
     parser.add_argument("program")
     options = parser.parse_args(words)
     options.program = os.path.abspath(options.program)
+    if options.seconds < 1:
+        say("--seconds takes a whole number of 1 or more")
+        return 64
+    if options.opening:
+        of_opening(options)
+        return 0
     options.found = solvers.find(options.solver)
     if options.found is None:
         say(f"{options.solver} isn't installed")

@@ -56,6 +56,8 @@ class Walk:
         self.cells: dict[str, Any] = dict(DEFAULTS)
         self.demands: dict[str, int] = {}
         self.job = job
+        # of the control program: the next statement, and how many are executed
+        self.next = self.executed = 0
 
     # -- what comes
 
@@ -108,23 +110,22 @@ class Walk:
             self.ends(stop.text)
 
     def statements(self, program: Program) -> None:
-        "executes the statements from the first on"
-        at = executed = 0
-        while at < len(program.statements):
-            if executed == MOST_STATEMENTS:
+        "executes the statements from the next on"
+        while self.next < len(program.statements):
+            if self.executed == MOST_STATEMENTS:
                 self.ends("STOP 17 STATEMENT LIMIT")
-            one = program.statements[at]
-            at, executed = at + 1, executed + 1
+            one = program.statements[self.next]
+            self.next, self.executed = self.next + 1, self.executed + 1
             if one.verb == "EXIT":
                 break
             if one.verb == "GOTO":
-                at = program.labels[str(one.arguments[0])]
+                self.next = program.labels[str(one.arguments[0])]
                 continue
             demand = self.execute(one, program.labels)
             if demand:
                 if demand not in self.demands:
                     self.ends("END 2" if demand == "XDOUNB" else "END 1")
-                at = self.demands[demand]
+                self.next = self.demands[demand]
         self.ends("END 0")
 
     def execute(self, one: Statement, labels: dict[str, int]) -> str | None:
@@ -488,9 +489,14 @@ def attest(job: bytes, listing: bytes, by: Checker = OF_128_BITS) -> tuple[int, 
     try:
         Walk(job, listing, by).run()
     except Found as found:
-        word = {ATTESTED: "ATTESTED {} REPORTS", WRONG: "WRONG LINE {}", OPEN: "OPEN LINE {}", UNCHECKED: "UNCHECKED LINE {}"}[found.status]
-        return found.status, word.format(found.number)
+        return told(found)
     raise AssertionError("a walk has an end")
+
+
+def told(found: Found) -> tuple[int, str]:
+    "the status and the line of the end of a walk"
+    word = {ATTESTED: "ATTESTED {} REPORTS", WRONG: "WRONG LINE {}", OPEN: "OPEN LINE {}", UNCHECKED: "UNCHECKED LINE {}"}[found.status]
+    return found.status, word.format(found.number)
 
 
 def as_program(words: list[str], by: Checker) -> tuple[int, str]:

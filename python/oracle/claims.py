@@ -6,6 +6,7 @@ import re
 from collections.abc import Callable, Iterable, Sequence
 from dataclasses import dataclass
 from fractions import Fraction
+from math import gcd
 from typing import Any
 
 from oracle.rules import GREATEST, Refused, add, multiply
@@ -213,9 +214,23 @@ def read_code(word: str) -> str:
 # ---- the sums of the checks
 
 def total(by: Checker, start: Fraction, products: Iterable[tuple[Fraction, Fraction]]) -> Fraction:
+    if by.greatest is None:
+        return total_of_any_length(start, products)
     for x, y in products:
         start = by.add(start, by.multiply(x, y))
     return start
+
+
+def total_of_any_length(start: Fraction, products: Iterable[tuple[Fraction, Fraction]]) -> Fraction:
+    "the same where no operation is refused: over one common denominator, and reduced at the end alone"
+    above, below = start.numerator, start.denominator
+    for x, y in products:
+        top, bottom = x.numerator * y.numerator, x.denominator * y.denominator
+        if bottom != below:
+            common = gcd(bottom, below)
+            above, top, below = above * (bottom // common), top * (below // common), below * (bottom // common)
+        above += top
+    return Fraction(above, below)
 
 
 def check_equations(by: Checker, lp: LinearProgram, point: Sequence[Fraction]) -> None:

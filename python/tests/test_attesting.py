@@ -3,9 +3,11 @@ refused jobs, and of listings altered at random; and the proved checkers mps360c
 import functools
 import subprocess
 
+import altered_cases
 import altered_listings
 import faults
 import places
+import programs_at_hand
 import pytest
 import random_jobs
 from calls import call, called
@@ -344,9 +346,24 @@ def test_altered_listings(words, status):
 
 
 def test_altered_listings_with_a_program(tmp_path):
-    import programs_at_hand
     assert called(altered_listings, "--program", programs_at_hand.checker(tmp_path), "--jobs", "0", "2")[0] == 0
     assert called(altered_listings, "--long", "--program", programs_at_hand.checker(tmp_path, "--long"), "--jobs", "0", "2")[0] == 0
+
+
+@pytest.mark.parametrize("words, status", ((("0", "60"), 0), (("--checker", "mps360check", "0", "5"), 65), (("--checker", "x"), 64), (("0", "1", "2"), 64)))
+def test_altered_cases(words, status):
+    assert called(altered_cases, str(places.DATA / "long_listings.jsonl"), *words)[0] == status
+
+
+def test_altered_cases_with_a_program(tmp_path):
+    "one that attests everything is told"
+    cases, says_yes = str(places.DATA / "long_listings.jsonl"), programs_at_hand.script(tmp_path, "yes", "echo ATTESTED 5 REPORTS\n")
+    assert called(altered_cases, "--program", programs_at_hand.checker(tmp_path, "--long"), cases, "0", "3")[0] == 0
+    ended = called(altered_cases, "--program", says_yes, "--keep", str(tmp_path / "kept"), cases, "0", "5")
+    assert ended[0] == 1 and "the program says 'ATTESTED 5 REPORTS', status 0, and by the rules it is" in ended[2]
+    assert {path.suffix for path in (tmp_path / "kept").iterdir()} == {".job", ".listing"}
+    (tmp_path / "other").write_text("{}\n")
+    assert called(altered_cases, str(tmp_path / "other"))[0] == 65 and called(altered_cases, str(tmp_path / "none"))[0] == 65
 
 
 @pytest.mark.parametrize("words, status", (

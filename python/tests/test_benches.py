@@ -62,6 +62,18 @@ def test_the_bench_of_bases(tmp_path):
     assert ran(0, BENCH / "bench_bases.py", "--model", "3", "0", "1").startswith(b"NAME")
 
 
+def test_a_run_of_the_bench_of_bases_ends_by_its_processor_seconds(tmp_path):
+    "a program that sleeps past them comes to its answer, one that works past them doesn't, and one with 20 stopped; at 0 seconds is no use"
+    program = programs_at_hand.script(tmp_path, "program", """case $(cat) in
+        *S3D0N1*) sleep 1.5; echo END 0 ;;
+        *S3D1N1*) while :; do :; done ;;
+        *) echo STOP 20 OVERFLOW; exit 20 ;;
+        esac\n""")
+    printed = ran(0, BENCH / "bench_bases.py", "--opening", "--models", "1", "--rows", "3", "--seconds", "1", program).decode()
+    assert printed.splitlines()[2:] == ["| 0 | 1 |", "| 1 | 0, 1 not ended |", "| 2 | 0 |"]
+    ran(64, BENCH / "bench_bases.py", "--seconds", "0", program)
+
+
 def test_the_bench_of_attesting():
     needs("esolver")
     assert ran(0, BENCH / "bench_attesting.py", "--itself", "--models", "1", "--rows", "3", "--seconds", "60").count(b"\n") >= 4
