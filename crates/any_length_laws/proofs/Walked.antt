@@ -19,7 +19,7 @@ use Rattle.walk_definitions.specs.Checkers.{checker_of_128_bits, checker_of_any_
 use Rattle.walk_definitions.specs.Tests.{point_of}
 use Rattle.walk_definitions.specs.Reading.{Judged, Right, Fails, Refuses, judged}
 use Rattle.walk_definitions.specs.Walker.{Pending, Walker, Found, Attested, Wrong, Unchecked, WalkTurn, Walks, Finds, opened, refuses_selection, unless_found, closes, follows, passed, settled, noted, settling, answered, due, walk_move, walk_statement, turn}
-use Rattle.walk_definitions.specs.Found.{Reaches, begun, walked, Comes, of_cards, of_control, of_walk}
+use Rattle.walk_definitions.specs.Found.{Reaches, begun, walked, EndsIn, of_cards, of_control, of_walk}
 use Rattle.any_length_laws.specs.Laws.{Widens}
 use Rattle.any_length_laws.proofs.Judged.{judged_widens}
 
@@ -110,7 +110,7 @@ reaches_too : (program : Program) (decks : List (List Card)) (lines : List ℕ) 
 reaches_too program decks lines _ begun = begun
 reaches_too program decks lines _ (walked {w = w} {v = v} before is) = walked (reaches_too program decks lines w before) ((turn_follows program w).by (Walks v) tt is)
 
-attested_too : (bytes lines : List ℕ) (count : ℕ) → Comes checker_of_128_bits bytes lines (Attested count) → Comes checker_of_any_length bytes lines (Attested count)
+attested_too : (bytes lines : List ℕ) (count : ℕ) → EndsIn checker_of_128_bits bytes lines (Attested count) → EndsIn checker_of_any_length bytes lines (Attested count)
 attested_too bytes lines count (of_cards fault is e) = of_cards fault is e
 attested_too bytes lines count (of_control fault none is e) = of_control fault none is e
 attested_too bytes lines count (of_walk program w is_program reaches e) =

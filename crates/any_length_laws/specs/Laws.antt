@@ -10,7 +10,7 @@ use Rattle.walk_definitions.specs.Checkers.{Checker, checker_of_128_bits, checke
 use Rattle.walk_definitions.specs.Words.{word_in, is_long}
 use Rattle.walk_definitions.specs.Reading.{Right, Refuses, judged}
 use Rattle.walk_definitions.specs.Walker.{Attested}
-use Rattle.walk_definitions.specs.Found.{Comes}
+use Rattle.walk_definitions.specs.Found.{EndsIn}
 
 abbrev pub without_limit : Checker
 without_limit = record checker_of_any_length { most_digits = None }
@@ -31,4 +31,4 @@ pub record Widens : Type 0 where
   pub right : (question : Question) (sheet : Sheet) (rest after : List ℕ) (answer : AnswerTo question) → judged checker_of_128_bits question sheet rest ≡ Right answer after →
       judged checker_of_any_length question sheet rest ≡ Right answer after
   -- and so is the listing
-  pub attested : (bytes lines : List ℕ) (count : ℕ) → Comes checker_of_128_bits bytes lines (Attested count) → Comes checker_of_any_length bytes lines (Attested count)
+  pub attested : (bytes lines : List ℕ) (count : ℕ) → EndsIn checker_of_128_bits bytes lines (Attested count) → EndsIn checker_of_any_length bytes lines (Attested count)

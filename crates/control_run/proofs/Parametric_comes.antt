@@ -32,7 +32,7 @@ use Rattle.run_machine.specs.Choosing.{HasSelectionFault, HasSelectionOverflow, 
 use Rattle.run_machine.specs.Ends.{place_view}
 use Rattle.run_machine.specs.Standing.{AreDemands}
 use Rattle.setup_verbs.specs.Standing.{IsPresent, IsReady, ShowsSetup, Represents}
-use Rattle.setup_verbs.specs.Statements.{Comes, Executes}
+use Rattle.setup_verbs.specs.Statements.{LeadsTo, Executes}
 use Rattle.run_machine.specs.Findings.{ReportsFinding, act_of}
 use Rattle.parametric_request.specs.Asking.{verb_of, name_moved, change_of, change_fault, IsAsked, no_last, below, IsAskFault, no_change, no_value}
 use Rattle.control_run.specs.ParametricVerbs.{ParametricRunReaches, ParametricRunOverflows, opened, chained, at_limit, overflows, ParametricRuns, unselected, too_large, not_asked, run_through, cells_left}
@@ -199,7 +199,7 @@ module _ (verb : ParametricVerb) (card : ℕ) (cards : List (List ℕ)) (old : M
         }
 
   pub found_comes : (gain : Gain) (finding : Finding) → ParametricRuns problem old.cells verb setup new gain finding →
-      Comes linear_programming (verb_of verb) card cards position executed state (after (cells_left finding old.cells)) gain (act_of (cells_left finding old.cells) card finding)
+      LeadsTo linear_programming (verb_of verb) card cards position executed state (after (cells_left finding old.cells)) gain (act_of (cells_left finding old.cells) card finding)
   found_comes _ _ (unselected {fault = fault} h) = fault_gives fault h
   found_comes _ _ (too_large {e = e} h) = selection_gives e h
   found_comes _ _ (not_asked {lp = lp} {fault = fault} ok h) = not_asked_gives lp ok fault h

@@ -45,7 +45,7 @@ use Rattle.run_machine.specs.declared.selecting.Refusal.TheVariants.{Fault}
 use Rattle.run_machine.specs.Ends.{place_view}
 use Rattle.answer_definitions.specs.Real.{linear_programming}
 use Rattle.setup_verbs.specs.Standing.{IsPresent, ShowsSetup, Represents}
-use Rattle.setup_verbs.specs.Statements.{Comes, Executes}
+use Rattle.setup_verbs.specs.Statements.{LeadsTo, Executes}
 use Rattle.run_machine.specs.Choosing.{refused_act}
 use Rattle.run_machine.specs.Findings.{ReportsFinding, act_of}
 use Rattle.control_run.specs.Found.{RangesFound, ranged, stopped, ShowsRanges, range_fault}
@@ -176,7 +176,7 @@ module _ (card : ℕ) (cards : List (List ℕ)) (old : Machine) (setup : Setup) 
           (ap (λ (c : Cells). selected problem (choice_of c setup.options)) s.cells ∙ ok) g)))
 
       pub ranged_comes : (gain : Gain) (finding : Finding) → ShowsRanges problem setup gain finding →
-          Comes linear_programming Ranging card cards position executed state (record old { setup = Some new }) gain (act_of old.cells card finding)
+          LeadsTo linear_programming Ranging card cards position executed state (record old { setup = Some new }) gain (act_of old.cells card finding)
       unfolding linear_programming
       ranged_comes _ _ (ranged {lines = lines} h) = (
         state,

@@ -23,7 +23,7 @@ use Rattle.setup_verbs.specs.Machines.{Machine}
 use Rattle.run_machine.specs.Ends.{end_view, place_view}
 use Rattle.answer_definitions.specs.Real.{linear_programming}
 use Rattle.setup_verbs.specs.Standing.{Represents}
-use Rattle.setup_verbs.specs.Statements.{Comes, Executes, Follows}
+use Rattle.setup_verbs.specs.Statements.{LeadsTo, Executes, Follows}
 use Rattle.run_machine.specs.Findings.{ReportsFinding}
 use Rattle.setup_verbs.specs.Overflows.{IsOverflowAt, reported, no_memory}
 
@@ -65,7 +65,7 @@ outcome_by card move cards new position executed gain (act.Ends end) f = (EndsRu
 module _ (verb : Verb ℕ) (card : ℕ) (cards : List (List ℕ)) (old : Machine) (F : Gain → Finding → Type 0)
     (new : Finding → Machine) (then : Finding → Act) (no_cards : (gain : Gain) (finding : Finding) → F gain finding → punched_by gain ≡ [])
     (comes : (gain : Gain) (finding : Finding) → F gain finding → (position executed : ℕ) (state : State) → Represents cards old position executed state →
-    Comes linear_programming verb card cards position executed state (new finding) gain (then finding)) where
+    LeadsTo linear_programming verb card cards position executed state (new finding) gain (then finding)) where
   pub reported_executes : (print_old print_new : SinkState) (finding : Finding) → ReportsFinding F print_old print_new (Ok finding) →
       Executes linear_programming verb card print_old print_new cards old (new finding) (Ok (then finding))
   reported_executes print_old print_new finding t = λ position executed state s. record {

@@ -42,7 +42,7 @@ use Rattle.run_machine.specs.declared.selecting.Refusal.TheVariants.{Fault}
 use Rattle.run_machine.specs.Ends.{place_view}
 use Rattle.answer_definitions.specs.Real.{linear_programming}
 use Rattle.setup_verbs.specs.Standing.{IsPresent, IsSolved, ShowsSetup, Represents}
-use Rattle.setup_verbs.specs.Statements.{Comes, Executes}
+use Rattle.setup_verbs.specs.Statements.{LeadsTo, Executes}
 use Rattle.run_machine.specs.Choosing.{refused_act, IsSelected}
 use Rattle.run_machine.specs.Findings.{ReportsFinding, act_of}
 use Rattle.control_run.specs.Found.{LinesFound, viewed, overflows, Shows}
@@ -193,7 +193,7 @@ module _ (card : ℕ) (cards : List (List ℕ)) (old : Machine) (setup : Setup) 
           }
 
       pub reported_comes : (gain : Gain) (finding : Finding) → Shows problem setup mark gain finding →
-          Comes linear_programming SolutionVerb card cards position executed state (record old { setup = Some new }) gain (act_of old.cells card finding)
+          LeadsTo linear_programming SolutionVerb card cards position executed state (record old { setup = Some new }) gain (act_of old.cells card finding)
       unfolding linear_programming
       reported_comes _ _ (viewed {lines = lines} h) =
           (state, marked_gives (printed card state mark lines) (inl (lines, subst (λ (b : Basis). IsSolutionOf (record { problem = problem; lp = setup.lp }) b lines) (sym p.reached) h, refl)), still_stands)

@@ -29,7 +29,7 @@ use Rattle.run_machine.specs.Ends.{place_view}
 use Rattle.answer_definitions.specs.Real.{linear_programming}
 use Rattle.run_machine.specs.Standing.{AreDemands}
 use Rattle.setup_verbs.specs.Standing.{IsPresent, IsReady, ShowsSetup, Represents}
-use Rattle.setup_verbs.specs.Statements.{Comes, Executes}
+use Rattle.setup_verbs.specs.Statements.{LeadsTo, Executes}
 use Rattle.run_machine.specs.Findings.{ReportsFinding, act_of, mark_left}
 use Rattle.control_run.specs.declared.solving.SolvingVerb.{SolvingVerb}
 use Rattle.control_run.specs.declared.solving.SolvingVerb.TheVariants.{Primal, Dual}
@@ -156,7 +156,7 @@ module _ (verb : SolvingVerb) (card : ℕ) (cards : List (List ℕ)) (old : Mach
       }
 
   pub found_comes : (gain : Gain) (finding : Finding) → Finds verb problem old.cells setup new gain finding →
-      Comes linear_programming (verb_of verb) card cards position executed state (after (mark_left finding)) gain (act_of old.cells card finding)
+      LeadsTo linear_programming (verb_of verb) card cards position executed state (after (mark_left finding)) gain (act_of old.cells card finding)
   found_comes _ _ (unselected {fault = fault} h) = fault_gives fault h
   found_comes _ _ (too_large {e = e} h) = selection_gives e h
   found_comes _ _ (solved {lp = lp} ok same_name same_options (reached {bases = bases} {verdict = verdict} {check = check} r)) =

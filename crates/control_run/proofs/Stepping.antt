@@ -14,7 +14,7 @@ use Rattle.run_machine.specs.declared.act.Halt.TheVariants as halt
 use Rattle.run_machine.specs.declared.act.AfterStatement.{AfterStatement}
 use Rattle.setup_verbs.specs.Machines.{Machine}
 use Rattle.setup_verbs.specs.Standing.{Represents}
-use Rattle.setup_verbs.specs.Statements.{Comes}
+use Rattle.setup_verbs.specs.Statements.{LeadsTo}
 use Rattle.setup_verbs.specs.Statements.{Performs}
 use Rattle.control_run.specs.Running.{Leads, Steps}
 use Rattle.run_machine.specs.Turning.{turn_of}
@@ -54,7 +54,7 @@ module _ (S : Solving) (program : Program) (cards : List (List ℕ)) (position :
   }
 
   leads_by : (old new : Machine) {executed : ℕ} {state : State} → Represents cards old position executed state → executed < 100000 → (gain : Gain) (act : Act) →
-      Comes S statement.verb statement.card cards position (executed + 1) (counted state) new gain act → Leads S program cards executed state new gain (turn_of position act)
+      LeadsTo S statement.verb statement.card cards position (executed + 1) (counted state) new gain act → Leads S program cards executed state new gain (turn_of position act)
   leads_by old new s within gain act.Next c =
       (record (c.0) { position = c.0.position + 1 }, step_of s within _ c.1, placed_stands (position + 1) (c.0.position + 1) c.2 (ap (λ n. n + 1) c.2.is_position), omega arith)
   leads_by old new s within gain (act.Jump to) c = (record (c.0) { position = to }, step_of s within _ c.1, placed_stands to to c.2 refl, c.3)

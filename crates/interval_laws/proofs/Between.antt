@@ -13,7 +13,7 @@ use Rattle.lp_laws.specs.Vectors.{along}
 use Rattle.lp_laws.proofs.Duality.{best_by_prices}
 use Rattle.sensitivity_laws.proofs.MovedLimits.{moved}
 use Rattle.sensitivity_laws.proofs.Signs.{for_min-add}
-use Rattle.parametric_laws.specs.Truth.{IsSolvedBy}
+use Rattle.parametric_laws.specs.Truth.{IsBestBy}
 use Rattle.interval_laws.specs.Laws.{StandAtBoth}
 use Rattle.interval_laws.proofs.Affine.{same_between, positive_at, negative_at}
 use Rattle.interval_laws.proofs.Limits.{above_between, below_between, stands_between}
@@ -68,7 +68,7 @@ module _ (p : LinearProgram) (lows highs : ℚ → List (Option ℚ)) (change : 
         (λ c g s t x. (c ⊕ x ⊗ g) ⊖ (s ⊕ x ⊗ t) ≐ (c ⊖ s) ⊕ x ⊗ (g ⊖ t)) refl
 
     module _ (from x to : ℚ) (after : from ≤ℚ x) (before : x ≤ℚ to)
-        (first : IsSolvedBy (family from) (along v from r) (along q from w)) (last : IsSolvedBy (family to) (along v to r) (along q to w))
+        (first : IsBestBy (family from) (along v from r) (along q from w)) (last : IsBestBy (family to) (along v to r) (along q to w))
         (first_prices : StandAtBoth (family from) (family to) (along v from r) (along v to r) (along q from w))
         (last_prices : StandAtBoth (family from) (family to) (along v from r) (along v to r) (along q to w)) where
       above : (theta : ℚ) → IsFeasible (family theta) (along v theta r) → (k : ℕ) → IsVariable p.matrix k → IfSome (moved theta (slope k) (lower_of p k)) (λ l. l ≤ℚ along v theta r k)
@@ -116,5 +116,5 @@ module _ (p : LinearProgram) (lows highs : ℚ → List (Option ℚ)) (change : 
       certificate : IsDualCertificate (family x) (along v x r) (along q x w)
       certificate = record { reduced = reduced; at_lower = at_lower; at_upper = at_upper }
 
-      pub solved_between : IsLinearProgram (family x) → IsSolvedBy (family x) (along v x r) (along q x w)
+      pub solved_between : IsLinearProgram (family x) → IsBestBy (family x) (along v x r) (along q x w)
       solved_between lawful = record { best = best_by_prices (family x) lawful (along v x r) (along q x w) feasible certificate; certificate = certificate }

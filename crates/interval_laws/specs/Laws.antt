@@ -13,7 +13,7 @@ use Rattle.lp_definitions.specs.Solutions.{IsFeasible, limit_against}
 use Rattle.simplex_definitions.specs.Chain.{Part, along}
 use Rattle.simplex_definitions.specs.ObjectiveRun.{objective_family}
 use Rattle.simplex_definitions.specs.RhsRun.{rhs_family}
-use Rattle.parametric_laws.specs.Truth.{IsSolvedBy, IsTruePart, IsUnboundedBy, IsRefutedBy}
+use Rattle.parametric_laws.specs.Truth.{IsBestBy, IsTruePart, IsUnboundedBy, IsRefutedBy}
 
 -- ---- between the ends of an interval
 
@@ -33,8 +33,8 @@ pub record StandAtBoth (p q : LinearProgram) (z w y : Vector) : Type 0 where
 -- changes its sign between the ends could stand at one limit at the first and at the other at the last, and so nowhere between.
 pub record IsProvedAtEnds (family : ℚ → LinearProgram) (part : Part) : Type 0 where
   pub forward : part.from ≤ℚ part.to
-  pub first : IsSolvedBy (family part.from) (point_at part part.from) (prices_at part part.from)
-  pub last : IsSolvedBy (family part.to) (point_at part part.to) (prices_at part part.to)
+  pub first : IsBestBy (family part.from) (point_at part part.from) (prices_at part part.from)
+  pub last : IsBestBy (family part.to) (point_at part part.to) (prices_at part part.to)
   pub first_prices : StandAtBoth (family part.from) (family part.to) (point_at part part.from) (point_at part part.to) (prices_at part part.from)
   pub last_prices : StandAtBoth (family part.from) (family part.to) (point_at part part.from) (point_at part part.to) (prices_at part part.to)
 

@@ -6,7 +6,7 @@ use Rattle.job_devices.specs.declared.device.NoMemory.{NoMemory}
 use Rattle.listing_definitions.specs.Ending.{CardStop, ControlStop}
 use Rattle.walk_definitions.specs.Checkers.{Checker}
 use Rattle.walk_definitions.specs.Walker as walks
-use Rattle.walk_definitions.specs.Found.{first_walker, Reaches, Comes, of_cards, of_control, of_walk}
+use Rattle.walk_definitions.specs.Found.{first_walker, Reaches, EndsIn, of_cards, of_control, of_walk}
 use Rattle.job_program.specs.declared.reading.Prepared.{Prepared}
 use Rattle.job_program.specs.declared.stop.EarlyStop.{EarlyStop}
 use Rattle.job_program.specs.declared.stop.EarlyStop.TheVariants as stops
@@ -19,7 +19,7 @@ use Rattle.listing_check.specs.Starting.{IsStartOf, IsWhole}
 
 module _ (C : Checker) (listing : List ℕ) (start : Start) where
   abbrev pub Finds : Result Found NoMemory → Type 0
-  Finds result = IfOk result (λ found. (bytes : List ℕ) → IsStartOf bytes start → Comes C bytes listing (found_view found))
+  Finds result = IfOk result (λ found. (bytes : List ℕ) → IsStartOf bytes start → EndsIn C bytes listing (found_view found))
 
   pub by_walk : (prepared : Prepared) → start ≡ Program prepared → (result : Result Found NoMemory) → IfOk result (IsFoundBy C prepared.program prepared.cards listing) → Finds result
   by_walk prepared e (Ok found) f = λ bytes is.

@@ -5,7 +5,7 @@ use Rattle.std.proofs.lemmas.List.{take-append-drop, length-take, append-nil}
 use Rattle.std.proofs.Math.ListN.{drop_of_length-le}
 use Rattle.walk_definitions.specs.Checkers.{Checker}
 use Rattle.walk_definitions.specs.Walker.{Found}
-use Rattle.walk_definitions.specs.Found.{Comes, Answers, too_long, is_found, answer_text}
+use Rattle.walk_definitions.specs.Found.{EndsIn, Answers, too_long, is_found, answer_text}
 
 -- all of a list that isn't longer
 whole : (n : ℕ) (lines : List ℕ) → length lines ≤ n → take n lines ≡ lines
@@ -20,11 +20,11 @@ same_bytes listing lines e within = e ∙ whole 64000001 lines (omega (arith, le
 pub long_answer : (C : Checker) (bytes listing lines : List ℕ) → listing ≡ take 64000001 lines → 64000000 < length listing → Answers C bytes lines None × (codes "LONG LISTING\n" ≡ answer_text lines None)
 long_answer C bytes listing lines e more = (too_long (omega (arith, more, ap length e, length-take 64000001 lines)), refl)
 
-pub found_answer : (C : Checker) (bytes listing lines : List ℕ) (found : Found) → listing ≡ take 64000001 lines → length listing ≤ 64000000 → Comes C bytes listing found →
+pub found_answer : (C : Checker) (bytes listing lines : List ℕ) (found : Found) → listing ≡ take 64000001 lines → length listing ≤ 64000000 → EndsIn C bytes listing found →
     Answers C bytes lines (Some found) × (answer_text listing (Some found) ≡ answer_text lines (Some found))
 found_answer C bytes listing lines found e within comes =
     let same = same_bytes listing lines e within in
-    (is_found (length_read listing lines e within) (subst (λ (l : List ℕ). Comes C bytes l found) same comes), ap (λ (l : List ℕ). answer_text l (Some found)) same)
+    (is_found (length_read listing lines e within) (subst (λ (l : List ℕ). EndsIn C bytes l found) same comes), ap (λ (l : List ℕ). answer_text l (Some found)) same)
 
 -- what holds of what is there
 pub some_of : {X : Type 0} (P : X → Type 0) (known : Option X) (x : X) → known ≡ Some x → IfSome known P → P x

@@ -1,6 +1,6 @@
 // What a check begins with: the program of a job, or why there is none.
 ghost use Rattle.std.specs.Prelude.{List, ℕ, IfOk};
-ghost use Rattle.walk_definitions.specs.Found.{Comes};
+ghost use Rattle.walk_definitions.specs.Found.{EndsIn};
 ghost use Rattle.listing_walk.specs.Ended.{found_view};
 ghost use Rattle.listing_check.specs.Starting.{IsStartOf};
 
@@ -30,7 +30,7 @@ pub fn find<'a, T: Checks>(
     start: &Start,
     listing: &'a [u8],
 ) -> Result<Found<'a>, NoMemory>
-    ensures { IfOk result (λ found. (bytes : List ℕ) → IsStartOf bytes start.now → Comes T.checker bytes listing.now (found_view found)) }
+    ensures { IfOk result (λ found. (bytes : List ℕ) → IsStartOf bytes start.now → EndsIn T.checker bytes listing.now (found_view found)) }
 {
     match start {
         Start::Program(prepared) => {

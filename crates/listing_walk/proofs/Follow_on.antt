@@ -7,7 +7,7 @@ use Rattle.listing_words.specs.Read.{taken}
 use Rattle.listing_definitions.specs.declared.Mark.{Mark}
 use Rattle.listing_definitions.specs.Ending.{Ending}
 use Rattle.run_definitions.specs.State.{State}
-use Rattle.run_definitions.specs.Moves.{Gain, printed_by, gain_text, StatementOutcome, Ends, gain_of, next, jump, StatementMove, Settles}
+use Rattle.run_definitions.specs.Moves.{Gain, printed_by, gain_text, StatementOutcome, Ends, gain_of, next, jump, StatementMove, DecidesAlone}
 use Rattle.run_machine.specs.declared.act.Act.{Act}
 use Rattle.run_machine.specs.declared.act.Act.TheVariants as acts
 use Rattle.run_machine.specs.declared.end.End.{End}
@@ -27,7 +27,7 @@ use Rattle.listing_walk.specs.declared.went.Went.{Went}
 use Rattle.listing_walk.specs.declared.went.Went.TheVariants as went
 use Rattle.listing_walk.specs.Ended.{found_view}
 use Rattle.listing_walk.specs.Standing.{IsView, ShowsPending, Faces}
-use Rattle.listing_walk.specs.Walking.{open_by, is_loud, one_if, ends_run, Comes, IsOutcome, Finishes, Passes}
+use Rattle.listing_walk.specs.Walking.{open_by, has_text, one_if, ends_run, TurnsTo, IsOutcome, Finishes, Passes}
 use Rattle.listing_walk.proofs.Settled.{settled, open_goes, one_report}
 
 -- ---- once the report is passed
@@ -75,23 +75,23 @@ module _ (machine : Machine Chosen) (act : Act) (text : List ℕ) where
   -- the outcome of a move that comes to an act
   record IsOf (w : walks.Walker) (card : ℕ) (move : StatementMove) (cards : List (List ℕ)) (position executed : ℕ) (gain : Gain) : Type 0 where
     outcome : StatementOutcome
-    settles : Settles card move outcome
+    settles : DecidesAlone card move outcome
     is_outcome : IsOutcome outcome cards machine position executed gain act
     is_gain : gain_of outcome ≡ gain
-    opens : walks.open_outcome w outcome ≡ open_by (ends_run act || is_loud text) (ends_run act || is_none machine.mark) w
+    opens : walks.open_outcome w outcome ≡ open_by (ends_run act || has_text text) (ends_run act || is_none machine.mark) w
 
 opens_by : (machine : Machine Chosen) (text : List ℕ) (w : walks.Walker) (gain : Gain) (after : State) → gain_text gain ≡ text → after.mark ≡ machine.mark →
-    walks.open_outcome w (next gain after) ≡ open_by (is_loud text) (is_none machine.mark) w
+    walks.open_outcome w (next gain after) ≡ open_by (has_text text) (is_none machine.mark) w
 opens_by machine text w gain after same mark =
-    open_goes w gain (record after { position = after.position + 1 }) ∙ ap (λ (t : List ℕ). open_by (is_loud t) (is_none after.mark) w) same ∙ ap (λ (m : Option Mark). open_by (is_loud text) (is_none m) w) mark
+    open_goes w gain (record after { position = after.position + 1 }) ∙ ap (λ (t : List ℕ). open_by (has_text t) (is_none after.mark) w) same ∙ ap (λ (m : Option Mark). open_by (has_text text) (is_none m) w) mark
 
 opens_jump : (machine : Machine Chosen) (text : List ℕ) (w : walks.Walker) (gain : Gain) (to : ℕ) (after : State) → gain_text gain ≡ text → after.mark ≡ machine.mark →
-    walks.open_outcome w (jump gain to after) ≡ open_by (is_loud text) (is_none machine.mark) w
+    walks.open_outcome w (jump gain to after) ≡ open_by (has_text text) (is_none machine.mark) w
 opens_jump machine text w gain to after same mark =
-    open_goes w gain (record after { position = to }) ∙ ap (λ (t : List ℕ). open_by (is_loud t) (is_none after.mark) w) same ∙ ap (λ (m : Option Mark). open_by (is_loud text) (is_none m) w) mark
+    open_goes w gain (record after { position = to }) ∙ ap (λ (t : List ℕ). open_by (has_text t) (is_none after.mark) w) same ∙ ap (λ (m : Option Mark). open_by (has_text text) (is_none m) w) mark
 
 outcome_of : (machine : Machine Chosen) (act : Act) (text : List ℕ) (w : walks.Walker) (card : ℕ) (move : StatementMove) (cards : List (List ℕ)) (position executed : ℕ) (gain : Gain) →
-    Follows IsView Settles card move cards machine position executed gain act → gain_text gain ≡ text → IsOf machine act text w card move cards position executed gain
+    Follows IsView DecidesAlone card move cards machine position executed gain act → gain_text gain ≡ text → IsOf machine act text w card move cards position executed gain
 outcome_of machine acts.Next text w card move cards position executed gain f same = record {
   outcome = next gain f.0;
   settles = f.1;
@@ -116,14 +116,14 @@ outcome_of machine (acts.Ends end) text w card move cards position executed gain
 
 module _ (machine : Machine Chosen) (old new : ListingPlace) (act : Act) (text : List ℕ) where
   -- what is open is found
-  pub passes_open : (found : Found) → ((w : walks.Walker) → Faces old w → option_map found_view (Some found) ≡ open_by (ends_run act || is_loud text) (ends_run act || is_none machine.mark) w) →
+  pub passes_open : (found : Found) → ((w : walks.Walker) → Faces old w → option_map found_view (Some found) ≡ open_by (ends_run act || has_text text) (ends_run act || is_none machine.mark) w) →
       Passes machine old new act text (went.Finds found)
   passes_open found there_is = λ C w card move cards position executed gain f plain follows same.
       let o = outcome_of machine act text w card move cards position executed gain follows same in
       settled C w card move o.outcome o.settles plain ∙
       ap (λ (x : Option walks.Found). walks.unless_found x (walks.taken w o.outcome (left_after (gain_text (gain_of o.outcome)) w.rest))) (o.opens ∙ sym (there_is w f))
 
-  module _ (none : (w : walks.Walker) → Faces old w → None ≡ open_by (ends_run act || is_loud text) (ends_run act || is_none machine.mark) w) where
+  module _ (none : (w : walks.Walker) → Faces old w → None ≡ open_by (ends_run act || has_text text) (ends_run act || is_none machine.mark) w) where
     -- nothing is open
     turn_taken : (C : Checker) (w : walks.Walker) (card : ℕ) (move : StatementMove) (cards : List (List ℕ)) (position executed : ℕ) (gain : Gain) → Faces old w → walks.refuses_selection move ≡ false → (o : IsOf machine act text w card move cards position executed gain) →
         gain_text gain ≡ text → walks.walk_move C w move ≡ walks.taken w o.outcome (left_after text old.cursor)
@@ -142,25 +142,25 @@ module _ (machine : Machine Chosen) (old new : ListingPlace) (act : Act) (text :
         ap (λ (rest : List ℕ). walks.Finds (walks.Wrong rest)) f.rest ∙ ap (λ (x : walks.Found). walks.Finds x) (sym wrong)
 
     -- it does
-    pub passes_on : (mid : ListingPlace) (w' : Went) → left_after text old.cursor ≡ Some mid.cursor → mid.pending ≡ old.pending → mid.reports ≡ old.reports + one_if (is_loud text) → Finishes mid new act w' →
+    pub passes_on : (mid : ListingPlace) (w' : Went) → left_after text old.cursor ≡ Some mid.cursor → mid.pending ≡ old.pending → mid.reports ≡ old.reports + one_if (has_text text) → Finishes mid new act w' →
         Passes machine old new act text w'
     passes_on mid w' there kept counted finishes = λ C w card move cards position executed gain f plain follows same.
         let o = outcome_of machine act text w card move cards position executed gain follows same in
-        let count : length (printed_by (gain_of o.outcome)) ≡ one_if (is_loud text) = ap (λ (g : Gain). length (printed_by g)) o.is_gain ∙ one_report gain ∙ ap (λ (t : List ℕ). one_if (is_loud t)) same in
+        let count : length (printed_by (gain_of o.outcome)) ≡ one_if (has_text text) = ap (λ (g : Gain). length (printed_by g)) o.is_gain ∙ one_report gain ∙ ap (λ (t : List ℕ). one_if (has_text t)) same in
         let v : walks.Walker = walks.passed mid.cursor (length (printed_by (gain_of o.outcome))) w in
         let faces : Faces mid v = record {
           rest = refl;
           pending = subst (λ (p : Option Pending). ShowsPending p w.pending) (sym kept) f.pending;
-          reports = ap (λ n. w.reports + n) count ∙ ap (λ n. n + one_if (is_loud text)) f.reports ∙ sym counted;
+          reports = ap (λ n. w.reports + n) count ∙ ap (λ n. n + one_if (has_text text)) f.reports ∙ sym counted;
         } in
-        subst (λ (t : walks.WalkTurn). Comes t cards machine position executed new w') (sym (turn_taken C w card move cards position executed gain f plain o same ∙ ap (walks.taken w o.outcome) there))
+        subst (λ (t : walks.WalkTurn). TurnsTo t cards machine position executed new w') (sym (turn_taken C w card move cards position executed gain f plain o same ∙ ap (walks.taken w o.outcome) there))
         (finishes v o.outcome cards machine position executed gain faces o.is_outcome)
 
 -- ---- with the tests by their results
 
-module _ (machine : Machine Chosen) (old : ListingPlace) (act : Act) (text : List ℕ) (looks clears : Bool) (is_looks : looks ≡ (ends_run act || is_loud text)) (is_clears : clears ≡ (ends_run act || is_none machine.mark)) where
+module _ (machine : Machine Chosen) (old : ListingPlace) (act : Act) (text : List ℕ) (looks clears : Bool) (is_looks : looks ≡ (ends_run act || has_text text)) (is_clears : clears ≡ (ends_run act || is_none machine.mark)) where
   -- what is open, by these tests
-  open_so : (x : Option walks.Found) → ((w : walks.Walker) → Faces old w → x ≡ open_by looks clears w) → (w : walks.Walker) → Faces old w → x ≡ open_by (ends_run act || is_loud text) (ends_run act || is_none machine.mark) w
+  open_so : (x : Option walks.Found) → ((w : walks.Walker) → Faces old w → x ≡ open_by looks clears w) → (w : walks.Walker) → Faces old w → x ≡ open_by (ends_run act || has_text text) (ends_run act || is_none machine.mark) w
   open_so x there_is w f = there_is w f ∙ (λ i. open_by (is_looks i) (is_clears i) w)
 
   pub passes_open_by : (new : ListingPlace) (found : Found) → ((w : walks.Walker) → Faces old w → option_map found_view (Some found) ≡ open_by looks clears w) → Passes machine old new act text (went.Finds found)
@@ -172,7 +172,7 @@ module _ (machine : Machine Chosen) (old : ListingPlace) (act : Act) (text : Lis
     passes_wrong_by mid rest here passes gone there new =
         passes_wrong machine old new act text (open_so None none) (founds.Wrong rest) (there ∙ ap (λ (b : Bool). taken b mid.cursor) gone) (ap (λ (left : List ℕ). walks.Wrong left) here)
 
-    pub passes_on_by : (mid new : ListingPlace) (passes : Bool) → passes ≡ true → left_after text old.cursor ≡ taken passes mid.cursor → mid.pending ≡ old.pending → (passes ≡ true → mid.reports ≡ old.reports + one_if (is_loud text)) →
+    pub passes_on_by : (mid new : ListingPlace) (passes : Bool) → passes ≡ true → left_after text old.cursor ≡ taken passes mid.cursor → mid.pending ≡ old.pending → (passes ≡ true → mid.reports ≡ old.reports + one_if (has_text text)) →
         (result : Result Went NoMemory) → IfOk result (Finishes mid new act) → IfOk result (Passes machine old new act text)
     passes_on_by mid new passes there_is there kept counted (Ok w') finishes =
         passes_on machine old new act text (open_so None none) mid w' (there ∙ ap (λ (b : Bool). taken b mid.cursor) there_is) kept (counted there_is) finishes

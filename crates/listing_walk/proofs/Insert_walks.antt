@@ -38,7 +38,7 @@ use Rattle.listing_walk.specs.declared.went.Went.{Went}
 use Rattle.listing_walk.specs.declared.went.Went.TheVariants as went
 use Rattle.listing_walk.specs.Choosing.{IsMade, IsRefused, IsNotMade}
 use Rattle.listing_walk.specs.Standing.{IsView, IsReady, Faces}
-use Rattle.listing_walk.specs.Walking.{Comes, Passes, Walks}
+use Rattle.listing_walk.specs.Walking.{TurnsTo, Passes, Walks}
 use Rattle.listing_walk.specs.Inserting.{taken_of, is_line_of, is_line_due, open_install, IsInstallDue, IsInstallRefused, RefusesInstall}
 use Rattle.listing_walk.proofs.Same_limits.{read_alike}
 use Rattle.listing_walk.proofs.Selected.{as_many_rows, as_many_columns}
@@ -61,9 +61,9 @@ inserting_move card state = refl
 
 -- the end by a fault of a deck
 deck_faulted : (C : Checker) (cards : List (List ℕ)) (machine : Machine Chosen) (old new : ListingPlace) (fault : DeckFault) (card : ℕ) (w' : Went) → Passes machine old new (acts.Ends (ends.Deck fault)) [] w' →
-    (w : walks.Walker) (move : StatementMove) (position executed : ℕ) → Faces old w → move ≡ Does (stops (deck_stop fault)) → Comes (walks.walk_move C w move) cards machine position executed new w'
+    (w : walks.Walker) (move : StatementMove) (position executed : ℕ) → Faces old w → move ≡ Does (stops (deck_stop fault)) → TurnsTo (walks.walk_move C w move) cards machine position executed new w'
 deck_faulted C cards machine old new fault card w' passes w move position executed f is =
-    subst (λ (m : StatementMove). Comes (walks.walk_move C w m) cards machine position executed new w') (sym is)
+    subst (λ (m : StatementMove). TurnsTo (walks.walk_move C w m) cards machine position executed new w') (sym is)
     (passes C w card (Does (stops (deck_stop fault))) cards position executed Nothing f refl refl refl)
 
 module _ (card : ℕ) (state : State) (present : Present) (lp : LinearProgram) (w : walks.Walker) where

@@ -54,7 +54,7 @@ use Rattle.listing_walk.specs.declared.went.Went.{Went}
 use Rattle.listing_walk.specs.declared.went.Went.TheVariants as went
 use Rattle.listing_walk.specs.Choosing.{IsMade, IsNotMade}
 use Rattle.listing_walk.specs.Standing.{IsView, IsSound, Faces}
-use Rattle.listing_walk.specs.Walking.{open_by, Comes, IsOutcome, Finishes, Passes, Walks, Refuses}
+use Rattle.listing_walk.specs.Walking.{open_by, TurnsTo, IsOutcome, Finishes, Passes, Walks, Refuses}
 use Rattle.listing_walk.specs.Asking.{asked_turn, Answered, WentBy}
 use Rattle.listing_walk.specs.Parametric_verbs.{finding_of, left_by, IsUnasked}
 use Rattle.listing_walk.proofs.Follow_on.{finished_next}
@@ -146,7 +146,7 @@ module _ (C : Checker) (verb : ParametricVerb) (card : ℕ) (cards : List (List 
     module _ (lp : LinearProgram) (made : IsMade problem (choice_of machine.cells chosen.options) lp) where
       abbrev through : (after : Machine Chosen) (w' : Went) →
           ((position executed : ℕ) (state : State) (w : walks.Walker) (opening : Basis) (steps : List Basis) → machines.Represents IsView cards machine position executed state → Faces old w → state.setup ≡ Some (present_with problem chosen.options opening steps) →
-          Comes (walks.walk_move C w (tested_move verb card state (present_with problem chosen.options opening steps) lp)) cards after position executed new w') → Walks C (verb_of verb) card cards machine after old new w'
+          TurnsTo (walks.walk_move C w (tested_move verb card state (present_with problem chosen.options opening steps) lp)) cards after position executed new w') → Walks C (verb_of verb) card cards machine after old new w'
       through = made_walks C (verb_of verb) card (tested_move verb card) (parametric_move verb card) cards machine old new chosen is_setup problem on_file lp made
 
       unasked_by : (fault : VerbFault) → IsAskFault verb problem machine.cells fault → (w' : Went) → Passes machine old new (acts.Ends (ends.Verb fault card)) [] w' → Walks C (verb_of verb) card cards machine machine old new w'
@@ -222,12 +222,12 @@ module _ (C : Checker) (verb : ParametricVerb) (card : ℕ) (cards : List (List 
           -- by the answer
           ends_by : (x : ParametricRunAnswer) (act : Act) → act ≡ act_of (left_by (finding_of x) machine).cells card (finding_of x) → (w' : Went) → Finishes mid new act w' → (position executed : ℕ) (state : State) (opening : Basis) (steps : List Basis) →
               machines.Represents IsView cards machine position executed state → (turn : walks.WalkTurn) (v : walks.Walker) (answer : ParametricRunEnd) →
-              turn ≡ walks.follows v (after_parametric_run card parametric_run (present_with problem chosen.options opening steps) state answer) → Faces mid v → IsParametricRunAnswer x answer → Comes turn cards (left_by (finding_of x) machine) position executed new w'
+              turn ≡ walks.follows v (after_parametric_run card parametric_run (present_with problem chosen.options opening steps) state answer) → Faces mid v → IsParametricRunAnswer x answer → TurnsTo turn cards (left_by (finding_of x) machine) position executed new w'
           ends_by (Opened mark) act is_act w' finishes position executed state opening steps s turn v (Opening bases verdict check) is faces e =
               let present = present_with problem chosen.options opening steps in
               let outcome : StatementOutcome = after_parametric_run card parametric_run present state (Opening bases verdict check) in
               let comes = verdict_comes card cards (left_by (Ended mark) machine) position executed (Solved (parametric_solver parametric_run.changing) verdict check) (then_open state present bases) (stands_open mark s opening steps bases) machine.cells demands s.cells (mark_of verdict) in
-              subst (λ (t : walks.WalkTurn). Comes t cards (left_by (Ended mark) machine) position executed new w') (sym is)
+              subst (λ (t : walks.WalkTurn). TurnsTo t cards (left_by (Ended mark) machine) position executed new w') (sym is)
               (finishes v outcome cards (left_by (Ended mark) machine) position executed (Prints (Solved (parametric_solver parametric_run.changing) verdict check)) faces
               (subst (λ (a : Act). IsOutcome outcome cards (left_by (Ended mark) machine) position executed (Prints (Solved (parametric_solver parametric_run.changing) verdict check)) a)
               (ap (λ (m : Mark). act_of machine.cells card (Ended m)) (sym e) ∙ sym is_act) comes))
@@ -238,7 +238,7 @@ module _ (C : Checker) (verb : ParametricVerb) (card : ℕ) (cards : List (List 
               let report = Parametric (parametric_solver parametric_run.changing) (record { from = parametric_run.from; change = changing_name parametric_run.changing; intervals = intervals; end = end }) in
               let outcome : StatementOutcome = after_parametric_run card parametric_run present state (Chained bases intervals end) in
               let stands = subst (λ (x : ℚ). machines.Represents IsView cards (left_by (Reached last) machine) position executed (then_run_through state present bases x)) e (stands_run_through last s opening steps bases) in
-              subst (λ (t : walks.WalkTurn). Comes t cards (left_by (Reached last) machine) position executed new w') (sym is)
+              subst (λ (t : walks.WalkTurn). TurnsTo t cards (left_by (Reached last) machine) position executed new w') (sym is)
               (finishes v outcome cards (left_by (Reached last) machine) position executed (Prints report) faces
               (subst (λ (a : Act). IsOutcome outcome cards (left_by (Reached last) machine) position executed (Prints report) a) (sym is_act) (then_run_through state present bases (last_value end), refl, stands)))
           ends_by (RanThrough last) act is_act w' finishes position executed state opening steps s turn v (Opening bases verdict check) is faces e = absurd e

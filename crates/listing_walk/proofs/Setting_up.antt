@@ -37,7 +37,7 @@ use Rattle.listing_walk.specs.declared.went.Went.TheVariants as went
 use Rattle.listing_walk.specs.Ended.{found_view}
 use Rattle.listing_walk.specs.Choosing.{IsMade, IsRefused, IsNotMade, IsOpened, IsNotOpened, no_problem, not_selected}
 use Rattle.listing_walk.specs.Standing.{IsView, Faces}
-use Rattle.listing_walk.specs.Walking.{Comes, Passes, Walks, IsUnchecked}
+use Rattle.listing_walk.specs.Walking.{TurnsTo, Passes, Walks, IsUnchecked}
 use Rattle.listing_walk.proofs.Selected.{fault_move, found_move, unselected_move, selected_move, made_turn, refused_turn}
 
 -- the problem that is wanted is on file
@@ -52,9 +52,9 @@ filed_none wanted file none = rw none refl
 
 -- a move that is a verb fault
 pub faulted : (C : Checker) (cards : List (List ℕ)) (machine : Machine Chosen) (old new : ListingPlace) (fault : VerbFault) (card : ℕ) (went : Went) → Passes machine old new (acts.Ends (ends.Verb fault card)) [] went →
-    (w : walks.Walker) (move : StatementMove) (position executed : ℕ) → Faces old w → move ≡ Does (stops (VerbStop (record { fault = fault; card = card }))) → Comes (walks.walk_move C w move) cards machine position executed new went
+    (w : walks.Walker) (move : StatementMove) (position executed : ℕ) → Faces old w → move ≡ Does (stops (VerbStop (record { fault = fault; card = card }))) → TurnsTo (walks.walk_move C w move) cards machine position executed new went
 faulted C cards machine old new fault card went passes w move position executed f is =
-    subst (λ (m : StatementMove). Comes (walks.walk_move C w m) cards machine position executed new went) (sym is)
+    subst (λ (m : StatementMove). TurnsTo (walks.walk_move C w m) cards machine position executed new went) (sym is)
     (passes C w card (Does (stops (VerbStop (record { fault = fault; card = card })))) cards position executed Nothing f refl refl refl)
 
 -- ---- what SETUP comes to
@@ -144,7 +144,7 @@ module _ (C : Checker) (card : ℕ) (cards : List (List ℕ)) (machine : Machine
         let is_problem : problem_of state.cells.xpbname state.file ≡ Some o.problem =
         problem_view s (λ (c : Cells). c.xpbname) (Some o.problem) (filed_by machine.cells.xpbname machine.file opened.chosen.name (Some o.problem) o.is_named o.is_filed) in
         let outcome : StatementOutcome = outcome_of o.problem options opened.chosen.lp state in
-        subst (λ (t : walks.WalkTurn). Comes t cards machine_after position executed new went)
+        subst (λ (t : walks.WalkTurn). TurnsTo t cards machine_after position executed new went)
         (sym (ap (walks.walk_move C w) (set_up_move card options state o.problem opened.chosen.lp is_problem made.is_selected) ∙ made_turn C w o.problem (choice_of state.cells options) (Does outcome) made.is_made))
         (passes C w card (Does outcome) cards position executed (Prints (SetUp o.problem.name options.sense)) f refl
         (after_setup o.problem options opened.chosen.lp state, refl, stands_set_up s)

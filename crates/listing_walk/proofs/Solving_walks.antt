@@ -41,7 +41,7 @@ use Rattle.listing_walk.specs.declared.went.Went.TheVariants as went
 use Rattle.listing_walk.specs.Ended.{found_view}
 use Rattle.listing_walk.specs.Choosing.{IsMade, IsRefused, IsNotMade}
 use Rattle.listing_walk.specs.Standing.{IsView, IsReady, Faces}
-use Rattle.listing_walk.specs.Walking.{open_by, Comes, IsOutcome, Passes, Walks, IsUnchecked, Refuses}
+use Rattle.listing_walk.specs.Walking.{open_by, TurnsTo, IsOutcome, Passes, Walks, IsUnchecked, Refuses}
 use Rattle.listing_walk.proofs.Selected.{fault_move, found_move, unselected_move, selected_move, made_turn, refused_turn}
 use Rattle.listing_walk.proofs.Setting_up.{faulted}
 
@@ -180,8 +180,8 @@ module _ (C : Checker) (verb : Verb ℕ) (card : ℕ) (go : State → Present �
     -- with a linear program
     pub made_walks : (lp : LinearProgram) → IsMade problem (choice_of machine.cells chosen.options) lp → (after : Machine Chosen) (w' : Went) →
         ((position executed : ℕ) (state : State) (w : walks.Walker) (opening : Basis) (steps : List Basis) → machines.Represents IsView cards machine position executed state → Faces old w → state.setup ≡ Some (present_with problem chosen.options opening steps) →
-        Comes (walks.walk_move C w (go state (present_with problem chosen.options opening steps) lp)) cards after position executed new w') → Walks C verb card cards machine after old new w'
+        TurnsTo (walks.walk_move C w (go state (present_with problem chosen.options opening steps) lp)) cards after position executed new w') → Walks C verb card cards machine after old new w'
     made_walks lp made after w' comes = λ position executed state w s f.
         let p = present_at s chosen is_setup problem on_file in
-        subst (λ (t : walks.WalkTurn). Comes t cards after position executed new w') (sym (ap (walks.walk_move C w) (is_move state) ∙ made_here C card cards machine s (go state) chosen problem p w lp made))
+        subst (λ (t : walks.WalkTurn). TurnsTo t cards after position executed new w') (sym (ap (walks.walk_move C w) (is_move state) ∙ made_here C card cards machine s (go state) chosen problem p w lp made))
         (comes position executed state w p.opening p.steps s f p.is_viewed)

@@ -12,7 +12,7 @@ use Rattle.control_definitions.specs.Program.{Verb, Initialz, Title, MoveName, M
 use Rattle.exact_values.specs.Rational.{ℚ}
 use Rattle.listing_definitions.specs.declared.VerbFault.TheVariants.{DeckNotFound, NoProblem}
 use Rattle.run_definitions.specs.State.{State, problem_of}
-use Rattle.run_definitions.specs.Moves.{Gain, Nothing, gain_text, Settles}
+use Rattle.run_definitions.specs.Moves.{Gain, Nothing, gain_text, DecidesAlone}
 use Rattle.run_definitions.specs.Verbs.{verb_move}
 use Rattle.deck_definitions.specs.Decks.{deck_taken}
 use Rattle.deck_definitions.specs.Conversion.{conversion}
@@ -73,11 +73,11 @@ plain_exit card = λ state. refl
 
 -- with any cells, GOTO and EXIT come to this
 
-pub decides_goto : (to card : ℕ) (machine : Machine Chosen) → 1 ≤ to → Decides IsView Settles (Goto to) card machine machine (acts.Jump to)
+pub decides_goto : (to card : ℕ) (machine : Machine Chosen) → 1 ≤ to → Decides IsView DecidesAlone (Goto to) card machine machine (acts.Jump to)
 unfolding verb_move
 decides_goto to card machine first = λ cards position executed state s. (state, refl, s, first)
 
-pub decides_exit : (card : ℕ) (machine : Machine Chosen) → Decides IsView Settles Exit card machine machine (acts.Ends ends.Done)
+pub decides_exit : (card : ℕ) (machine : Machine Chosen) → Decides IsView DecidesAlone Exit card machine machine (acts.Ends ends.Done)
 unfolding verb_move
 decides_exit card machine = λ cards position executed state s. refl
 
@@ -107,7 +107,7 @@ module _ (C : Checker) (verb : Verb ℕ) (card : ℕ) (cards : List (List ℕ)) 
   -- with some gain that has this text, the statement comes to this act
   record Gains (position executed : ℕ) (state : State) : Type 0 where
     gain : Gain
-    comes : statements.Comes IsView Settles verb card cards position executed state new gain act
+    comes : statements.LeadsTo IsView DecidesAlone verb card cards position executed state new gain act
     is_text : gain_text gain ≡ text
 
   walks_by : ((position executed : ℕ) (state : State) → machines.Represents IsView cards old position executed state → Gains position executed state) → (result : Result Went NoMemory) →
@@ -118,21 +118,21 @@ module _ (C : Checker) (verb : Verb ℕ) (card : ℕ) (cards : List (List ℕ)) 
   walks_by gains (Err stop) passes = tt
 
   module _ (print_old print_new : SinkState) (none : print_old.written ≡ Some []) (all : print_new.written ≡ Some text) where
-    pub walks_printed : Executes IsView Settles verb card print_old print_new cards old new (Ok act) → (result : Result Went NoMemory) →
+    pub walks_printed : Executes IsView DecidesAlone verb card print_old print_new cards old new (Ok act) → (result : Result Went NoMemory) →
         IfOk result (Passes new place_old place_new act text) → IfOk result (Walks C verb card cards old new place_old place_new)
     walks_printed executes = walks_by (λ position executed state s.
         let a = executes position executed state s in
         record { gain = a.gain; comes = a.comes; is_text = appended print_old.written print_new.written (gain_text a.gain) text a.writes.bytes none all })
 
     pub walks_punched : (punch_old punch_new : SinkState) →
-        Performs IsView Settles verb card print_old print_new punch_old punch_new cards old new (Ok act) → (result : Result Went NoMemory) →
+        Performs IsView DecidesAlone verb card print_old print_new punch_old punch_new cards old new (Ok act) → (result : Result Went NoMemory) →
         IfOk result (Passes new place_old place_new act text) → IfOk result (Walks C verb card cards old new place_old place_new)
     walks_punched punch_old punch_new performs = walks_by (λ position executed state s.
         let a = performs position executed state s in
         record { gain = a.gain; comes = a.comes; is_text = appended print_old.written print_new.written (gain_text a.gain) text a.prints.bytes none all })
 
 -- a statement that prints nothing
-pub walks_quietly : (C : Checker) (verb : Verb ℕ) (card : ℕ) (cards : List (List ℕ)) (old new : Machine Chosen) (place_old place_new : ListingPlace) (act : Act) → IsPlain verb card → Decides IsView Settles verb card old new act →
+pub walks_quietly : (C : Checker) (verb : Verb ℕ) (card : ℕ) (cards : List (List ℕ)) (old new : Machine Chosen) (place_old place_new : ListingPlace) (act : Act) → IsPlain verb card → Decides IsView DecidesAlone verb card old new act →
     (result : Result Went NoMemory) → IfOk result (Passes new place_old place_new act []) → IfOk result (Walks C verb card cards old new place_old place_new)
 walks_quietly C verb card cards old new place_old place_new act plain decides =
     walks_by C verb card cards old new place_old place_new act [] plain (λ position executed state s. record { gain = Nothing; comes = decides cards position executed state s; is_text = refl })
@@ -141,14 +141,14 @@ walks_quietly C verb card cards old new place_old place_new act plain decides =
 
 module _ (C : Checker) (verb : Verb ℕ) (card : ℕ) (cards : List (List ℕ)) (old new : Machine Chosen) (place_old place_new : ListingPlace) (act : Act) (text : List ℕ) (plain : IsPlain verb card) (from to : SureSink) (none : sure_bytes from ≡ []) (all : text ≡ sure_bytes to)
     (result : Result Went NoMemory) (passes : IfOk result (Passes new place_old place_new act text)) where
-  pub walks_loudly : Executes IsView Settles verb card (sure_sink_state from) (sure_sink_state to) cards old new (Ok act) →
+  pub walks_loudly : Executes IsView DecidesAlone verb card (sure_sink_state from) (sure_sink_state to) cards old new (Ok act) →
       IfOk result (Walks C verb card cards old new place_old place_new)
   walks_loudly executes =
       walks_printed C verb card cards old new place_old place_new act text plain (sure_sink_state from) (sure_sink_state to)
       (ap Some none) (ap Some (sym all)) executes result passes
 
   pub walks_punching : (punch_old punch_new : SinkState) →
-      Performs IsView Settles verb card (sure_sink_state from) (sure_sink_state to) punch_old punch_new cards old new (Ok act) → IfOk result (Walks C verb card cards old new place_old place_new)
+      Performs IsView DecidesAlone verb card (sure_sink_state from) (sure_sink_state to) punch_old punch_new cards old new (Ok act) → IfOk result (Walks C verb card cards old new place_old place_new)
   walks_punching punch_old punch_new performs =
       walks_punched C verb card cards old new place_old place_new act text plain (sure_sink_state from) (sure_sink_state to)
       (ap Some none) (ap Some (sym all)) punch_old punch_new performs result passes

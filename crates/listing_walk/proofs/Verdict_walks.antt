@@ -38,7 +38,7 @@ use Rattle.listing_walk.specs.declared.went.Went.{Went}
 use Rattle.listing_walk.specs.declared.went.Went.TheVariants as went
 use Rattle.listing_walk.specs.Choosing.{IsMade, IsNotMade}
 use Rattle.listing_walk.specs.Standing.{IsView, IsSound, Faces}
-use Rattle.listing_walk.specs.Walking.{Comes, IsOutcome, Finishes, Passes, Walks, Refuses}
+use Rattle.listing_walk.specs.Walking.{TurnsTo, IsOutcome, Finishes, Passes, Walks, Refuses}
 use Rattle.listing_walk.specs.Asking.{Answered, IsMarked, WentBy}
 use Rattle.listing_walk.specs.Solving_verbs.{verb_of, solver_of}
 use Rattle.listing_walk.proofs.Solving_walks.{present_with, selecting, no_setup_walks, refusal_walks, made_walks, verdict_comes}
@@ -111,12 +111,12 @@ module _ (C : Checker) (verb : SolvingVerb) (card : ℕ) (cards : List (List ℕ
         }
 
         ends_by : (w' : Went) → Finishes mid new act w' → (position executed : ℕ) (state : State) (present : Present) → present.problem ≡ problem → present.options ≡ chosen.options → machines.Represents IsView cards machine position executed state →
-            (turn : walks.WalkTurn) (v : walks.Walker) (answer : PathEnd) → turn ≡ walks.follows v (after_path (solver_of verb) card present state answer) → Faces mid v → IsMarked mark answer → Comes turn cards (machine_with mark) position executed new w'
+            (turn : walks.WalkTurn) (v : walks.Walker) (answer : PathEnd) → turn ≡ walks.follows v (after_path (solver_of verb) card present state answer) → Faces mid v → IsMarked mark answer → TurnsTo turn cards (machine_with mark) position executed new w'
         ends_by w' finishes position executed state present same options s turn v (Reached bases verdict check) is faces e =
             let then : State = record state { setup = Some (gone_through bases present); mark = Some (mark_of verdict) } in
             let t : machines.Represents IsView cards (machine_with mark) position executed then = stands_after s present same options bases (mark_of verdict) e in
             let comes = verdict_comes card cards (machine_with mark) position executed (Solved (solver_of verb) verdict check) then t machine.cells demands s.cells (mark_of verdict) in
-            subst (λ (x : walks.WalkTurn). Comes x cards (machine_with mark) position executed new w') (sym is)
+            subst (λ (x : walks.WalkTurn). TurnsTo x cards (machine_with mark) position executed new w') (sym is)
             (finishes v (after_path (solver_of verb) card present state (Reached bases verdict check)) cards (machine_with mark) position executed (Prints (Solved (solver_of verb) verdict check)) faces
             (subst (λ (a : Act). IsOutcome (after_path (solver_of verb) card present state (Reached bases verdict check)) cards (machine_with mark) position executed (Prints (Solved (solver_of verb) verdict check)) a)
             (ap (λ (m : Mark). act_of machine.cells card (Ended m)) (sym e) ∙ sym is_act) comes))

@@ -1,12 +1,12 @@
 -- What a statement comes to in the walk.
 --     looks_by, clears_by          where a stop is looked for, and where what is pending has to be settled
---     Comes turn .. went           the turn is this: the walk goes on, or it ends
+--     TurnsTo turn .. went           the turn is this: the walk goes on, or it ends
 --     Walks C verb card ..         from each walker that stands here, the statement comes to this
 use Rattle.std.specs.Prelude.{◌≡◌, ℕ, ◌+◌, ◌≤◌, ◌<◌, Bool, true, false, List, [], ◌∷◌, Option, None, Some, if◌then◌else◌}
 use Rattle.std.specs.Option.{option_or}
 use Rattle.control_definitions.specs.Program.{Verb, Program}
 use Rattle.run_definitions.specs.State.{State}
-use Rattle.run_definitions.specs.Moves.{StatementOutcome, StatementMove, Does, Gain, Settles, gain_text}
+use Rattle.run_definitions.specs.Moves.{StatementOutcome, StatementMove, Does, Gain, DecidesAlone, gain_text}
 use Rattle.run_definitions.specs.Verbs.{verb_move}
 use Rattle.run_machine.specs.declared.act.Act.{Act}
 use Rattle.run_machine.specs.declared.act.Act.TheVariants as acts
@@ -35,9 +35,9 @@ abbrev pub open_by : Bool → Bool → walks.Walker → Option walks.Found
 open_by looks clears w = option_or (if looks then walks.open_stop w else None) (if clears then walks.open_pending w else None)
 
 -- something is printed
-abbrev pub is_loud : List ℕ → Bool
-is_loud [] = false
-is_loud (byte ∷ text) = true
+abbrev pub has_text : List ℕ → Bool
+has_text [] = false
+has_text (byte ∷ text) = true
 
 -- each text that isn't empty is a report
 abbrev pub one_if : Bool → ℕ
@@ -52,27 +52,27 @@ ends_run (acts.Ends end) = true
 -- ---- what comes
 
 -- the walk goes on with a walker that stands here, or it ends
-abbrev pub Comes : walks.WalkTurn → List (List ℕ) → Machine Chosen → ℕ → ℕ → ListingPlace → Went → Type 0
-Comes turn cards machine position executed place Next = (v : walks.Walker) × (turn ≡ walks.Walks v) × Represents cards machine (position + 1) executed place v
-Comes turn cards machine position executed place (Leaves last) = (v : walks.Walker) × (turn ≡ walks.Walks v) × Represents cards (holding (Some last) machine) (position + 1) executed place v
-Comes turn cards machine position executed place (Jump to) = (v : walks.Walker) × (turn ≡ walks.Walks v) × Represents cards machine to executed place v × (1 ≤ to)
-Comes turn cards machine position executed place (Finds found) = turn ≡ walks.Finds (found_view found)
+abbrev pub TurnsTo : walks.WalkTurn → List (List ℕ) → Machine Chosen → ℕ → ℕ → ListingPlace → Went → Type 0
+TurnsTo turn cards machine position executed place Next = (v : walks.Walker) × (turn ≡ walks.Walks v) × Represents cards machine (position + 1) executed place v
+TurnsTo turn cards machine position executed place (Leaves last) = (v : walks.Walker) × (turn ≡ walks.Walks v) × Represents cards (holding (Some last) machine) (position + 1) executed place v
+TurnsTo turn cards machine position executed place (Jump to) = (v : walks.Walker) × (turn ≡ walks.Walks v) × Represents cards machine to executed place v × (1 ≤ to)
+TurnsTo turn cards machine position executed place (Finds found) = turn ≡ walks.Finds (found_view found)
 
 -- the outcome is that of an act, which was reached with this machine
 abbrev pub IsOutcome : StatementOutcome → List (List ℕ) → Machine Chosen → ℕ → ℕ → Gain → Act → Type 0
-IsOutcome outcome cards machine position executed gain act = Follows IsView Settles 0 (Does outcome) cards machine position executed gain act
+IsOutcome outcome cards machine position executed gain act = Follows IsView DecidesAlone 0 (Does outcome) cards machine position executed gain act
 
 -- after a report was passed, or where none was due
 abbrev pub Finishes : ListingPlace → ListingPlace → Act → Went → Type 0
 Finishes old new act went =
     (v : walks.Walker) (outcome : StatementOutcome) (cards : List (List ℕ)) (machine : Machine Chosen) (position executed : ℕ) (gain : Gain) → Faces old v →
-    IsOutcome outcome cards machine position executed gain act → Comes (walks.follows v outcome) cards machine position executed new went
+    IsOutcome outcome cards machine position executed gain act → TurnsTo (walks.follows v outcome) cards machine position executed new went
 
 -- a move that asks nothing, and comes to an act with this text, whatever the checker is
 abbrev pub Passes : Machine Chosen → ListingPlace → ListingPlace → Act → List ℕ → Went → Type 0
 Passes machine old new act text went =
     (C : Checker) (w : walks.Walker) (card : ℕ) (move : StatementMove) (cards : List (List ℕ)) (position executed : ℕ) (gain : Gain) → Faces old w → walks.refuses_selection move ≡ false →
-    Follows IsView Settles card move cards machine position executed gain act → gain_text gain ≡ text → Comes (walks.walk_move C w move) cards machine position executed new went
+    Follows IsView DecidesAlone card move cards machine position executed gain act → gain_text gain ≡ text → TurnsTo (walks.walk_move C w move) cards machine position executed new went
 
 -- an operation is refused here, where a stop and what is pending come first
 abbrev pub IsUnchecked : ListingPlace → Found → Type 0
@@ -108,7 +108,7 @@ RefusesReport machine old new card stands NoMemory went = ⊥
 abbrev pub Walks : Checker → Verb ℕ → ℕ → List (List ℕ) → Machine Chosen → Machine Chosen → ListingPlace → ListingPlace → Went → Type 0
 Walks C verb card cards old new place_old place_new went =
     (position executed : ℕ) (state : State) (w : walks.Walker) → machines.Represents IsView cards old position executed state → Faces place_old w →
-    Comes (walks.walk_move C w (verb_move verb card state)) cards new position executed place_new went
+    TurnsTo (walks.walk_move C w (verb_move verb card state)) cards new position executed place_new went
 
 -- the statement at a position
 abbrev pub ComesTo : walks.WalkTurn → List (List ℕ) → Machine Chosen → ℕ → ListingPlace → Onward → Type 0

@@ -8,7 +8,7 @@ ghost use Rattle.listing_walk.specs.Walking.{ends_run, Finishes, Passes, Refuses
 
 use crate::chosen::Chosen;
 use crate::found::Found;
-use crate::place::{ListingPlace, is_loud};
+use crate::place::{ListingPlace, has_text};
 use crate::selecting::Unselected;
 use crate::went::Went;
 use job_devices::NoMemory;
@@ -60,7 +60,7 @@ pub fn follow<'a>(
     ensures few { place.new.reports ≤ place.old.reports + 1 }
 {
     let ends = ends_run(act);
-    let looks = ends || is_loud(text);
+    let looks = ends || has_text(text);
     let clears = ends || machine.mark.is_none();
     if let Some(found) = place.open_here(looks, clears) {
         return Ok(Went::Finds(found));

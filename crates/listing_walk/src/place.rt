@@ -9,7 +9,7 @@ ghost use Rattle.walk_definitions.specs.Walker as walks;
 ghost use Rattle.listing_words.specs.Read.{taken};
 ghost use Rattle.listing_walk.specs.Ended.{found_view};
 ghost use Rattle.listing_walk.specs.Standing.{Faces};
-ghost use Rattle.listing_walk.specs.Walking.{open_by, is_loud, one_if, IsUnchecked, IsReported};
+ghost use Rattle.listing_walk.specs.Walking.{open_by, has_text, one_if, IsUnchecked, IsReported};
 
 use crate::found::Found;
 use job_devices::{NoMemory, Sink, SureSink, WriteStop};
@@ -57,8 +57,8 @@ fn end_text(alloc: Global, ending: &Ending<'_>) -> Result<SureSink, NoMemory>
 }
 
 /// Something is printed.
-pub fn is_loud(text: &[u8]) -> bool
-    ensures { result ≡ is_loud text.now }
+pub fn has_text(text: &[u8]) -> bool
+    ensures { result ≡ has_text text.now }
 {
     !text.is_empty()
 }
@@ -133,13 +133,13 @@ impl<'a> ListingPlace<'a> {
         ensures taken { left_after text.now self.old.cursor ≡ taken result self.new.cursor }
         ensures kept { result ≡ false → self.new ≡ self.old }
         ensures pending { self.new.pending ≡ self.old.pending }
-        ensures reports { result ≡ true → self.new.reports ≡ self.old.reports + one_if (is_loud text.now) }
+        ensures reports { result ≡ true → self.new.reports ≡ self.old.reports + one_if (has_text text.now) }
         ensures few { self.new.reports ≤ self.old.reports + 1 }
     {
         if !self.cursor.take(text) {
             return false;
         }
-        if is_loud(text) {
+        if has_text(text) {
             self.reports += 1;
         }
         true

@@ -30,7 +30,7 @@ use Rattle.one_story_laws.proofs.Runs.{Whole, whole_of, Story, two_runs}
 use Rattle.one_story_laws.proofs.NoBasis.{job_of_no_basis}
 use Rattle.walk_definitions.specs.Checkers.{Checker}
 use Rattle.walk_definitions.specs.Walker.{Attested}
-use Rattle.walk_definitions.specs.Found.{Comes}
+use Rattle.walk_definitions.specs.Found.{EndsIn}
 
 -- ---- how a run is cut off
 
@@ -183,7 +183,7 @@ tell_as_many [] (other ∷ others) tell = absurd tell
 tell_as_many (report ∷ reports) [] tell = absurd tell
 
 -- what an attested listing is, with the number of its reports
-listing_proved : (C : Checker) → AttestedLaw C → (bytes lines : List ℕ) (count : ℕ) → Comes C bytes lines (Attested count) → IsProvedListing C bytes lines count
+listing_proved : (C : Checker) → AttestedLaw C → (bytes lines : List ℕ) (count : ℕ) → EndsIn C bytes lines (Attested count) → IsProvedListing C bytes lines count
 listing_proved C attest bytes lines count come = let got = attest bytes lines count come in record { proved = got.0; has_count = got.1 }
 
 pub stories : ((C : Checker) → AttestedLaw C) → RunLaws → OneStoryLaws

@@ -11,7 +11,7 @@ use Rattle.run_definitions.specs.State.{State}
 use Rattle.run_definitions.specs.Answer.{IsJobRun}
 use Rattle.walk_definitions.specs.Checkers.{Checker}
 use Rattle.walk_definitions.specs.Walker.{Attested}
-use Rattle.walk_definitions.specs.Found.{Comes}
+use Rattle.walk_definitions.specs.Found.{EndsIn}
 use Rattle.walk_laws.specs.Proved.{attested, IsTrueListing}
 use Rattle.one_story_laws.specs.Story.{TellSame, IsOfNoBasis, IsCutEnding}
 use Rattle.one_story_laws.specs.Views.{made_in_job, ShowSame}
@@ -37,12 +37,12 @@ pub record IsProvedListing (C : Checker) (bytes lines : List ℕ) (count : ℕ) 
 -- The listings may be attested by two checkers.
 pub record OneStoryLaws : Type 0 where
   -- an attested listing is one
-  pub is_proved : (C : Checker) (bytes lines : List ℕ) (count : ℕ) → Comes C bytes lines (Attested count) → IsProvedListing C bytes lines count
+  pub is_proved : (C : Checker) (bytes lines : List ℕ) (count : ℕ) → EndsIn C bytes lines (Attested count) → IsProvedListing C bytes lines count
   -- two of them, of one job, tell one story
   pub one_story : (C D : Checker) (bytes lines others : List ℕ) (n m : ℕ) (one : IsProvedListing C bytes lines n) (two : IsProvedListing D bytes others m) →
       IsOneStory (made_in_job (attested C) one.proved.runs) one.proved.reports two.proved.reports one.proved.ending two.proved.ending
   -- and so two attested listings of one job have as many reports
-  pub as_many : (C D : Checker) (bytes lines others : List ℕ) (n m : ℕ) → Comes C bytes lines (Attested n) → Comes D bytes others (Attested m) → n ≡ m
+  pub as_many : (C D : Checker) (bytes lines others : List ℕ) (n m : ℕ) → EndsIn C bytes lines (Attested n) → EndsIn D bytes others (Attested m) → n ≡ m
   -- the run of the job tells this story too, or it was cut off and tells the beginning of it
   pub run : (C : Checker) (bytes lines : List ℕ) (count : ℕ) (one : IsProvedListing C bytes lines count) (reports : List Report) (cards : List (List ℕ)) (ending : Ending) →
       (runs : IsJobRun linear_programming bytes reports cards ending) →

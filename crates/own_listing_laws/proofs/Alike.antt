@@ -26,7 +26,7 @@ use Rattle.listing_definitions.specs.declared.VerbFault.{VerbFault}
 use Rattle.listing_definitions.specs.Report.{Converted, Revised}
 use Rattle.question_definitions.specs.Answers.{Basis, Changing}
 use Rattle.run_definitions.specs.State.{Present, State, problem_of, choice_of}
-use Rattle.run_definitions.specs.Moves.{StatementOutcome, Goes, Ends, gain_of, InSelection, InAnswer, StatementMove, Does, MayStop, Asks, Settles, or_fault}
+use Rattle.run_definitions.specs.Moves.{StatementOutcome, Goes, Ends, gain_of, InSelection, InAnswer, StatementMove, Does, MayStop, Asks, DecidesAlone, or_fault}
 use Rattle.run_definitions.specs.Verbs.{or_deck_fault, or_selection_fault, selects, files, not_less, change_row, change_set, if_optimal, solves, shows, ranges, parametric_runs, converts, revises, sets_up, punches, punches_basis, inserts, verb_move}
 use Rattle.run_definitions.specs.Run.{counted}
 use Rattle.walk_definitions.specs.Walker.{refuses_selection}
@@ -60,10 +60,10 @@ gains_alike (Ends gain ending) (Goes own other) alike = absurd alike
 pub record SettlesToo (card : ℕ) (walked run : StatementMove) (outcome : StatementOutcome) : Type 0 where
   pub own : StatementOutcome
   pub alike : AreAlike own outcome
-  pub settles : Settles card walked own
+  pub settles : DecidesAlone card walked own
   pub made : refuses_selection walked ≡ refuses_selection run
 
-pub settles_too : (card : ℕ) (walked run : StatementMove) (outcome : StatementOutcome) → MovesAlike walked run → Settles card run outcome → SettlesToo card walked run outcome
+pub settles_too : (card : ℕ) (walked run : StatementMove) (outcome : StatementOutcome) → MovesAlike walked run → DecidesAlone card run outcome → SettlesToo card walked run outcome
 settles_too card (Does own) (Does other) outcome alike settled = record { own = own; alike = subst (λ (o : StatementOutcome). AreAlike own o) (sym settled) alike; settles = refl; made = refl }
 settles_too card (MayStop (InSelection problem choice) walked) (MayStop (InSelection own other) run) outcome alike settled =
     let too = settles_too card walked run outcome alike.1 settled in

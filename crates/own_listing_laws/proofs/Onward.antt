@@ -18,7 +18,7 @@ use Rattle.listing_definitions.specs.Text.{report_text, verdict_text, solution_t
 use Rattle.question_definitions.specs.Answers.{Basis, Sheet, Question, OfPath, OfSolution, AnswerTo, PathEnd, Reached}
 use Rattle.answer_definitions.specs.Verdicts.{IsSolvedBy}
 use Rattle.run_definitions.specs.State.{Present}
-use Rattle.run_definitions.specs.Moves.{Nothing, Prints, Punches, printed_by, gain_text, gain_of, StatementOutcome, Goes, Ends, InSelection, InAnswer, StatementMove, Does, MayStop, Asks, Settles}
+use Rattle.run_definitions.specs.Moves.{Nothing, Prints, Punches, printed_by, gain_text, gain_of, StatementOutcome, Goes, Ends, InSelection, InAnswer, StatementMove, Does, MayStop, Asks, DecidesAlone}
 use Rattle.run_definitions.specs.Verbs.{asks}
 use Rattle.walk_definitions.specs.Checkers.{Checker, checker_of_128_bits}
 use Rattle.walk_definitions.specs.Words.{left_after}
@@ -117,7 +117,7 @@ both_parts false b e = absurd (cc e)
 selects_on : (C : Checker) (w : Walker) (problem : Problem ℕ) (choice : Choice) (move : StatementMove) → is_made problem choice ≡ true → walk_move C w (MayStop (InSelection problem choice) move) ≡ walk_move C w move
 selects_on C w problem choice move made = ap (λ b. unless_found (opened w move) (if not b || refuses_selection move then Finds (Unchecked w.rest) else due C w move)) made
 
-settled_on : (C : Checker) (w : Walker) (card : ℕ) (move : StatementMove) (outcome : StatementOutcome) (more : List ℕ) → Settles card move outcome → refuses_selection move ≡ false → (w.pending ≡ None) ⊎ KeepsMark outcome →
+settled_on : (C : Checker) (w : Walker) (card : ℕ) (move : StatementMove) (outcome : StatementOutcome) (more : List ℕ) → DecidesAlone card move outcome → refuses_selection move ≡ false → (w.pending ≡ None) ⊎ KeepsMark outcome →
     w.rest ≡ gain_text (gain_of outcome) ++ more → is_open_stop w.rest ≡ false → walk_move C w move ≡ follows (passed more (length (printed_by (gain_of outcome))) w) outcome
 settled_on C w card (Does own) outcome more settled made kept text closed = ap (λ (o : StatementOutcome). walk_move C w (Does o)) (sym settled) ∙ does_on C w outcome more kept text closed
 settled_on C w card (MayStop (InSelection problem choice) move) outcome more settled made kept text closed =

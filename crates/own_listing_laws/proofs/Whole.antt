@@ -16,7 +16,7 @@ use Rattle.run_definitions.specs.Answer.{job_decks, IsJobRun, card_fault, contro
 use Rattle.walk_definitions.specs.Checkers.{checker_of_128_bits}
 use Rattle.walk_definitions.specs.Forms.{is_open_stop}
 use Rattle.walk_definitions.specs.Walker.{Walker, Attested, Finds, closes, turn}
-use Rattle.walk_definitions.specs.Found.{first_walker, Reaches as Walked, begun as not_begun, walked, Comes, of_cards as ends_by_cards, of_control as ends_by_control, of_walk}
+use Rattle.walk_definitions.specs.Found.{first_walker, Reaches as Walked, begun as not_begun, walked, EndsIn, of_cards as ends_by_cards, of_control as ends_by_control, of_walk}
 use Rattle.own_listing_laws.specs.Attestable.{to_show, IsAttestable, over, does, stops, finds, finds_last, shows, IsAttestableRun, of_cards, of_control, of_program, ComesAttested}
 use Rattle.own_listing_laws.proofs.Own.{ending_plain, listing_plain}
 use Rattle.own_listing_laws.proofs.Onward.{walks_on}
@@ -115,7 +115,7 @@ only_end : (ending : Ending) → is_open_stop (ending_text ending) ≡ false →
 only_end ending closed = walks_on.end (first_walker [] (listing [] ending)) ending refl refl closed
 
 is_attested : (bytes : List ℕ) (reports : List Report) (ending : Ending) → IsAttestableRun bytes reports ending → is_open_stop (ending_text ending) ≡ false →
-    Comes checker_of_128_bits bytes (listing reports ending) (Attested (length reports))
+    EndsIn checker_of_128_bits bytes (listing reports ending) (Attested (length reports))
 is_attested bytes _ _ (of_cards fault is) closed = ends_by_cards fault is (only_end (CardStop fault) closed)
 is_attested bytes _ _ (of_control fault none is) closed = ends_by_control fault none is (only_end (ControlStop fault) closed)
 is_attested bytes _ _ (of_program program reports ending is_program runs) closed =

@@ -27,14 +27,14 @@ use Rattle.question_definitions.specs.Answers.{Basis, Sheet, Reached}
 use Rattle.answer_definitions.specs.Verdicts.{IsSolvedBy}
 use Rattle.answer_definitions.specs.Real.{linear_programming}
 use Rattle.run_definitions.specs.State.{Present, present_basis, State, start, choice_of}
-use Rattle.run_definitions.specs.Moves.{Gain, Prints, printed_by, StatementOutcome, Goes, Ends, next, Settles}
+use Rattle.run_definitions.specs.Moves.{Gain, Prints, printed_by, StatementOutcome, Goes, Ends, next, DecidesAlone}
 use Rattle.run_definitions.specs.Verbs.{verb_move, after_path}
 use Rattle.run_definitions.specs.Run.{counted, Step, IsOver}
 use Rattle.run_definitions.specs.Answer.{job_decks, IsProgramOf, IsJobRun}
 use Rattle.walk_definitions.specs.Checkers.{checker_of_128_bits}
 use Rattle.walk_definitions.specs.Forms.{is_open_stop}
 use Rattle.walk_definitions.specs.Walker.{Attested, refuses_selection}
-use Rattle.walk_definitions.specs.Found.{Comes}
+use Rattle.walk_definitions.specs.Found.{EndsIn}
 use Rattle.own_listing_laws.specs.Fitting.{VerdictFits}
 use Rattle.own_listing_laws.specs.Laws.{IsShownChecked}
 
@@ -63,7 +63,7 @@ to_show verdict = None
 module _ (program : Program) (s : State) where
   -- the statement asks nothing of linear programming, and no operation of a selection is refused
   pub record AsksNothing (outcome : StatementOutcome) (step : Step linear_programming program s outcome) : Type 0 where
-    pub settles : Settles step.statement.card (verb_move step.statement.verb step.statement.card (counted s)) outcome
+    pub settles : DecidesAlone step.statement.card (verb_move step.statement.verb step.statement.card (counted s)) outcome
     pub is_made : refuses_selection (verb_move step.statement.verb step.statement.card (counted s)) ≡ false
 
   -- PRIMAL or DUAL follows its path, and its verdict, whose numbers fit, has the word CHECKED.
@@ -115,4 +115,4 @@ pub data IsAttestableRun (bytes : List ℕ) : List Report → Ending → Type 0 
 pub record ComesAttested : Type 0 where
   pub runs : (bytes : List ℕ) (reports : List Report) (ending : Ending) → IsAttestableRun bytes reports ending → (cards : List (List ℕ)) × IsJobRun linear_programming bytes reports cards ending
   pub attested : (bytes : List ℕ) (reports : List Report) (ending : Ending) → IsAttestableRun bytes reports ending → is_open_stop (ending_text ending) ≡ false →
-      Comes checker_of_128_bits bytes (listing reports ending) (Attested (length reports))
+      EndsIn checker_of_128_bits bytes (listing reports ending) (Attested (length reports))

@@ -31,7 +31,7 @@ use Rattle.answer_definitions.specs.ParametricRuns.{interval_of, IsChained}
 use Rattle.soundness_laws.specs.ParametricRuns.{ChangesFreely}
 use Rattle.answer_definitions.specs.Real.{linear_programming}
 use Rattle.run_definitions.specs.State.{Present}
-use Rattle.run_definitions.specs.Moves.{printed_by, gain_text, gain_of, StatementOutcome, Goes, Ends, InSelection, StatementMove, MayStop, Settles}
+use Rattle.run_definitions.specs.Moves.{printed_by, gain_text, gain_of, StatementOutcome, Goes, Ends, InSelection, StatementMove, MayStop, DecidesAlone}
 use Rattle.run_definitions.specs.Verbs.{asks}
 use Rattle.run_definitions.specs.Answer.{IsJobRun}
 use Rattle.walk_definitions.specs.Checkers.{Checker, checker_of_128_bits}
@@ -41,7 +41,7 @@ use Rattle.walk_definitions.specs.Tests.{point_of, verdict_test, solution_test}
 use Rattle.walk_definitions.specs.Tables.{begins_table_line}
 use Rattle.walk_definitions.specs.Reading.{Judged, Right, Fails, verdict_in, solution_in, interval_in, close_in, judged}
 use Rattle.walk_definitions.specs.Walker.{Walker, Found, Attested, Wrong, Finds, closes, follows, passed, pending_after, refuses_selection, settles, walk_move}
-use Rattle.walk_definitions.specs.Found.{Comes}
+use Rattle.walk_definitions.specs.Found.{EndsIn}
 use Rattle.own_listing_laws.specs.Fitting.{SlacksFit, LinesFit, VerdictFits, CheckFits, IntervalsFit, EndFits, ReportsFit, StopFits}
 use Rattle.own_listing_laws.specs.Printed.{IsReadable, IsPrinted, IsEndOf}
 
@@ -132,7 +132,7 @@ pub record WalksOn : Type 0 where
       (w.pending ≡ None) ⊎ (w.pending ≡ Some (record { rest = at; objective = objective; check = Checked })) → w.rest ≡ solution_text Optimal lines ++ after → IsShownChecked solver sheet s limit bases steps objective lines →
       walk_move checker_of_128_bits w (asks (OfSolution Optimal) sheet present go) ≡ follows (record (passed after 1 w) { pending = None }) (go lines)
   -- Nothing is asked, and no operation of a selection is refused; what is pending is so still while the mark stands.
-  pub statement : (C : Checker) (w : Walker) (card : ℕ) (move : StatementMove) (outcome : StatementOutcome) (more : List ℕ) → Settles card move outcome → refuses_selection move ≡ false → (w.pending ≡ None) ⊎ KeepsMark outcome →
+  pub statement : (C : Checker) (w : Walker) (card : ℕ) (move : StatementMove) (outcome : StatementOutcome) (more : List ℕ) → DecidesAlone card move outcome → refuses_selection move ≡ false → (w.pending ≡ None) ⊎ KeepsMark outcome →
       w.rest ≡ gain_text (gain_of outcome) ++ more → is_open_stop w.rest ≡ false → walk_move C w move ≡ follows (passed more (length (printed_by (gain_of outcome))) w) outcome
   -- no operation of the selection is refused
   pub selects : (C : Checker) (w : Walker) (problem : Problem ℕ) (choice : Choice) (move : StatementMove) → is_made problem choice ≡ true → walk_move C w (MayStop (InSelection problem choice) move) ≡ walk_move C w move
@@ -143,4 +143,4 @@ pub record WalksOn : Type 0 where
 -- have 32: it is attested, or a line of it can't be attested, or an operation of a test is refused.
 abbrev pub NeverWrong : Type 0
 NeverWrong = (bytes : List ℕ) (reports : List Report) (cards : List (List ℕ)) (ending : Ending) (found : Found) → IsJobRun linear_programming bytes reports cards ending → ReportsFit reports → StopFits ending →
-    Comes checker_of_128_bits bytes (listing reports ending) found → IsNotWrong found
+    EndsIn checker_of_128_bits bytes (listing reports ending) found → IsNotWrong found

@@ -12,7 +12,7 @@ use Rattle.lp_laws.proofs.Uniqueness.{one_point, one_table}
 use Rattle.simplex_laws.proofs.UnboundedEnds.{objective_value-same}
 use Rattle.simplex_laws.proofs.Ends.{IsFeasible-same}
 use Rattle.simplex_definitions.specs.Chain.{Part, along, IsPart}
-use Rattle.parametric_laws.specs.Truth.{IsSolvedBy, IsTruePart}
+use Rattle.parametric_laws.specs.Truth.{IsBestBy, IsTruePart}
 
 module _ (p : LinearProgram) (lawful : IsLinearProgram p) (s : List Status) (optimal : IsOptimalBasis p s) (z : Vector) (point : IsPointOf p s z) where
   pub point_feasible : IsFeasible p z
@@ -34,7 +34,7 @@ module _ (p : LinearProgram) (lawful : IsLinearProgram p) (s : List Status) (opt
     certificate =
         prices_prove p lawful s optimal.is_basis optimal.nonsingular optimal.tableau.rate optimal.is_tableau.are_rates z y point same_price optimal.right
 
-    pub solved : IsSolvedBy p z y
+    pub solved : IsBestBy p z y
     solved = record { best = best_by_prices p lawful z y point_feasible certificate; certificate = certificate }
 
 module _ (family : ℚ → LinearProgram) (lawful : (theta : ℚ) → IsLinearProgram (family theta)) (from max : ℚ) (s : List Status) (part : Part) (is : IsPart family from max s part) where

@@ -1,5 +1,5 @@
 -- What a parametric run shows of the linear programs of its family, at each value of the parameter.
---     IsSolvedBy p z y             z is best in p, and the prices y prove it
+--     IsBestBy p z y             z is best in p, and the prices y prove it
 --     IsTruePart family max part   the interval shows a best point and its dual certificate at each value in it
 --     AreJoined from parts         the first interval begins at from, each other one where the last ended
 --     last_end from parts          where the last interval ends
@@ -16,7 +16,7 @@ use Rattle.simplex_definitions.specs.Path.{PathEnding, EndsOptimal, EndsCrossed,
 use Rattle.simplex_definitions.specs.Chain.{Part, ChainEnd, AtMax, UnboundedPast, InfeasiblePast, RunReport, FailedOpening, Chain, along}
 
 -- the point is feasible, no feasible point is better, and the prices prove that
-pub record IsSolvedBy (p : LinearProgram) (z y : Vector) : Type 0 where
+pub record IsBestBy (p : LinearProgram) (z y : Vector) : Type 0 where
   pub best : IsBest p z
   pub certificate : IsDualCertificate p z y
 
@@ -37,7 +37,7 @@ pub record IsTruePart (family : ℚ → LinearProgram) (max : ℚ) (part : Part)
   pub forward : part.from ≤ℚ part.to
   pub within : part.to ≤ℚ max
   pub solved : (theta : ℚ) → part.from ≤ℚ theta → theta ≤ℚ part.to →
-      IsSolvedBy (family theta) (along theta part.value part.value_rate)
+      IsBestBy (family theta) (along theta part.value part.value_rate)
       (along theta part.price part.price_rate)
 
 -- there is no gap between two intervals

@@ -4,7 +4,7 @@
 --     Refusals                     where an operation may be refused
 --     StatementMove                an outcome, a place where the run may stop for an overflow, or a question
 --     Gives S card move outcome    the statement of a card comes to this
---     Settles card move outcome    so it does, whatever is right of linear programming
+--     DecidesAlone card move outcome    so it does, whatever is right of linear programming
 use Rattle.std.specs.Prelude.{◌≡◌, ◌⊎◌, ◌+◌, ℕ, List, [], ◌∷◌, Option, Some, None}
 use Rattle.lp_definitions.specs.declared.Evidence.{Evidence}
 use Rattle.problem_definitions.specs.Problem.{Problem}
@@ -95,10 +95,10 @@ Gives S card (MayStop refusals move) given = Gives S card move given ⊎ StopsBy
 Gives S card (Asks question sheet s go) given = (answer : AnswerTo question) × IsRight S question sheet s answer × (given ≡ go answer)
 
 -- What a move comes to, whatever is right of linear programming: it asks nothing, and isn't stopped by an overflow.
-abbrev pub Settles : ℕ → StatementMove → StatementOutcome → Type 0
-Settles card (Does outcome) given = given ≡ outcome
-Settles card (MayStop refusals move) given = Settles card move given
-Settles card (Asks question sheet s go) given = ⊥
+abbrev pub DecidesAlone : ℕ → StatementMove → StatementOutcome → Type 0
+DecidesAlone card (Does outcome) given = given ≡ outcome
+DecidesAlone card (MayStop refusals move) given = DecidesAlone card move given
+DecidesAlone card (Asks question sheet s go) given = ⊥
 
 -- a verb fault on a card, or else what is done with the value
 abbrev pub or_fault : {X : Type 0} → ℕ → VerbFault → Option X → (X → StatementMove) → StatementMove

@@ -22,7 +22,7 @@ use Rattle.listing_definitions.specs.Ending.{VerbStop}
 use Rattle.listing_definitions.specs.Report as reports
 use Rattle.listing_definitions.specs.Text.{report_text}
 use Rattle.run_definitions.specs.State.{Present, State, problem_of}
-use Rattle.run_definitions.specs.Moves.{Prints, StatementOutcome, next, stops, StatementMove, Settles, or_fault}
+use Rattle.run_definitions.specs.Moves.{Prints, StatementOutcome, next, stops, StatementMove, DecidesAlone, or_fault}
 use Rattle.run_definitions.specs.Verbs.{deck_stop, or_deck_fault, size_of, files, verb_move}
 use Rattle.run_machine.specs.declared.act.Act.TheVariants.{Next}
 use Rattle.run_machine.specs.declared.act.Halt.TheVariants as halt
@@ -32,7 +32,7 @@ use Rattle.run_machine.specs.declared.taking.Described.TheVariants as described
 use Rattle.run_machine.specs.declared.end.End.TheVariants.{Verb}
 use Rattle.run_machine.specs.declared.machine.Machine.{Machine}
 use Rattle.run_machine.specs.Standing.{filed, Represents}
-use Rattle.run_machine.specs.Statements.{Comes, Executes}
+use Rattle.run_machine.specs.Statements.{LeadsTo, Executes}
 use Rattle.run_machine.specs.Describing.{verb_of, report_of, decks_from, with_problem, IsDescribed, Describes, described_as}
 use Rattle.run_machine.proofs.Giving.{settles_fault, settles_found, loudly, cut_off}
 
@@ -50,12 +50,12 @@ put_in_front old new problem problems held put last (Some name) =
     ap by_test (same_sym name problem.name) ∙ ap by_rest (held (Some name)) ∙ sym (put name)
 
 -- a deck fault
-settles_deck_fault : (card : ℕ) (found : Result (Problem ℕ) DeckFault) (go : Problem ℕ → StatementMove) (fault : DeckFault) → found ≡ Err fault → Settles card (or_deck_fault found go) (stops (deck_stop fault))
-settles_deck_fault card found go fault err = subst (λ r. Settles card (or_deck_fault r go) (stops (deck_stop fault))) (sym err) refl
+settles_deck_fault : (card : ℕ) (found : Result (Problem ℕ) DeckFault) (go : Problem ℕ → StatementMove) (fault : DeckFault) → found ≡ Err fault → DecidesAlone card (or_deck_fault found go) (stops (deck_stop fault))
+settles_deck_fault card found go fault err = subst (λ r. DecidesAlone card (or_deck_fault r go) (stops (deck_stop fault))) (sym err) refl
 
-settles_problem : (card : ℕ) (found : Result (Problem ℕ) DeckFault) (go : Problem ℕ → StatementMove) (problem : Problem ℕ) (outcome : StatementOutcome) → found ≡ Ok problem → Settles card (go problem) outcome →
-    Settles card (or_deck_fault found go) outcome
-settles_problem card found go problem outcome ok given = subst (λ r. Settles card (or_deck_fault r go) outcome) (sym ok) given
+settles_problem : (card : ℕ) (found : Result (Problem ℕ) DeckFault) (go : Problem ℕ → StatementMove) (problem : Problem ℕ) (outcome : StatementOutcome) → found ≡ Ok problem → DecidesAlone card (go problem) outcome →
+    DecidesAlone card (or_deck_fault found go) outcome
+settles_problem card found go problem outcome ok given = subst (λ r. DecidesAlone card (or_deck_fault r go) outcome) (sym ok) given
 
 -- ---- a deck is taken
 
@@ -72,29 +72,29 @@ module _ {K : Type 0} (Shows : Filed → K → Present → Type 0) (card : ℕ) 
       ap (λ (c : Cells). deck_taken c.xdata state.decks) s.cells ∙ ap (deck_taken machine.cells.xdata) s.decks ∙
       ap (λ (w : Option Name). deck_taken w (decks_from machine.decks_from cards)) (sym same_name)
 
-  pub takes_nothing : deck_taken wanted (decks_from machine.decks_from cards) ≡ None → Settles card (takes card gives report state) (stops (VerbStop (record { fault = DeckNotFound; card = card })))
+  pub takes_nothing : deck_taken wanted (decks_from machine.decks_from cards) ≡ None → DecidesAlone card (takes card gives report state) (stops (VerbStop (record { fault = DeckNotFound; card = card })))
   takes_nothing none = settles_fault card DeckNotFound (deck_taken state.cells.xdata state.decks) _ (deck_view ∙ none)
 
   pub takes_refused : (deck : List Card) (rest : List (List Card)) (fault : DeckFault) → deck_taken wanted (decks_from machine.decks_from cards) ≡ Some (deck, rest) →
-      gives deck ≡ Err fault → Settles card (takes card gives report state) (stops (deck_stop fault))
+      gives deck ≡ Err fault → DecidesAlone card (takes card gives report state) (stops (deck_stop fault))
   takes_refused deck rest fault taken err =
       settles_found card DeckNotFound (deck_taken state.cells.xdata state.decks) _ (deck, rest) _ (deck_view ∙ taken) (settles_deck_fault card (gives deck) _ fault err)
 
   pub takes_problem : (deck : List Card) (rest : List (List Card)) (problem : Problem ℕ) → deck_taken wanted (decks_from machine.decks_from cards) ≡ Some (deck, rest) →
-      gives deck ≡ Ok problem → Settles card (takes card gives report state) (next (Prints (report (size_of problem))) (with_problem problem rest state))
+      gives deck ≡ Ok problem → DecidesAlone card (takes card gives report state) (next (Prints (report (size_of problem))) (with_problem problem rest state))
   takes_problem deck rest problem taken ok =
       settles_found card DeckNotFound (deck_taken state.cells.xdata state.decks) _ (deck, rest) _ (deck_view ∙ taken) (settles_problem card (gives deck) _ problem _ ok refl)
 
 -- the decks after a card are those from the next card on
 pub filed_after : {K : Type 0} (Shows : Filed → K → Present → Type 0) (verb : DeckVerb) (card : ℕ) (cards : List (List ℕ)) (machine : Machine K) (problem : Problem ℕ) (last from_card : ℕ) → last ≤ length cards → from_card ≡ last + 1 →
     ((position executed : ℕ) (state : State) → Represents Shows cards machine position executed state →
-    Settles card (verb_move (verb_of verb) card state) (next (Prints (report_of verb (size_of problem))) (with_problem problem (decks_of (drop last (numbered_cards cards))) state))) →
+    DecidesAlone card (verb_move (verb_of verb) card state) (next (Prints (report_of verb (size_of problem))) (with_problem problem (decks_of (drop last (numbered_cards cards))) state))) →
     IsDescribed Shows verb card cards machine problem from_card
 filed_after Shows verb card cards machine problem last from_card within is given =
     let one_before : last ≡ from_card - 1 = omega (arith, is) in
     record {
       files = λ position executed state s.
-          subst (λ (n : ℕ). Settles card (verb_move (verb_of verb) card state) (next (Prints (report_of verb (size_of problem))) (with_problem problem (decks_of (drop n (numbered_cards cards))) state)))
+          subst (λ (n : ℕ). DecidesAlone card (verb_move (verb_of verb) card state) (next (Prints (report_of verb (size_of problem))) (with_problem problem (decks_of (drop n (numbered_cards cards))) state)))
           one_before (given position executed state s);
       first = omega (arith, is);
       last = omega (arith, is, within);
@@ -128,7 +128,7 @@ module _ {K : Type 0} (Shows : Filed → K → Present → Type 0) (verb : DeckV
   module _ (problem : Problem ℕ) (from_card : ℕ) (file : Filed) (described : IsDescribed Shows verb card cards machine problem from_card)
       (put : (name : Name) → filed_under name file ≡ (if same problem.name name then Some problem else filed_under name machine.file)) (last : file.last ≡ Some problem.name) where
     comes_filed : (position executed : ℕ) (state : State) → Represents Shows cards machine position executed state →
-        Comes Shows Settles (verb_of verb) card cards position executed state (record machine { file = file; decks_from = from_card; setup = None; mark = None }) (Prints (report_of verb (size_of problem))) Next
+        LeadsTo Shows DecidesAlone (verb_of verb) card cards position executed state (record machine { file = file; decks_from = from_card; setup = None; mark = None }) (Prints (report_of verb (size_of problem))) Next
     comes_filed position executed state s = (
       with_problem problem (decks_from from_card cards) state,
       described.files position executed state s,
@@ -144,11 +144,11 @@ module _ {K : Type 0} (Shows : Filed → K → Present → Type 0) (verb : DeckV
     )
 
     pub filed_done : {from to : SinkState} → Writes {T = Unit {0}} from to (Ok tt) (report_text (report_of verb (size_of problem))) →
-        Executes Shows Settles (verb_of verb) card from to cards machine (record machine { file = file; decks_from = from_card; setup = None; mark = None }) (Ok Next)
-    filed_done writes = loudly Shows Settles (verb_of verb) card cards machine (report_of verb (size_of problem)) comes_filed writes
+        Executes Shows DecidesAlone (verb_of verb) card from to cards machine (record machine { file = file; decks_from = from_card; setup = None; mark = None }) (Ok Next)
+    filed_done writes = loudly Shows DecidesAlone (verb_of verb) card cards machine (report_of verb (size_of problem)) comes_filed writes
 
     pub filed_cut : {from to : SinkState} (new : Machine K) (stop : WriteStop) → Writes {T = Unit {0}} from to (Err stop) (report_text (report_of verb (size_of problem))) →
-        Executes Shows Settles (verb_of verb) card from to cards machine new (Err (halt.Print stop))
+        Executes Shows DecidesAlone (verb_of verb) card from to cards machine new (Err (halt.Print stop))
     filed_cut new stop writes =
-        cut_off Shows Settles (verb_of verb) card cards machine new stop (report_of verb (size_of problem))
+        cut_off Shows DecidesAlone (verb_of verb) card cards machine new stop (report_of verb (size_of problem))
         (λ position executed state s. let c = comes_filed position executed state s in (next (Prints (report_of verb (size_of problem))) c.0, c.1, refl)) writes

@@ -17,7 +17,7 @@ use Rattle.listing_definitions.specs.Report.{BcdOut}
 use Rattle.listing_definitions.specs.Text.{report_text}
 use Rattle.problem_file.specs.Filed.{Filed}
 use Rattle.run_definitions.specs.State.{Present, State, problem_of}
-use Rattle.run_definitions.specs.Moves.{Gain, Punches, punched_by, StatementOutcome, next, StatementMove, Does, Settles, gain_of}
+use Rattle.run_definitions.specs.Moves.{Gain, Punches, punched_by, StatementOutcome, next, StatementMove, Does, DecidesAlone, gain_of}
 use Rattle.run_definitions.specs.Verbs.{max_counted, verb_move}
 use Rattle.run_machine.specs.declared.act.Act.{Act}
 use Rattle.run_machine.specs.declared.act.Act.TheVariants.{Next, Ends}
@@ -86,26 +86,26 @@ cards_of problem = deck_fields (by_names problem)
 abbrev punches_it : State → Problem ℕ → StatementOutcome
 punches_it state problem = next (Punches (BcdOut problem.name (min (length (cards_of problem)) max_counted)) (cards_of problem)) state
 
-punch_gives : (card : ℕ) (state : State) (problem : Problem ℕ) → problem_of state.cells.xpbname state.file ≡ Some problem → Settles card (verb_move Bcdout card state) (punches_it state problem)
+punch_gives : (card : ℕ) (state : State) (problem : Problem ℕ) → problem_of state.cells.xpbname state.file ≡ Some problem → DecidesAlone card (verb_move Bcdout card state) (punches_it state problem)
 unfolding verb_move
 punch_gives card state problem is = settles_found card NoProblem (problem_of state.cells.xpbname state.file) (λ (p : Problem ℕ). Does (punches_it state p)) problem (punches_it state problem) is refl
 
 module _ {K : Type 0} (Shows : Filed → K → Present → Type 0) (card : ℕ) (cards : List (List ℕ)) (machine : Machine K) where
   pub no_problem_punched : (print punch : SinkState) → filed machine.cells.xpbname machine.file ≡ None →
-      Performs Shows Settles Bcdout card print print punch punch cards machine machine (Ok (Ends (ends.Verb NoProblem card)))
+      Performs Shows DecidesAlone Bcdout card print print punch punch cards machine machine (Ok (Ends (ends.Verb NoProblem card)))
   unfolding verb_move
   no_problem_punched print punch none =
-      punches_nothing punch Shows Settles Bcdout card print print cards machine machine (Ok (Ends (ends.Verb NoProblem card)))
-      (quietly Shows Settles Bcdout card cards machine print
+      punches_nothing punch Shows DecidesAlone Bcdout card print print cards machine machine (Ok (Ends (ends.Verb NoProblem card)))
+      (quietly Shows DecidesAlone Bcdout card cards machine print
       (λ position executed state s. settles_fault card NoProblem (problem_of state.cells.xpbname state.file) _ (problem_view s (λ (c : Cells). c.xpbname) None none)))
 
   module _ (problem : Problem ℕ) (on_file : filed machine.cells.xpbname machine.file ≡ Some problem) where
-    gives_at : {position executed : ℕ} {state : State} → Represents Shows cards machine position executed state → Settles card (verb_move Bcdout card state) (punches_it state problem)
+    gives_at : {position executed : ℕ} {state : State} → Represents Shows cards machine position executed state → DecidesAlone card (verb_move Bcdout card state) (punches_it state problem)
     gives_at {state = state} s = punch_gives card state problem (problem_view s (λ (c : Cells). c.xpbname) (Some problem) on_file)
 
     -- the punch stops in the deck
     pub deck_cut : (print : SinkState) {punch_old punch_new : SinkState} {T : Type 0} (stop : WriteStop) → Writes {T = T} punch_old punch_new (Err stop) (card_text (cards_of problem)) →
-        Performs Shows Settles Bcdout card print print punch_old punch_new cards machine machine (Err (halt.Punch stop))
+        Performs Shows DecidesAlone Bcdout card print print punch_old punch_new cards machine machine (Err (halt.Punch stop))
     deck_cut print stop punches = λ position executed state s. record {
       report = BcdOut problem.name (min (length (cards_of problem)) max_counted);
       deck = cards_of problem;
@@ -123,7 +123,7 @@ module _ {K : Type 0} (Shows : Filed → K → Present → Type 0) (card : ℕ) 
       own_line result prints = writes_same (ap (λ (n : Name). report_text (BcdOut n count)) is_name ∙ ap (λ (k : ℕ). report_text (BcdOut problem.name k)) is_count) prints
 
       pub deck_punched : Writes {T = Unit {0}} print_old print_new (Ok tt) (report_text (BcdOut name count)) →
-          Performs Shows Settles Bcdout card print_old print_new punch_old punch_new cards machine machine (Ok Next)
+          Performs Shows DecidesAlone Bcdout card print_old print_new punch_old punch_new cards machine machine (Ok Next)
       deck_punched prints = λ position executed state s. record {
         gain = Punches (BcdOut problem.name (min (length (cards_of problem)) max_counted)) (cards_of problem);
         comes = (state, gives_at s, s);
@@ -133,7 +133,7 @@ module _ {K : Type 0} (Shows : Filed → K → Present → Type 0) (card : ℕ) 
 
       -- the deck is punched, and the print stops in its line
       pub deck_line_cut : (stop : WriteStop) → Writes {T = Unit {0}} print_old print_new (Err stop) (report_text (BcdOut name count)) →
-          Performs Shows Settles Bcdout card print_old print_new punch_old punch_new cards machine machine (Err (halt.Print stop))
+          Performs Shows DecidesAlone Bcdout card print_old print_new punch_old punch_new cards machine machine (Err (halt.Print stop))
       deck_line_cut stop prints = λ position executed state s. record {
         outcome = punches_it state problem;
         gives = gives_at s;

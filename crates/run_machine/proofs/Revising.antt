@@ -15,7 +15,7 @@ use Rattle.listing_definitions.specs.declared.VerbFault.TheVariants.{DeckNotFoun
 use Rattle.listing_definitions.specs.Report as reports
 use Rattle.problem_file.specs.Filed.{Filed}
 use Rattle.run_definitions.specs.State.{Present, State, problem_of}
-use Rattle.run_definitions.specs.Moves.{StatementOutcome, Settles}
+use Rattle.run_definitions.specs.Moves.{StatementOutcome, DecidesAlone}
 use Rattle.run_definitions.specs.Verbs.{revises, verb_move}
 use Rattle.run_machine.specs.declared.taking.DeckVerb.TheVariants.{Revise}
 use Rattle.run_machine.specs.declared.taking.Described.TheVariants as described
@@ -34,7 +34,7 @@ module _ {K : Type 0} (Shows : Filed → K → Present → Type 0) (card : ℕ) 
   module _ (old : Problem ℕ) (on_file : filed machine.cells.xoldname machine.file ≡ Some old) (wanted : Option Name) (same_name : wanted ≡ machine.cells.xdata) where
     -- what follows where the old problem is on file
     gives_revised : {position executed : ℕ} {state : State} → Represents Shows cards machine position executed state → (outcome : StatementOutcome) →
-        Settles card (takes card (λ deck. revision old deck state.cells.xpbname) reports.Revised state) outcome → Settles card (revises card state) outcome
+        DecidesAlone card (takes card (λ deck. revision old deck state.cells.xpbname) reports.Revised state) outcome → DecidesAlone card (revises card state) outcome
     gives_revised {state = state} s outcome given =
         settles_found card NoProblem (problem_of state.cells.xoldname state.file) (λ old. takes card (λ deck. revision old deck state.cells.xpbname) reports.Revised state) old outcome
         (problem_view s (λ (c : Cells). c.xoldname) (Some old) on_file) given

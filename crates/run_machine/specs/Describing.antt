@@ -10,7 +10,7 @@ use Rattle.control_definitions.specs.Program as program
 use Rattle.listing_definitions.specs.Report as reports
 use Rattle.problem_file.specs.Filed.{Filed as Problems}
 use Rattle.run_definitions.specs.State.{Present, State}
-use Rattle.run_definitions.specs.Moves.{Nothing, Prints, next, Settles}
+use Rattle.run_definitions.specs.Moves.{Nothing, Prints, next, DecidesAlone}
 use Rattle.run_definitions.specs.Verbs.{size_of, verb_move}
 use Rattle.run_machine.specs.declared.act.Act.TheVariants as act
 use Rattle.run_machine.specs.declared.act.Halt.{Halt}
@@ -22,7 +22,7 @@ use Rattle.run_machine.specs.declared.taking.Described.TheVariants.{Filed, Ends}
 use Rattle.run_machine.specs.declared.end.End.TheVariants as ends
 use Rattle.run_machine.specs.declared.machine.Machine.{Machine}
 use Rattle.run_machine.specs.Standing.{Represents}
-use Rattle.run_machine.specs.Statements.{Comes}
+use Rattle.run_machine.specs.Statements.{LeadsTo}
 
 -- the verb of a statement that takes a deck
 abbrev pub verb_of : DeckVerb → program.Verb ℕ
@@ -53,7 +53,7 @@ module _ {K : Type 0} (Shows : Problems → K → Present → Type 0) (verb : De
   -- next card on.
   pub record IsDescribed (problem : Problem ℕ) (from_card : ℕ) : Type 0 where
     pub files : (position executed : ℕ) (state : State) → Represents Shows cards machine position executed state →
-        Settles card (verb_move (verb_of verb) card state) (next (Prints (report_of verb (size_of problem))) (with_problem problem (decks_from from_card cards) state))
+        DecidesAlone card (verb_move (verb_of verb) card state) (next (Prints (report_of verb (size_of problem))) (with_problem problem (decks_from from_card cards) state))
     pub first : 1 ≤ from_card
     pub last : from_card ≤ length cards + 1
 
@@ -62,5 +62,5 @@ module _ {K : Type 0} (Shows : Problems → K → Present → Type 0) (verb : De
   Describes (Ok (Filed problem from_card)) = IsDescribed problem from_card
   Describes (Ok (Ends end)) =
       (position executed : ℕ) (state : State) → Represents Shows cards machine position executed state →
-      Comes Shows Settles (verb_of verb) card cards position executed state machine Nothing (act.Ends end)
+      LeadsTo Shows DecidesAlone (verb_of verb) card cards position executed state machine Nothing (act.Ends end)
   Describes (Err stop) = stop ≡ halt.NoMemory

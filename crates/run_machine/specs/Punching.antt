@@ -16,7 +16,7 @@ use Rattle.run_machine.specs.declared.act.Halt.{Halt}
 use Rattle.run_machine.specs.declared.act.Halt.TheVariants as halt
 use Rattle.run_machine.specs.declared.machine.Machine.{Machine}
 use Rattle.run_machine.specs.Standing.{Represents}
-use Rattle.run_machine.specs.Statements.{Comes}
+use Rattle.run_machine.specs.Statements.{LeadsTo}
 
 -- the text of the cards that a gain punches
 abbrev pub gain_cards : Gain → List ℕ
@@ -26,7 +26,7 @@ module _ {K : Type 0} (Shows : Filed → K → Present → Type 0) (Given : ℕ 
   -- with some gain, which is printed and punched, the statement comes to this act
   pub record ActsWith (cards : List (List ℕ)) (position executed : ℕ) (state : State) (new : Machine K) (act : Act) : Type 0 where
     pub gain : Gain
-    pub comes : Comes Shows Given verb card cards position executed state new gain act
+    pub comes : LeadsTo Shows Given verb card cards position executed state new gain act
     pub prints : Writes {T = Unit {0}} print_old print_new (Ok tt) (gain_text gain)
     pub punches : Writes {T = Unit {0}} punch_old punch_new (Ok tt) (gain_cards gain)
 

@@ -1,6 +1,6 @@
 -- What a statement does with a machine. Shows says what a setup shows, and Given which outcomes a move may come to.
 --     Follows move gain act        the move comes to this act with this gain
---     Comes state gain act         from this state the statement comes to this act with this gain
+--     LeadsTo state gain act         from this state the statement comes to this act with this gain
 --     Decides old new act          the statement prints nothing, and comes to this act
 --     Executes result              the statement punches nothing, and comes to this act, with its report printed; or it is cut off
 use Rattle.std.specs.Prelude.{◌≡◌, ℕ, ◌≤◌, List, [], Result, Ok, Err, IfSome}
@@ -36,20 +36,20 @@ module _ {K : Type 0} (Shows : Filed → K → Present → Type 0) (Given : ℕ 
   Follows card move cards new position executed gain (act.Ends end) = Given card move (Ends gain (end_view end))
 
   module _ (verb : Verb ℕ) (card : ℕ) where
-    abbrev pub Comes : List (List ℕ) → ℕ → ℕ → State → Machine K → Gain → Act → Type 0
-    Comes cards position executed state new gain act = Follows card (verb_move verb card state) cards new position executed gain act
+    abbrev pub LeadsTo : List (List ℕ) → ℕ → ℕ → State → Machine K → Gain → Act → Type 0
+    LeadsTo cards position executed state new gain act = Follows card (verb_move verb card state) cards new position executed gain act
 
     -- from each state that the machine showed, the statement comes to this act, and prints nothing
     abbrev pub Decides : Machine K → Machine K → Act → Type 0
     Decides old new act =
-        (cards : List (List ℕ)) (position executed : ℕ) (state : State) → Represents Shows cards old position executed state → Comes cards position executed state new Nothing act
+        (cards : List (List ℕ)) (position executed : ℕ) (state : State) → Represents Shows cards old position executed state → LeadsTo cards position executed state new Nothing act
 
     module _ (print_old print_new : SinkState) where
       -- with some gain, which is printed, the statement comes to this act
       pub record Acts (cards : List (List ℕ)) (position executed : ℕ) (state : State) (new : Machine K) (act : Act) : Type 0 where
         pub gain : Gain
         pub no_cards : punched_by gain ≡ []
-        pub comes : Comes cards position executed state new gain act
+        pub comes : LeadsTo cards position executed state new gain act
         pub writes : Writes {T = Unit {0}} print_old print_new (Ok tt) (gain_text gain)
 
       -- the statement comes to something, and the print stops before all that it gains is printed

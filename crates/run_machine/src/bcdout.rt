@@ -1,7 +1,7 @@
 // BCDOUT.
 ghost use Rattle.std.specs.Prelude.{◌≡◌, ℕ, List};
 ghost use Rattle.control_definitions.specs.Program as program;
-ghost use Rattle.run_definitions.specs.Moves.{Settles};
+ghost use Rattle.run_definitions.specs.Moves.{DecidesAlone};
 ghost use Rattle.run_machine.specs.Punching.{Performs};
 
 use crate::act::{Act, Halt};
@@ -24,7 +24,7 @@ impl<S: Kept> Machine<S> {
         card: u32,
     ) -> Result<Act, Halt>
         ensures { (cards : List (List ℕ)) →
-            Performs S.shows Settles program.Bcdout card (P.taken print.old) (P.taken print.new)
+            Performs S.shows DecidesAlone program.Bcdout card (P.taken print.old) (P.taken print.new)
             (U.taken punch.old) (U.taken punch.new) cards self.now self.now result }
     {
         let Some(problem) = self.problem_in(NameCell::Xpbname) else {

@@ -3,7 +3,7 @@ ghost use Rattle.std.specs.Prelude.{◌≡◌, ◌≤◌, ℕ, List, IfSome};
 ghost use Rattle.control_definitions.specs.Program as program;
 ghost use Rattle.control_definitions.specs.declared.TheConstants.{MAX_STEPS};
 ghost use Rattle.run_definitions.specs.Verbs.{mark_after};
-ghost use Rattle.run_definitions.specs.Moves.{Settles};
+ghost use Rattle.run_definitions.specs.Moves.{DecidesAlone};
 ghost use Rattle.run_machine.specs.Standing.{IsSound};
 ghost use Rattle.run_machine.specs.Statements.{Decides};
 
@@ -34,7 +34,7 @@ fn mark_after(cell: NameCell, mark: Option<Mark>) -> Option<Mark>
 impl<S: Kept> Machine<S> {
     /// INITIALZ: the cells and demands become what they were at the start of the run, and the mark is cleared.
     pub fn initialize(&mut self) -> Act
-        ensures acts { (card : ℕ) → Decides S.shows Settles program.Initialz card self.old
+        ensures acts { (card : ℕ) → Decides S.shows DecidesAlone program.Initialz card self.old
             self.new result }
         ensures sound { (cards : List (List ℕ)) → IsSound S.ready S.solved cards self.old →
             IsSound S.ready S.solved cards self.new }
@@ -46,7 +46,7 @@ impl<S: Kept> Machine<S> {
 
     /// MOVE of a name. Another objective or right-hand side clears the mark.
     pub fn move_name(&mut self, cell: NameCell, name: Name) -> Act
-        ensures acts { (card : ℕ) → Decides S.shows Settles (program.MoveName cell name) card
+        ensures acts { (card : ℕ) → Decides S.shows DecidesAlone (program.MoveName cell name) card
             self.old self.new result }
         ensures sound { (cards : List (List ℕ)) → IsSound S.ready S.solved cards self.old →
             IsSound S.ready S.solved cards self.new }
@@ -58,7 +58,7 @@ impl<S: Kept> Machine<S> {
 
     /// MOVE of a number.
     pub fn move_number(&mut self, cell: NumberCell, value: Frac) -> Act
-        ensures acts { (card : ℕ) → Decides S.shows Settles (program.MoveNumber cell value) card
+        ensures acts { (card : ℕ) → Decides S.shows DecidesAlone (program.MoveNumber cell value) card
             self.old self.new result }
         ensures sound { (cards : List (List ℕ)) → IsSound S.ready S.solved cards self.old →
             IsSound S.ready S.solved cards self.new }
@@ -70,7 +70,7 @@ impl<S: Kept> Machine<S> {
     /// MOVE of the number of steps that a verb may take, or of no limit on them.
     pub fn move_limit(&mut self, limit: Option<u32>) -> Act
         requires { IfSome limit (λ steps. steps ≤ MAX_STEPS) }
-        ensures acts { (card : ℕ) → Decides S.shows Settles (program.MoveLimit limit) card
+        ensures acts { (card : ℕ) → Decides S.shows DecidesAlone (program.MoveLimit limit) card
             self.old self.new result }
         ensures sound { (cards : List (List ℕ)) → IsSound S.ready S.solved cards self.old →
             IsSound S.ready S.solved cards self.new }
@@ -82,7 +82,7 @@ impl<S: Kept> Machine<S> {
     /// MVADR: sets a demand to a position.
     pub fn set_demand(&mut self, demand: Demand, position: u32) -> Act
         requires { 1 ≤ position }
-        ensures acts { (card : ℕ) → Decides S.shows Settles (program.Mvadr demand position) card
+        ensures acts { (card : ℕ) → Decides S.shows DecidesAlone (program.Mvadr demand position) card
             self.old self.new result }
         ensures sound { (cards : List (List ℕ)) → IsSound S.ready S.solved cards self.old →
             IsSound S.ready S.solved cards self.new }
@@ -94,7 +94,7 @@ impl<S: Kept> Machine<S> {
     /// GOTO: the statement at a position follows.
     pub fn jump(&self, position: u32) -> Act
         requires { 1 ≤ position }
-        ensures { (card : ℕ) → Decides S.shows Settles (program.Goto position) card self.now
+        ensures { (card : ℕ) → Decides S.shows DecidesAlone (program.Goto position) card self.now
             self.now result }
     {
         Act::Jump(position)
@@ -102,7 +102,7 @@ impl<S: Kept> Machine<S> {
 
     /// EXIT: the run ends.
     pub fn exit(&self) -> Act
-        ensures { (card : ℕ) → Decides S.shows Settles program.Exit card self.now self.now
+        ensures { (card : ℕ) → Decides S.shows DecidesAlone program.Exit card self.now self.now
             result }
     {
         Act::Ends(End::Done)

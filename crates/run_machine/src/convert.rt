@@ -1,7 +1,7 @@
 // CONVERT.
 ghost use Rattle.std.specs.Prelude.{◌≡◌, ◌≤◌, length};
 ghost use Rattle.control_definitions.specs.Program as program;
-ghost use Rattle.run_definitions.specs.Moves.{Settles};
+ghost use Rattle.run_definitions.specs.Moves.{DecidesAlone};
 ghost use Rattle.run_machine.specs.Standing.{IsSound};
 ghost use Rattle.run_machine.specs.Statements.{Executes};
 ghost use Rattle.run_machine.specs.Describing.{Describes};
@@ -48,7 +48,7 @@ impl<S: Kept> Machine<S> {
         card: u32,
     ) -> Result<Act, Halt>
         requires { IsSound S.ready S.solved cards.now self.old }
-        ensures acts { Executes S.shows Settles program.Convert card (P.taken print.old)
+        ensures acts { Executes S.shows DecidesAlone program.Convert card (P.taken print.old)
             (P.taken print.new) cards.now self.old self.new result }
         ensures sound { IsSound S.ready S.solved cards.now self.new }
     {

@@ -4,7 +4,7 @@ ghost use Rattle.problem_definitions.specs.Problem.{entry_count};
 ghost use Rattle.listing_definitions.specs.Text.{report_text};
 ghost use Rattle.report_text.specs.Views.{IsReport, text_view};
 ghost use Rattle.run_definitions.specs.Verbs.{size_of};
-ghost use Rattle.run_definitions.specs.Moves.{Settles};
+ghost use Rattle.run_definitions.specs.Moves.{DecidesAlone};
 ghost use Rattle.run_machine.specs.Standing.{IsSound};
 ghost use Rattle.run_machine.specs.Statements.{Executes};
 ghost use Rattle.run_machine.specs.Describing.{verb_of, report_of, Describes, described_as};
@@ -106,7 +106,7 @@ impl<S: Kept> Machine<S> {
         requires sound { IsSound S.ready S.solved cards.now self.old }
         requires described { Describes S.shows verb card cards.now self.old
             (Ok described) }
-        ensures acts { Executes S.shows Settles (verb_of verb) card (P.taken print.old)
+        ensures acts { Executes S.shows DecidesAlone (verb_of verb) card (P.taken print.old)
             (P.taken print.new) cards.now self.old self.new result }
         ensures sound { IsSound S.ready S.solved cards.now self.new }
     {

@@ -1,7 +1,7 @@
 // TITLE.
 ghost use Rattle.std.specs.Prelude.{◌≡◌, ℕ, List};
 ghost use Rattle.control_definitions.specs.Program as program;
-ghost use Rattle.run_definitions.specs.Moves.{Settles};
+ghost use Rattle.run_definitions.specs.Moves.{DecidesAlone};
 ghost use Rattle.run_machine.specs.Statements.{Executes};
 
 use crate::act::{Act, Halt};
@@ -15,7 +15,7 @@ impl<S: Kept> Machine<S> {
     /// TITLE: prints a text.
     pub fn print_title<P: Sink>(&self, print: &mut P, text: &Text) -> Result<Act, Halt>
         ensures { (card : ℕ) (cards : List (List ℕ)) →
-            Executes S.shows Settles (program.Title text.now) card (P.taken print.old)
+            Executes S.shows DecidesAlone (program.Title text.now) card (P.taken print.old)
             (P.taken print.new) cards self.now self.now result }
     {
         text_of(&Report::Title { text: text.bytes() }, print)?;

@@ -43,7 +43,7 @@ use Rattle.setup_verbs.specs.Kept.{Setup, chosen}
 use Rattle.setup_verbs.specs.Machines.{Machine}
 use Rattle.run_machine.specs.Singular.{IsSheetOf, lines_view}
 use Rattle.setup_verbs.specs.Standing.{IsReady, Represents}
-use Rattle.setup_verbs.specs.Statements.{Comes}
+use Rattle.setup_verbs.specs.Statements.{LeadsTo}
 use Rattle.setup_verbs.specs.declared.insert.Given.{Given}
 use Rattle.setup_verbs.specs.declared.insert.Given.TheVariants as given
 use Rattle.setup_verbs.specs.declared.insert.Found as founds
@@ -133,7 +133,7 @@ module _ (card : ℕ) (cards : List (List ℕ)) (machine : Machine) where
   -- from each state that the machine shows, the statement prints this line and goes on with this setup
   pub record IsInserted (new : Setup) (deck : Name) (basic next : ℕ) : Type 0 where
     pub comes : (position executed : ℕ) (state : State) → Represents cards machine position executed state →
-        Comes linear_programming Insert card cards position executed state (record machine { setup = Some new; decks_from = next; mark = None }) (Prints (Inserted deck basic)) act.Next
+        LeadsTo linear_programming Insert card cards position executed state (record machine { setup = Some new; decks_from = next; mark = None }) (Prints (Inserted deck basic)) act.Next
     pub ready : IsReady machine.file new
     pub first : 1 ≤ next
     pub last : next ≤ length cards + 1

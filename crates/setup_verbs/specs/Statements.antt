@@ -18,8 +18,8 @@ abbrev pub Follows : Solving → ℕ → StatementMove → List (List ℕ) → M
 Follows S = statements.Follows IsPresent (Gives S)
 
 module _ (S : Solving) (verb : Verb ℕ) (card : ℕ) where
-  abbrev pub Comes : List (List ℕ) → ℕ → ℕ → State → Machine → Gain → Act → Type 0
-  Comes = statements.Comes IsPresent (Gives S) verb card
+  abbrev pub LeadsTo : List (List ℕ) → ℕ → ℕ → State → Machine → Gain → Act → Type 0
+  LeadsTo = statements.LeadsTo IsPresent (Gives S) verb card
 
   module _ (print_old print_new : SinkState) where
     -- the statement punches nothing, and comes to this act, with its report printed; or it is cut off

@@ -1,6 +1,6 @@
 -- What a listing of a job is found to be.
 --     Reaches C program decks listing w    the walk of a checker comes so far
---     Comes C bytes listing found          a listing of a job is found so
+--     EndsIn C bytes listing found          a listing of a job is found so
 --     Answers C bytes listing answer       it is too long, or what it is found to be
 --     line_of listing rest                 the line that begins where so much is left
 --     answer_text listing answer           what is printed of it
@@ -27,19 +27,19 @@ pub data Reaches (C : Checker) (program : Program) (decks : List (List Card)) (l
   walked : {w v : Walker} → Reaches C program decks listing w → turn C program w ≡ Walks v → Reaches C program decks listing v
 
 -- a job whose cards or control program are refused has this one end
-pub data Comes (C : Checker) (bytes listing : List ℕ) (found : Found) : Type 0 where
-  of_cards : (fault : CardFault) → job_fault bytes ≡ Some fault → closes (first_walker [] listing) (CardStop fault) ≡ Finds found → Comes C bytes listing found
+pub data EndsIn (C : Checker) (bytes listing : List ℕ) (found : Found) : Type 0 where
+  of_cards : (fault : CardFault) → job_fault bytes ≡ Some fault → closes (first_walker [] listing) (CardStop fault) ≡ Finds found → EndsIn C bytes listing found
   of_control : (fault : ControlFault) → job_fault bytes ≡ None → compiled (cards_of bytes) ≡ Err fault →
-      closes (first_walker [] listing) (ControlStop fault) ≡ Finds found → Comes C bytes listing found
+      closes (first_walker [] listing) (ControlStop fault) ≡ Finds found → EndsIn C bytes listing found
   of_walk : (program : Program) (w : Walker) → IsProgramOf bytes program → Reaches C program (job_decks program bytes) listing w →
-      turn C program w ≡ Finds found → Comes C bytes listing found
+      turn C program w ≡ Finds found → EndsIn C bytes listing found
 
 abbrev pub max_listing : ℕ
 max_listing = 64000000
 
 pub data Answers (C : Checker) (bytes listing : List ℕ) : Option Found → Type 0 where
   too_long : max_listing < length listing → Answers C bytes listing None
-  is_found : {found : Found} → length listing ≤ max_listing → Comes C bytes listing found → Answers C bytes listing (Some found)
+  is_found : {found : Found} → length listing ≤ max_listing → EndsIn C bytes listing found → Answers C bytes listing (Some found)
 
 -- ---- what is printed
 

@@ -20,7 +20,8 @@ use Rattle.walk_definitions.specs.Words.{left_after, fraction_in}
 use Rattle.walk_definitions.specs.Tables.{part_slots, table_in}
 use Rattle.walk_definitions.specs.Tests.{interval_test, close_test}
 use Rattle.walk_definitions.specs.Reading.{Run, Judged, Right, Fails, Refuses, judged, judged_map, tested_by, verdict_in, interval_in, close_in, parametric_run_head, onward, part_in, run_in, opening_in, parametric_run_in}
-use Rattle.walk_laws.specs.Views.{part_of, past_of, MayChange}
+use Rattle.soundness_laws.specs.ParametricRuns.{ChangesFreely}
+use Rattle.walk_laws.specs.Views.{part_of, past_of}
 use Rattle.walk_laws.proofs.Judging.{right_is_passed, right_is_made}
 use Rattle.walk_laws.proofs.Readings.{after_text, after_word, mapped, at_some}
 use Rattle.walk_laws.proofs.Openings.{claim_steps, opening_of}
@@ -124,7 +125,7 @@ module _ (sheet : Sheet) (parametric_run : ParametricRun) where
   goes_on go Fails run after e = cc
   goes_on go Refuses run after e = cc
 
-module _ (C : Checker) (between : BetweenLaws) (past : PastLaws) (sheet : Sheet) (parametric_run : ParametricRun) (lawful : IsLinearProgram sheet.lp) (may : MayChange sheet parametric_run.changing) where
+module _ (C : Checker) (between : BetweenLaws) (past : PastLaws) (sheet : Sheet) (parametric_run : ParametricRun) (lawful : IsLinearProgram sheet.lp) (may : ChangesFreely sheet parametric_run.changing) where
   abbrev family : ℚ → LinearProgram
   family = family_of sheet parametric_run.changing
 

@@ -16,20 +16,21 @@ use Rattle.check_definitions.specs.Steps.{Step, AllHold}
 use Rattle.check_definitions.specs.Checks.{is_at, by_sign, optimal_steps}
 use Rattle.check_definitions.proofs.Holding.{checked_hold, hold-append, each_hold}
 use Rattle.simplex_definitions.specs.Chain.{Part, along}
-use Rattle.parametric_laws.specs.Truth.{IsSolvedBy, IsTruePart}
+use Rattle.parametric_laws.specs.Truth.{IsBestBy, IsTruePart}
 use Rattle.interval_laws.specs.Laws.{StandAtBoth, IsProvedAtEnds, HoldsBetween, BetweenLaws, point_at, prices_at}
 use Rattle.question_definitions.specs.Answers.{Sheet, Changing, Row, Set}
 use Rattle.answer_definitions.specs.ParametricRuns.{row_of, shifts_of, family_of}
 use Rattle.listing_definitions.specs.Report.{ParametricInterval}
 use Rattle.walk_definitions.specs.Checkers.{Checker}
 use Rattle.walk_definitions.specs.Tests.{says, asked, making_steps, along_steps, end_test, keeps_limit, keeping_steps, part_test, interval_test}
-use Rattle.walk_laws.specs.Views.{part_of, MayChange}
+use Rattle.soundness_laws.specs.ParametricRuns.{ChangesFreely}
+use Rattle.walk_laws.specs.Views.{part_of}
 use Rattle.walk_laws.proofs.Judging.{asked_holds, each_checked}
 use Rattle.walk_laws.proofs.Solution.{solved_if_held}
 use Rattle.walk_laws.proofs.Openings.{lawful_family}
 
 -- what is proved at both ends is so between them
-holds_between : BetweenLaws → (sheet : Sheet) (changing : Changing) → IsLinearProgram sheet.lp → MayChange sheet changing → HoldsBetween (family_of sheet changing)
+holds_between : BetweenLaws → (sheet : Sheet) (changing : Changing) → IsLinearProgram sheet.lp → ChangesFreely sheet changing → HoldsBetween (family_of sheet changing)
 holds_between between sheet (Row name) lawful may = between.objective sheet.lp (row_of sheet.problem name) lawful may.0 may.1
 holds_between between sheet (Set name) lawful may = between.rhs sheet.lp (shifts_of sheet.problem name) lawful
 
@@ -92,12 +93,12 @@ pub record IsTrueInterval (family : ℚ → LinearProgram) (is_first : Bool) (ma
   pub is_true : IsTruePart family max part
   pub long : (part.from <ℚ part.to) ⊎ ((is_first ≡ true) × (part.from ≡ part.to))
 
-module _ (C : Checker) (between : BetweenLaws) (sheet : Sheet) (changing : Changing) (lawful : IsLinearProgram sheet.lp) (may : MayChange sheet changing) where
+module _ (C : Checker) (between : BetweenLaws) (sheet : Sheet) (changing : Changing) (lawful : IsLinearProgram sheet.lp) (may : ChangesFreely sheet changing) where
   abbrev family : ℚ → LinearProgram
   family = family_of sheet changing
 
   solved_at_end : (theta : ℚ) (value value_rate price price_rate : List ℚ) → end_test C sheet changing theta value value_rate price price_rate ≡ Checked
-      → IsSolvedBy (family theta) (along theta value value_rate) (along theta price price_rate)
+      → IsBestBy (family theta) (along theta value value_rate) (along theta price price_rate)
   solved_at_end theta value value_rate price price_rate e =
       let each = each_checked (says C (making_steps sheet changing theta) ∷ says C (along_steps sheet theta value value_rate) ∷ says C (along_steps sheet theta price price_rate)
       ∷ says C (optimal_steps (family theta) (along theta value value_rate) (along theta price price_rate)) ∷ []) e in

@@ -12,7 +12,7 @@ use Rattle.run_definitions.specs.Answer.{job_decks}
 use Rattle.run_definitions.specs.Run.{max_executed}
 use Rattle.walk_definitions.specs.Checkers.{Checker}
 use Rattle.walk_definitions.specs.Walker.{Walker, Found, WalkTurn, Walks, Finds, closes, turn}
-use Rattle.walk_definitions.specs.Found.{first_walker, Reaches, begun, walked, Comes, of_cards, of_control, of_walk}
+use Rattle.walk_definitions.specs.Found.{first_walker, Reaches, begun, walked, EndsIn, of_cards, of_control, of_walk}
 use Rattle.walk_laws.specs.Laws.{OneComesLaw}
 use Rattle.walk_laws.proofs.Derivations.{CountsTurn, turn_counts, closes_finds, limit_finds}
 
@@ -92,7 +92,7 @@ module _ (C : Checker) (program : Program) (decks : List (List Card)) (listing :
 -- ---- jobs
 
 module _ (C : Checker) (bytes lines : List ℕ) where
-  two_come : (found other : Found) → Comes C bytes lines found → Comes C bytes lines other → other ≡ found
+  two_come : (found other : Found) → EndsIn C bytes lines found → EndsIn C bytes lines other → other ≡ found
   two_come found other (of_cards fault is finds) (of_cards fault' is' finds') =
       let e : Some fault ≡ Some fault' = sym is ∙ is' in
       let same : fault ≡ fault' = cc e in
@@ -116,7 +116,7 @@ module _ (C : Checker) (bytes lines : List ℕ) where
 
   record ComesSo : Type 0 where
     found : Found
-    comes : Comes C bytes lines found
+    comes : EndsIn C bytes lines found
 
   one_comes : ComesSo
   one_comes = by_cards (job_fault bytes) refl

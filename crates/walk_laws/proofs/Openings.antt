@@ -14,13 +14,14 @@ use Rattle.walk_definitions.specs.Checkers.{Checker}
 use Rattle.walk_definitions.specs.Words.{left_after, fraction_in}
 use Rattle.walk_definitions.specs.Tests.{says, making_steps, verdict_test}
 use Rattle.walk_definitions.specs.Reading.{Claim, Run, Right, judged, tested_by, verdict_in, parametric_run_head, run_in, opening_in, parametric_run_in}
-use Rattle.walk_laws.specs.Views.{MayChange, IsTrueAtFirst}
+use Rattle.soundness_laws.specs.ParametricRuns.{ChangesFreely}
+use Rattle.walk_laws.specs.Views.{IsTrueAtFirst}
 use Rattle.walk_laws.proofs.Judging.{each_checked, right_is_passed, right_is_made}
 use Rattle.walk_laws.proofs.Claims.{MayBeOptimal, IsFormed, verdict_formed}
 use Rattle.walk_laws.proofs.Verdicts.{claim_is_true}
 
 -- the linear program at each value is lawful
-pub lawful_family : (sheet : Sheet) (changing : Changing) → IsLinearProgram sheet.lp → MayChange sheet changing → (theta : ℚ) → IsLinearProgram (family_of sheet changing theta)
+pub lawful_family : (sheet : Sheet) (changing : Changing) → IsLinearProgram sheet.lp → ChangesFreely sheet changing → (theta : ℚ) → IsLinearProgram (family_of sheet changing theta)
 lawful_family sheet (Row name) lawful may theta = lawful_objective sheet.lp (row_of sheet.problem name) lawful may.0 may.1 theta
 lawful_family sheet (Set name) lawful may theta = lawful_rhs sheet.lp (shifts_of sheet.problem name) lawful theta
 
@@ -59,7 +60,7 @@ module _ (C : Checker) (sheet : Sheet) (parametric_run : ParametricRun) where
       let two : Chained [] made.made_of.0 made.made_of.1 ≡ Opening bases verdict check = made.is_made in
       cc two
 
-  pub opening_is_true : (rest after : List ℕ) (bases : List Basis) (verdict : PathVerdict) (check : Check) → IsLinearProgram sheet.lp → MayChange sheet parametric_run.changing →
+  pub opening_is_true : (rest after : List ℕ) (bases : List Basis) (verdict : PathVerdict) (check : Check) → IsLinearProgram sheet.lp → ChangesFreely sheet parametric_run.changing →
       judged C (OfParametricRun parametric_run) sheet rest ≡ Right (Opening bases verdict check) after → IsTrueAtFirst first_sheet verdict
   opening_is_true rest after bases verdict check lawful may e =
       let read = no_intervals rest after bases verdict check (left_after (parametric_run_head parametric_run) rest) e in

@@ -21,7 +21,6 @@ use Rattle.walk_definitions.specs.Reading as readings
 use Rattle.walk_definitions.specs.Words.{left_after}
 use Rattle.walk_definitions.specs.Walker.{Walker, open_stop, open_pending, open_question, follows, passed, answered}
 use Rattle.walk_laws.specs.Read.{ReadingLaw}
-use Rattle.walk_laws.specs.Views.{MayChange}
 use Rattle.walk_laws.specs.Views.{IsTrueAtFirst}
 use Rattle.walk_laws.specs.Judged.{JudgedLaws}
 use Rattle.walk_laws.specs.Proved.{ShowsProvedChain, SaysVerdict, Says}
@@ -30,10 +29,6 @@ use Rattle.walk_laws.proofs.Owing.{Owes, holds_settled}
 use Rattle.walk_laws.proofs.Turns.{never_either, never_stop, never_pending, none_either, nothing_pending, on_unless}
 use Rattle.walk_laws.proofs.Followed.{GoesOn, EndsSo, ComesTo, IsFollowed, follows_on, may_stop, one_says, reads}
 use Rattle.walk_laws.proofs.Answered.{printed_verdict, pays_verdict, program_of, never_made}
-
-may_change : (sheet : Sheet) (changing : Changing) → ChangesFreely sheet changing → MayChange sheet changing
-may_change sheet (Row name) free = free
-may_change sheet (Set name) free = tt
 
 opening_says : (state : State) (changing : Changing) (verdict : PathVerdict) →
     ReportsOfRun state.setup state.cells (parametric_solver changing) (λ sheet parametric_run. IsTrueAtFirst (sheet_at sheet parametric_run.changing parametric_run.from) verdict) → SaysVerdict state (parametric_solver changing) verdict
@@ -60,8 +55,8 @@ module _ (C : Checker) (reading : ReadingLaw C) (truth : JudgedLaws C) (Holds : 
     abbrev move : StatementMove
     move = Asks (OfParametricRun parametric_run) sheet (present_basis present) go
 
-    free : MayChange sheet parametric_run.changing
-    free = may_change sheet parametric_run.changing (changes_freely sheet (choice_of w.state.cells present.options) parametric_run.changing program.is_problem is asked.is_part)
+    free : ChangesFreely sheet parametric_run.changing
+    free = changes_freely sheet (choice_of w.state.cells present.options) parametric_run.changing program.is_problem is asked.is_part
 
     reported : (Tells : Sheet → ParametricRun → Type 0) → Tells sheet parametric_run → ReportsOfRun w.state.setup w.state.cells (parametric_solver parametric_run.changing) Tells
     reported Tells tells = record {

@@ -7,7 +7,7 @@ use Rattle.check_definitions.specs.Steps.{AllHold}
 use Rattle.check_definitions.specs.Checks.{equations, reduced_costs, optimal_steps}
 use Rattle.check_definitions.proofs.Holding.{checked_hold}
 use Rattle.certificate_laws.proofs.Meaning.{optimal_if_held}
-use Rattle.parametric_laws.specs.Truth.{IsSolvedBy}
+use Rattle.parametric_laws.specs.Truth.{IsBestBy}
 use Rattle.listing_definitions.specs.declared.Mark.TheVariants.{Optimal}
 use Rattle.listing_definitions.specs.Report.{SolutionLines}
 use Rattle.question_definitions.specs.Answers.{Sheet, OfSolution}
@@ -17,13 +17,13 @@ use Rattle.walk_definitions.specs.Tests.{says, point_of, prices_of, slacks_of, s
 use Rattle.walk_definitions.specs.Reading.{Right, judged, solution_in}
 use Rattle.walk_laws.proofs.Judging.{each_checked, right_is_passed}
 
-pub solved_if_held : (p : LinearProgram) → IsLinearProgram p → (z y : Vector) → AllHold (optimal_steps p z y) → IsSolvedBy p z y
+pub solved_if_held : (p : LinearProgram) → IsLinearProgram p → (z y : Vector) → AllHold (optimal_steps p z y) → IsBestBy p z y
 solved_if_held p lawful z y held =
     let found = optimal_if_held p lawful.is_matrix z y held in
     record { best = best_by_prices p lawful z y found.0 found.1; certificate = found.1 }
 
 pub solution_is_true : (C : Checker) (sheet : Sheet) (rest after : List ℕ) (lines : SolutionLines) → IsLinearProgram sheet.lp →
-    judged C (OfSolution Optimal) sheet rest ≡ Right lines after → IsSolvedBy sheet.lp (point_of sheet lines) (prices_of sheet lines)
+    judged C (OfSolution Optimal) sheet rest ≡ Right lines after → IsBestBy sheet.lp (point_of sheet lines) (prices_of sheet lines)
 solution_is_true C sheet rest after lines lawful e =
     let right = right_is_passed C (solution_test C sheet Optimal) (λ of. solution_in of sheet Optimal) rest lines after e in
     let z : Vector = point_of sheet lines in

@@ -5,7 +5,7 @@ use Rattle.exact_values.specs.Rational.{ℚ}
 use Rattle.exact_values.specs.Tests.{eq_ℚ}
 use Rattle.exact_values.proofs.Tests_laws.{same_from_test}
 use Rattle.lp_definitions.specs.LinearProgram.{LinearProgram}
-use Rattle.parametric_laws.specs.Truth.{IsSolvedBy}
+use Rattle.parametric_laws.specs.Truth.{IsBestBy}
 use Rattle.selection_definitions.specs.Selection.{selected}
 use Rattle.listing_definitions.specs.declared.Mark.{Mark}
 use Rattle.listing_definitions.specs.declared.Mark.TheVariants.{Optimal, Infeasible, Unbounded}
@@ -64,7 +64,7 @@ module _ (C : Checker) (reading : ReadingLaw C) (truth : JudgedLaws C) (Holds : 
     -- ---- under OPTIMAL
 
     module _ (lines : SolutionLines) (rest : List ℕ) (e : judged C (OfSolution Optimal) sheet w.rest ≡ Right lines rest) where
-      solved : IsSolvedBy lp (point_of sheet lines) (prices_of sheet lines)
+      solved : IsBestBy lp (point_of sheet lines) (prices_of sheet lines)
       solved = truth.solution sheet w.rest rest lines program.is_linear_program e
 
       proves : (pending : Pending) → settles C pending (point_of sheet lines lp.objective) ≡ true → ProvesObjective w.state.setup w.state.cells pending.objective

@@ -1,18 +1,16 @@
 -- What the lines of a report show, as the laws on linear programs speak of it.
 --     part_of interval             an interval of a parametric run; where its variables stand is left out
 --     past_of sheet end            how a parametric run closes
---     MayChange sheet changing     the row that changes has no limits
 --     AreLinesOfGrowth ..          the lines are those of a point, with this activity of the objective row, and of a direction
 --     IsTrueAtFirst sheet verdict  what the verdict of an opening says of the linear program at the first value
 use Rattle.std.specs.Prelude.{◌≡◌, List, []}
 use Rattle.exact_values.specs.Rational.{ℚ}
-use Rattle.lp_definitions.specs.LinearProgram.{IsRow, HasNoLimits, value_at}
+use Rattle.lp_definitions.specs.LinearProgram.{value_at}
 use Rattle.lp_definitions.specs.Solutions.{IsCrossed, ProvesUnbounded, IsInfeasible, IsUnbounded}
 use Rattle.simplex_definitions.specs.Chain.{Part, ChainEnd as PastBreakpoint, AtMax, UnboundedPast as PastUnbounded, InfeasiblePast as PastInfeasible}
 use Rattle.listing_definitions.specs.Report.{Line, PathVerdict, OptimalAt, CrossedAt, InfeasibleBy, UnboundedBy, ParametricInterval, ChainEnd, EndsAt, UnboundedPast, InfeasiblePast}
-use Rattle.question_definitions.specs.Answers.{Sheet, Changing, Row, Set}
+use Rattle.question_definitions.specs.Answers.{Sheet}
 use Rattle.answer_definitions.specs.Lines.{pair_lines}
-use Rattle.answer_definitions.specs.ParametricRuns.{row_of}
 use Rattle.soundness_laws.specs.Truth.{AreLinesOfRay}
 use Rattle.walk_definitions.specs.Tables.{column_of, multipliers}
 
@@ -24,10 +22,6 @@ abbrev pub past_of : Sheet → ChainEnd → PastBreakpoint
 past_of sheet (EndsAt t) = AtMax
 past_of sheet (UnboundedPast t lines) = PastUnbounded t (column_of 0 lines) (column_of 1 lines)
 past_of sheet (InfeasiblePast t lines) = PastInfeasible t (multipliers sheet lines)
-
-abbrev pub MayChange : Sheet → Changing → Type 0
-MayChange sheet (Row name) = IsRow sheet.lp.matrix (row_of sheet.problem name) × HasNoLimits sheet.lp (row_of sheet.problem name)
-MayChange sheet (Set name) = Unit {0}
 
 -- The lines are those of a feasible point, which has this activity of the objective row, and of a direction that proves that there is no
 -- best one. Where a row is added to the objective, its activity isn't in what is printed.

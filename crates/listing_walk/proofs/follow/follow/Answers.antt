@@ -2,16 +2,16 @@
 use Rattle.std.proofs.Common.{◌≡◌, ◌||◌, ◌∙◌, sym, ap}
 use Rattle.std.specs.Prelude.{Some, is_none}
 use Rattle.listing_walk.specs.Standing.{holding}
-use Rattle.listing_walk.specs.Walking.{is_loud, ends_run}
+use Rattle.listing_walk.specs.Walking.{has_text, ends_run}
 use Rattle.listing_walk.proofs.Follow_on.{is_none_by, passes_open_by, passes_wrong_by, passes_on_by}
 use Rattle.listing_walk.proofs.follow.follow.Goals.{After-open_here, then-ends, else-ends, then-ends-2, else-ends-2}
 use Rattle.listing_walk.proofs.follow.follow.Goals as goal
 
 -- the tests of what is open here
-looks_is : (c : After-open_here) → c.if-ends.looks ≡ (ends_run c.args.act.now || is_loud c.args.text.now)
+looks_is : (c : After-open_here) → c.if-ends.looks ≡ (ends_run c.args.act.now || has_text c.args.text.now)
 looks_is c = elim c.if-ends.branch [
-  | then-ends w ↦ w.looks-is ∙ w.if-ends.true ∙ ap (λ b. b || is_loud c.args.text.now) (sym w.if-ends.true ∙ c.ends_run-ends.ensures)
-  | else-ends w ↦ w.looks-is ∙ w.is_loud-looks.ensures ∙ ap (λ b. b || is_loud c.args.text.now) (sym w.if-ends.false ∙ c.ends_run-ends.ensures)
+  | then-ends w ↦ w.looks-is ∙ w.if-ends.true ∙ ap (λ b. b || has_text c.args.text.now) (sym w.if-ends.true ∙ c.ends_run-ends.ensures)
+  | else-ends w ↦ w.looks-is ∙ w.has_text-looks.ensures ∙ ap (λ b. b || has_text c.args.text.now) (sym w.if-ends.false ∙ c.ends_run-ends.ensures)
 ]
 
 clears_is : (c : After-open_here) → c.if-ends-2.clears ≡ (ends_run c.args.act.now || is_none c.args.machine.now.mark)

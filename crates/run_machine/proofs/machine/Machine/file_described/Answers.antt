@@ -1,6 +1,6 @@
 -- The problem that was found is on file, and is reported.
 use Rattle.std.proofs.lemmas.Result.{err_from_is_err_and}
-use Rattle.run_definitions.specs.Moves.{Settles}
+use Rattle.run_definitions.specs.Moves.{DecidesAlone}
 use Rattle.run_machine.specs.Describing.{verb_of}
 use Rattle.run_machine.proofs.Giving.{quietly}
 use Rattle.run_machine.proofs.Filing.{filed_done, filed_cut}
@@ -9,7 +9,7 @@ use Rattle.run_machine.proofs.machine.Machine.file_described.Goals as goal
 pub returns-in-Ends-clause-acts : goal.returns-in-Ends-clause-acts
 returns-in-Ends-clause-acts g c =
     let d = rw c.in-Ends.is at c.requires.described in
-    quietly g.S.Kept.shows Settles (verb_of c.args.verb) c.args.card c.args.cards.now c.args.self.now (g.P.Sink.taken c.args.print.now) d
+    quietly g.S.Kept.shows DecidesAlone (verb_of c.args.verb) c.args.card c.args.cards.now c.args.self.now (g.P.Sink.taken c.args.print.now) d
 
 pub returns-in_err-text_of-in-Filed-clause-acts : goal.returns-in_err-text_of-in-Filed-clause-acts
 returns-in_err-text_of-in-Filed-clause-acts g c =
