@@ -1,5 +1,5 @@
 -- Texts of numbered lines, one after the other.
-use Rattle.std.proofs.Common.{◌≡◌, ◌<◌, ◌≤◌, ◌-◌, ◌+◌, ℕ, zero, suc, Bool, true, false, not, List, [], ◌∷◌, ◌++◌, map, filter, if◌then◌else◌, refl, sym, ◌∙◌, ap, append_assoc, arith}
+use Rattle.std.proofs.Common.{◌≡◌, ◌<◌, ◌≤◌, ◌-◌, ◌+◌, ℕ, zero, suc, Bool, true, false, List, [], ◌∷◌, ◌++◌, map, filter, if◌then◌else◌, refl, sym, ◌∙◌, ap, append_assoc, arith}
 use Rattle.std.specs.List.{flat_map}
 use Rattle.std.proofs.lemmas.List.{append-nil}
 use Rattle.lp_definitions.specs.LinearProgram.{numbers_from}
@@ -40,11 +40,11 @@ module _ (text : ℕ → List ℕ) where
       ∙ sym (lines_split (first + 1) (k + 1 - first) (last - (k + 1)))
       ∙ ap (λ n. flat_map text (numbers_from (first + 1) n)) count
 
--- Lines that a test leaves out.
-pub lines_filtered : {X : Type 0} (left_out : ℕ → Bool) (line : ℕ → X) (text : X → List ℕ) (numbers : List ℕ) → flat_map (λ k. if left_out k then [] else text (line k)) numbers ≡ flat_map text (map line (filter (λ k. not (left_out k)) numbers))
-lines_filtered left_out line text [] = refl
-lines_filtered left_out line text (k ∷ ks) = by (left_out k) (lines_filtered left_out line text ks)
+-- Lines that a test keeps.
+pub lines_kept : {X : Type 0} (kept : ℕ → Bool) (line : ℕ → X) (text : X → List ℕ) (numbers : List ℕ) → flat_map (λ k. if kept k then text (line k) else []) numbers ≡ flat_map text (map line (filter kept numbers))
+lines_kept kept line text [] = refl
+lines_kept kept line text (k ∷ ks) = by (kept k) (lines_kept kept line text ks)
   where
-    by : (b : Bool) → flat_map (λ k. if left_out k then [] else text (line k)) ks ≡ flat_map text (map line (filter (λ k. not (left_out k)) ks)) → (if b then [] else text (line k)) ++ flat_map (λ k. if left_out k then [] else text (line k)) ks ≡ flat_map text (map line (if not b then k ∷ filter (λ k. not (left_out k)) ks else filter (λ k. not (left_out k)) ks))
-    by true e = e
-    by false e = ap (λ w. text (line k) ++ w) e
+    by : (b : Bool) → flat_map (λ k. if kept k then text (line k) else []) ks ≡ flat_map text (map line (filter kept ks)) → (if b then text (line k) else []) ++ flat_map (λ k. if kept k then text (line k) else []) ks ≡ flat_map text (map line (if b then k ∷ filter kept ks else filter kept ks))
+    by true e = ap (λ w. text (line k) ++ w) e
+    by false e = e

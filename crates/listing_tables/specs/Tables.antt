@@ -1,7 +1,9 @@
 -- The lines of tables, one by one.
 --     HasLine sheet table k        all that stands in the line of variable k is there
---     line_view sheet table k      the text of the line of variable k
-use Rattle.std.specs.Prelude.{◌≡◌, ◌<◌, ◌≤◌, ℕ, Bool, List, [], None, length, if◌then◌else◌}
+--     is_printed sheet table k     the table has a line for variable k
+--     line_values sheet table k    the values on the line of variable k
+--     line_view sheet table k      its text, empty where it has none
+use Rattle.std.specs.Prelude.{◌≡◌, ◌<◌, ◌≤◌, ℕ, Bool, true, not, List, [], None, length, if◌then◌else◌}
 use Rattle.exact_values.specs.Rational.{zero_ℚ}
 use Rattle.exact_values.specs.Tests.{eq_ℚ}
 use Rattle.lp_definitions.specs.LinearProgram.{IsVariable, size, value_at}
@@ -66,18 +68,25 @@ pub record HasLine (sheet : Sheet) (table : Table) (k : ℕ) : Type 0 where
   pub listed : AreListed sheet table
   pub lined : IsLined sheet table k
 
--- the values of a line of intervals
-abbrev pub ranged_line : Sheet → Bool → (ℕ → List Value) → ℕ → List ℕ
-ranged_line sheet has_line values k = if has_line then line_text (line_of sheet.problem.now values k) else []
+-- a multiplier that is 0 has no line, and a variable has a line of intervals in the table that tells how it stands
+abbrev pub is_printed : Sheet → Table → ℕ → Bool
+is_printed sheet (Multipliers ray) k = not (eq_ℚ (value_at ray.now k) zero_ℚ)
+is_printed sheet (LimitRows ranging) k = stands_at_limit ranging.basis.now k
+is_printed sheet (LimitColumns ranging) k = stands_at_limit ranging.basis.now k
+is_printed sheet (BetweenRows ranging) k = stands_between sheet.lp.now ranging.basis.now k
+is_printed sheet (BetweenColumns ranging) k = stands_between sheet.lp.now ranging.basis.now k
+is_printed sheet _ k = true
 
--- a multiplier that is 0 has no line, and an interval has one where the variable stands as the table says
+abbrev pub line_values : Sheet → Table → ℕ → List Value
+line_values sheet (Multipliers ray) = multiplier_values ray.now
+line_values sheet (Pairs first second) = pair_values first.now second.now
+line_values sheet (Rows standing) = row_values sheet.lp.now standing.basis.now standing.point.now standing.slack.now standing.prices.now
+line_values sheet (Columns standing) = column_values sheet.lp.now standing.basis.now standing.point.now standing.prices.now
+line_values sheet (LimitRows ranging) = limit_row_values sheet.lp.now ranging.basis.now ranging.point.now ranging.report.now
+line_values sheet (LimitColumns ranging) = limit_column_values sheet.lp.now ranging.basis.now ranging.point.now ranging.report.now
+line_values sheet (BetweenRows ranging) = between_row_values sheet.lp.now ranging.basis.now ranging.point.now ranging.report.now
+line_values sheet (BetweenColumns ranging) = between_column_values sheet.lp.now ranging.basis.now ranging.point.now ranging.report.now
+line_values sheet (Parts part) = part_values sheet.lp.now part.now
+
 abbrev pub line_view : Sheet → Table → ℕ → List ℕ
-line_view sheet (Multipliers ray) k = if eq_ℚ (value_at ray.now k) zero_ℚ then [] else line_text (line_of sheet.problem.now (multiplier_values ray.now) k)
-line_view sheet (Pairs first second) k = line_text (line_of sheet.problem.now (pair_values first.now second.now) k)
-line_view sheet (Rows standing) k = line_text (line_of sheet.problem.now (row_values sheet.lp.now standing.basis.now standing.point.now standing.slack.now standing.prices.now) k)
-line_view sheet (Columns standing) k = line_text (line_of sheet.problem.now (column_values sheet.lp.now standing.basis.now standing.point.now standing.prices.now) k)
-line_view sheet (LimitRows ranging) k = ranged_line sheet (stands_at_limit ranging.basis.now k) (limit_row_values sheet.lp.now ranging.basis.now ranging.point.now ranging.report.now) k
-line_view sheet (LimitColumns ranging) k = ranged_line sheet (stands_at_limit ranging.basis.now k) (limit_column_values sheet.lp.now ranging.basis.now ranging.point.now ranging.report.now) k
-line_view sheet (BetweenRows ranging) k = ranged_line sheet (stands_between sheet.lp.now ranging.basis.now k) (between_row_values sheet.lp.now ranging.basis.now ranging.point.now ranging.report.now) k
-line_view sheet (BetweenColumns ranging) k = ranged_line sheet (stands_between sheet.lp.now ranging.basis.now k) (between_column_values sheet.lp.now ranging.basis.now ranging.point.now ranging.report.now) k
-line_view sheet (Parts part) k = line_text (line_of sheet.problem.now (part_values sheet.lp.now part.now) k)
+line_view sheet table k = if is_printed sheet table k then line_text (line_of sheet.problem.now (line_values sheet table) k) else []

@@ -1,9 +1,11 @@
 // The tables that are printed of a linear program.
-ghost use Rattle.std.specs.Prelude.{◌≡◌, ◌<◌, ◌≤◌, ◌+◌, ◌-◌, ℕ};
+ghost use Rattle.std.specs.Prelude.{◌≡◌, ◌<◌, ◌≤◌, ◌+◌, ◌-◌, ℕ, length, map};
 ghost use Rattle.std.specs.List.{flat_map};
 ghost use Rattle.job_devices.specs.Text.{Writes};
 ghost use Rattle.lp_definitions.specs.LinearProgram.{numbers_from};
-ghost use Rattle.listing_tables.specs.Tables.{HasLine, line_view};
+ghost use Rattle.listing_tables.specs.Lines.{multiplier_values, pair_values};
+ghost use Rattle.listing_tables.specs.Tables.{HasLine, is_printed, line_values, line_view};
+ghost use Rattle.listing_tables.specs.Values.{value_view};
 
 use crate::intervals::{high_end, interval_of, low_end};
 use crate::line::{Value, put_line};
@@ -52,137 +54,89 @@ pub enum Table<'a> {
     Parts(&'a ParaPart),
 }
 
-fn put_multiplier<P: Sink>(
-    print: &mut P,
-    sheet: Sheet<'_>,
-    ray: &[Frac],
-    k: u32,
-) -> Result<(), WriteStop>
-    requires { HasLine sheet (Table.Multipliers ray) k }
-    ensures { Writes (P.taken print.old) (P.taken print.new) result
-        (line_view sheet.entry (Table.Multipliers ray.entry) k) }
+// The value on the line of a variable in a vector of multipliers.
+fn multiplier_values(ray: &[Frac], k: u32) -> [Value; 1]
+    requires first { 1 ≤ k }
+    requires last { k ≤ length ray.now }
+    ensures { map value_view result ≡ multiplier_values ray.now k }
 {
-    let multiplier = ray[k as usize - 1];
-    if multiplier.compare(Frac::whole(0)).is_eq() {
-        return put_all(print, b"");
-    }
-    put_line(print, k, name_of(sheet, k), &[Value::Number(multiplier)])
+    [Value::Number(ray[k as usize - 1])]
 }
 
-fn put_pair<P: Sink>(
-    print: &mut P,
-    sheet: Sheet<'_>,
-    first: &[Frac],
-    second: &[Frac],
-    k: u32,
-) -> Result<(), WriteStop>
-    requires { HasLine sheet (Table.Pairs first second) k }
-    ensures { Writes (P.taken print.old) (P.taken print.new) result
-        (line_view sheet.entry (Table.Pairs first.entry second.entry) k) }
+// The values on the line of a variable in two vectors.
+fn pair_values(first: &[Frac], second: &[Frac], k: u32) -> [Value; 2]
+    requires variable { 1 ≤ k }
+    requires first { k ≤ length first.now }
+    requires second { k ≤ length second.now }
+    ensures { map value_view result ≡ pair_values first.now second.now k }
 {
     let place = k as usize - 1;
-    let values = [Value::Number(first[place]), Value::Number(second[place])];
-    put_line(print, k, name_of(sheet, k), &values)
+    [Value::Number(first[place]), Value::Number(second[place])]
 }
 
-fn put_row<P: Sink>(
-    print: &mut P,
-    sheet: Sheet<'_>,
-    standing: Standing<'_>,
-    k: u32,
-) -> Result<(), WriteStop>
+// The values on the line of a row.
+fn row_values(sheet: Sheet<'_>, standing: Standing<'_>, k: u32) -> [Value; 6]
     requires { HasLine sheet (Table.Rows standing) k }
-    ensures { Writes (P.taken print.old) (P.taken print.new) result
-        (line_view sheet.entry (Table.Rows standing.entry) k) }
+    ensures { map value_view result ≡ line_values sheet.entry (Table.Rows standing.entry) k }
 {
     let place = k as usize - 1;
     let point = standing.point.values();
     let prices = standing.prices.values();
-    let activity = point[place];
-    let slack = standing.slack[place];
-    let values = [
+    [
         Value::Code(at_of(sheet.lp, standing.basis, point, k)),
-        Value::Number(activity),
-        Value::Number(slack),
+        Value::Number(point[place]),
+        Value::Number(standing.slack[place]),
         Value::limit(sheet.lp.lower_limit(k)),
         Value::limit(sheet.lp.upper_limit(k)),
         Value::Number(prices[place]),
-    ];
-    put_line(print, k, name_of(sheet, k), &values)
+    ]
 }
 
-fn put_column<P: Sink>(
-    print: &mut P,
-    sheet: Sheet<'_>,
-    standing: Standing<'_>,
-    k: u32,
-) -> Result<(), WriteStop>
+// The values on the line of a column.
+fn column_values(sheet: Sheet<'_>, standing: Standing<'_>, k: u32) -> [Value; 6]
     requires { HasLine sheet (Table.Columns standing) k }
-    ensures { Writes (P.taken print.old) (P.taken print.new) result
-        (line_view sheet.entry (Table.Columns standing.entry) k) }
+    ensures { map value_view result ≡ line_values sheet.entry (Table.Columns standing.entry) k }
 {
     let place = k as usize - 1;
     let lp = sheet.lp;
     let point = standing.point.values();
     let prices = standing.prices.values();
-    let values = [
+    [
         Value::Code(at_of(lp, standing.basis, point, k)),
         Value::Number(point[place]),
         Value::Number(lp.cost(k - lp.rows)),
         Value::limit(lp.lower_limit(k)),
         Value::limit(lp.upper_limit(k)),
         Value::Number(prices[place]),
-    ];
-    put_line(print, k, name_of(sheet, k), &values)
+    ]
 }
 
-// The line of a nonbasic row.
-fn put_limit_row<P: Sink>(
-    print: &mut P,
-    sheet: Sheet<'_>,
-    ranging: Ranging<'_>,
-    k: u32,
-) -> Result<(), WriteStop>
+// The values on the line of a nonbasic row.
+fn limit_row_values(sheet: Sheet<'_>, ranging: Ranging<'_>, k: u32) -> [Value; 4]
     requires { HasLine sheet (Table.LimitRows ranging) k }
-    ensures { Writes (P.taken print.old) (P.taken print.new) result (line_view
-        sheet.entry (Table.LimitRows ranging.entry) k) }
+    ensures { map value_view result ≡ line_values sheet.entry (Table.LimitRows ranging.entry) k }
 {
-    if !is_at_limit(ranging.basis, k) {
-        return put_all(print, b"");
-    }
     let point = ranging.point.values();
-    let report = ranging.report;
-    let lp = sheet.lp;
-    let limit = interval_of(&report.limits, k);
-    let values = [
-        Value::Code(at_of(lp, ranging.basis, point, k)),
+    let limit = interval_of(&ranging.report.limits, k);
+    [
+        Value::Code(at_of(sheet.lp, ranging.basis, point, k)),
         Value::Number(point[k as usize - 1]),
         low_end(&limit),
         high_end(&limit),
-    ];
-    put_line(print, k, name_of(sheet, k), &values)
+    ]
 }
 
-// The line of a nonbasic column.
-fn put_limit_column<P: Sink>(
-    print: &mut P,
-    sheet: Sheet<'_>,
-    ranging: Ranging<'_>,
-    k: u32,
-) -> Result<(), WriteStop>
+// The values on the line of a nonbasic column.
+fn limit_column_values(sheet: Sheet<'_>, ranging: Ranging<'_>, k: u32) -> [Value; 7]
     requires { HasLine sheet (Table.LimitColumns ranging) k }
-    ensures { Writes (P.taken print.old) (P.taken print.new) result (line_view
-        sheet.entry (Table.LimitColumns ranging.entry) k) }
+    ensures { map value_view result ≡ line_values sheet.entry
+        (Table.LimitColumns ranging.entry) k }
 {
-    if !is_at_limit(ranging.basis, k) {
-        return put_all(print, b"");
-    }
     let point = ranging.point.values();
-    let report = ranging.report;
     let lp = sheet.lp;
-    let limit = interval_of(&report.limits, k);
-    let costs = interval_of(&report.costs, k);
-    let values = [
+    let limit = interval_of(&ranging.report.limits, k);
+    let costs = interval_of(&ranging.report.costs, k);
+    [
         Value::Code(at_of(lp, ranging.basis, point, k)),
         Value::Number(point[k as usize - 1]),
         low_end(&limit),
@@ -190,89 +144,75 @@ fn put_limit_column<P: Sink>(
         Value::Number(lp.cost(k - lp.rows)),
         low_end(&costs),
         high_end(&costs),
-    ];
-    put_line(print, k, name_of(sheet, k), &values)
+    ]
 }
 
-// The line of a basic row but the objective.
-fn put_between_row<P: Sink>(
-    print: &mut P,
-    sheet: Sheet<'_>,
-    ranging: Ranging<'_>,
-    k: u32,
-) -> Result<(), WriteStop>
+// The values on the line of a basic row but the objective.
+fn between_row_values(sheet: Sheet<'_>, ranging: Ranging<'_>, k: u32) -> [Value; 4]
     requires { HasLine sheet (Table.BetweenRows ranging) k }
-    ensures { Writes (P.taken print.old) (P.taken print.new) result (line_view
-        sheet.entry (Table.BetweenRows ranging.entry) k) }
+    ensures { map value_view result ≡ line_values sheet.entry
+        (Table.BetweenRows ranging.entry) k }
 {
-    if !is_between(sheet.lp, ranging.basis, k) {
-        return put_all(print, b"");
-    }
     let point = ranging.point.values();
-    let report = ranging.report;
-    let lp = sheet.lp;
-    let multiple = interval_of(&report.rows, k);
-    let values = [
-        Value::Code(at_of(lp, ranging.basis, point, k)),
+    let multiple = interval_of(&ranging.report.rows, k);
+    [
+        Value::Code(at_of(sheet.lp, ranging.basis, point, k)),
         Value::Number(point[k as usize - 1]),
         low_end(&multiple),
         high_end(&multiple),
-    ];
-    put_line(print, k, name_of(sheet, k), &values)
+    ]
 }
 
-// The line of a basic column.
-fn put_between_column<P: Sink>(
-    print: &mut P,
-    sheet: Sheet<'_>,
-    ranging: Ranging<'_>,
-    k: u32,
-) -> Result<(), WriteStop>
+// The values on the line of a basic column.
+fn between_column_values(sheet: Sheet<'_>, ranging: Ranging<'_>, k: u32) -> [Value; 5]
     requires { HasLine sheet (Table.BetweenColumns ranging) k }
-    ensures { Writes (P.taken print.old) (P.taken print.new) result (line_view
-        sheet.entry (Table.BetweenColumns ranging.entry) k) }
+    ensures { map value_view result ≡ line_values sheet.entry
+        (Table.BetweenColumns ranging.entry) k }
 {
-    if !is_between(sheet.lp, ranging.basis, k) {
-        return put_all(print, b"");
-    }
     let point = ranging.point.values();
-    let report = ranging.report;
     let lp = sheet.lp;
-    let costs = interval_of(&report.costs, k);
-    let values = [
+    let costs = interval_of(&ranging.report.costs, k);
+    [
         Value::Code(at_of(lp, ranging.basis, point, k)),
         Value::Number(point[k as usize - 1]),
         Value::Number(lp.cost(k - lp.rows)),
         low_end(&costs),
         high_end(&costs),
-    ];
-    put_line(print, k, name_of(sheet, k), &values)
+    ]
 }
 
-// The line of a variable in an interval of a parametric run.
-fn put_part<P: Sink>(
-    print: &mut P,
-    sheet: Sheet<'_>,
-    part: &ParaPart,
-    k: u32,
-) -> Result<(), WriteStop>
+// The values on the line of a variable in an interval of a parametric run.
+fn part_values(sheet: Sheet<'_>, part: &ParaPart, k: u32) -> [Value; 5]
     requires { HasLine sheet (Table.Parts part) k }
-    ensures { Writes (P.taken print.old) (P.taken print.new) result (line_view
-        sheet.entry (Table.Parts part.entry) k) }
+    ensures { map value_view result ≡ line_values sheet.entry (Table.Parts part.entry) k }
 {
     let place = k as usize - 1;
     let value = part.value.values();
     let value_rate = part.value_rate.values();
     let price = part.price.values();
     let price_rate = part.price_rate.values();
-    let values = [
+    [
         Value::Code(at_in_part(sheet.lp, &part.statuses, k)),
         Value::Number(value[place]),
         Value::Number(value_rate[place]),
         Value::Number(price[place]),
         Value::Number(price_rate[place]),
-    ];
-    put_line(print, k, name_of(sheet, k), &values)
+    ]
+}
+
+// Whether the table has a line for variable `k`.
+fn is_printed(sheet: Sheet<'_>, table: Table<'_>, k: u32) -> bool
+    requires { HasLine sheet table k }
+    ensures { result ≡ is_printed sheet.entry table.entry k }
+{
+    match table {
+        Table::Multipliers(ray) => !ray[k as usize - 1].compare(Frac::whole(0)).is_eq(),
+        Table::Pairs(_, _) | Table::Rows(_) | Table::Columns(_) | Table::Parts(_) => true,
+        Table::LimitRows(ranging) | Table::LimitColumns(ranging) => is_at_limit(ranging.basis, k),
+        Table::BetweenRows(ranging) | Table::BetweenColumns(ranging) => {
+            is_between(sheet.lp, ranging.basis, k)
+        }
+    }
 }
 
 // The line of variable `k`, if it has one.
@@ -286,16 +226,20 @@ fn put_table_line<P: Sink>(
     ensures { Writes (P.taken print.old) (P.taken print.new) result
         (line_view sheet.entry table.entry k) }
 {
+    if !is_printed(sheet, table, k) {
+        return put_all(print, b"");
+    }
+    let name = name_of(sheet, k);
     match table {
-        Table::Multipliers(ray) => put_multiplier(print, sheet, ray, k),
-        Table::Pairs(first, second) => put_pair(print, sheet, first, second, k),
-        Table::Rows(standing) => put_row(print, sheet, standing, k),
-        Table::Columns(standing) => put_column(print, sheet, standing, k),
-        Table::LimitRows(ranging) => put_limit_row(print, sheet, ranging, k),
-        Table::LimitColumns(ranging) => put_limit_column(print, sheet, ranging, k),
-        Table::BetweenRows(ranging) => put_between_row(print, sheet, ranging, k),
-        Table::BetweenColumns(ranging) => put_between_column(print, sheet, ranging, k),
-        Table::Parts(part) => put_part(print, sheet, part, k),
+        Table::Multipliers(ray) => put_line(print, k, name, &multiplier_values(ray, k)),
+        Table::Pairs(first, second) => put_line(print, k, name, &pair_values(first, second, k)),
+        Table::Rows(standing) => put_line(print, k, name, &row_values(sheet, standing, k)),
+        Table::Columns(standing) => put_line(print, k, name, &column_values(sheet, standing, k)),
+        Table::LimitRows(at) => put_line(print, k, name, &limit_row_values(sheet, at, k)),
+        Table::LimitColumns(at) => put_line(print, k, name, &limit_column_values(sheet, at, k)),
+        Table::BetweenRows(at) => put_line(print, k, name, &between_row_values(sheet, at, k)),
+        Table::BetweenColumns(at) => put_line(print, k, name, &between_column_values(sheet, at, k)),
+        Table::Parts(part) => put_line(print, k, name, &part_values(sheet, part, k)),
     }
 }
 

@@ -1,5 +1,5 @@
 -- The parts in which a verdict is written.
-use Rattle.std.proofs.Common.{◌≡◌, ◌-◌, ℕ, List, [], ◌∷◌, ◌++◌, codes, sym, ◌∙◌, ap, append_assoc, arith}
+use Rattle.std.proofs.Common.{◌≡◌, ◌-◌, ℕ, not, List, [], ◌∷◌, ◌++◌, codes, sym, ◌∙◌, ap, append_assoc, arith}
 use denote.Bor.{Bor}
 use Rattle.std.specs.List.{concat, flat_map}
 use Rattle.std.proofs.lemmas.List.{append-nil}
@@ -15,7 +15,7 @@ use Rattle.listing_tables.specs.declared.sheet.Sheet.{Sheet}
 use Rattle.listing_tables.specs.declared.table.Table.TheVariants.{Multipliers, Pairs}
 use Rattle.listing_tables.specs.Lines.{line_of, multiplier_values, pair_values, ray_lines, pair_lines}
 use Rattle.listing_tables.specs.Tables.{line_view}
-use Rattle.listing_tables.proofs.Tables.{lines_filtered}
+use Rattle.listing_tables.proofs.Tables.{lines_kept}
 
 -- equal objectives are written alike
 pub same_objective : (by : Solver) (found : List ℕ) (steps : ℕ) (x y : ℚ) → x ≡ y → concat (solver_text by ∷ codes " " ∷ concat (found ∷ digits steps ∷ codes " OBJECTIVE " ∷ rational_text x ∷ []) ∷ []) ≡ concat (solver_text by ∷ codes " " ∷ concat (found ∷ digits steps ∷ codes " OBJECTIVE " ∷ rational_text y ∷ []) ∷ [])
@@ -35,7 +35,7 @@ module _ (sheet : Sheet) (last : ℕ) (counted : last ≡ size sheet.lp.now.matr
   pub ray_table : (ray : Bor (List ℚ)) → flat_map (line_view sheet (Multipliers ray)) (numbers_from 1 (last - 0)) ≡ table_text (ray_lines sheet.problem.now sheet.lp.now ray.now)
   ray_table ray =
       ap (λ n. flat_map (line_view sheet (Multipliers ray)) (numbers_from 1 n)) all_of_them
-      ∙ lines_filtered (λ k. eq_ℚ (value_at ray.now k) zero_ℚ) (line_of sheet.problem.now (multiplier_values ray.now)) line_text (variables sheet.lp.now.matrix)
+      ∙ lines_kept (λ k. not (eq_ℚ (value_at ray.now k) zero_ℚ)) (line_of sheet.problem.now (multiplier_values ray.now)) line_text (variables sheet.lp.now.matrix)
 
   pub pair_table : (first second : Bor (List ℚ)) → flat_map (line_view sheet (Pairs first second)) (numbers_from 1 (last - 0)) ≡ table_text (pair_lines sheet.problem.now sheet.lp.now first.now second.now)
   pair_table first second =
