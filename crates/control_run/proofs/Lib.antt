@@ -6,16 +6,3 @@ pub mod Clamping
 pub mod Stepping
 pub mod Ending_lines
 pub mod Sound
-pub mod Reporting
-pub mod Present
-pub mod Solving_steps
-pub mod Solving_comes
-pub mod Keeping
-pub mod Selected_again
-mod Showing
-pub mod Ranging
-pub mod Demanded
-pub mod Parametric_comes
-pub mod Parametric_lines
-pub mod Limit_formula
-pub mod Parametric_steps

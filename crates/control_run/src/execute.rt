@@ -8,10 +8,6 @@ ghost use Rattle.run_machine.specs.Statements.{IsSoundVerb};
 ghost use Rattle.setup_verbs.specs.Statements.{Performs};
 ghost use Rattle.control_run.specs.Running.{Steps};
 
-use crate::parametric::show_parametric_run;
-use crate::ranges::show_ranges;
-use crate::solution::show_solution;
-use crate::solving::{SolvingVerb, solve};
 use card_reader::Cards;
 use control_compiler::{Program, Statement, Verb};
 use job_devices::Sink;
@@ -19,6 +15,8 @@ use lp_model::Engine;
 use parametric_request::ParametricVerb;
 use run_machine::{Act, AfterStatement, Halt, Machine};
 use setup_verbs::{Setup, insert_basis, punch_present, set_up};
+use showing_verbs::{show_ranges, show_solution};
+use solving_verbs::{SolvingVerb, show_parametric_run, solve};
 use std::alloc::Global;
 
 /// What a run goes by: a compiled program, and the cards of its job.

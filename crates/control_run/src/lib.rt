@@ -3,12 +3,7 @@
 
 mod execute;
 mod finish;
-mod parametric;
-mod ranges;
-mod requested_run;
 mod run;
-mod solution;
-mod solving;
 mod status;
 
 pub use run::{RunEngine, run_on, run_program};

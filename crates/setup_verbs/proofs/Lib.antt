@@ -7,3 +7,4 @@ pub mod Selecting
 pub mod Punched
 pub mod Inserted
 pub mod Counting
+pub mod Reporting

@@ -1,0 +1,3 @@
+mod Showing
+pub mod Ranging
+pub mod Staying

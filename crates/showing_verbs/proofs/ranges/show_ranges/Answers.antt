@@ -1,0 +1,62 @@
+-- What is shown decides what follows.
+use Rattle.std.proofs.Common.{Some, refl, sym, ◌∙◌}
+use Rattle.std.proofs.lemmas.Result.{err_from_is_err_and}
+use Rattle.showing_verbs.proofs.Staying.{solved_of, sound_kept}
+use Rattle.setup_verbs.proofs.Present.{ready_of}
+use Rattle.showing_verbs.proofs.Showing.{IsSameSetup, still_solved}
+use Rattle.showing_verbs.proofs.Ranging.{without_fault, ranges_no_setup, ranges_refused, ranges_found, ranges_broken}
+use Rattle.listing_definitions.specs.declared.Mark.TheVariants.{Optimal}
+use Rattle.showing_verbs.proofs.ranges.show_ranges.Goals as goal
+
+pub returns-in_default-clause-acts : goal.returns-in_default-clause-acts
+returns-in_default-clause-acts g c = λ cards. rw c.act.ensures (ranges_no_setup c.args.card cards c.args.machine.now (g.P.Sink.taken c.args.print.now) c.in_default.is)
+
+pub returns-in-Some-range_fault-clause-acts : goal.returns-in-Some-range_fault-clause-acts
+returns-in-Some-range_fault-clause-acts g c = λ cards.
+    let ready = ready_of c.args.machine.now.file c.args.machine.now.setup c.in-Some.setup c.in-Some.is c.requires.ready in
+    rw c.act-in-Some-range_fault.ensures
+    (ranges_refused c.args.card cards c.args.machine.now c.in-Some.setup c.in-Some.is ready.problem ready.on_file (g.P.Sink.taken c.args.print.now)
+    (record (c.args.machine.now) { setup = Some c.in-Some.setup }) c.in-Some-range_fault.fault (sym c.range_fault.ensures ∙ c.in-Some-range_fault.is))
+
+pub range_setup-requires-clause-optimal : goal.range_setup-requires-clause-optimal
+range_setup-requires-clause-optimal g c =
+    let marked = without_fault c.args.machine.now.mark (sym c.range_fault.ensures ∙ c.in_default-range_fault.is) in
+    let solved = solved_of c.args.machine.now.cells c.args.machine.now.file c.args.machine.now.mark c.args.machine.now.setup Optimal c.in-Some.setup marked c.in-Some.is c.requires.solved in
+    solved.optimal refl
+
+pub returns-in_err-finding-clause-acts : goal.returns-in_err-finding-clause-acts
+returns-in_err-finding-clause-acts g c = λ cards.
+    let p = err_from_is_err_and c.from_residual.result c.from_residual.ensures.1 in
+    let ready = ready_of c.args.machine.now.file c.args.machine.now.setup c.in-Some.setup c.in-Some.is c.requires.ready in
+    let same : IsSameSetup c.in-Some.setup c.range_setup.new.setup =
+    record { name = c.range_setup.ensures.name; options = c.range_setup.ensures.options; lp = c.range_setup.ensures.lp; basis = c.range_setup.ensures.basis; keeps = c.range_setup.ensures.waypoints } in
+    let marked = without_fault c.args.machine.now.mark (sym c.range_fault.ensures ∙ c.in_default-range_fault.is) in
+    let solved = solved_of c.args.machine.now.cells c.args.machine.now.file c.args.machine.now.mark c.args.machine.now.setup Optimal c.in-Some.setup marked c.in-Some.is c.requires.solved in
+    rw (p.1, p.2)
+    (ranges_broken c.args.card cards c.args.machine.now c.in-Some.setup c.in-Some.is ready.problem ready.on_file (g.P.Sink.taken c.args.print.now) (g.P.Sink.taken c.range_setup.new.print) c.range_setup.new.setup
+    marked (solved.is_selected ready.problem ready.on_file) same (record (c.args.machine.now) { setup = Some c.range_setup.new.setup }) c.in_err-finding.field-0.0
+    (c.in_err-finding.ensures.tells ready.problem ready.on_file))
+
+pub returns-in_err-finding-clause-sound : goal.returns-in_err-finding-clause-sound
+returns-in_err-finding-clause-sound g c = λ cards sound.
+    let same : IsSameSetup c.in-Some.setup c.range_setup.new.setup =
+    record { name = c.range_setup.ensures.name; options = c.range_setup.ensures.options; lp = c.range_setup.ensures.lp; basis = c.range_setup.ensures.basis; keeps = c.range_setup.ensures.waypoints } in
+    sound_kept cards c.args.machine.now c.in-Some.setup c.range_setup.new.setup c.range_setup.ensures.ready sound c.in-Some.is
+    (λ mark. still_solved c.args.machine.now.cells c.args.machine.now.file c.in-Some.setup c.range_setup.new.setup mark same)
+
+pub returns-clause-acts : goal.returns-clause-acts
+returns-clause-acts g c = λ cards.
+    let ready = ready_of c.args.machine.now.file c.args.machine.now.setup c.in-Some.setup c.in-Some.is c.requires.ready in
+    let same : IsSameSetup c.in-Some.setup c.range_setup.new.setup =
+    record { name = c.range_setup.ensures.name; options = c.range_setup.ensures.options; lp = c.range_setup.ensures.lp; basis = c.range_setup.ensures.basis; keeps = c.range_setup.ensures.waypoints } in
+    let marked = without_fault c.args.machine.now.mark (sym c.range_fault.ensures ∙ c.in_default-range_fault.is) in
+    let solved = solved_of c.args.machine.now.cells c.args.machine.now.file c.args.machine.now.mark c.args.machine.now.setup Optimal c.in-Some.setup marked c.in-Some.is c.requires.solved in
+    ranges_found c.args.card cards c.args.machine.now c.in-Some.setup c.in-Some.is ready.problem ready.on_file (g.P.Sink.taken c.args.print.now) (g.P.Sink.taken c.range_setup.new.print) c.range_setup.new.setup
+    marked (solved.is_selected ready.problem ready.on_file) same c.in_ok-finding.finding c.act_of.result c.act_of.ensures (c.in_ok-finding.ensures.tells ready.problem ready.on_file)
+
+pub returns-clause-sound : goal.returns-clause-sound
+returns-clause-sound g c = λ cards sound.
+    let same : IsSameSetup c.in-Some.setup c.range_setup.new.setup =
+    record { name = c.range_setup.ensures.name; options = c.range_setup.ensures.options; lp = c.range_setup.ensures.lp; basis = c.range_setup.ensures.basis; keeps = c.range_setup.ensures.waypoints } in
+    sound_kept cards c.args.machine.now c.in-Some.setup c.range_setup.new.setup c.range_setup.ensures.ready sound c.in-Some.is
+    (λ mark. still_solved c.args.machine.now.cells c.args.machine.now.file c.in-Some.setup c.range_setup.new.setup mark same)

@@ -1,0 +1,25 @@
+use Rattle.std.proofs.Common.{sym, subst}
+use Rattle.setup_verbs.specs.Standing.{IsReady}
+use Rattle.showing_verbs.proofs.Showing.{lines_at}
+use Rattle.showing_verbs.proofs.solution.show_setup.Goals as goal
+use Rattle.setup_verbs.proofs.Present.{ready_columns, ready_rows, ready_unchanged, stays_on_file}
+
+pub unreachable-unreachable : goal.unreachable-unreachable
+unreachable-unreachable g c = absurd (stays_on_file c.args.file.now _ (subst (IsReady c.args.file.now) (sym c.setup.view_is) c.requires) (sym c.in_default.ensures))
+
+pub show_basis-requires-clause-sheet : goal.show_basis-requires-clause-sheet
+show_basis-requires-clause-sheet g c =
+    let ready = subst (IsReady c.args.file.now) (sym c.setup.view_is) c.requires in
+    record {
+      rows = ready_rows c.args.file.now _ ready c.in-Some.problem.now (sym c.in-Some.ensures);
+      columns = ready_columns c.args.file.now _ ready c.in-Some.problem.now (sym c.in-Some.ensures);
+    }
+
+pub show_basis-requires-clause-no_change : goal.show_basis-requires-clause-no_change
+show_basis-requires-clause-no_change g c =
+    ready_unchanged c.args.file.now _ (subst (IsReady c.args.file.now) (sym c.setup.view_is) c.requires) c.in-Some.problem.now (sym c.in-Some.ensures)
+
+pub returns-clause-tells : goal.returns-clause-tells
+returns-clause-tells g c =
+    lines_at c.args.file.now c.setup.view_is c.args.mark c.in-Some.problem.now (sym c.in-Some.ensures) (g.P.Sink.taken c.args.print.now) (g.P.Sink.taken c.show_basis.new.print) c.show_basis.result
+    c.show_basis.ensures.tells

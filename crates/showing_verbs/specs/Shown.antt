@@ -1,0 +1,74 @@
+-- What SOLUTION and RANGE find.
+--     LinesFound gain finding      the lines of a basis are made, or their making is stopped so
+--     Shows gain finding           SOLUTION finds this with a setup, and has this to print
+--     RangesFound gain finding     the intervals of a basis are made, or their making is stopped so
+--     ShowsRanges gain finding     RANGE finds this with a setup, and has this to print
+--     range_fault mark             why RANGE is refused with this mark
+use Rattle.std.specs.Prelude.{ℕ, List, [], ◌∷◌, ◌++◌, Option, Some, None, option_map}
+use Rattle.lp_definitions.specs.Basis.{Basics}
+use Rattle.lp_definitions.specs.declared.Evidence.{Evidence}
+use Rattle.simplex_definitions.specs.Statements.{Solution as SolutionStatement, Range as RangeStatement}
+use Rattle.problem_definitions.specs.Problem.{Problem}
+use Rattle.listing_definitions.specs.declared.Mark.{Mark}
+use Rattle.listing_definitions.specs.declared.Mark.TheVariants.{Optimal, Infeasible, Unbounded}
+use Rattle.listing_definitions.specs.declared.VerbFault.{VerbFault}
+use Rattle.listing_definitions.specs.declared.VerbFault.TheVariants.{NotSolved, NotOptimal}
+use Rattle.listing_definitions.specs.Report.{Solution, SolutionLines, Ranges, RangeLines}
+use Rattle.listing_definitions.specs.Ending.{Place}
+use Rattle.question_definitions.specs.Answers.{Basis, Sheet}
+use Rattle.answer_definitions.specs.Sections.{IsSolutionOf, IsRanged}
+use Rattle.answer_definitions.specs.Evidence.{IsEvidence}
+use Rattle.basis_values.specs.Calls.{LieIn}
+use Rattle.run_definitions.specs.Moves.{Gain, Nothing, Prints}
+use Rattle.run_machine.specs.declared.end.Place.{Place as OwnPlace}
+use Rattle.run_machine.specs.declared.finding.Finding.{Finding}
+use Rattle.run_machine.specs.declared.finding.Finding.TheVariants.{Overflow, Printed}
+use Rattle.setup_verbs.specs.Kept.{Setup}
+use Rattle.run_machine.specs.Ends.{place_view}
+
+-- ---- the lines of a basis
+
+module _ (sheet : Sheet) (s : Basis) (before : List Basics) where
+  -- for every list of bases that ends with s, in which the waypoints lay before, SOLUTION may stop with this evidence
+  abbrev pub LinesOverflow : Evidence → Option Place → Type 0
+  LinesOverflow e place = (earlier : List Basis) →
+      LieIn sheet.lp.matrix before (earlier ++ s ∷ []) →
+      IsEvidence (SolutionStatement sheet.lp) None 0 (earlier ++ s ∷ []) [] e place
+
+  -- its lines are printed with the mark; or an operation is refused
+  pub data LinesFound (mark : Mark) : Gain → Finding → Type 0 where
+    viewed : {lines : SolutionLines} → IsSolutionOf sheet s lines →
+        LinesFound mark (Prints (Solution mark lines)) Printed
+    overflows : {e : Evidence} {place : Option OwnPlace} →
+        LinesOverflow e (option_map place_view place) → LinesFound mark Nothing (Overflow e place)
+
+-- those of a setup's present basis, in the linear program that it keeps
+abbrev pub Shows : Problem ℕ → Setup → Mark → Gain → Finding → Type 0
+Shows problem setup mark = LinesFound (record { problem = problem; lp = setup.lp }) setup.basis
+    setup.engine.waypoints mark
+
+-- ---- the intervals of a basis
+
+module _ (sheet : Sheet) (s : Basis) (before : List Basics) where
+  -- for every list of bases that ends with s, in which the waypoints lay before, RANGE may stop with this evidence
+  abbrev pub RangesOverflow : Evidence → Option Place → Type 0
+  RangesOverflow e place = (earlier : List Basis) →
+      LieIn sheet.lp.matrix before (earlier ++ s ∷ []) →
+      IsEvidence (RangeStatement sheet.lp) None 0 (earlier ++ s ∷ []) [] e place
+
+  -- its intervals are printed; or an operation is refused
+  pub data RangesFound : Gain → Finding → Type 0 where
+    ranged : {lines : RangeLines} → IsRanged sheet s lines → RangesFound (Prints (Ranges lines)) Printed
+    stopped : {e : Evidence} {place : Option OwnPlace} →
+        RangesOverflow e (option_map place_view place) → RangesFound Nothing (Overflow e place)
+
+-- those of a setup's present basis, in the linear program that it keeps
+abbrev pub ShowsRanges : Problem ℕ → Setup → Gain → Finding → Type 0
+ShowsRanges problem setup = RangesFound (record { problem = problem; lp = setup.lp }) setup.basis setup.engine.waypoints
+
+-- it needs a mark, and no other than OPTIMAL
+abbrev pub range_fault : Option Mark → Option VerbFault
+range_fault None = Some NotSolved
+range_fault (Some Optimal) = None
+range_fault (Some Infeasible) = Some NotOptimal
+range_fault (Some Unbounded) = Some NotOptimal

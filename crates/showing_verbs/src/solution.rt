@@ -1,0 +1,142 @@
+// SOLUTION.
+ghost use Rattle.std.specs.Prelude.{◌≡◌, ℕ, None, Some, IfSome, List};
+ghost use Rattle.problem_definitions.specs.Problem.{Problem};
+ghost use Rattle.problem_file.specs.Filed.{filed_under};
+ghost use Rattle.lp_definitions.specs.Basis.{Basics, basics_of};
+ghost use Rattle.lp_definitions.specs.Waypoints.{KeepsWaypoints};
+ghost use Rattle.control_definitions.specs.Program as program;
+ghost use Rattle.listing_tables.specs.Lines.{solution_lines};
+ghost use Rattle.listing_tables.specs.Sheets.{IsSheet};
+ghost use Rattle.basis_values.specs.Calls.{HasRates, KeepsRates};
+ghost use Rattle.answer_definitions.specs.Sections.{IsSolutionOf};
+ghost use Rattle.verb_answers.specs.Answers.{sheet_view, AreSolutionValues};
+ghost use Rattle.answer_definitions.specs.Real.{linear_programming};
+ghost use Rattle.setup_verbs.specs.Standing.{IsReady, IsSolved, IsSound};
+ghost use Rattle.setup_verbs.specs.Statements.{Executes};
+ghost use Rattle.run_machine.specs.Findings.{ReportsFinding};
+ghost use Rattle.showing_verbs.specs.Shown.{LinesFound, Shows};
+
+use job_devices::Sink;
+use listing_definitions::{Mark, VerbFault};
+use listing_tables::Sheet;
+use lp_model::{Basis, Engine, Rates, Stop};
+use problem_file::ProblemFile;
+use report_text::{Report, text_of};
+use run_machine::{Act, Finding, Halt, Machine, Refusal, act_of};
+use setup_verbs::{Setup, overflow_at};
+use std::alloc::Global;
+use verb_answers::{SolutionValues, solution_of};
+
+// Prints the point and the prices of a basis.
+fn print_lines<P: Sink>(
+    sheet: Sheet<'_>,
+    basis: &Basis,
+    mark: Mark,
+    viewed: &SolutionValues,
+    print: &mut P,
+) -> Result<Finding, Halt>
+    requires sheet { IsSheet sheet }
+    requires no_change { sheet.lp.now.change ≡ None }
+    requires listed { AreSolutionValues sheet.lp.now basis.now viewed.now }
+    requires viewed { IsSolutionOf (sheet_view sheet) basis.now
+        (solution_lines sheet.problem.now sheet.lp.now basis.now viewed.now.point viewed.now.prices
+        viewed.now.slack.items) }
+    ensures { (before : List Basics) →
+        ReportsFinding (LinesFound (sheet_view sheet.entry) basis.now before mark)
+        (P.taken print.old) (P.taken print.new) result }
+{
+    let report = Report::Solution {
+        mark,
+        sheet,
+        basis,
+        point: &viewed.point,
+        prices: &viewed.prices,
+        slack: &viewed.slack,
+    };
+    text_of(&report, print)?;
+    Ok(Finding::Printed)
+}
+
+// Makes the lines of a basis, and prints them.
+fn show_basis<P: Sink, R: Rates>(
+    alloc: Global,
+    sheet: Sheet<'_>,
+    basis: &Basis,
+    rates: &mut R,
+    mark: Mark,
+    print: &mut P,
+) -> Result<Finding, Halt>
+    requires sheet { IsSheet sheet }
+    requires no_change { sheet.lp.now.change ≡ None }
+    requires rates { HasRates (R.matrix rates.old) (R.basics rates.old) sheet.lp.now basis.now }
+    ensures tells { ReportsFinding (LinesFound (sheet_view sheet.entry) basis.now
+        (R.waypoints rates.old) mark)
+        (P.taken print.old) (P.taken print.new) result }
+    ensures rates { KeepsRates (R.matrix rates.new) (R.basics rates.new)
+        sheet.entry.lp.now basis.now
+        (R.waypoints rates.old) (R.waypoints rates.new) }
+{
+    match solution_of(alloc, sheet, basis, rates) {
+        Ok(viewed) => print_lines(sheet, basis, mark, &viewed, print),
+        Err(Stop::Overflow(evidence)) => overflow_at(alloc, sheet.lp, basis, rates, evidence),
+        Err(Stop::NoMemory) => Err(Halt::NoMemory),
+    }
+}
+
+// Shows the present basis of a setup.
+fn show_setup<E: Engine, P: Sink>(
+    alloc: Global,
+    file: &ProblemFile,
+    setup: &mut Setup<E>,
+    mark: Mark,
+    print: &mut P,
+) -> Result<Finding, Halt>
+    requires { IsReady file.now setup.old }
+    ensures tells { (problem : Problem ℕ) → filed_under setup.old.name file.now ≡ Some problem →
+        ReportsFinding (Shows problem setup.old mark) (P.taken print.old) (P.taken print.new)
+        result }
+    ensures ready { IsReady file.now setup.new }
+    ensures name { setup.new.name ≡ setup.old.name }
+    ensures options { setup.new.options ≡ setup.old.options }
+    ensures lp { setup.new.lp ≡ setup.old.lp }
+    ensures basis { setup.new.basis ≡ setup.old.basis }
+    ensures waypoints { KeepsWaypoints setup.old.lp.matrix (basics_of setup.old.basis)
+        setup.old.engine.waypoints (basics_of setup.old.basis) setup.new.engine.waypoints }
+{
+    // a setup's problem stays on file
+    let Some(problem) = file.get(&setup.name) else {
+        unreachable!();
+    };
+    let sheet = Sheet {
+        problem,
+        lp: &setup.lp,
+    };
+    show_basis(alloc, sheet, &setup.basis, &mut setup.engine, mark, print)
+}
+
+/// SOLUTION: prints the point and the prices of the present basis. It needs a setup and a mark, and speaks of the linear program that
+/// PRIMAL solved.
+pub fn show_solution<E: Engine, P: Sink>(
+    alloc: Global,
+    machine: &mut Machine<Setup<E>>,
+    print: &mut P,
+    card: u32,
+) -> Result<Act, Halt>
+    requires ready { IfSome machine.old.setup (IsReady machine.old.file) }
+    requires solved { IfSome machine.old.mark
+        (λ mark. IfSome machine.old.setup (IsSolved mark machine.old.cells.xobj machine.old.cells.xrhs machine.old.file)) }
+    ensures acts { (cards : List (List ℕ)) →
+        Executes linear_programming program.Solution card (P.taken print.old) (P.taken print.new)
+        cards machine.old machine.new result }
+    ensures sound { (cards : List (List ℕ)) → IsSound cards machine.old →
+        IsSound cards machine.new }
+{
+    let Some(setup) = &mut machine.setup else {
+        return Refusal::Fault(VerbFault::NoSetup).act(card);
+    };
+    let Some(mark) = machine.mark else {
+        return Refusal::Fault(VerbFault::NotSolved).act(card);
+    };
+    let finding = show_setup(alloc, &machine.file, setup, mark, print)?;
+    Ok(act_of(&machine.cells, card, finding))
+}

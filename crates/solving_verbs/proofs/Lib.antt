@@ -1,0 +1,10 @@
+pub mod Solving_steps
+pub mod Solving_comes
+pub mod Parametric_steps
+pub mod Parametric_comes
+pub mod Parametric_lines
+pub mod Limit_formula
+pub mod Selected_again
+pub mod Demanded
+pub mod Present
+pub mod Keeping
