@@ -57,6 +57,11 @@ class WrongTable(Exception):
     "a line of docs/rules.txt that can't be read"
 
 
+def names_in(text: str) -> list[str]:
+    "the names of a line, of which those in quotes may have blanks"
+    return re.findall(r'"[^"]+"|[^\s"]+', text)
+
+
 def read(text: str) -> list[Rule]:
     "the rules of a table"
     rules: list[Rule] = []
@@ -69,8 +74,10 @@ def read(text: str) -> list[Rule]:
             part = heading[1]
         elif not line.startswith(" "):
             rules.append(Rule(number, part, line))
+        elif line.startswith(" " * 8) and rules and rules[-1].lines:
+            rules[-1].lines[-1].names += names_in(line)
         elif row and row[1] in KINDS and rules:
-            rules[-1].lines.append(Line(number, row[1], row[2], re.findall(r'"[^"]+"|[^\s"]+', row[3])))
+            rules[-1].lines.append(Line(number, row[1], row[2], names_in(row[3])))
         else:
             raise WrongTable(f"{number}: not a line of a rule")
     return rules

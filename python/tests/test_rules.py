@@ -16,6 +16,7 @@ how bytes are cut into cards
     test        job_tests/src/runs  long_jobs_are_refused
     test        examples/faults  card-3
     example     card_definitions/proofs/Examples  three_cards
+                long_card
 """
 
 
@@ -28,7 +29,7 @@ def test_a_row_is_read():
     rule, = rules.read(ROW)
     assert (rule.part, rule.title, rule.number) == ("Cards and decks", "how bytes are cut into cards", 4)
     assert [line.kind for line in rule.lines] == ["definition", "fault", "contract", "code", "test", "test", "test", "example"]
-    assert rule.of("test")[0].names == ['"card of 81 bytes"'] and not told(ROW)
+    assert rule.of("test")[0].names == ['"card of 81 bytes"'] and rule.of("example")[0].names == ["three_cards", "long_card"] and not told(ROW)
 
 
 def test_a_row_is_shown():
