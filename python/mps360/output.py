@@ -7,7 +7,10 @@ import functools
 import os
 import sys
 from collections.abc import Callable, Iterator
-from typing import Any
+from typing import TYPE_CHECKING, Any
+
+if TYPE_CHECKING:
+    import tempfile
 
 CANT_WRITE, INTERRUPTED, REFUSED = 73, 130, 65
 # what Python says of a number that it makes no text of
@@ -18,10 +21,10 @@ Main = Callable[[list[str] | None], int]
 
 
 class CantWrite(Exception):
-    "a write that failed: to which file or stream, and why"
+    "a write that failed: to which file or stream, and why; or a folder that can't be made"
 
-    def __init__(self, place: object, cause: str) -> None:
-        super().__init__(f"can't write {place}: {cause}")
+    def __init__(self, place: object, cause: str, verb: str = "write") -> None:
+        super().__init__(f"can't {verb} {place}: {cause}")
         self.place = place
 
 
@@ -40,6 +43,17 @@ def make_folder(path: str | os.PathLike[str]) -> None:
         os.makedirs(path, exist_ok=True)
     except OSError as cause:
         raise CantWrite(cause.filename or path, cause.strerror or str(cause)) from None
+
+
+def temporary_folder() -> tempfile.TemporaryDirectory[str]:
+    "a new folder for files that go with it; CantWrite where none can be made"
+    import tempfile
+    try:
+        return tempfile.TemporaryDirectory(prefix="mps360-")
+    except OSError as cause:
+        # (where no folder takes files, Python names those that it tried, and no file)
+        told = cause.strerror or str(cause)
+        raise CantWrite("a temporary folder", f"{cause.filename}: {told}" if cause.filename else told, "make") from None
 
 
 class Stream:

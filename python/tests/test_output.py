@@ -4,14 +4,19 @@ import errno
 import io
 import os
 import pathlib
+import re
 import resource
 import subprocess
 import sys
+import tempfile
 
+import calls
 import places
 import programs_at_hand
 import pytest
 from mps360 import output
+from mps360 import unproved as kept_programs
+from mps360.cli import attest, batch, explain, solve, unproved
 
 MODEL, JOB, LISTING = places.EXAMPLES / "glass.mps", places.EXAMPLES / "store.job", places.EXAMPLES / "store.listing"
 PARAMETRIC = places.EXAMPLES / "paraobj.listing"
@@ -192,6 +197,35 @@ def test_a_file_that_takes_no_more(tmp_path, command, words):
         resource.setrlimit(resource.RLIMIT_FSIZE, (100, 100))
     ended = run(command, words_of(tmp_path, words), tmp_path, stdout=subprocess.PIPE, preexec_fn=limit)
     assert last_line(ended).endswith(os.strerror(errno.EFBIG))
+
+
+@pytest.mark.parametrize("command, words", (("solve", ANSWERS["solve"]), ("prove", ANSWERS["prove"]), ("attest", ANSWERS["attest"]), ("explain", (JOB,))))
+def test_no_temporary_folder(tmp_path, command, words):
+    "where no folder takes a temporary file it is 73, and says so: no file takes a byte here"
+    def limit():
+        resource.setrlimit(resource.RLIMIT_FSIZE, (0, 0))
+    ended = run(command, words_of(tmp_path, words), tmp_path, stdout=subprocess.PIPE, env={**os.environ, "TMPDIR": str(tmp_path / "none")}, preexec_fn=limit)
+    told = last_line(ended)
+    assert told.startswith(f"{command}: can't make a temporary folder: No usable temporary directory found in ['{tmp_path / 'none'}', ") and ended.stdout == b""
+    assert len(ended.stderr.splitlines()) == 1
+
+
+@pytest.mark.parametrize("name, module, words", (
+    ("mps360-batch", batch, ("FOLDER",)), ("unproved.py", unproved, ()), ("unproved.py", unproved, ("--compile",)),
+    ("solve", solve, ANSWERS["solve"]), ("attest", attest, ANSWERS["attest"]), ("explain", explain, (JOB,))))
+def test_a_temporary_folder_that_isnt_there(tmp_path, monkeypatch, name, module, words):
+    "the same where the folder for temporary ones isn't there: the path that can't be made is named"
+    (tmp_path / "jobs").mkdir()
+    (tmp_path / "jobs/store.job").write_bytes(JOB.read_bytes())
+    words = [tmp_path / "jobs" if word == "FOLDER" else word for word in words_of(tmp_path, words)]
+    monkeypatch.setattr(tempfile, "tempdir", str(tmp_path / "none"))
+    monkeypatch.setattr(kept_programs, "kept", lambda *_: None)
+    monkeypatch.setattr(unproved, "kept", lambda *_: None)
+    monkeypatch.setattr(kept_programs, "kit", lambda: tmp_path)
+    monkeypatch.setattr(batch, "a_program", lambda: ("/bin/cat", True))
+    status, out, told = calls.called(module, *words)
+    assert (status, out) == (73, "") and "Traceback" not in told
+    assert re.fullmatch(rf"{re.escape(name)}: can't make a temporary folder: {tmp_path}/none/mps360-\w+: {os.strerror(2)}", told.rstrip("\n").split("\n")[-1])
 
 
 def test_every_command_is_tried():

@@ -14,7 +14,6 @@ import pathlib
 import re
 import subprocess
 import sys
-import tempfile
 from typing import Literal
 
 from mps360 import mps, programs
@@ -24,7 +23,7 @@ from mps360.errors import Refused
 from mps360.explain import explain
 from mps360.explain.stops import MOST_SHOWN, more_than
 from mps360.listings.read import NoListing, parse
-from mps360.output import command, write_file
+from mps360.output import command, temporary_folder, write_file
 from mps360.jobs.write import exact_job
 from mps360.text import guard
 
@@ -34,7 +33,7 @@ LINE_EACH = 10
 def run_job(text: str) -> str | None:
     "the listing of the job, which runs in a folder of its own, so that no file PUNCH is overwritten; None where there is none"
     program = [programs.COMMANDS / "mps360"]
-    with tempfile.TemporaryDirectory() as folder:
+    with temporary_folder() as folder:
         job = pathlib.Path(folder, "JOB")
         write_file(job, text.encode("latin-1"))
         with open(job, "rb") as given:
