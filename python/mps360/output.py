@@ -3,6 +3,7 @@ error, never as an answer would."""
 from __future__ import annotations
 
 import contextlib
+import errno
 import functools
 import os
 import sys
@@ -112,19 +113,32 @@ class Stream:
         return getattr(self._stream, name)
 
 
+class ClosedInput:
+    "standard input where it is closed, and its bytes: whoever reads it is told so"
+
+    def read(self, *_: int) -> Any:
+        raise OSError(errno.EBADF, CLOSED, "standard input")
+
+    readline = read
+
+    @property
+    def buffer(self) -> ClosedInput:
+        return self
+
+
 @contextlib.contextmanager
 def checked_streams() -> Iterator[tuple[Stream, Stream]]:
-    "standard output and standard error are checked in here; where they are closed, no file that is opened gets their numbers"
-    before = sys.stdout, sys.stderr
-    for number, stream in ((1, sys.stdout), (2, sys.stderr)):
+    "standard output and standard error are checked in here; where a stream is closed, no file that is opened gets its number"
+    before = sys.stdin, sys.stdout, sys.stderr
+    for number, stream in enumerate(before):
         if stream is None:
             keep_number(number)
     out, errors = Stream(sys.stdout, OUT), Stream(sys.stderr if sys.stderr is not None else open(os.devnull, "w", encoding="utf-8"), ERRORS)
-    sys.stdout, sys.stderr = out, errors  # type: ignore[assignment]
+    sys.stdin, sys.stdout, sys.stderr = sys.stdin or ClosedInput(), out, errors  # type: ignore[assignment]
     try:
         yield out, errors
     finally:
-        sys.stdout, sys.stderr = before
+        sys.stdin, sys.stdout, sys.stderr = before
 
 
 def keep_number(number: int) -> None:

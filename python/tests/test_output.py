@@ -228,6 +228,33 @@ def test_a_temporary_folder_that_isnt_there(tmp_path, monkeypatch, name, module,
     assert re.fullmatch(rf"{re.escape(name)}: can't make a temporary folder: {tmp_path}/none/mps360-\w+: {os.strerror(2)}", told.rstrip("\n").split("\n")[-1])
 
 
+# the words of each command that reads standard input
+INPUTS = {
+    "solve": ("-",), "prove": ("-",), "explain": ("-",), "listing2json.py": (), "listing2html.py": (JOB, "-"), "mps2job.py": ("-",), "free_deck.py": (),
+    "listing2vipr.py": (JOB, "-"), "plot_parametric.py": (), "check_vipr.py": ("-",),
+}
+
+
+@pytest.mark.parametrize("command", INPUTS)
+def test_a_closed_standard_input(tmp_path, command):
+    "it can't be read, 66, and no file that is opened later is taken for it"
+    ended = subprocess.run(["sh", "-c", '"$@" <&-', "sh", *called(command), *map(str, INPUTS[command])], cwd=tmp_path, timeout=120,
+                           stdout=subprocess.PIPE, stderr=subprocess.PIPE, check=False)
+    assert re.fullmatch(rf"{re.escape(command)}: can't read (-|standard input): it is closed", last_line(ended, 66)) and ended.stdout == b""
+
+
+@pytest.mark.parametrize("command, words", (
+    ("solve", ()), ("prove", ()), ("explain", ()), ("attest", (MODEL,)), ("listing2json.py", ()), ("listing2html.py", (JOB,)), ("mps2job.py", ()),
+    ("free_deck.py", ()), ("listing2vipr.py", (JOB,)), ("plot_parametric.py", ()), ("check_vipr.py", ()), ("vipr2listing.py", ("-o", "OUT"))))
+def test_a_read_that_fails(tmp_path, command, words):
+    "the file is named, though Python doesn't: its first page can't be read"
+    unreadable = pathlib.Path("/proc/self/mem")
+    if not unreadable.exists():
+        pytest.skip("there is no /proc/self/mem")
+    ended = run(command, [*words_of(tmp_path, words), unreadable], tmp_path, stdout=subprocess.PIPE)
+    assert last_line(ended, 66) == f"{command}: can't read {unreadable}: {os.strerror(errno.EIO)}" and ended.stdout == b""
+
+
 def test_every_command_is_tried():
     tried = {command.split(" ")[0] for command in (*ANSWERS, *FILES)}
     # (the shell scripts print what programs print, and mps360-batch has a test of its own)
