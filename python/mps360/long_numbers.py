@@ -32,6 +32,8 @@ if TYPE_CHECKING:
 # digits of an entry on a part: with a sign they fill 12 columns, and beside an exponent of two digits with its sign
 DIGITS, DIGITS_BESIDE_POWER = 11, 7
 MOST_DIGITS, LEAST_POWER = 38, -36
+# what a refusal says last, for readers of files that may round
+ROUNDS = ": --round takes the nearest number of 12 columns"
 ZERO, UNIT = Fraction(0), Fraction(1)
 Entries = dict[str, Fraction]
 Item = TypeVar("Item")
@@ -95,8 +97,7 @@ def places_of(value: Fraction, model: Model) -> tuple[int, int]:
     if parts is None and not is_decimal(value):
         raise refused_number(value, model, "no decimal form, however many digits it had: multiply its row or its limit")
     if parts is None or len(str(abs(parts[0]))) > MOST_DIGITS or parts[1] < LEAST_POWER:
-        raise refused_number(value, model, f"more than {MOST_DIGITS} digits, or digits below 1E{LEAST_POWER} or past 1E40: --round takes the nearest "
-                             "number of 12 columns")
+        raise refused_number(value, model, f"more than {MOST_DIGITS} digits, or digits below 1E{LEAST_POWER} or past 1E40{ROUNDS}")
     return parts
 
 

@@ -32,8 +32,7 @@ BOUNDS = {"UP": ("upper", True, False), "LO": ("lower", True, False), "FX": ("bo
           "UI": ("upper", True, True)}
 # the NAME line of a free deck of a job; the name stands in columns 15 to 22
 FREE_DECK = re.compile(r"NAME.{18}  FREE")
-# the first word behind the remarks of an MPS file and the comments of an LP file
-FIRST_WORD = re.compile(r"(?:\s|(?:(?<=\n)|^)\*[^\n]*\n?|\\[^\n]*\n?)*([^\s\\:]+)")
+WORD, NO_BLANK = re.compile(r"[^\s\\:]+"), re.compile(r"\S")
 
 
 class Reader:
@@ -532,10 +531,19 @@ COMPRESSED = ((b"\xfd7zXZ\0", "xz", "unxz"), (b"BZh", "bzip2", "bunzip2"), (b"\x
 MATHPROG = "it is a model in the language MathProg or AMPL: glpsol --check -m MODEL.mod --wfreemps MODEL.mps makes an MPS file of a MathProg model"
 
 
+def first_word(text: str) -> str:
+    "the first word behind the remarks of an MPS file and the comments of an LP file; empty where there is none"
+    found = NO_BLANK.search(text)
+    while found and (found[0] == "\\" or found[0] == "*" and text[found.start() - 1:found.start()] in ("", "\n")):
+        end = text.find("\n", found.start())
+        found = NO_BLANK.search(text, end if end >= 0 else len(text))
+    word = found and WORD.match(text, found.start())
+    return word[0] if word else ""
+
+
 def is_lp(text: str, name: str = "") -> bool:
     "whether a text is a CPLEX LP file: by its first word, or by its name where that word begins no MPS file either"
-    found = FIRST_WORD.match(text)
-    word = found[1].upper() if found else ""
+    word = first_word(text).upper()
     is_named = name.lower().removesuffix(".gz").endswith(".lp")
     return word in SENSES or is_named and word not in ("NAME", "OBJSENSE", "OBJNAME", *SECTIONS)
 

@@ -3,11 +3,15 @@ error, never as an answer would."""
 from __future__ import annotations
 
 import contextlib
+import errno
 import functools
 import os
 import sys
 from collections.abc import Callable, Iterator
-from typing import Any
+from typing import TYPE_CHECKING, Any
+
+if TYPE_CHECKING:
+    import tempfile
 
 CANT_WRITE, INTERRUPTED, REFUSED = 73, 130, 65
 # what Python says of a number that it makes no text of
@@ -18,10 +22,10 @@ Main = Callable[[list[str] | None], int]
 
 
 class CantWrite(Exception):
-    "a write that failed: to which file or stream, and why"
+    "a write that failed: to which file or stream, and why; or a folder that can't be made"
 
-    def __init__(self, place: object, cause: str) -> None:
-        super().__init__(f"can't write {place}: {cause}")
+    def __init__(self, place: object, cause: str, verb: str = "write") -> None:
+        super().__init__(f"can't {verb} {place}: {cause}")
         self.place = place
 
 
@@ -40,6 +44,17 @@ def make_folder(path: str | os.PathLike[str]) -> None:
         os.makedirs(path, exist_ok=True)
     except OSError as cause:
         raise CantWrite(cause.filename or path, cause.strerror or str(cause)) from None
+
+
+def temporary_folder() -> tempfile.TemporaryDirectory[str]:
+    "a new folder for files that go with it; CantWrite where none can be made"
+    import tempfile
+    try:
+        return tempfile.TemporaryDirectory(prefix="mps360-")
+    except OSError as cause:
+        # (where no folder takes files, Python names those that it tried, and no file)
+        told = cause.strerror or str(cause)
+        raise CantWrite("a temporary folder", f"{cause.filename}: {told}" if cause.filename else told, "make") from None
 
 
 class Stream:
@@ -98,19 +113,32 @@ class Stream:
         return getattr(self._stream, name)
 
 
+class ClosedInput:
+    "standard input where it is closed, and its bytes: whoever reads it is told so"
+
+    def read(self, *_: int) -> Any:
+        raise OSError(errno.EBADF, CLOSED, "standard input")
+
+    readline = read
+
+    @property
+    def buffer(self) -> ClosedInput:
+        return self
+
+
 @contextlib.contextmanager
 def checked_streams() -> Iterator[tuple[Stream, Stream]]:
-    "standard output and standard error are checked in here; where they are closed, no file that is opened gets their numbers"
-    before = sys.stdout, sys.stderr
-    for number, stream in ((1, sys.stdout), (2, sys.stderr)):
+    "standard output and standard error are checked in here; where a stream is closed, no file that is opened gets its number"
+    before = sys.stdin, sys.stdout, sys.stderr
+    for number, stream in enumerate(before):
         if stream is None:
             keep_number(number)
     out, errors = Stream(sys.stdout, OUT), Stream(sys.stderr if sys.stderr is not None else open(os.devnull, "w", encoding="utf-8"), ERRORS)
-    sys.stdout, sys.stderr = out, errors  # type: ignore[assignment]
+    sys.stdin, sys.stdout, sys.stderr = sys.stdin or ClosedInput(), out, errors  # type: ignore[assignment]
     try:
         yield out, errors
     finally:
-        sys.stdout, sys.stderr = before
+        sys.stdin, sys.stdout, sys.stderr = before
 
 
 def keep_number(number: int) -> None:

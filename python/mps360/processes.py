@@ -13,11 +13,10 @@ import os
 import pathlib
 import signal
 import subprocess
-import tempfile
 import time
 from collections.abc import Callable, Iterable, Mapping, Sequence
 
-from mps360.output import make_folder, write_file
+from mps360.output import make_folder, temporary_folder, write_file
 
 GRACE = 2.0               # seconds that a process group has between the request to end and the kill
 SHORTEST, LONGEST = 0.001, 0.05   # seconds between two looks at what runs
@@ -133,7 +132,7 @@ class Processes:
     "the programs of a block"
 
     def __init__(self) -> None:
-        self.folder = tempfile.TemporaryDirectory(prefix="mps360-")
+        self.folder = temporary_folder()
         self.all: list[Process] = []
 
     def __enter__(self) -> Processes:

@@ -6,9 +6,9 @@ import pathlib
 import re
 import shutil
 import subprocess
-import tempfile
 from mps360.commands import who_proves
 from mps360.errors import NoProgram
+from mps360.output import temporary_folder
 
 # the repository, or the folder where the commands are installed
 TOP = pathlib.Path(__file__).resolve().parents[2]
@@ -54,7 +54,7 @@ def checker_program(is_unproved: bool = False, name: str = "mps360check") -> str
 
 def attested_by(program: str, job: bytes, listing: bytes) -> tuple[int, str]:
     "the status of a checker of listings, and what it prints"
-    with tempfile.TemporaryDirectory() as folder:
+    with temporary_folder() as folder:
         pathlib.Path(folder, "LISTING").write_bytes(listing)
         ended = subprocess.run([program], input=job, stdout=subprocess.PIPE, cwd=folder, timeout=600, check=False)
     return ended.returncode, ended.stdout.decode("latin-1")
@@ -62,7 +62,7 @@ def attested_by(program: str, job: bytes, listing: bytes) -> tuple[int, str]:
 
 def run_proved(program: str, job: bytes) -> tuple[int, bytes, bytes | None]:
     "the status, the listing and the punched deck (None where nothing is punched) of a job"
-    with tempfile.TemporaryDirectory() as folder:
+    with temporary_folder() as folder:
         ended = subprocess.run([program], input=job, stdout=subprocess.PIPE, cwd=folder, timeout=600, check=False)
         punch = pathlib.Path(folder, "PUNCH")
         return ended.returncode, ended.stdout, punch.read_bytes() if punch.exists() else None
@@ -76,7 +76,7 @@ def run_jobs(jobs: Mapping[str, bytes], unproved: bool = False, whole: bool = Tr
         return {name: run_proved(program, job)[:2] for name, job in jobs.items()}
     if not unproved or not shutil.which("rt"):
         raise NoProgram(f"no proved program is there ({who_proves(BUILDS)})" if not unproved else "no command rt on the path")
-    with tempfile.TemporaryDirectory() as folder:
+    with temporary_folder() as folder:
         for name, job in jobs.items():
             pathlib.Path(folder, name).write_bytes(job)
         ended = subprocess.run(["rt", "try", "--cases", folder], cwd=TOP / "crates/mps360", capture_output=True, check=False)

@@ -194,8 +194,11 @@ def read_bytes(data: bytes, model: Model) -> Answer:
         raise NoSolution(str(cause)) from None
     try:
         text = data.decode("utf-8-sig")
-    except UnicodeDecodeError:
-        raise NoSolution("it isn't UTF-8") from None
+    except UnicodeDecodeError as cause:
+        # (names as the reader of models has them, of a file that isn't UTF-8)
+        text = data.decode("latin-1")
+        if text.lstrip()[:1] == "{":
+            raise NoSolution(f"line {text.count(chr(10), 0, cause.start) + 1}: it isn't UTF-8, as JSON is") from None
     if text.lstrip()[:1] == "{":
         return read_json(text, model)
     if re.match(r"status(?: =)? \S", text):

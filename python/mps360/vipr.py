@@ -17,8 +17,8 @@ from mps360.jobs.selection import LinearProgram
 from mps360.listings.follow import follow
 from mps360.listings.read import Line, Parser, Report, Solution, Verdict
 from mps360.listings.write import Answer
-from mps360.model import Limits, Model
-from mps360.numbers import MOST_DIGITS, text_of
+from mps360.model import Limits, Model, Place
+from mps360.numbers import MOST_DIGITS, NUMBER_COLUMNS, text_of
 from mps360.text import counted
 
 Sum = dict[int, Fraction]
@@ -29,6 +29,7 @@ OPPOSITE = {"L": "G", "G": "L", "E": "E"}
 ENDING = {"E": "_fixed", "G": "_lower", "L": "_upper"}
 DIGITS = rf"\d{{1,{MOST_DIGITS}}}"
 VALUE = re.compile(rf"[+-]?(?:{DIGITS}/(?=0*[1-9]){DIGITS}|(?:{DIGITS}(?:\.(?:{DIGITS})?)?|\.{DIGITS})(?:[eE][+-]?\d{{1,3}})?)", re.A)
+TOO_LONG = re.compile(r"[+-]?(?:\d+/0*[1-9]\d*|(?:\d+\.?\d*|\.\d+)(?:[eE][+-]?\d{1,3})?)", re.A)
 READABLE = re.compile(r"[A-Za-z_][!-$&-z|~]*")
 COMMENT = "% written by listing2vipr.py of mps360: the linear program of a listing's report, and the proof that the report gives"
 
@@ -81,6 +82,7 @@ class Certificate:
     bounds: tuple[Fraction | None, Fraction | None] | None = None
     solutions: list[tuple[str, Sum]] = field(default_factory=list)
     limits: int = 0  # how many of the constraints are limits of single variables
+    long: dict[Fraction, Place] = field(default_factory=dict)  # of the linear program: each number that no card holds, and where it stands first
 
 
 def value_of(entries: Mapping[int, Fraction], point: Mapping[int, Fraction]) -> Fraction:
@@ -98,9 +100,13 @@ def nonzero(entries: Mapping[int, Fraction]) -> Sum:
 class Words:
     "the words of a certificate, one after the other"
     def __init__(self, text: str) -> None:
-        self.words = [(found[0], number) for number, line in enumerate(text.split("\n"), 1) if not line.lstrip().startswith("%")
+        self.lines = text.split("\n")
+        self.words = [(found[0], number, found.start()) for number, line in enumerate(self.lines, 1) if not line.lstrip().startswith("%")
                       for found in re.finditer(r"\S+", line)]
         self.at = 0
+        # of the numbers of the linear program, those that no card holds
+        self.long: dict[Fraction, Place] = {}
+        self.is_stated = False
 
     @property
     def line(self) -> int:
@@ -140,8 +146,18 @@ class Words:
         "a number, as a fraction or a decimal"
         word = self.take()
         if not VALUE.fullmatch(word):
-            raise self.refused(f"a number is due, and not {word[:30]!r}")
-        return Fraction(word)
+            raise self.refused(f"{word[:30]!r} has more than {MOST_DIGITS:,} digits above or below the line" if TOO_LONG.fullmatch(word) else
+                               f"a number is due, and not {word[:30]!r}")
+        value = Fraction(word)
+        if not (self.is_stated or word.isdigit() and len(word) <= NUMBER_COLUMNS):
+            self.keep(value, word)
+        return value
+
+    def keep(self, value: Fraction, word: str) -> None:
+        "the place of the number that was taken last, where no card holds it"
+        _, line, start = self.words[self.at - 1]
+        if value not in self.long and text_of(value) is None:
+            self.long[value] = Place(word, line, self.lines[line - 1], (start, start + len(word)))
 
     def end(self, none: str) -> Fraction | None:
         "a number, or the word that stands for none"
@@ -198,6 +214,7 @@ def read(text: str) -> Certificate:
     count = words.count(MOST_COUNT)
     found.limits = words.count(count + 1)
     found.constraints = [words.constraint(found) for _ in range(count)]
+    found.long, words.is_stated = words.long, True
     words.one_of("RTP")
     if words.one_of("infeas", "range") == "range":
         found.bounds = words.end("-inf"), words.end("inf")
@@ -458,7 +475,7 @@ class Stated:
         self.limit_of: dict[int, tuple[str, Fraction]] = {}
         rows = distinct((one.name for one in found.constraints), "row")
         objective = next(name for name in ("OBJ", *(f"OBJ{k}" for k in range(len(rows) + 1))) if name not in rows)
-        self.model = model = Model(sense=found.sense.upper(), objective=objective, rows={objective: "N"}, bound_set=SET)
+        self.model = model = Model(sense=found.sense.upper(), objective=objective, rows={objective: "N"}, bound_set=SET, long=found.long)
         model.columns = {name: {} for name in self.names}
         self.limits = {name: Limits(lower=None, upper=None) for name in self.names}
         model.bounds = {SET: self.limits}

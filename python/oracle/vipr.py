@@ -266,6 +266,8 @@ def check(found: Certificate) -> str:
 def read_file(path: str) -> Certificate:
     "the certificate of a file, gzipped or not; - is standard input"
     if path == "-":
+        if sys.stdin is None:
+            raise OSError(errno.EBADF, "it is closed")
         data = sys.stdin.buffer.read(MOST_BYTES)
     else:
         with open(path, "rb") as source:

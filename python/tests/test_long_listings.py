@@ -227,7 +227,7 @@ def test_numbers_at_the_limit_are_read_and_written(tmp_path):
         assert status == 0 and "9" * MOST in out, told[:300]
     listing.write_text(FREE_LISTING.format("9" * (MOST + 1)))
     status, out, told = called(listing2json, listing)
-    assert status == 65 and told.startswith("listing2json.py: not a listing: not a table line: ") and len(told) < 200
+    assert status == 65 and told.startswith(f"listing2json.py: {listing}: not a listing: not a table line: ") and len(told) < 200 + len(str(listing))
 
 
 def test_a_long_number_in_a_sentence():

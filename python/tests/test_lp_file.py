@@ -6,6 +6,7 @@ import pathlib
 import random
 import shutil
 import subprocess
+import tracemalloc
 from fractions import Fraction
 
 import pytest
@@ -27,6 +28,26 @@ def read(text, **words):
 
 def limits_of(model):
     return {column: model.column_limits(column) for column in model.columns}
+
+
+# ---- which form a file has
+
+@pytest.mark.parametrize("text, word", (
+    ("", ""), (" \n\n", ""), ("min: x", "min"), ("* a remark\n*another\n  NAME X", "NAME"), (r"\ a comment" + "\n \\ another\n\tMaximize x", "Maximize"),
+    ("* a remark", ""), ("\\ a comment", ""), (" * NAME", "*"), (" NAME* x", "NAME*"), ("min\\x", "min"), ("\\ a comment\n* a remark\nST", "ST")))
+def test_the_first_word(text, word):
+    assert mps.first_word(text) == word
+
+
+def test_the_first_word_behind_a_million_blanks():
+    "no memory goes into them"
+    text = 500_000 * " \n"
+    tracemalloc.start()
+    try:
+        assert mps.first_word(text) == ""
+        assert tracemalloc.get_traced_memory()[1] < 100_000
+    finally:
+        tracemalloc.stop()
 
 
 # ---- hand-written files

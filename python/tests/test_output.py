@@ -4,14 +4,19 @@ import errno
 import io
 import os
 import pathlib
+import re
 import resource
 import subprocess
 import sys
+import tempfile
 
+import calls
 import places
 import programs_at_hand
 import pytest
 from mps360 import output
+from mps360 import unproved as kept_programs
+from mps360.cli import attest, batch, explain, solve, unproved
 
 MODEL, JOB, LISTING = places.EXAMPLES / "glass.mps", places.EXAMPLES / "store.job", places.EXAMPLES / "store.listing"
 PARAMETRIC = places.EXAMPLES / "paraobj.listing"
@@ -192,6 +197,62 @@ def test_a_file_that_takes_no_more(tmp_path, command, words):
         resource.setrlimit(resource.RLIMIT_FSIZE, (100, 100))
     ended = run(command, words_of(tmp_path, words), tmp_path, stdout=subprocess.PIPE, preexec_fn=limit)
     assert last_line(ended).endswith(os.strerror(errno.EFBIG))
+
+
+@pytest.mark.parametrize("command, words", (("solve", ANSWERS["solve"]), ("prove", ANSWERS["prove"]), ("attest", ANSWERS["attest"]), ("explain", (JOB,))))
+def test_no_temporary_folder(tmp_path, command, words):
+    "where no folder takes a temporary file it is 73, and says so: no file takes a byte here"
+    def limit():
+        resource.setrlimit(resource.RLIMIT_FSIZE, (0, 0))
+    ended = run(command, words_of(tmp_path, words), tmp_path, stdout=subprocess.PIPE, env={**os.environ, "TMPDIR": str(tmp_path / "none")}, preexec_fn=limit)
+    told = last_line(ended)
+    assert told.startswith(f"{command}: can't make a temporary folder: No usable temporary directory found in ['{tmp_path / 'none'}', ") and ended.stdout == b""
+    assert len(ended.stderr.splitlines()) == 1
+
+
+@pytest.mark.parametrize("name, module, words", (
+    ("mps360-batch", batch, ("FOLDER",)), ("unproved.py", unproved, ()), ("unproved.py", unproved, ("--compile",)),
+    ("solve", solve, ANSWERS["solve"]), ("attest", attest, ANSWERS["attest"]), ("explain", explain, (JOB,))))
+def test_a_temporary_folder_that_isnt_there(tmp_path, monkeypatch, name, module, words):
+    "the same where the folder for temporary ones isn't there: the path that can't be made is named"
+    (tmp_path / "jobs").mkdir()
+    (tmp_path / "jobs/store.job").write_bytes(JOB.read_bytes())
+    words = [tmp_path / "jobs" if word == "FOLDER" else word for word in words_of(tmp_path, words)]
+    monkeypatch.setattr(tempfile, "tempdir", str(tmp_path / "none"))
+    monkeypatch.setattr(kept_programs, "kept", lambda *_: None)
+    monkeypatch.setattr(unproved, "kept", lambda *_: None)
+    monkeypatch.setattr(kept_programs, "kit", lambda: tmp_path)
+    monkeypatch.setattr(batch, "a_program", lambda: ("/bin/cat", True))
+    status, out, told = calls.called(module, *words)
+    assert (status, out) == (73, "") and "Traceback" not in told
+    assert re.fullmatch(rf"{re.escape(name)}: can't make a temporary folder: {tmp_path}/none/mps360-\w+: {os.strerror(2)}", told.rstrip("\n").split("\n")[-1])
+
+
+# the words of each command that reads standard input
+INPUTS = {
+    "solve": ("-",), "prove": ("-",), "explain": ("-",), "listing2json.py": (), "listing2html.py": (JOB, "-"), "mps2job.py": ("-",), "free_deck.py": (),
+    "listing2vipr.py": (JOB, "-"), "plot_parametric.py": (), "check_vipr.py": ("-",),
+}
+
+
+@pytest.mark.parametrize("command", INPUTS)
+def test_a_closed_standard_input(tmp_path, command):
+    "it can't be read, 66, and no file that is opened later is taken for it"
+    ended = subprocess.run(["sh", "-c", '"$@" <&-', "sh", *called(command), *map(str, INPUTS[command])], cwd=tmp_path, timeout=120,
+                           stdout=subprocess.PIPE, stderr=subprocess.PIPE, check=False)
+    assert re.fullmatch(rf"{re.escape(command)}: can't read (-|standard input): it is closed", last_line(ended, 66)) and ended.stdout == b""
+
+
+@pytest.mark.parametrize("command, words", (
+    ("solve", ()), ("prove", ()), ("explain", ()), ("attest", (MODEL,)), ("listing2json.py", ()), ("listing2html.py", (JOB,)), ("mps2job.py", ()),
+    ("free_deck.py", ()), ("listing2vipr.py", (JOB,)), ("plot_parametric.py", ()), ("check_vipr.py", ()), ("vipr2listing.py", ("-o", "OUT"))))
+def test_a_read_that_fails(tmp_path, command, words):
+    "the file is named, though Python doesn't: its first page can't be read"
+    unreadable = pathlib.Path("/proc/self/mem")
+    if not unreadable.exists():
+        pytest.skip("there is no /proc/self/mem")
+    ended = run(command, [*words_of(tmp_path, words), unreadable], tmp_path, stdout=subprocess.PIPE)
+    assert last_line(ended, 66) == f"{command}: can't read {unreadable}: {os.strerror(errno.EIO)}" and ended.stdout == b""
 
 
 def test_every_command_is_tried():

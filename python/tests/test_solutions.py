@@ -121,6 +121,19 @@ def test_what_is_refused(tmp_path, number):
     assert status == 65 and wanted in told, told[:300]
 
 
+def test_names_in_latin_1(tmp_path):
+    "of a model and of its exact answer, neither of which is UTF-8: the names are the same. JSON is UTF-8, or its line is named"
+    model, solution, job, listing = (tmp_path / name for name in ("m.mps", "s", "m.job", "m.listing"))
+    model.write_bytes(MODEL.replace("plant_1", "Fabrik_für_Türen").replace("doors", "Türen").encode("latin-1"))
+    solution.write_bytes(ESOLVER.replace("plant_1", "Fabrik_für_Türen").replace("doors", "Türen").encode("latin-1"))
+    words = ("-o", job, "--listing", listing, "--names", tmp_path / "names", model, solution)
+    assert called(solution2listing, *words)[0] == 0
+    assert expected_attesting.attest(job.read_bytes(), listing.read_bytes())[1] == "ATTESTED 5 REPORTS"
+    solution.write_bytes(json.dumps(PLAN, indent=1, ensure_ascii=False).replace("doors", "Türen").encode("latin-1"))
+    status, _, told = called(solution2listing, *words)
+    assert (status, told) == (65, f"solution2listing.py: {solution}: line 5: it isn't UTF-8, as JSON is\n")
+
+
 def test_a_model_that_is_refused(tmp_path):
     status, told, *_ = made(tmp_path, MODEL.replace("doors plant_3 3", "doors plant_3 x"), PLAN)
     assert status == 65 and "line 10:" in told, told

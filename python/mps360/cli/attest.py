@@ -21,7 +21,6 @@ import pathlib
 import re
 import subprocess
 import sys
-import tempfile
 from fractions import Fraction
 
 from mps360 import at_hand, checkers, notes, programs
@@ -34,7 +33,7 @@ from mps360.errors import NoProgram
 from mps360.jobs.write import Job
 from mps360.listings.write import Answer
 from mps360.model import Model
-from mps360.output import command, make_folder, write_file
+from mps360.output import command, make_folder, temporary_folder, write_file
 from mps360.text import as_lines, as_text, marked_decimal, short_text
 
 NAME = "attest"
@@ -63,7 +62,7 @@ def checker_of(name: str) -> at_hand.Tool | None:
 def asked(checker: at_hand.Tool, job: bytes, listing: bytes) -> Said:
     "what a checker says; Ended where that is no answer"
     program = checker.command
-    with tempfile.TemporaryDirectory() as folder:
+    with temporary_folder() as folder:
         for name, text in (("JOB", job), ("LISTING", listing)):
             write_file(pathlib.Path(folder, name), text)
         try:

@@ -27,7 +27,8 @@ A disk that is full, and a device that gives no more, end the batch: what met it
 The proved program is used where it is built; else all run UNPROVED, compiled once, in about a minute (MPS360_PROVED=1 refuses that).
 
 Ends with 0 where each ended with an END line; 3 where one didn't; 64 for wrong use; 66 where there is no such folder or file, or
-nothing to run in it; 70 where no program or no solver can be had; 73 where OUT or standard output can't be written; 130 where it was interrupted."""
+nothing to run in it; 70 where no program or no solver can be had; 73 where OUT, standard output or a temporary folder
+can't be written; 130 where it was interrupted."""
 from __future__ import annotations
 
 import argparse
@@ -42,7 +43,6 @@ import shutil
 import signal
 import subprocess
 import sys
-import tempfile
 import threading
 import time
 from collections.abc import Mapping, Sequence
@@ -56,7 +56,7 @@ from mps360.cli.route_options import counted, positive, solvers_of
 from mps360.life import Life, keep_above
 from mps360.cli.words import taken
 from mps360.text import guard
-from mps360.output import CantWrite, command
+from mps360.output import CantWrite, command, temporary_folder
 from mps360.solver_names import not_installed
 from mps360.summary import NO_ROUTE, Record, Summary, as_record, for_a_sheet
 from mps360 import unproved
@@ -239,7 +239,7 @@ class Runs:
                 record["sum"] = self.sum_of(path)
             except OSError as cause:
                 return {**record, "sum": "", "state": "refused", "end": f"can't be read: {cause.strerror}", "proved": "", "seconds": 0.0}
-            with tempfile.TemporaryDirectory(prefix="mps360-") as folder:
+            with temporary_folder() as folder:
                 run = self.run_job if path.name.lower().endswith(".job") else self.solve_file
                 run(name, path, record, pathlib.Path(folder), until)
         except TimeOver:

@@ -14,7 +14,6 @@ import pathlib
 import re
 import subprocess
 import sys
-import tempfile
 from typing import Literal
 
 from mps360 import mps, programs
@@ -23,8 +22,9 @@ from mps360.cli.words import joined
 from mps360.errors import Refused
 from mps360.explain import explain
 from mps360.explain.stops import MOST_SHOWN, more_than
+from mps360.files import bytes_of
 from mps360.listings.read import NoListing, parse
-from mps360.output import command, write_file
+from mps360.output import command, temporary_folder, write_file
 from mps360.jobs.write import exact_job
 from mps360.text import guard
 
@@ -34,7 +34,7 @@ LINE_EACH = 10
 def run_job(text: str) -> str | None:
     "the listing of the job, which runs in a folder of its own, so that no file PUNCH is overwritten; None where there is none"
     program = [programs.COMMANDS / "mps360"]
-    with tempfile.TemporaryDirectory() as folder:
+    with temporary_folder() as folder:
         job = pathlib.Path(folder, "JOB")
         write_file(job, text.encode("latin-1"))
         with open(job, "rb") as given:
@@ -47,11 +47,6 @@ def run_job(text: str) -> str | None:
             except subprocess.TimeoutExpired:
                 waited += LINE_EACH
                 print(f"explain: the job runs, {waited} s", file=sys.stderr, flush=True)
-
-
-def read(word: str) -> bytes:
-    "the bytes of a file, or of standard input"
-    return sys.stdin.buffer.read() if word == "-" else pathlib.Path(word).read_bytes()
 
 
 def has(text: str, *parts: Literal["reports", "end"]) -> bool:
@@ -112,7 +107,7 @@ def answered(words: list[str]) -> int:
         print("usage: explain JOB [LISTING]; one of them may be -, which is standard input", file=sys.stderr)
         return 64
     try:
-        given = [read(word) for word in files]
+        given = [bytes_of(word) for word in files]
         text, listing, names = texts_of(given, files, passed)
     except OSError as cause:
         print(f"explain: can't read {cause.filename}: {cause.strerror}", file=sys.stderr)
@@ -132,10 +127,10 @@ def answered(words: list[str]) -> int:
         explain(text, parsed)
         show_names(names)
     except NoListing as cause:
-        print(f"explain: not a listing: {cause}", file=sys.stderr)
+        print(f"explain: {files[-1]}: not a listing: {cause}", file=sys.stderr)
         return 65
     except (TypeError, ValueError, ZeroDivisionError):
-        print("explain: not a listing: NONE or 1/0 stands for a number", file=sys.stderr)
+        print(f"explain: {files[-1]}: not a listing: NONE or 1/0 stands for a number", file=sys.stderr)
         return 65
     return 0
 

@@ -9,9 +9,9 @@ What isn't read in a fixed deck is left out, and said: text behind the fields or
 Basis decks are always fixed, and stay as they are. It ends with 0, with 64 for wrong use, 65 where the file is refused, 66 where it can't be
 read."""
 from collections.abc import Callable, Iterator
-import pathlib
 import re
 import sys
+from mps360.files import bytes_of
 from mps360.jobs import decks
 from mps360.text import guard
 from mps360.jobs.decks import ACTIONS, BOUNDS, FIELDS, NAMES, VALUED, DeckFault, is_skipped
@@ -206,7 +206,7 @@ def main(words: list[str] | None = None) -> int:
         print("usage: free_deck.py [--fixed] [FILE]", file=sys.stderr)
         return 64
     try:
-        data = pathlib.Path(words[0]).read_bytes() if words and words[0] != "-" else sys.stdin.buffer.read()
+        data = bytes_of(words[0] if words else None)
     except OSError as cause:
         print(f"free_deck.py: can't read {cause.filename}: {cause.strerror}", file=sys.stderr)
         return 66

@@ -12,6 +12,7 @@ It ends with 0, with 64 for wrong use, 65 where the text isn't a listing, or is 
 where the page can't be written."""
 import hashlib
 import sys
+from mps360.files import bytes_of
 from mps360.listings.made import OtherJob
 from mps360.listings.read import NO_NAMES, NoListing, NoNames, read_names
 from mps360.pages.html import Page
@@ -29,8 +30,7 @@ def say(message: str) -> None:
 
 def read_text(path: str) -> tuple[str, str]:
     "a file's lines, their bytes as letters of the same codes, and the file's SHA-256"
-    with open(path, "rb") as file:
-        content = file.read()
+    content = bytes_of(path)
     return content.decode("latin-1").replace("\r\n", "\n").replace("\r", "\n"), hashlib.sha256(content).hexdigest()
 
 
@@ -48,7 +48,7 @@ def main(words: list[str] | None = None) -> int:
         (job, checksum), (listing, _) = (read_text(path) for path in (options.job, options.listing))
         names = read_names(options.names) if options.names else NO_NAMES
     except (OSError, ValueError) as cause:
-        say(f"can't read: {cause}")
+        say(f"can't read {getattr(cause, 'filename', None) or options.names}: {getattr(cause, 'strerror', None) or cause}")
         return 66
     except NoNames as cause:
         say(f"{options.names}: {cause}")
@@ -57,7 +57,7 @@ def main(words: list[str] | None = None) -> int:
         page = Page(job, listing, names, Origin(now(), options.job, checksum))
         text = page.whole()
     except (NoListing, OtherJob, LookupError, ZeroDivisionError, TypeError, ValueError) as cause:
-        say(f"no page of this: {cause}")
+        say(f"{options.listing}: no page of this: {cause}")
         return 65
     if not page.has_constant:
         say("the objective or its right-hand side isn't that of the table of names; no constant is added")

@@ -15,6 +15,7 @@ In CSV a name that a spreadsheet could take for a formula (it begins with = + - 
 character stands as an escape; in JSON names are exact. It ends with 0, with 64 for wrong use, 65 where the text isn't a listing, 66 where it
 can't be read."""
 import sys
+from mps360.files import letters_of
 from mps360.listings.read import NoListing, NoNames, name_back, parse, read_names
 from mps360.listings.tables import TABLES, add_decimals, document, json_text, write_solution, write_table
 from mps360.cli.options import Parser, ending
@@ -44,10 +45,10 @@ def main(words: list[str] | None = None) -> int:
     parser.add_argument("file", nargs="?")
     options = parser.parse_args(words)
     try:
-        text = open(options.file, encoding="latin-1").read() if options.file else sys.stdin.buffer.read().decode("latin-1")
+        text = letters_of(options.file)
         names = read_names(options.names) if options.names else None
     except (OSError, ValueError) as cause:
-        say(f"can't read: {cause}")
+        say(f"can't read {getattr(cause, 'filename', None) or options.names}: {getattr(cause, 'strerror', None) or cause}")
         return 66
     except NoNames as cause:
         say(f"{options.names}: {cause}")
@@ -70,6 +71,6 @@ def main(words: list[str] | None = None) -> int:
                 add_decimals(whole)
             sys.stdout.write(json_text(whole))
     except NoListing as cause:
-        say(f"not a listing: {cause}")
+        say(f"{options.file or 'standard input'}: not a listing: {cause}")
         return 65
     return 0

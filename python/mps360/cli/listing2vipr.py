@@ -15,6 +15,7 @@ import json
 import pathlib
 import sys
 
+from mps360.files import bytes_of
 from mps360.listings.made import OtherJob
 from mps360.listings.read import NoListing
 from mps360.vipr import Certificate, NoClaim, claims_of, lines_of
@@ -63,7 +64,7 @@ def main(words: list[str] | None = None) -> int:
     words = sys.argv[1:] if words is None else words
     options = parsed_options(words)
     try:
-        job, listing = (pathlib.Path(path).read_bytes().decode("latin-1") for path in (options.job, options.listing))
+        job, listing = (bytes_of(path).decode("latin-1") for path in (options.job, options.listing))
         table = json.loads(pathlib.Path(options.names).read_text(encoding="utf-8")) if options.names else {}
     except OSError as cause:
         say(f"can't read {cause.filename}: {cause.strerror}")

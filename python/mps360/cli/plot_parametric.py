@@ -10,6 +10,7 @@ The value at each parameter is the sum of price times activity over rows and col
 parameter's share of the change row, in a run of PARAOBJ). It ends with 0, with 64 for wrong use, 65 where the text isn't a listing, or has
 no such run, 66 where a file can't be read, 73 where one can't be written."""
 import sys
+from mps360.files import letters_of
 from mps360.text import guard
 from mps360.listings.read import NoListing, parse
 from mps360.pages.parametric import NoRun, in_letters, in_svg, points_of
@@ -36,8 +37,7 @@ def main(words: list[str] | None = None) -> int:
     parser.add_argument("file", nargs="?")
     options = parser.parse_args(words)
     try:
-        text = open(options.file, encoding="latin-1").read() if options.file else sys.stdin.read()
-        runs = [report for report in parse(text)["reports"] if report["report"] == "parametric" and report["intervals"]]
+        runs = [report for report in parse(letters_of(options.file))["reports"] if report["report"] == "parametric" and report["intervals"]]
         number = len(runs) if options.run is None else options.run
         if not 1 <= number <= len(runs):
             raise NoRun(f"it has {len(runs)} parametric runs")
@@ -48,9 +48,9 @@ def main(words: list[str] | None = None) -> int:
         else:
             sys.stdout.write(picture)
     except OSError as cause:
-        say(f"{cause.filename}: {cause.strerror}")
+        say(f"can't read {cause.filename}: {cause.strerror}")
         return 66
     except (NoListing, NoRun) as cause:
-        say(f"can't be drawn: {cause}")
+        say(f"{options.file or 'standard input'}: can't be drawn: {cause}")
         return 65
     return 0

@@ -56,6 +56,7 @@ from mps360.cli.route_options import add_routes, check_routes, plan_of
 from mps360.cli.words import joined
 from mps360.provenance import Provenance
 from mps360.commands import called
+from mps360.files import bytes_of
 from mps360.jobs.write import Job, exact_job
 from mps360.listings.made import OtherJob, check_made
 from mps360.output import command, make_folder, write_file
@@ -120,12 +121,11 @@ class Model:
         self.basis: Basis | None
         self.basis, self.has_basis, self.explained = None, False, explaining(options, passed)
         try:
-            content = sys.stdin.buffer.read() if options.model == "-" else pathlib.Path(options.model).read_bytes()
+            content = bytes_of(options.model)
             if options.names:
                 self.take_names(options.names)
         except (OSError, ValueError) as cause:
-            what = options.model if isinstance(cause, OSError) and cause.filename != options.names else options.names
-            raise Ended(66, f"can't read {what}: {getattr(cause, 'strerror', None) or cause}") from None
+            raise Ended(66, f"can't read {getattr(cause, 'filename', None) or options.names}: {getattr(cause, 'strerror', None) or cause}") from None
         except NoNames as cause:
             raise Ended(65, f"{options.names}: {cause}") from None
         self.checksum = hashlib.sha256(content).hexdigest()

@@ -11,18 +11,17 @@ to four. The program NAME that comes of it is kept under the checksum of the sou
 stay, and those that ran in the last day."""
 import os
 import re
-import shutil
 import signal
 import subprocess
 import sys
-import tempfile
 import time
 from typing import BinaryIO
 
 from mps360.unproved import ATTESTS, ATTESTS_LONG, PROVES, RUNS, Answered, NoAnswer, crate_of, kept, make, say
-from mps360.output import CantWrite, command
+from mps360.output import CantWrite, command, temporary_folder, write_file
 
 LONG_RUN = 10
+MOST_BYTES = 16_400_000   # that a job may have
 
 
 def run(name: str, program: str, words: list[str], job: BinaryIO | None = None) -> int:
@@ -65,12 +64,12 @@ def answer(name: str, words: list[str]) -> int:
         say(name, f"running UNPROVED, by the program that was compiled of these sources before; {PROVES}")
         return run(name, program, words)
     say(name, f"running UNPROVED, which takes about half a minute the first time, to compile; {PROVES}")
-    with tempfile.NamedTemporaryFile(prefix="mps360-job-") as job:
-        if not words:
-            shutil.copyfileobj(sys.stdin.buffer, job)
-            job.flush()
-        program = make(name, job=job.name, words=words)
-        with open(job.name, "rb") as given:
+    with temporary_folder() as folder:
+        job = os.path.join(folder, "JOB")
+        # (of a longer job each program says the same as of its first bytes: that it is too long)
+        write_file(job, b"" if words else sys.stdin.buffer.read(MOST_BYTES + 1))
+        program = make(name, job=job, words=words)
+        with open(job, "rb") as given:
             return run(name, program, words, given)
 
 

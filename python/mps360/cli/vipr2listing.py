@@ -8,9 +8,10 @@ usage: vipr2listing.py -o JOB [--listing LISTING] [--names MAP] CERTIFICATE     
   --names MAP        where the table of names goes, as JSON for listing2json.py; needed where names were shortened
 
 The certificate is checked first, and refused where it doesn't hold. A constraint of one variable is a limit of that column; where
-it can't be, and said, a row. Refused: derivations other than lin, variables of whole numbers, bounds that don't meet, a number without an exact
-form of 12 columns. It ends with 0, with 64 for wrong use, 65 where the certificate is refused, 66 where it can't be read, 73 where a file can't
-be written."""
+it can't be, and said, a row. Its solutions and multipliers may have any length. A number of the linear program that 12 columns don't hold is kept
+exactly, as mps2job.py --exact does it; one without a decimal form (1/3) or with more than 38 digits is refused with its line, and no row is
+multiplied. Refused besides: derivations other than lin, variables of whole numbers, bounds that don't meet. It ends with 0, with 64 for wrong use,
+65 where the certificate is refused, 66 where it can't be read, 73 where a file can't be written."""
 import os
 import sys
 
@@ -19,7 +20,7 @@ from mps360.cli import solution2listing
 from mps360.cli.mps2job import say
 from mps360.cli.solution2listing import Ended
 from mps360.files import unzipped
-from mps360.jobs.write import Job, job_of
+from mps360.jobs.write import Job, exact_job
 from mps360.listings.write import Refused
 from mps360.long_answers import listing_of
 from mps360.vipr import NoCertificate, Wrong, check, model_of, read
@@ -55,9 +56,13 @@ def made(path: str) -> tuple[Job, str]:
         if found.integers:
             raise Wrong(f"{found.variables[found.integers[0]]} is to be whole, and a linear program has no such variables")
         model, answer = model_of(found)
-        job = job_of(model, False, os.path.basename(path))
+        job = exact_job(model, False, os.path.basename(path))
         return job, listing_of(job, answer)
-    except (NoCertificate, Wrong, errors.Refused, Refused) as cause:
+    except errors.Refused as cause:
+        from mps360.long_numbers import ROUNDS
+        cause.cause = cause.cause.removesuffix(ROUNDS)
+        raise Ended(65, f"{path}: {cause}") from None
+    except (NoCertificate, Wrong, Refused) as cause:
         raise Ended(65, f"{path}: {cause}") from None
 
 
