@@ -1,5 +1,5 @@
 // The test of an interval of a parametric run.
-ghost use Rattle.std.specs.Prelude.{◌≡◌, ◌||◌, ◌&&◌, IfOk};
+ghost use Rattle.std.specs.Prelude.{◌≡◌, ◌||◌, ◌&&◌, List, IfOk, length};
 ghost use Rattle.exact_values.specs.Rational.{ℚ};
 ghost use Rattle.exact_values.specs.Tests.{is_less, is_equal};
 ghost use Rattle.lp_definitions.specs.LinearProgram.{LinearProgram};
@@ -11,8 +11,9 @@ ghost use Rattle.listing_claims.specs.declared.claims.Columns.{Columns as Column
 ghost use Rattle.listing_claims.specs.Asked.{IsAskedOf};
 ghost use Rattle.listing_claims.specs.Intervals.{AreCounted, part_verdict};
 ghost use Rattle.listing_claims.specs.Passing.{Judges};
-ghost use Rattle.long_vectors.specs.Vectors.{IsValue};
+ghost use Rattle.long_vectors.specs.Vectors.{IsValue, IsOver, list_along};
 ghost use Rattle.long_programs.specs.Programs.{IsChangeIn, IsPlain};
+ghost use Rattle.long_programs.specs.Places.{IsSpread};
 ghost use Rattle.long_points.specs.Ends.{IsEnd};
 ghost use Rattle.long_solutions.specs.Answers.{Answers};
 ghost use Rattle.long_solutions.specs.Lines.{AreOver, AreLinesOf, IsNumber, IsFamily, points_at, ends_verdict};
@@ -23,7 +24,7 @@ use listing_claims::{Columns, Part, Stop};
 use listing_tables::Sheet;
 use listing_words::Number;
 use long_points::{End, all_prices_keep, both, optimal};
-use long_programs::{ProgramAt, change_of, spread_by};
+use long_programs::{ProgramAt, Spread, change_of, spread_by};
 use long_vectors::{Column, Value, along, column_of, value_of};
 use parametric_request::ParametricRequest;
 use std::alloc::{AllocError, Global};
@@ -54,15 +55,68 @@ fn lines_of(alloc: Global, columns: &Columns<'_>) -> Result<Lines, AllocError>
     })
 }
 
+// The numbers of two lines at theta.
+fn numbers_at(
+    alloc: Global,
+    theta: &Value,
+    value: &Column,
+    rate: &Column,
+) -> Result<Spread, AllocError>
+    requires { length value.now.tops.items ≡ length rate.now.tops.items }
+    ensures { IfOk result (λ made. (x : ℚ) (values rates : List ℚ) → IsValue x theta.now → IsOver values value.now → IsOver rates rate.now → IsSpread (list_along x values rates) x made) }
+{
+    let column = along(alloc, theta, value, rate)?;
+    let made = spread_by(alloc, theta, &column)?;
+    Ok(made)
+}
+
 // The point and the prices at theta.
 fn end_at(alloc: Global, theta: &Value, lines: &Lines) -> Result<End, AllocError>
     requires lines { (p : LinearProgram) × AreLinesOf p lines.now }
     ensures { IfOk result (λ end. (x : ℚ) (columns : ColumnsView) → IsValue x theta.now → AreOver columns lines.now → IsEnd (points_at x columns) x end) }
 {
-    let values = along(alloc, theta, &lines.value, &lines.value_rate)?;
-    let costs = along(alloc, theta, &lines.price, &lines.price_rate)?;
-    let point = spread_by(alloc, theta, &values)?;
-    let prices = spread_by(alloc, theta, &costs)?;
+    let point = numbers_at(alloc, theta, &lines.value, &lines.value_rate)?;
+    let prices = numbers_at(alloc, theta, &lines.price, &lines.price_rate)?;
+    Ok(End { point, prices })
+}
+
+// Two lines at theta, which are let go.
+fn joined(alloc: Global, theta: &Value, value: Column, rate: Column) -> Result<Column, AllocError>
+    requires { length value.tops.items ≡ length rate.tops.items }
+    ensures { IfOk result (λ made. (x : ℚ) (values rates : List ℚ) → IsValue x theta.now → IsOver values value → IsOver rates rate → IsOver (list_along x values rates) made) }
+{
+    let made = along(alloc, theta, &value, &rate)?;
+    Ok(made)
+}
+
+// The numbers of two lines at theta, where the lines are let go before the numbers are spread, so that less stands at once.
+fn last_numbers(
+    alloc: Global,
+    theta: &Value,
+    value: Column,
+    rate: Column,
+) -> Result<Spread, AllocError>
+    requires { length value.tops.items ≡ length rate.tops.items }
+    ensures { IfOk result (λ made. (x : ℚ) (values rates : List ℚ) → IsValue x theta.now → IsOver values value → IsOver rates rate → IsSpread (list_along x values rates) x made) }
+{
+    let column = joined(alloc, theta, value, rate)?;
+    let made = spread_by(alloc, theta, &column)?;
+    Ok(made)
+}
+
+// The point and the prices at theta, of lines that are let go.
+fn last_end(alloc: Global, theta: &Value, lines: Lines) -> Result<End, AllocError>
+    requires lines { (p : LinearProgram) × AreLinesOf p lines }
+    ensures { IfOk result (λ end. (x : ℚ) (columns : ColumnsView) → IsValue x theta.now → AreOver columns lines → IsEnd (points_at x columns) x end) }
+{
+    let Lines {
+        value,
+        value_rate,
+        price,
+        price_rate,
+    } = lines;
+    let point = last_numbers(alloc, theta, value, value_rate)?;
+    let prices = last_numbers(alloc, theta, price, price_rate)?;
     Ok(End { point, prices })
 }
 
@@ -72,19 +126,19 @@ fn ends_hold(
     at: &ProgramAt<'_>,
     from: &Value,
     to: &Value,
-    lines: &Lines,
+    lines: Lines,
 ) -> Result<bool, AllocError>
     requires change { IsChangeIn at.now.lp.now at.now.change }
     requires plain { IsPlain at.now.lp.now at.now.change }
-    requires lines { AreLinesOf at.now.lp.now lines.now }
+    requires lines { AreLinesOf at.now.lp.now lines }
     requires from { IsNumber from.now }
     requires to { IsNumber to.now }
     ensures { IfOk result (λ holds. (sheet : Views) (changing : Changing) (first last : ℚ) (columns : ColumnsView) → IsFamily sheet changing at.now.lp.now at.now.change →
-        AreCounted sheet.lp columns → IsValue first from.now → IsValue last to.now → AreOver columns lines.now → Answers holds (ends_verdict sheet changing first last columns)) }
+        AreCounted sheet.lp columns → IsValue first from.now → IsValue last to.now → AreOver columns lines → Answers holds (ends_verdict sheet changing first last columns)) }
 {
-    let start = end_at(alloc, from, lines)?;
-    let end = end_at(alloc, to, lines)?;
+    let start = end_at(alloc, from, &lines)?;
     let begins = optimal(alloc, at, &start.point, &start.prices)?;
+    let end = last_end(alloc, to, lines)?;
     let closes = optimal(alloc, at, &end.point, &end.prices)?;
     let keeps = all_prices_keep(alloc, at, &start, &end)?;
     let rest = both(closes, keeps);
@@ -123,7 +177,7 @@ fn interval_holds(
     let most = compare_with_fraction(alloc, &last, request.to)?;
     let goes = goes_on(order, is_first);
     let within = is_at_most(most);
-    let ends = ends_hold(alloc, &at, &first, &last, &lines)?;
+    let ends = ends_hold(alloc, &at, &first, &last, lines)?;
     let rest = both(within, ends);
     Ok(both(goes, rest))
 }
