@@ -77,8 +77,9 @@ impl PriceRow {
     /// Fills `out`, which has a place for each variable, with the rates of the basic `i`: its rate at each nonbasic, and 0 at each
     /// basic. The row is carried backwards through the file, and multiplied with the columns of the deck: in whole numbers of one
     /// machine word over one denominator, or where one isn't such a number in larger whole numbers, or where one of these doesn't
-    /// fit in fractions. Where an operation on fractions is refused on the way back, the multipliers of the rows are computed by
-    /// their directions; where one is refused at a column, its rate is computed by its direction. It takes no memory.
+    /// fit in fractions. Where an operation on fractions is refused, that one multiplier or rate is computed in numbers of any length;
+    /// where this doesn't fit either, or there is no memory for it, the multipliers of the rows are computed by their directions, or
+    /// the rate by that of its variable.
     pub fn row(&mut self, file: &EtaFile, i: u32, out: &mut [Frac]) -> Result<(), Stop>
         requires basic { IsBasic file.now.matrix file.now.basics i }
         requires places { length out.old ≡ size file.now.matrix }
