@@ -10,13 +10,13 @@ overflow_add-place c = omega (arith, c.etas-etas.ensures.all, c.requires.within)
 pub overflow_add-place-2 : goal.overflow_add-place-2
 overflow_add-place-2 c = omega (arith, c.etas-etas.ensures.all, c.requires.within)
 
-pub exact_quotient_over-requires-within : goal.exact_quotient_over-requires-within
-exact_quotient_over-requires-within c =
+pub exact_quotient_over-requires-clause-within : goal.exact_quotient_over-requires-clause-within
+exact_quotient_over-requires-clause-within c =
     entries_within c.args.file.now c.size-size.ensures.passed c.args.place c.requires.within (an_eta c.args.file.now.etas c.args.place c.requires.within)
     c.eta-eta.result.p c.eta-eta.result.q c.eta-eta.result.entries.now c.eta-eta.ensures.lent (length c.args.out.now) c.requires.places
 
-pub exact_quotient_over-requires-pivot : goal.exact_quotient_over-requires-pivot
-exact_quotient_over-requires-pivot c none =
+pub exact_quotient_over-requires-clause-pivot : goal.exact_quotient_over-requires-clause-pivot
+exact_quotient_over-requires-clause-pivot c none =
     let d : StoredEta = an_eta c.args.file.now.etas c.args.place c.requires.within in
     (is c.args.file.now c.size-size.ensures.passed c.args.place c.requires.within d c.eta-eta.result.p c.eta-eta.result.q c.eta-eta.result.entries.now c.eta-eta.ensures.lent).apart
     (sym (pivot_is c.args.file.now c.size-size.ensures.passed c.args.place c.requires.within d c.eta-eta.result.p c.eta-eta.result.q c.eta-eta.result.entries.now c.eta-eta.ensures.lent c.pivot-pivot.result c.pivot-pivot.ensures) ∙ none)
@@ -29,8 +29,8 @@ returns c = record {
         c.neg.ensures
         ∙ multiplier_is c.args.file.now c.size-size.ensures.passed c.args.place c.requires.within d c.eta-eta.result.p c.eta-eta.result.q c.eta-eta.result.entries.now c.eta-eta.ensures.lent
         c.args.row c.requires.basic c.size-size.ensures.nonsingular c.args.out.now c.requires.known rate are
-        c.first-item.result _ c.pivot-pivot.result c.in_ok-ratio.ratio
-        (value_at_place c.args.out.now c.eta-eta.result.q c.first-item.result enters.0 (omega (arith, enters.1, c.requires.places)) c.first-item.is) refl
+        c.index-out-eta.result _ c.pivot-pivot.result c.in_ok-ratio.ratio
+        (value_at_place c.args.out.now c.eta-eta.result.q c.index-out-eta.result enters.0 (omega (arith, enters.1, c.requires.places)) c.index-out-eta.is) refl
         (pivot_is c.args.file.now c.size-size.ensures.passed c.args.place c.requires.within d c.eta-eta.result.p c.eta-eta.result.q c.eta-eta.result.entries.now c.eta-eta.ensures.lent c.pivot-pivot.result c.pivot-pivot.ensures)
         c.in_ok-ratio.ensures;
   };
