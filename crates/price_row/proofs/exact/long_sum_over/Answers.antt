@@ -1,4 +1,4 @@
-use Rattle.std.proofs.Common.{◌≡◌, ◌∙◌, sym, ap, length, subst}
+use Rattle.std.proofs.Common.{◌∙◌, sym, ap, length, subst}
 use Rattle.exact_values.specs.Rational.{◌+ℚ◌, ◌*ℚ◌}
 use Rattle.lp_definitions.specs.LinearProgram.{value_at}
 use Rattle.eta_file.specs.declared.eta.EtaEntry.{EtaEntry}
