@@ -1,23 +1,29 @@
 //! The row of a basic, carried backwards through an eta file and multiplied with the columns of the deck.
 #![tactic(auto)]
 
-ghost use Rattle.std.specs.Prelude.{◌≡◌, ◌≢◌, ℕ, ◌+◌, ◌-◌, ◌≤◌, ◌<◌, length, IfOk, IfErr, OnOk};
+ghost use Rattle.std.specs.Prelude.{◌≡◌, ◌≢◌, ℕ, ◌+◌, ◌-◌, ◌≤◌, ◌<◌, length, All, IfOk, IfSome, IfErr, OnOk};
 ghost use Rattle.lp_definitions.specs.LinearProgram.{IsVariable, size, value_at};
+ghost use Rattle.exact_values.specs.Rational.{zero_ℚ};
 ghost use Rattle.lp_definitions.specs.Basis.{IsBasic};
+ghost use Rattle.lp_definitions.specs.RatesEvidence.{sum_from};
 ghost use Rattle.lp_model.specs.RatesCalls.{IsRowOf, RowOverflow};
 ghost use Rattle.lp_model.specs.Wanted.{is_wanted, turned, wanted_at, IsFirstWanted};
 ghost use Rattle.eta_file.specs.Inverse.{ways_of, IsColumnStop};
 ghost use Rattle.eta_file.specs.Workspaces.{IsWorkspaceFor};
 ghost use Rattle.price_row.specs.Known.{IsKnown, HasMultipliers, IsFilledFrom, IsRateOf, IsUnit, IsMultiplierAt, IsMultiplierOf};
+ghost use Rattle.price_row.specs.Sums.{products};
+ghost use Rattle.price_row.specs.Places.{IsRowPlace};
 
+mod exact;
 mod numbers;
 mod sums;
 mod whole;
 mod words;
 
 use eta_file::{ColumnWorkspace, EtaFile, rate_by_column};
+use exact::{exact_quotient_over, exact_sum_of_column};
 use frac128::{Frac, Refused};
-use lp_model::{Lp, NoMemory, Stop, Wanted};
+use lp_model::{Entry, Lp, NoMemory, Stop, Wanted};
 use numbers::{first_by_numbers, row_by_numbers};
 use std::alloc::Global;
 use std::marker::Model;
@@ -71,8 +77,9 @@ impl PriceRow {
     /// Fills `out`, which has a place for each variable, with the rates of the basic `i`: its rate at each nonbasic, and 0 at each
     /// basic. The row is carried backwards through the file, and multiplied with the columns of the deck: in whole numbers of one
     /// machine word over one denominator, or where one isn't such a number in larger whole numbers, or where one of these doesn't
-    /// fit in fractions. Where an operation on fractions is refused on the way back, the multipliers of the rows are computed by
-    /// their directions; where one is refused at a column, its rate is computed by its direction. It takes no memory.
+    /// fit in fractions. Where an operation on fractions is refused, that one multiplier or rate is computed in numbers of any length;
+    /// where this doesn't fit either, or there is no memory for it, the multipliers of the rows are computed by their directions, or
+    /// the rate by that of its variable.
     pub fn row(&mut self, file: &EtaFile, i: u32, out: &mut [Frac]) -> Result<(), Stop>
         requires basic { IsBasic file.now.matrix file.now.basics i }
         requires places { length out.old ≡ size file.now.matrix }
@@ -145,8 +152,8 @@ fn begin(i: u32, out: &mut [Frac])
     out[i as usize - 1] = Frac::whole(1);
 }
 
-/// The multiplier of the leaver of an eta, from those of the set after it.
-fn multiplier_at(file: &EtaFile, place: u32, row: u32, out: &[Frac]) -> Result<Frac, Refused>
+/// The multiplier of the leaver of an eta, from those of the set after it, by plain operations.
+fn plain_multiplier(file: &EtaFile, place: u32, row: u32, out: &[Frac]) -> Result<Frac, Refused>
     requires within { place < length file.now.etas }
     requires basic { IsBasic file.now.matrix file.now.basics row }
     requires places { length out.now ≡ size file.now.matrix }
@@ -165,8 +172,60 @@ fn multiplier_at(file: &EtaFile, place: u32, row: u32, out: &[Frac]) -> Result<F
     Ok(ratio.neg())
 }
 
+/// The same in numbers of any length. None where it doesn't fit, or there is no memory for the numbers on the way.
+fn exact_multiplier(
+    alloc: Global,
+    file: &EtaFile,
+    place: u32,
+    row: u32,
+    out: &[Frac],
+) -> Option<Frac>
+    requires within { place < length file.now.etas }
+    requires basic { IsBasic file.now.matrix file.now.basics row }
+    requires places { length out.now ≡ size file.now.matrix }
+    requires known { IsKnown file.now (place + 1) row out.now }
+    ensures value { IfSome result (IsMultiplierAt file.now place row) }
+{
+    let _size = file.size();
+    let _etas = file.etas();
+    let eta = file.eta(place + 1);
+    let pivot = file.pivot(place + 1);
+    let first = out[eta.q as usize - 1];
+    let ratio = exact_quotient_over(alloc, eta.entries, eta.p, first, out, pivot)?;
+    Some(ratio.neg())
+}
+
+/// The multiplier of the leaver of an eta, from those of the set after it.
+fn multiplier_at(
+    alloc: Global,
+    file: &EtaFile,
+    place: u32,
+    row: u32,
+    out: &[Frac],
+) -> Result<Frac, Refused>
+    requires within { place < length file.now.etas }
+    requires basic { IsBasic file.now.matrix file.now.basics row }
+    requires places { length out.now ≡ size file.now.matrix }
+    requires known { IsKnown file.now (place + 1) row out.now }
+    ensures value { IfOk result (IsMultiplierAt file.now place row) }
+{
+    match plain_multiplier(file, place, row, out) {
+        Ok(multiplier) => Ok(multiplier),
+        Err(refused) => match exact_multiplier(alloc, file, place, row, out) {
+            Some(multiplier) => Ok(multiplier),
+            None => Err(refused),
+        },
+    }
+}
+
 /// Carries the multipliers of the row back over one eta.
-fn carry_back(file: &EtaFile, place: u32, row: u32, out: &mut [Frac]) -> Result<(), Refused>
+fn carry_back(
+    alloc: Global,
+    file: &EtaFile,
+    place: u32,
+    row: u32,
+    out: &mut [Frac],
+) -> Result<(), Refused>
     requires within { place < length file.now.etas }
     requires basic { IsBasic file.now.matrix file.now.basics row }
     requires places { length out.old ≡ size file.now.matrix }
@@ -175,7 +234,7 @@ fn carry_back(file: &EtaFile, place: u32, row: u32, out: &mut [Frac]) -> Result<
 {
     let _size = file.size();
     let _etas = file.etas();
-    let value = multiplier_at(file, place, row, out)?;
+    let value = multiplier_at(alloc, file, place, row, out)?;
     let eta = file.eta(place + 1);
     out[eta.p as usize - 1] = value;
     Ok(())
@@ -189,9 +248,10 @@ fn carry_to_rows(file: &EtaFile, row: u32, out: &mut [Frac]) -> Result<(), Refus
 {
     let _size = file.size();
     begin(row, out);
+    let alloc = file.alloc();
     let etas = file.etas();
     for back in 0..etas {
-        carry_back(file, etas - 1 - back, row, out)?;
+        carry_back(alloc, file, etas - 1 - back, row, out)?;
     }
     Ok(())
 }
@@ -261,6 +321,20 @@ fn multipliers(
     }
 }
 
+/// The sum of the numbers of a column, each times the value at its row.
+fn sum_at(alloc: Global, column: &[Entry], values: &[Frac]) -> Result<Frac, Refused>
+    requires { All (IsRowPlace (length values.now)) column.now }
+    ensures { IfOk result (λ sum. sum ≡ sum_from zero_ℚ (products values.now column.now)) }
+{
+    match sum_of_column(column, values) {
+        Ok(sum) => Ok(sum),
+        Err(refused) => match exact_sum_of_column(alloc, column, values) {
+            Some(sum) => Ok(sum),
+            None => Err(refused),
+        },
+    }
+}
+
 /// The rate of the row at the variable of a place, from the multipliers of the rows up to it.
 fn rate_by_multipliers(file: &EtaFile, place: u32, row: u32, out: &[Frac]) -> Result<Frac, Refused>
     requires within { place < size file.now.matrix }
@@ -278,7 +352,7 @@ fn rate_by_multipliers(file: &EtaFile, place: u32, row: u32, out: &[Frac]) -> Re
         let multiplier = out[place as usize];
         return Ok(multiplier.neg());
     }
-    sum_of_column(file.numbers(place + 1 - rows), out)
+    sum_at(file.alloc(), file.numbers(place + 1 - rows), out)
 }
 
 /// The same, by the direction of the variable where a number doesn't fit.

@@ -2,7 +2,7 @@ use Rattle.std.proofs.Common.{◌∙◌, length, arith, sym, refl}
 use Rattle.exact_values.specs.Rational.{◌/ℚ◌}
 use Rattle.eta_file.specs.declared.eta.StoredEta.{StoredEta}
 use Rattle.price_row.proofs.CarriedBack.{is, q_in, entries_within, pivot_is, multiplier_is, idle_quotient, an_eta}
-use Rattle.price_row.proofs.multiplier_at.Goals as goal
+use Rattle.price_row.proofs.plain_multiplier.Goals as goal
 use Rattle.lp_laws.proofs.Places.{value_at_place}
 
 pub overflow_add-place : goal.overflow_add-place
