@@ -72,23 +72,20 @@ columns_left p z i j = map (row_product p z i) (numbers_from (j + 1) (p.cols - j
 row_next : (p : LinearProgram) (z : Vector) (i j : ℕ) → j < p.cols → columns_left p z i j ≡ row_product p z i (j + 1) ∷ columns_left p z i (j + 1)
 row_next p z i j below = ap (map (row_product p z i)) (numbers-next j p.cols below)
 
--- the number that column j + 1 has on row i, and the value of that column
-same_product : (p : LinearProgram) (z : Vector) (i j : ℕ) (x v : ℚ) → x ≡ entry p.matrix i (j + 1) → v ≡ z (p.rows + (j + 1)) → (record { left = x; right = v }) ≡ row_product p z i (j + 1)
-same_product p z i j x v is_number is_value = ap (λ (s : ℚ). product s v) is_number ∙ ap (λ (s : ℚ). product (entry p.matrix i (j + 1)) s) is_value
+-- the number that a column has on row i, and the value of that column
+pub same_product : (p : LinearProgram) (z : Vector) (i j : ℕ) (x v : ℚ) → x ≡ entry p.matrix i j → v ≡ z (p.rows + j) → (record { left = x; right = v }) ≡ row_product p z i j
+same_product p z i j x v is_number is_value = ap (λ (s : ℚ). product s v) is_number ∙ ap (λ (s : ℚ). product (entry p.matrix i j) s) is_value
   where
     product : ℚ → ℚ → Product
     product x y = record { left = x; right = y }
 
-module _ (p : LinearProgram) (z : Vector) (i j : ℕ) (below : j < p.cols) (start : ℚ) (ts : List Product) (sum x v : ℚ)
-    (is_number : x ≡ entry p.matrix i (j + 1)) (is_value : v ≡ z (p.rows + (j + 1))) (left : IsLeft start ts sum (columns_left p z i j)) where
-  pub row_step : (next : ℚ) → SumsTo (Ok next) sum (record { left = x; right = v } ∷ []) → IsLeft start ts next (columns_left p z i (j + 1))
+module _ (p : LinearProgram) (z : Vector) (i j : ℕ) (below : j < p.cols) (start : ℚ) (ts : List Product) (sum : ℚ) (left : IsLeft start ts sum (columns_left p z i j)) where
+  pub row_step : (next : ℚ) → SumsTo (Ok next) sum (row_product p z i (j + 1) ∷ []) → IsLeft start ts next (columns_left p z i (j + 1))
   row_step next made =
       left_next start ts sum next (row_product p z i (j + 1)) (columns_left p z i (j + 1))
-      (subst (λ (rest : List Product). IsLeft start ts sum rest) (row_next p z i j below) left)
-      (subst (λ (t : Product). SumsTo (Ok next) sum (t ∷ [])) (same_product p z i j x v is_number is_value) made)
+      (subst (λ (rest : List Product). IsLeft start ts sum rest) (row_next p z i j below) left) made
 
-  pub row_refused : (refused : Refused) → SumsTo (Err refused) sum (record { left = x; right = v } ∷ []) → SumsTo (Err refused) start ts
+  pub row_refused : (refused : Refused) → SumsTo (Err refused) sum (row_product p z i (j + 1) ∷ []) → SumsTo (Err refused) start ts
   row_refused refused stopped =
       left_refused start ts sum (row_product p z i (j + 1)) (columns_left p z i (j + 1)) refused
-      (subst (λ (rest : List Product). IsLeft start ts sum rest) (row_next p z i j below) left)
-      (subst (λ (t : Product). SumsTo (Err refused) sum (t ∷ [])) (same_product p z i j x v is_number is_value) stopped)
+      (subst (λ (rest : List Product). IsLeft start ts sum rest) (row_next p z i j below) left) stopped

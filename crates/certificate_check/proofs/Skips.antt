@@ -1,20 +1,19 @@
 -- Lists of columns that leave out only columns of value 0, and a row's sum over such a list.
-use Rattle.std.specs.Prelude.{eqb, unwrap_or}
-use Rattle.std.proofs.Common.{rules, true, false, ◌≡◌, ◌≢◌, ℕ, zero, suc, ◌+◌, ◌-◌, ◌<◌, ◌≤◌, ◌⊎◌, inl, inr, List, [], ◌∷◌, ◌++◌, length, map, get_or, drop, take, set, sym, ap, ◌∙◌, refl, arith, subst, Ok, Err, Option, None}
+use Rattle.std.specs.Prelude.{eqb}
+use Rattle.std.proofs.Common.{rules, true, false, ◌≡◌, ◌≢◌, ℕ, zero, suc, ◌+◌, ◌-◌, ◌<◌, ◌≤◌, ◌⊎◌, inl, inr, List, [], ◌∷◌, ◌++◌, length, map, get_or, drop, take, set, sym, ap, ◌∙◌, arith, subst, Ok, Err}
 use Rattle.std.proofs.lemmas.Bool.Decides.{eqb_tells}
 use Rattle.std.proofs.lemmas.List.{take_more_set, drop_all, get_or-take, get_or-drop}
 use Rattle.std.proofs.Math.Seq.{drop-cons}
 use Rattle.exact_values.specs.Rational.{ℚ, zero_ℚ}
 use Rattle.frac128.specs.declared.Refused.{Refused}
 use Rattle.frac128.specs.Operations.{TermsFit}
-use Rattle.lp_definitions.specs.declared.Entry.{Entry}
-use Rattle.lp_definitions.specs.LinearProgram.{LinearProgram, Vector, numbers_from, on_row, entry, value_at}
+use Rattle.lp_definitions.specs.LinearProgram.{LinearProgram, Vector, numbers_from, entry, value_at}
 use Rattle.lp_laws.proofs.Places.{value_at_place}
 use Rattle.check_definitions.specs.Steps.{Product}
 use Rattle.check_definitions.specs.Checks.{row_products}
 use Rattle.certificate_check.specs.Listed.{AreZero, AreListed}
 use Rattle.certificate_check.specs.Results.{SumsTo}
-use Rattle.certificate_check.proofs.Left.{IsLeft, all_left, row_product, columns_left, row_step, row_refused, skipped_left, skipped_right}
+use Rattle.certificate_check.proofs.Left.{IsLeft, all_left, row_product, columns_left, row_step, row_refused, skipped_right}
 
 -- ---- lists
 
@@ -55,14 +54,7 @@ module _ (p : LinearProgram) (z : Vector) (i : ℕ) (start : ℚ) (ts : List Pro
   -- a column of value 0
   pub passed_zero : (j : ℕ) → j < p.cols → z (p.rows + (j + 1)) ≡ zero_ℚ → IsLeft start ts sum (columns_left p z i j) → IsLeft start ts sum (columns_left p z i (j + 1))
   passed_zero j below none left =
-      row_step p z i j below start ts sum (entry p.matrix i (j + 1)) (z (p.rows + (j + 1))) refl refl left sum
-      (skipped_right sum (entry p.matrix i (j + 1)) (z (p.rows + (j + 1))) none fits)
-
-  -- a column with no number on the row
-  pub passed_absent : (j : ℕ) → j < p.cols → zero_ℚ ≡ entry p.matrix i (j + 1) → IsLeft start ts sum (columns_left p z i j) → IsLeft start ts sum (columns_left p z i (j + 1))
-  passed_absent j below none left =
-      row_step p z i j below start ts sum zero_ℚ (z (p.rows + (j + 1))) none refl left sum
-      (skipped_left sum zero_ℚ (z (p.rows + (j + 1))) refl fits)
+      row_step p z i j below start ts sum left sum (skipped_right sum (entry p.matrix i (j + 1)) (z (p.rows + (j + 1))) none fits)
 
   passed : (n first : ℕ) → first + n ≤ p.cols → AreZero (λ j. z (p.rows + j)) first (first + n) → IsLeft start ts sum (columns_left p z i first) → IsLeft start ts sum (columns_left p z i (first + n))
   passed zero first within zeros left =
@@ -83,13 +75,6 @@ module _ (p : LinearProgram) (z : Vector) (i : ℕ) (start : ℚ) (ts : List Pro
       (passed (last - first) first (omega (arith, up, within)) (λ j low high. zeros j low (omega (arith, up, high))) left)
 
 -- ---- the sum of a row
-
--- a number that was found in a column, and one that wasn't
-pub number_is : (x : ℚ) (es column : List Entry) (i : ℕ) → x ≡ on_row es i → es ≡ column → x ≡ on_row column i
-number_is x es column i found is_column = found ∙ ap (λ (ds : List Entry). on_row ds i) is_column
-
-pub absent_is : (o : Option ℚ) (es column : List Entry) (i : ℕ) → o ≡ None → unwrap_or o zero_ℚ ≡ on_row es i → es ≡ column → zero_ℚ ≡ on_row column i
-absent_is o es column i none found is_column = sym (ap (λ (x : Option ℚ). unwrap_or x zero_ℚ) none) ∙ number_is (unwrap_or o zero_ℚ) es column i found is_column
 
 -- the columns after some column are to be added to the sum so far, and the list names those of them that aren't 0, up to the last
 pub record IsListLeft (p : LinearProgram) (z : Vector) (i : ℕ) (sum : ℚ) (js : List ℕ) (last : ℕ) : Type 0 where
@@ -118,7 +103,7 @@ pub next_within : (p : LinearProgram) (z : Vector) (i : ℕ) (sum : ℚ) (j : �
 next_within p z i sum j js last so_far = (omega (arith, so_far.listed.0), up_to_last (λ j. z (p.rows + j)) j js last so_far.listed.1.1)
 
 module _ (p : LinearProgram) (z : Vector) (i : ℕ) (sum : ℚ) (j : ℕ) (js : List ℕ) (last : ℕ) (within : last ≤ p.cols)
-    (so_far : IsListLeft p z i sum (j ∷ js) last) (x : ℚ) (is_number : x ≡ entry p.matrix i j) where
+    (so_far : IsListLeft p z i sum (j ∷ js) last) where
   up : so_far.first ≤ j - 1
   up = omega (arith, so_far.listed.0)
 
@@ -131,24 +116,18 @@ module _ (p : LinearProgram) (z : Vector) (i : ℕ) (sum : ℚ) (j : ℕ) (js : 
   before : IsLeft zero_ℚ (row_products p z i) sum (columns_left p z i (j - 1))
   before = passed_to p z i zero_ℚ (row_products p z i) sum so_far.fits so_far.first (j - 1) up (omega (arith, below)) so_far.listed.1.0 so_far.left
 
-  here : x ≡ entry p.matrix i ((j - 1) + 1)
-  here = is_number ∙ ap (λ (k : ℕ). entry p.matrix i k) same
-
-  pub listed_step : (v : ℚ) → v ≡ z (p.rows + j) → (next : ℚ) → TermsFit next → SumsTo (Ok next) sum (record { left = x; right = v } ∷ []) → IsListLeft p z i next js last
-  listed_step v is_value next fits made = record {
+  pub listed_step : (next : ℚ) → TermsFit next → SumsTo (Ok next) sum (row_product p z i j ∷ []) → IsListLeft p z i next js last
+  listed_step next fits made = record {
     fits = fits;
     first = j;
     left = subst (λ (k : ℕ). IsLeft zero_ℚ (row_products p z i) next (columns_left p z i k)) (sym same)
-        (row_step p z i (j - 1) below zero_ℚ (row_products p z i) sum x v here (is_value ∙ ap (λ (k : ℕ). z (p.rows + k)) same) before next made);
+        (row_step p z i (j - 1) below zero_ℚ (row_products p z i) sum before next (subst (λ (k : ℕ). SumsTo (Ok next) sum (row_product p z i k ∷ [])) same made));
     listed = so_far.listed.1.1;
   }
 
-  pub listed_refused : (v : ℚ) → v ≡ z (p.rows + j) → (refused : Refused) → SumsTo (Err refused) sum (record { left = x; right = v } ∷ []) → SumsTo (Err refused) zero_ℚ (row_products p z i)
-  listed_refused v is_value refused stopped =
-      row_refused p z i (j - 1) below zero_ℚ (row_products p z i) sum x v here (is_value ∙ ap (λ (k : ℕ). z (p.rows + k)) same) before refused stopped
-
-  pub listed_absent : x ≡ zero_ℚ → IsListLeft p z i sum js last
-  listed_absent none = listed_step (z (p.rows + j)) refl sum so_far.fits (skipped_left sum x (z (p.rows + j)) none so_far.fits)
+  pub listed_refused : (refused : Refused) → SumsTo (Err refused) sum (row_product p z i j ∷ []) → SumsTo (Err refused) zero_ℚ (row_products p z i)
+  listed_refused refused stopped =
+      row_refused p z i (j - 1) below zero_ℚ (row_products p z i) sum before refused (subst (λ (k : ℕ). SumsTo (Err refused) sum (row_product p z i k ∷ [])) same stopped)
 
 -- at the end of the list
 pub listed_done : (p : LinearProgram) (z : Vector) (i : ℕ) (sum : ℚ) (js : List ℕ) (k last : ℕ) → length js ≤ k → last ≤ p.cols → IsListLeft p z i sum (drop k js) last

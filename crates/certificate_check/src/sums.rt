@@ -2,7 +2,7 @@
 
 ghost use Rattle.std.specs.Prelude.{◌≡◌, ◌+◌, ◌≤◌, [], ◌∷◌, All, length, unwrap_or};
 ghost use Rattle.exact_values.specs.Rational.{zero_ℚ, ◌-ℚ◌};
-ghost use Rattle.lp_definitions.specs.LinearProgram.{IsRow, on_row, size, value_at, combined, objective_value};
+ghost use Rattle.lp_definitions.specs.LinearProgram.{IsRow, IsColumn, on_row, entry, size, value_at, combined, objective_value};
 ghost use Rattle.check_definitions.specs.Steps.{operation};
 ghost use Rattle.check_definitions.specs.Checks.{row_products, entry_products, combined_steps};
 ghost use Rattle.certificate_check.specs.Listed.{AreListed};
@@ -49,6 +49,22 @@ fn number_on(column: &[Entry], row: u32) -> Option<Frac>
     None
 }
 
+/// `sum`, and the number on the row in a column, if there is one, times the column's value.
+#[inline(always)]
+fn add_entry(sum: Frac, lp: &Lp, values: &[Frac], column: u32, row: u32) -> Result<Frac, Refused>
+    requires column { IsColumn lp.now.matrix column }
+    requires places { length values.now ≡ size lp.now.matrix }
+    ensures { SumsTo result sum (record {
+      left = entry lp.now.matrix row column;
+      right = value_at values.now (lp.now.rows + column);
+    } ∷ []) }
+{
+    match number_on(lp.column(column), row) {
+        Some(number) => add_product(sum, number, value_of(values, lp.rows + column)),
+        None => Ok(sum),
+    }
+}
+
 /// The sum of the numbers on the row, each times the value of its column. Of the columns up to `last` those that aren't listed are left out,
 /// and of those after it the ones whose values are 0: a product with an operand 0 is never refused, nor is adding it.
 pub fn row_sum(
@@ -66,17 +82,13 @@ pub fn row_sum(
 {
     let mut sum = Frac::whole(0);
     for column in listed {
-        if let Some(number) = number_on(lp.column(*column), row) {
-            sum = add_product(sum, number, value_of(values, lp.rows + *column))?;
-        }
+        sum = add_entry(sum, lp, values, *column, row)?;
     }
     for (place, value) in values[(lp.rows + last) as usize..].iter().enumerate() {
         if value.is_zero() {
             continue;
         }
-        if let Some(number) = number_on(lp.column(last + place as u32 + 1), row) {
-            sum = add_product(sum, number, *value)?;
-        }
+        sum = add_entry(sum, lp, values, last + place as u32 + 1, row)?;
     }
     Ok(sum)
 }

@@ -1,12 +1,11 @@
-use Rattle.std.proofs.Common.{rules, ◌≡◌, ◌+◌, ◌<◌, arith, ap, ◌∙◌, sym, refl, subst, ℕ, length}
+use Rattle.std.proofs.Common.{rules, ◌≡◌, ◌+◌, ◌<◌, arith, ap, ◌∙◌, sym, subst, ℕ, length}
 use Rattle.std.proofs.lemmas.Result.{err_from_is_err_and}
 use Rattle.exact_values.specs.Rational.{zero_ℚ}
 use Rattle.frac128.specs.Operations.{TermsFit}
 use Rattle.lp_definitions.specs.LinearProgram.{LinearProgram, value_at}
 use Rattle.check_definitions.specs.Checks.{row_products}
 use Rattle.certificate_check.proofs.Left.{IsLeft, columns_left, row_step, row_refused}
-use Rattle.certificate_check.proofs.Skips.{list_start, passed_zero, passed_absent, next_listed, next_within, listed_step, listed_refused, listed_absent, listed_done, tail_value, number_is, absent_is}
-use Rattle.certificate_check.proofs.sums.row_sum.Goals.{in-Some+in_ok-sum, in_default, in-Some-number_on+in_ok-sum-2, in_default-number_on}
+use Rattle.certificate_check.proofs.Skips.{list_start, passed_zero, next_listed, next_within, listed_step, listed_refused, listed_done, tail_value}
 use Rattle.certificate_check.proofs.sums.row_sum.Goals as goal
 
 pub loop-column-init : goal.loop-column-init
@@ -14,8 +13,8 @@ loop-column-init c =
     let fits : TermsFit c.whole-sum.result = search rules in
     list_start c.args.lp.now (value_at c.args.values.now) c.args.row c.whole-sum.result c.args.listed.now c.args.last c.whole-sum.ensures fits c.requires.listed
 
-pub column-requires : goal.column-requires
-column-requires c =
+pub add_entry-requires-clause-column : goal.add_entry-requires-clause-column
+add_entry-requires-clause-column c =
     let here = next_listed c.args.lp.now (value_at c.args.values.now) c.args.row c.loop-column.sum c.args.listed.now c.loop-column.column-index c.args.last c.loop-column-test.true c.loop-column.invariant in
     let within = next_within c.args.lp.now (value_at c.args.values.now) c.args.row c.loop-column.sum _ _ c.args.last here in
     (within.0, omega (arith, within.1, c.requires.last))
@@ -28,47 +27,17 @@ loop-place-init c =
       subst (λ (j : ℕ). IsLeft zero_ℚ (row_products c.args.lp.now (value_at c.args.values.now) c.args.row) c.loop-column.sum (columns_left c.args.lp.now (value_at c.args.values.now) c.args.row j)) same left,
     )
 
-pub overflow_add-lp-inside : goal.overflow_add-lp-inside
-overflow_add-lp-inside c =
-    let here = next_listed c.args.lp.now (value_at c.args.values.now) c.args.row c.loop-column.sum c.args.listed.now c.loop-column.column-index c.args.last c.loop-column-test.true c.loop-column.invariant in
-    let within = next_within c.args.lp.now (value_at c.args.values.now) c.args.row c.loop-column.sum _ _ c.args.last here in
-    let rows : c.lp.inside.rows ≡ c.args.lp.now.rows = ap (λ (p : LinearProgram). p.rows) c.lp.view_is in
-    let cols : c.lp.inside.cols ≡ c.args.lp.now.cols = ap (λ (p : LinearProgram). p.cols) c.lp.view_is in
-    omega (arith, rows, cols, within.1, c.requires.last, c.lp.invariant.is_matrix.small)
-
-pub value_of-requires-clause-high : goal.value_of-requires-clause-high
-value_of-requires-clause-high c =
-    let here = next_listed c.args.lp.now (value_at c.args.values.now) c.args.row c.loop-column.sum c.args.listed.now c.loop-column.column-index c.args.last c.loop-column-test.true c.loop-column.invariant in
-    let within = next_within c.args.lp.now (value_at c.args.values.now) c.args.row c.loop-column.sum _ _ c.args.last here in
-    let rows : c.lp.inside.rows ≡ c.args.lp.now.rows = ap (λ (p : LinearProgram). p.rows) c.lp.view_is in
-    omega (arith, rows, within.1, c.requires.last, c.requires.places)
-
 pub returns-in_err-sum : goal.returns-in_err-sum
 returns-in_err-sum c =
     let here = next_listed c.args.lp.now (value_at c.args.values.now) c.args.row c.loop-column.sum c.args.listed.now c.loop-column.column-index c.args.last c.loop-column-test.true c.loop-column.invariant in
-    let rows : c.lp.inside.rows ≡ c.args.lp.now.rows = ap (λ (p : LinearProgram). p.rows) c.lp.view_is in
-    let z = value_at c.args.values.now in
     let p = err_from_is_err_and c.from_residual.result c.from_residual.ensures.1 in
-    rw (p.1, p.2)
-    (listed_refused c.args.lp.now z c.args.row c.loop-column.sum _ _ c.args.last c.requires.last here c.in-Some.number (number_is _ _ _ c.args.row c.in-Some.ensures c.column.ensures)
-    c.value_of.result (c.value_of.ensures ∙ ap z (omega (arith, rows))) _ c.in_err-sum.ensures)
+    rw (p.1, p.2) (listed_refused c.args.lp.now (value_at c.args.values.now) c.args.row c.loop-column.sum _ _ c.args.last c.requires.last here _ c.in_err-sum.ensures)
 
 pub loop-column-preserved : goal.loop-column-preserved
 loop-column-preserved c =
     let here = next_listed c.args.lp.now (value_at c.args.values.now) c.args.row c.loop-column.sum c.args.listed.now c.loop-column.column-index c.args.last c.loop-column-test.true c.loop-column.invariant in
-    let rows : c.lp.inside.rows ≡ c.args.lp.now.rows = ap (λ (p : LinearProgram). p.rows) c.lp.view_is in
-    let z = value_at c.args.values.now in
-    elim c.match-number_on.branch [
-      | in-Some+in_ok-sum w ↦
-          let fits : TermsFit w.in_ok-sum.sum = search rules in
-          let next = listed_step c.args.lp.now z c.args.row c.loop-column.sum _ _ c.args.last c.requires.last here w.in-Some.number (number_is _ _ _ c.args.row w.in-Some.ensures c.column.ensures)
-          w.value_of.result (w.value_of.ensures ∙ ap z (omega (arith, rows))) w.in_ok-sum.sum fits w.in_ok-sum.ensures in
-          rw w.sum-is next
-      | in_default w ↦
-          let next = listed_absent c.args.lp.now z c.args.row c.loop-column.sum _ _ c.args.last c.requires.last here zero_ℚ
-          (absent_is _ _ _ c.args.row w.in_default.is c.number_on.ensures c.column.ensures) refl in
-          rw w.sum-is next
-    ]
+    let fits : TermsFit c.in_ok-sum.sum = search rules in
+    listed_step c.args.lp.now (value_at c.args.values.now) c.args.row c.loop-column.sum _ _ c.args.last c.requires.last here c.in_ok-sum.sum fits c.in_ok-sum.ensures
 
 pub loop-place-preserved-then-is_zero : goal.loop-place-preserved-then-is_zero
 loop-place-preserved-then-is_zero c =
@@ -87,16 +56,11 @@ loop-place-preserved-then-is_zero c =
 pub returns-in_err-sum-2 : goal.returns-in_err-sum-2
 returns-in_err-sum-2 c =
     let rows : c.lp.inside.rows ≡ c.args.lp.now.rows = ap (λ (p : LinearProgram). p.rows) c.lp.view_is in
-    let z = value_at c.args.values.now in
     let j = c.args.last + c.loop-place.place in
     let within : c.lp.inside.rows + c.args.last + c.loop-place.place < length c.args.values.now = search rules in
     let below : j < c.args.lp.now.cols = omega (arith, within, rows, c.requires.places) in
-    let place : c.lp.inside.rows + c.args.last + c.loop-place.place + 1 ≡ c.args.lp.now.rows + (j + 1) = omega (arith, rows) in
-    let value : c.value-item.result ≡ z (c.args.lp.now.rows + (j + 1)) = tail_value c.args.values.now (c.lp.inside.rows + c.args.last) c.loop-place.place c.value-item.result within c.value-item.is ∙ ap z place in
     let p = err_from_is_err_and c.from_residual-in_err-sum-2.result c.from_residual-in_err-sum-2.ensures.1 in
-    rw (p.1, p.2)
-    (row_refused c.args.lp.now z c.args.row j below zero_ℚ (row_products c.args.lp.now z c.args.row) c.loop-place.sum c.in-Some-number_on.number c.value-item.result
-    (number_is _ _ _ c.args.row c.in-Some-number_on.ensures c.column-in-loop-place.ensures) value c.loop-place.invariant.1 _ c.in_err-sum-2.ensures)
+    rw (p.1, p.2) (row_refused c.args.lp.now (value_at c.args.values.now) c.args.row j below zero_ℚ (row_products c.args.lp.now (value_at c.args.values.now) c.args.row) c.loop-place.sum c.loop-place.invariant.1 _ c.in_err-sum-2.ensures)
 
 pub loop-place-preserved : goal.loop-place-preserved
 loop-place-preserved c =
@@ -105,17 +69,7 @@ loop-place-preserved c =
     let j = c.args.last + c.loop-place.place in
     let within : c.lp.inside.rows + c.args.last + c.loop-place.place < length c.args.values.now = search rules in
     let below : j < c.args.lp.now.cols = omega (arith, within, rows, c.requires.places) in
-    let place : c.lp.inside.rows + c.args.last + c.loop-place.place + 1 ≡ c.args.lp.now.rows + (j + 1) = omega (arith, rows) in
-    let value : c.value-item.result ≡ z (c.args.lp.now.rows + (j + 1)) = tail_value c.args.values.now (c.lp.inside.rows + c.args.last) c.loop-place.place c.value-item.result within c.value-item.is ∙ ap z place in
     let next : j + 1 ≡ c.args.last + (c.loop-place.place + 1) = omega arith in
-    elim c.match-number_on-2.branch [
-      | in-Some-number_on+in_ok-sum-2 w ↦
-          let fits : TermsFit w.in_ok-sum-2.sum = search rules in
-          let step = row_step c.args.lp.now z c.args.row j below zero_ℚ (row_products c.args.lp.now z c.args.row) c.loop-place.sum w.in-Some-number_on.number c.value-item.result
-          (number_is _ _ _ c.args.row w.in-Some-number_on.ensures c.column-in-loop-place.ensures) value c.loop-place.invariant.1 w.in_ok-sum-2.sum w.in_ok-sum-2.ensures in
-          rw w.sum-is (fits, subst (λ (k : ℕ). IsLeft zero_ℚ (row_products c.args.lp.now z c.args.row) w.in_ok-sum-2.sum (columns_left c.args.lp.now z c.args.row k)) next step)
-      | in_default-number_on w ↦
-          let step = passed_absent c.args.lp.now z c.args.row zero_ℚ _ c.loop-place.sum c.loop-place.invariant.0 j below
-          (absent_is _ _ _ c.args.row w.in_default-number_on.is c.number_on-in-loop-place.ensures c.column-in-loop-place.ensures) c.loop-place.invariant.1 in
-          rw w.sum-is (c.loop-place.invariant.0, subst (λ (k : ℕ). IsLeft zero_ℚ (row_products c.args.lp.now z c.args.row) c.loop-place.sum (columns_left c.args.lp.now z c.args.row k)) next step)
-    ]
+    let fits : TermsFit c.in_ok-sum-2.sum = search rules in
+    let step = row_step c.args.lp.now z c.args.row j below zero_ℚ (row_products c.args.lp.now z c.args.row) c.loop-place.sum c.loop-place.invariant.1 c.in_ok-sum-2.sum c.in_ok-sum-2.ensures in
+    (fits, subst (λ (k : ℕ). IsLeft zero_ℚ (row_products c.args.lp.now z c.args.row) c.in_ok-sum-2.sum (columns_left c.args.lp.now z c.args.row k)) next step)
