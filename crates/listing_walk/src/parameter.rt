@@ -42,7 +42,7 @@ pub fn use_of(verb: &Verb<u32>) -> ParameterUse
 
 /// Where a statement leads that leaves XPARAM alone.
 pub fn as_next(went: Went<'_>) -> Went<'_>
-    ensures { result ≡ as_next went }
+    ensures { result ≡ as_next went.entry }
 {
     match went {
         Went::Leaves(_) | Went::Next => Went::Next,
