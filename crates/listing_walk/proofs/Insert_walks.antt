@@ -116,6 +116,11 @@ taken_by cards machine wanted same deck is = ap (λ (n : Option Name). deck_take
 pub line_by : (cards : List (List ℕ)) (place : ListingPlace) (deck : Option Deck) (rest : List ℕ) → rest ≡ place.cursor → (stands : Bool) → stands ≡ is_line_of cards deck rest → stands ≡ is_line_of cards deck place.cursor
 line_by cards place deck rest same stands is = is ∙ ap (is_line_of cards deck) same
 
+-- the same of the line and the deck
+pub due_by : (problem : Problem ℕ) (lp : LinearProgram) (cards : List (List ℕ)) (place : ListingPlace) (deck : Option Deck) (rest : List ℕ) → rest ≡ place.cursor → (due : Bool) → due ≡ is_line_due problem lp cards deck rest →
+    due ≡ is_line_due problem lp cards deck place.cursor
+due_by problem lp cards place deck rest same due is = is ∙ ap (is_line_due problem lp cards deck) same
+
 module _ (C : Checker) (card : ℕ) (cards : List (List ℕ)) (machine : Machine Chosen) (old new : ListingPlace) where
   pub insert_no_setup : machine.setup ≡ None → (result : Result Went NoMemory) → IfOk result (Passes machine old new (acts.Ends (ends.Verb NoSetup card)) []) → IfOk result (Walks C Insert card cards machine machine old new)
   insert_no_setup = no_setup_walks C Insert card (insert_move card) (inserting_move card) cards machine old new

@@ -4,7 +4,7 @@ use Rattle.card_definitions.specs.Cards.{cards_between}
 use Rattle.basis_deck.specs.Reading.{Refuses}
 use Rattle.run_definitions.specs.State.{choice_of}
 use Rattle.listing_walk.proofs.Selected.{as_many_rows, as_many_columns}
-use Rattle.listing_walk.proofs.Insert_walks.{taken_by, line_by, kept_of, kept_names, insert_no_setup, insert_refused, insert_no_deck, insert_bad_deck, insert_due}
+use Rattle.listing_walk.proofs.Insert_walks.{taken_by, line_by, due_by, kept_of, kept_names, insert_no_setup, insert_refused, insert_no_deck, insert_bad_deck, insert_due}
 use Rattle.listing_walk.proofs.inserting.insert.Goals as goal
 
 pub returns-in_default-clause-walks : goal.returns-in_default-clause-walks
@@ -18,7 +18,8 @@ pub returns-in-Err-clause-walks : goal.returns-in-Err-clause-walks
 returns-in-Err-clause-walks c = λ C.
     insert_refused C c.args.card c.args.cards.now c.args.machine.now c.args.place.now c.refuse_install.new.place c.in-Some.chosen c.in-Some.is c.in-Some-get.problem.now (sym c.in-Some-get.ensures) c.take_deck-taken.result
     (taken_by c.args.cards.now c.args.machine.now c.name-wanted.result c.name-wanted.ensures c.take_deck-taken.result c.take_deck-taken.ensures.taken)
-    (kept_of c.args.machine.now.file c.args.machine.now.setup c.in-Some.chosen c.in-Some.is c.requires.sound.ready c.in-Some-get.problem.now (sym c.in-Some-get.ensures)) _ _ c.in-Err.refusal c.in-Err.ensures.refused
+    (kept_of c.args.machine.now.file c.args.machine.now.setup c.in-Some.chosen c.in-Some.is c.requires.sound.ready c.in-Some-get.problem.now (sym c.in-Some-get.ensures)) c.in_ok-due-in-Err.due
+    (due_by c.in-Some-get.problem.now c.in-Some.chosen.lp c.args.cards.now c.args.place.now c.take_deck-taken.result c.left-rest.result.now c.left-rest.ensures c.in_ok-due-in-Err.due c.in_ok-due-in-Err.ensures) c.in-Err.refusal c.in-Err.ensures.refused
     c.refuse_install.result c.refuse_install.ensures.refuses
 
 pub returns-in_default-taken-clause-walks : goal.returns-in_default-taken-clause-walks
