@@ -10,6 +10,8 @@ mod full;
 #[cfg(test)]
 mod jobs;
 #[cfg(test)]
+mod last_values;
+#[cfg(test)]
 mod listings;
 #[cfg(test)]
 mod long;

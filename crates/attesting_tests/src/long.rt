@@ -1,4 +1,5 @@
 // What the checker of any length finds.
+use crate::last_values::LAST_VALUES;
 use crate::listings::{Edit, Listing, answer_to, edited, first_wrong};
 use crate::long_plans::{CHAIN, CHAIN_OBJECTIVE, CHAIN_RHS, LONG_DIRECTION, LONG_RAY};
 use crate::parametric_runs::{
@@ -97,6 +98,16 @@ fn no_test_is_refused(rt: HostRuntime) -> Result<(), Fail> {
     for (listing, status, line) in cases {
         let answer = answer_to::<OfAnyLength>(rt.alloc(), listing.job, listing.text)?;
         assert!(rt; answer.is(status, line), "{}", listing.name);
+    }
+    Ok(())
+}
+
+// Where a parametric run ends at a value that no cell holds, the walk goes on, but for another run that begins there.
+#[test]
+fn long_last_values_are_left(rt: HostRuntime) -> Result<(), Fail> {
+    for row in &LAST_VALUES {
+        let answer = answer_to::<OfAnyLength>(rt.alloc(), row.job, row.listing)?;
+        assert!(rt; answer.is(row.status, row.line), "{}", row.name);
     }
     Ok(())
 }

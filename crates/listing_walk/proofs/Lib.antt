@@ -5,6 +5,8 @@ mod Selected
 mod Same_limits
 mod Setting_up
 mod Sound
+mod Held_moves
+mod Held_walks
 mod Clamping
 mod Stepping
 mod Asked

@@ -1,5 +1,5 @@
 -- What the statements come to that ask nothing.
-use Rattle.std.proofs.Common.{◌≡◌, ℕ, ◌≤◌, false, List, [], Option, Some, Result, Ok, Err, IfOk, refl, sym, ap, subst}
+use Rattle.std.proofs.Common.{◌≡◌, ℕ, false, List, [], Option, Some, Result, Ok, Err, IfOk, refl, sym, ap, subst}
 use Rattle.std.specs.Io.KnownBytes.{Appends}
 use Rattle.job_devices.specs.States.{SinkState}
 use Rattle.job_devices.specs.declared.device.NoMemory.{NoMemory}
@@ -18,8 +18,6 @@ use Rattle.deck_definitions.specs.Decks.{deck_taken}
 use Rattle.deck_definitions.specs.Conversion.{conversion}
 use Rattle.revise_definitions.specs.Revision.{revision}
 use Rattle.run_machine.specs.declared.act.Act.{Act}
-use Rattle.run_machine.specs.declared.act.Act.TheVariants as acts
-use Rattle.run_machine.specs.declared.end.End.TheVariants as ends
 use Rattle.run_machine.specs.declared.machine.Machine.{Machine}
 use Rattle.run_machine.specs.Statements.{Decides, Executes}
 use Rattle.run_machine.specs.Statements as statements
@@ -70,16 +68,6 @@ plain_goto to card = λ state. refl
 pub plain_exit : (card : ℕ) → IsPlain Exit card
 unfolding verb_move
 plain_exit card = λ state. refl
-
--- with any cells, GOTO and EXIT come to this
-
-pub decides_goto : (to card : ℕ) (machine : Machine Chosen) → 1 ≤ to → Decides IsView DecidesAlone (Goto to) card machine machine (acts.Jump to)
-unfolding verb_move
-decides_goto to card machine first = λ cards position executed state s. (state, refl, s, first)
-
-pub decides_exit : (card : ℕ) (machine : Machine Chosen) → Decides IsView DecidesAlone Exit card machine machine (acts.Ends ends.Done)
-unfolding verb_move
-decides_exit card machine = λ cards position executed state s. refl
 
 pub plain_convert : (card : ℕ) → IsPlain Convert card
 unfolding verb_move

@@ -1,5 +1,6 @@
 pub mod Ended
 pub mod Standing
+pub mod Parameter
 pub mod Walking
 pub mod Choosing
 pub mod Asking

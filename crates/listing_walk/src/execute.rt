@@ -1,16 +1,18 @@
 // The statements of a program.
-ghost use Rattle.std.specs.Prelude.{◌≡◌, ◌+◌, ◌≤◌, ◌<◌, ℕ, List, Some, IfOk, length};
+ghost use Rattle.std.specs.Prelude.{◌≡◌, ◌+◌, ◌≤◌, ◌<◌, Some, IfOk, length};
 ghost use Rattle.control_verbs.specs.Views.{viewed};
 ghost use Rattle.control_compiler.specs.Valid.{IsProgram};
 ghost use Rattle.run_machine.specs.Statements.{IsSoundVerb};
 ghost use Rattle.exact_values.specs.Rational.{ℚ};
-ghost use Rattle.walk_definitions.specs.Checkers.{Checker};
+ghost use Rattle.listing_walk.specs.declared.parameter.ParameterUse.TheVariants.{Neither};
+ghost use Rattle.listing_walk.specs.Parameter.{use_of};
 ghost use Rattle.listing_walk.specs.Standing.{IsSound, holding};
 ghost use Rattle.listing_walk.specs.Walking.{Walks, Steps};
 
 use crate::chosen::Chosen;
 use crate::follow::follow;
 use crate::inserting::insert;
+use crate::parameter::{ParameterUse, as_next, use_of};
 use crate::parametric_runs::parametric_run;
 use crate::place::ListingPlace;
 use crate::reporting::{punch_basis, show_ranges};
@@ -25,7 +27,7 @@ use job_devices::NoMemory;
 use listing_claims::Checks;
 use listing_words::Number;
 use parametric_request::ParametricVerb;
-use run_machine::{Act, End, Machine};
+use run_machine::Machine;
 use std::alloc::Global;
 
 // Follows the statement of a verb on a card.
@@ -89,46 +91,56 @@ fn execute<'a, T: Checks>(
     }
 }
 
-// Follows the statement of a verb where XPARAM has a value that no cell holds. One that may touch the cells finds no memory.
-fn execute_holding<'a>(
+// Follows the statement of a verb that leaves XPARAM alone, where a run left a value there that no cell holds.
+fn execute_apart<'a, T: Checks>(
     alloc: Global,
-    machine: &Machine<Chosen>,
+    machine: &mut Machine<Chosen>,
+    cards: &Cards,
     place: &mut ListingPlace<'a>,
+    card: u32,
     verb: &Verb<u32>,
 ) -> Result<Went<'a>, NoMemory>
+    requires sound { IsSound cards.now machine.old }
     requires verb { IsSoundVerb (viewed verb.now) }
+    requires apart { use_of (viewed verb.now) ≡ Neither }
     requires few { place.old.reports < 4294967295 }
-    ensures walks { (C : Checker) (last : ℚ) (card : ℕ) (cards : List (List ℕ)) → IfOk result
-        (Walks C (viewed verb.now) card cards (holding (Some last) machine.now) (holding (Some last) machine.now) place.old place.new) }
+    ensures walks { (last : ℚ) → IfOk result (Walks T.checker (viewed verb.now) card cards.now (holding (Some last) machine.old) (holding (Some last) machine.new) place.old place.new) }
+    ensures sound { IsSound cards.now machine.new }
     ensures few { place.new.reports ≤ place.old.reports + 1 }
 {
-    match verb {
-        Verb::Goto(position) => follow(alloc, machine, place, &Act::Jump(*position), &[]),
-        Verb::Exit => follow(alloc, machine, place, &Act::Ends(End::Done), &[]),
-        _ => Err(NoMemory),
+    match execute::<T>(alloc, machine, cards, place, card, verb) {
+        Ok(went) => Ok(as_next(went)),
+        Err(refused) => Err(refused),
     }
 }
 
-// Follows a statement, with what a run left in XPARAM where no cell holds it.
+// Follows the statement of a verb, with what a run left in XPARAM where no cell holds it. One that begins there finds no memory.
 fn execute_with<'a, T: Checks>(
     alloc: Global,
     machine: &mut Machine<Chosen>,
     cards: &Cards,
     place: &mut ListingPlace<'a>,
-    last: &Option<Number<'a>>,
+    last: &mut Option<Number<'a>>,
     card: u32,
     verb: &Verb<u32>,
 ) -> Result<Went<'a>, NoMemory>
     requires sound { IsSound cards.now machine.old }
     requires verb { IsSoundVerb (viewed verb.now) }
     requires few { place.old.reports < 4294967295 }
-    ensures walks { IfOk result (Walks T.checker (viewed verb.now) card cards.now (holding last.now machine.old) (holding last.now machine.new) place.old place.new) }
+    ensures walks { IfOk result (Walks T.checker (viewed verb.now) card cards.now (holding last.old machine.old) (holding last.new machine.new) place.old place.new) }
     ensures sound { IsSound cards.now machine.new }
     ensures few { place.new.reports ≤ place.old.reports + 1 }
 {
     match last {
         None => execute::<T>(alloc, machine, cards, place, card, verb),
-        Some(_) => execute_holding(alloc, machine, place, verb),
+        Some(_) => match use_of(verb) {
+            ParameterUse::Reads => Err(NoMemory),
+            ParameterUse::Sets => {
+                *last = None;
+                execute::<T>(alloc, machine, cards, place, card, verb)
+            }
+            ParameterUse::Neither => execute_apart::<T>(alloc, machine, cards, place, card, verb),
+        },
     }
 }
 

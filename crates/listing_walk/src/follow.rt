@@ -1,9 +1,7 @@
 // What follows a statement.
-ghost use Rattle.std.specs.Prelude.{◌≡◌, ◌+◌, ◌≤◌, ◌<◌, [], Some, IfOk};
+ghost use Rattle.std.specs.Prelude.{◌≡◌, ◌+◌, ◌≤◌, ◌<◌, [], IfOk};
 ghost use Rattle.run_machine.specs.declared.act.Act.TheVariants as acts;
 ghost use Rattle.run_machine.specs.declared.end.End.TheVariants as ends;
-ghost use Rattle.exact_values.specs.Rational.{ℚ};
-ghost use Rattle.listing_walk.specs.Standing.{holding};
 ghost use Rattle.listing_walk.specs.Walking.{ends_run, Finishes, Passes, Refuses};
 
 use crate::chosen::Chosen;
@@ -45,8 +43,7 @@ pub fn finish<'a>(
     }
 }
 
-/// Goes on after a statement that asks nothing, which came to an act with this text. The text has to stand in the listing. So it does
-/// whatever value XPARAM has.
+/// Goes on after a statement that asks nothing, which came to an act with this text. The text has to stand in the listing.
 pub fn follow<'a>(
     alloc: Global,
     machine: &Machine<Chosen>,
@@ -56,7 +53,6 @@ pub fn follow<'a>(
 ) -> Result<Went<'a>, NoMemory>
     requires { place.old.reports < 4294967295 }
     ensures passes { IfOk result (Passes machine.now place.old place.new act.now text.now) }
-    ensures holding { (last : ℚ) → IfOk result (Passes (holding (Some last) machine.now) place.old place.new act.now text.now) }
     ensures few { place.new.reports ≤ place.old.reports + 1 }
 {
     let ends = ends_run(act);

@@ -10,6 +10,7 @@ mod execute;
 mod follow;
 mod found;
 mod inserting;
+mod parameter;
 mod parametric_runs;
 mod place;
 mod reporting;

@@ -1,7 +1,6 @@
 -- What is open comes first, and then the text.
 use Rattle.std.proofs.Common.{◌≡◌, ◌||◌, ◌∙◌, sym, ap}
-use Rattle.std.specs.Prelude.{Some, is_none}
-use Rattle.listing_walk.specs.Standing.{holding}
+use Rattle.std.specs.Prelude.{is_none}
 use Rattle.listing_walk.specs.Walking.{has_text, ends_run}
 use Rattle.listing_walk.proofs.Follow_on.{is_none_by, passes_open_by, passes_wrong_by, passes_on_by}
 use Rattle.listing_walk.proofs.follow.follow.Goals.{After-open_here, then-ends, else-ends, then-ends-2, else-ends-2}
@@ -34,22 +33,4 @@ pub returns-clause-passes : goal.returns-clause-passes
 returns-clause-passes c =
     passes_on_by c.args.machine.now c.args.place.now c.args.act.now c.args.text.now c.if-ends.looks c.if-ends-2.clears (looks_is (goal.at.returns-clause-passes c).After-open_here)
     (clears_is (goal.at.returns-clause-passes c).After-open_here) c.in_default.ensures c.pass.new.self c.finish.new.place c.pass.result c.if-not-pass.false c.pass.ensures.taken c.pass.ensures.pending c.pass.ensures.reports
-    c.finish.result c.finish.ensures.finishes
-
--- with any value in XPARAM
-
-pub returns-in-Some-clause-holding : goal.returns-in-Some-clause-holding
-returns-in-Some-clause-holding c = λ last.
-    passes_open_by (holding (Some last) c.args.machine.now) c.args.place.now c.args.act.now c.args.text.now c.if-ends.looks c.if-ends-2.clears (looks_is (goal.at.returns-in-Some-clause-holding c).After-open_here)
-    (clears_is (goal.at.returns-in-Some-clause-holding c).After-open_here) c.args.place.now c.in-Some.found c.in-Some.ensures
-
-pub returns-then-not-pass-clause-holding : goal.returns-then-not-pass-clause-holding
-returns-then-not-pass-clause-holding c = λ last.
-    passes_wrong_by (holding (Some last) c.args.machine.now) c.args.place.now c.args.act.now c.args.text.now c.if-ends.looks c.if-ends-2.clears (looks_is (goal.at.returns-then-not-pass-clause-holding c).After-open_here)
-    (clears_is (goal.at.returns-then-not-pass-clause-holding c).After-open_here) c.in_default.ensures c.pass.new.self c.left-rest.result c.left-rest.ensures c.pass.result c.if-not-pass.true c.pass.ensures.taken c.pass.new.self
-
-pub returns-clause-holding : goal.returns-clause-holding
-returns-clause-holding c = λ last.
-    passes_on_by (holding (Some last) c.args.machine.now) c.args.place.now c.args.act.now c.args.text.now c.if-ends.looks c.if-ends-2.clears (looks_is (goal.at.returns-clause-holding c).After-open_here)
-    (clears_is (goal.at.returns-clause-holding c).After-open_here) c.in_default.ensures c.pass.new.self c.finish.new.place c.pass.result c.if-not-pass.false c.pass.ensures.taken c.pass.ensures.pending c.pass.ensures.reports
     c.finish.result c.finish.ensures.finishes

@@ -1,0 +1,92 @@
+-- What a statement comes to in the walk, where XPARAM has a value that no cell holds.
+use Rattle.std.proofs.Common.{◌≡◌, ℕ, ◌+◌, List, Option, Some, Result, Ok, Err, IfOk, refl, sym, ap, subst, ◌∙◌}
+use Rattle.exact_values.specs.Rational.{ℚ}
+use Rattle.job_devices.specs.declared.device.NoMemory.{NoMemory}
+use Rattle.control_definitions.specs.Cells.{Cells}
+use Rattle.control_definitions.specs.Program.{Verb}
+use Rattle.run_definitions.specs.State.{State}
+use Rattle.run_definitions.specs.Verbs.{verb_move}
+use Rattle.run_machine.specs.declared.machine.Machine.{Machine}
+use Rattle.run_machine.specs.Standing as machines
+use Rattle.walk_definitions.specs.Checkers.{Checker}
+use Rattle.walk_definitions.specs.Walker as walks
+use Rattle.listing_walk.specs.declared.chosen.Chosen.{Chosen}
+use Rattle.listing_walk.specs.declared.parameter.ParameterUse.TheVariants.{Sets, Neither}
+use Rattle.listing_walk.specs.declared.place.ListingPlace.{ListingPlace}
+use Rattle.listing_walk.specs.declared.went.Went.{Went}
+use Rattle.listing_walk.specs.declared.went.Went.TheVariants as went
+use Rattle.listing_walk.specs.Parameter.{use_of, as_next}
+use Rattle.listing_walk.specs.Standing.{IsView, Faces, holding, Represents}
+use Rattle.listing_walk.specs.Walking.{TurnsTo, Walks}
+use Rattle.listing_walk.proofs.Held_moves.{state_with, turn_with, verb_with, set_alike, walk_with}
+
+module _ (x : ℚ) (cards : List (List ℕ)) (machine : Machine Chosen) (place : ListingPlace) where
+  -- the machine's state, but for this value in XPARAM
+  represents_with : (position executed : ℕ) (v : walks.Walker) → Represents cards machine position executed place v → Represents cards (holding (Some x) machine) position executed place (record v { state = state_with x v.state })
+  represents_with position executed v r = record {
+    state = record {
+      is_position = r.state.is_position;
+      is_executed = r.state.is_executed;
+      cells = ap (λ (c : Cells). record c { xparam = x }) r.state.cells;
+      file = r.state.file;
+      decks = r.state.decks;
+      setup = r.state.setup;
+      mark = r.state.mark;
+    };
+    faces = record { rest = r.faces.rest; pending = r.faces.pending; reports = r.faces.reports };
+  }
+
+  comes_with : (position executed : ℕ) (turn : walks.WalkTurn) (w' : Went) → TurnsTo turn cards machine position executed place w' → TurnsTo (turn_with x turn) cards (holding (Some x) machine) position executed place (as_next w')
+  comes_with position executed turn went.Next c = (record (c.0) { state = state_with x c.0.state }, ap (turn_with x) c.1, represents_with (position + 1) executed c.0 c.2)
+  comes_with position executed turn (went.Leaves last) c = (record (c.0) { state = state_with x c.0.state }, ap (turn_with x) c.1, left c.0 c.2)
+    where
+      left : (v : walks.Walker) → Represents cards (holding (Some last) machine) (position + 1) executed place v → Represents cards (holding (Some x) machine) (position + 1) executed place (record v { state = state_with x v.state })
+      left v r = record {
+        state = record {
+          is_position = r.state.is_position;
+          is_executed = r.state.is_executed;
+          cells = ap (λ (c : Cells). record c { xparam = x }) r.state.cells;
+          file = r.state.file;
+          decks = r.state.decks;
+          setup = r.state.setup;
+          mark = r.state.mark;
+        };
+        faces = record { rest = r.faces.rest; pending = r.faces.pending; reports = r.faces.reports };
+      }
+  comes_with position executed turn (went.Jump to) c = (record (c.0) { state = state_with x c.0.state }, ap (turn_with x) c.1, represents_with to executed c.0 c.2, c.3)
+  comes_with position executed turn (went.Finds found) c = ap (turn_with x) c
+
+-- the state with the machine's own cells
+module _ (x : ℚ) (cards : List (List ℕ)) (old : Machine Chosen) (position executed : ℕ) (state : State) (s : machines.Represents IsView cards (holding (Some x) old) position executed state) where
+  abbrev before : State
+  before = record state { cells = old.cells }
+
+  stood : machines.Represents IsView cards old position executed before
+  stood = record { is_position = s.is_position; is_executed = s.is_executed; cells = refl; file = s.file; decks = s.decks; setup = s.setup; mark = s.mark }
+
+  same : state_with x before ≡ state
+  same = ap (λ (c : Cells). record state { cells = c }) (sym s.cells)
+
+module _ (x : ℚ) (C : Checker) (verb : Verb ℕ) (card : ℕ) (cards : List (List ℕ)) (old new : Machine Chosen) (place_old place_new : ListingPlace) where
+  -- a statement that leaves XPARAM alone leaves this value there
+  held : use_of verb ≡ Neither → (w' : Went) → Walks C verb card cards old new place_old place_new w' → Walks C verb card cards (holding (Some x) old) (holding (Some x) new) place_old place_new (as_next w')
+  held apart w' h = λ position executed state w s f.
+      let first : State = before x cards old position executed state s in
+      subst (λ (t : walks.WalkTurn). TurnsTo t cards (holding (Some x) new) position executed place_new (as_next w'))
+      (sym (walk_with x C w (verb_move verb card first)) ∙ ap (walks.walk_move C w) (sym (verb_with x verb apart card first) ∙ ap (verb_move verb card) (same x cards old position executed state s)))
+      (comes_with x cards new place_new position executed (walks.walk_move C w (verb_move verb card first)) w' (h position executed first w (stood x cards old position executed state s) f))
+
+  pub walks_held : use_of verb ≡ Neither → (w' left : Went) → left ≡ as_next w' → Walks C verb card cards old new place_old place_new w' → Walks C verb card cards (holding (Some x) old) (holding (Some x) new) place_old place_new left
+  walks_held apart w' left is h = subst (Walks C verb card cards (holding (Some x) old) (holding (Some x) new) place_old place_new) (sym is) (held apart w' h)
+
+  -- one that sets XPARAM goes by the machine alone
+  set : use_of verb ≡ Sets → (w' : Went) → Walks C verb card cards old new place_old place_new w' → Walks C verb card cards (holding (Some x) old) new place_old place_new w'
+  set sets w' h = λ position executed state w s f.
+      let first : State = before x cards old position executed state s in
+      subst (λ (t : walks.WalkTurn). TurnsTo t cards new position executed place_new w')
+      (ap (walks.walk_move C w) (sym (set_alike x verb sets card first) ∙ ap (verb_move verb card) (same x cards old position executed state s)))
+      (h position executed first w (stood x cards old position executed state s) f)
+
+  pub walks_set : use_of verb ≡ Sets → (result : Result Went NoMemory) → IfOk result (Walks C verb card cards old new place_old place_new) → IfOk result (Walks C verb card cards (holding (Some x) old) new place_old place_new)
+  walks_set sets (Ok w') h = set sets w' h
+  walks_set sets (Err stop) h = tt

@@ -1,0 +1,9 @@
+-- The value stays.
+use Rattle.control_verbs.specs.Views.{viewed}
+use Rattle.listing_walk.proofs.Held_walks.{walks_held}
+use Rattle.listing_walk.proofs.execute.execute_apart.Goals as goal
+
+pub returns-in-Ok-clause-walks : goal.returns-in-Ok-clause-walks
+returns-in-Ok-clause-walks g c = λ last.
+    walks_held last g.T.Checks.checker (viewed c.args.verb.now) c.args.card c.args.cards.now c.args.machine.now c.execute.new.machine c.args.place.now c.execute.new.place c.requires.apart c.in-Ok.went c.as_next.result c.as_next.ensures
+    c.in-Ok.ensures.walks

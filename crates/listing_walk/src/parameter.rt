@@ -1,0 +1,52 @@
+// What a statement does with XPARAM.
+ghost use Rattle.std.specs.Prelude.{◌≡◌};
+ghost use Rattle.control_verbs.specs.Views.{viewed};
+ghost use Rattle.listing_walk.specs.Parameter.{cell_use, use_of, as_next};
+
+use crate::went::Went;
+use control_compiler::Verb;
+use run_cells::NumberCell;
+
+/// What a statement does with the value in XPARAM.
+#[derive(Clone, Copy, Debug)]
+pub enum ParameterUse {
+    /// It begins there.
+    Reads,
+    /// It puts another one there.
+    Sets,
+    /// It leaves it alone.
+    Neither,
+}
+
+// What MOVE to a cell of numbers does.
+fn cell_use(cell: NumberCell) -> ParameterUse
+    ensures { result ≡ cell_use cell }
+{
+    match cell {
+        NumberCell::Xparam => ParameterUse::Sets,
+        NumberCell::Xparmax => ParameterUse::Neither,
+    }
+}
+
+/// What the statement of a verb does.
+pub fn use_of(verb: &Verb<u32>) -> ParameterUse
+    ensures { result ≡ use_of (viewed verb.now) }
+{
+    match verb {
+        Verb::Initialz => ParameterUse::Sets,
+        Verb::MoveNumber(cell, _) => cell_use(*cell),
+        Verb::Paraobj | Verb::Pararhs => ParameterUse::Reads,
+        _ => ParameterUse::Neither,
+    }
+}
+
+/// Where a statement leads that leaves XPARAM alone.
+pub fn as_next(went: Went<'_>) -> Went<'_>
+    ensures { result ≡ as_next went.entry }
+{
+    match went {
+        Went::Leaves(_) | Went::Next => Went::Next,
+        Went::Jump(to) => Went::Jump(to),
+        Went::Finds(found) => Went::Finds(found),
+    }
+}
