@@ -27,8 +27,8 @@ from collections.abc import Iterable
 from concurrent.futures import FIRST_COMPLETED, Future, ThreadPoolExecutor, wait
 from typing import Any
 
-# what a check takes at most is less than rt plans for it, and at least this
-PLANNED, LEAST_BYTES, MOST_OF_MEMORY = 0.3, 1_500_000_000, 0.8
+# what a check takes at most lies between these, and is far less than rt plans for it over libraries that are cut to their statements
+PLANNED, LEAST_BYTES, MOST_BYTES, MOST_OF_MEMORY = 0.08, 1_500_000_000, 4_200_000_000, 0.8
 
 
 def with_memo(crate: Any) -> None:
@@ -158,7 +158,7 @@ def build_all(rtlib: Any, store: Store, left: list[Any], lanes: int) -> bool:
         while todo or running:
             waiting = {it.folder for it in todo} | {it.folder for it, _ in running.values()}
             for crate in list(todo):
-                below, needs = {it.folder for it in crate.below()}, max(LEAST_BYTES, PLANNED * crate.need())
+                below, needs = {it.folder for it in crate.below()}, min(MOST_BYTES, max(LEAST_BYTES, PLANNED * crate.need()))
                 if below & failed:
                     todo.remove(crate)
                     failed.add(crate.folder)
