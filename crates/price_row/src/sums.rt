@@ -7,8 +7,9 @@ ghost use Rattle.eta_file.specs.Entries.{IsEntryWithin};
 ghost use Rattle.price_row.specs.Sums.{IsStepRefused, IsWeightedRefused, IsProductsRefused, weighted, products};
 ghost use Rattle.price_row.specs.Places.{IsRowPlace};
 
+use divisors::gcd;
 use eta_file::EtaEntry;
-use frac128::{Frac, Refused};
+use frac128::{Frac, Refused, product, sum};
 use lp_model::Entry;
 
 /// The sum, with one product more.
@@ -58,12 +59,64 @@ pub fn sum_over(entries: &[EtaEntry], p: u32, first: Frac, values: &[Frac]) -> R
     Ok(sum)
 }
 
+/// A sum over a denominator, not in lowest terms.
+#[derive(Clone, Copy)]
+struct Unreduced {
+    num: i128,
+    den: i128,
+}
+
+/// What a and b are to be multiplied with for a common multiple, which is a or b itself where one divides the other.
+fn cofactors(a: i128, b: i128) -> (i128, i128) {
+    if a == b {
+        return (1, 1);
+    }
+    let times = a / b;
+    if times * b == a {
+        return (1, times);
+    }
+    let shared = gcd(a.unsigned_abs(), b.unsigned_abs()) as i128;
+    (b / shared, a / shared)
+}
+
+/// The product, where nothing is multiplied by 1.
+fn raised(n: i128, times: i128) -> Option<i128> {
+    if times == 1 { Some(n) } else { product(n, times) }
+}
+
+impl Unreduced {
+    fn plus(self, x: Frac, y: Frac) -> Option<Unreduced> {
+        let more = product(x.num(), y.num())?;
+        let over = raised(x.den(), y.den())?;
+        let (growth, factor) = cofactors(self.den, over);
+        let before = raised(self.num, growth)?;
+        let more = raised(more, factor)?;
+        let num = sum(before, more)?;
+        let den = raised(self.den, growth)?;
+        Some(Unreduced { num, den })
+    }
+}
+
+fn quick_sum_of_column(column: &[Entry], values: &[Frac]) -> Option<Frac> {
+    let mut sum = Unreduced { num: 0, den: 1 };
+    for entry in column {
+        let x = values[entry.row as usize - 1];
+        if !x.is_zero() {
+            sum = sum.plus(x, entry.value)?;
+        }
+    }
+    Some(Frac::new(sum.num, sum.den))
+}
+
 /// The sum of the numbers of a column, each times the value at its row.
 pub fn sum_of_column(column: &[Entry], values: &[Frac]) -> Result<Frac, Refused>
     requires { All (IsRowPlace (length values.now)) column.now }
     ensures value { IfOk result (λ sum. sum ≡ sum_from zero_ℚ (products values.now column.now)) }
     ensures refused { IfErr result (IsProductsRefused values.now column.now) }
 {
+    if let Some(sum) = quick_sum_of_column(column, values) {
+        return Ok(sum);
+    }
     let mut sum = Frac::whole(0);
     for entry in column {
         sum = added(sum, values[entry.row as usize - 1], entry.value)?;
