@@ -144,8 +144,34 @@ WAY NONE
 /// INSERT, at whose selection the range is refused, as if the basis were taken. Its deck puts the row at the limit that the range gives.
 pub const INSERT_REFUSED: Listing = Listing {
     name: "a range that is refused at INSERT",
-    job: b"         PROGRAM\n         CONVERT\n         SETUP('RANGE','R')\n         MOVE(XRHS,'B')\n         INSERT\n         EXIT\n         PEND\nNAME          T\nROWS\n N  COST\n L  LIM\nCOLUMNS\n    X         LIM       1\nRHS\n    A         LIM       4\n    B         LIM       999999999E18\nRANGES\n    R         LIM       .1E-18\nENDATA\nNAME          D\n XL X         LIM\nENDATA\n",
-    text: b"CONVERT T        ROWS 2 COLUMNS 1 ENTRIES 1\nSETUP   T        MIN\nINSERT  D        BASIC 1\nEND 0\n",
+    job: b"         PROGRAM
+         CONVERT
+         SETUP('RANGE','R')
+         MOVE(XRHS,'B')
+         INSERT
+         EXIT
+         PEND
+NAME          T
+ROWS
+ N  COST
+ L  LIM
+COLUMNS
+    X         LIM       1
+RHS
+    A         LIM       4
+    B         LIM       999999999E18
+RANGES
+    R         LIM       .1E-18
+ENDATA
+NAME          D
+ XL X         LIM
+ENDATA
+",
+    text: b"CONVERT T        ROWS 2 COLUMNS 1 ENTRIES 1
+SETUP   T        MIN
+INSERT  D        BASIC 1
+END 0
+",
     status: 41,
     line: b"OPEN LINE 3\n",
     cases: &[
@@ -165,7 +191,10 @@ pub const INSERT_REFUSED: Listing = Listing {
             name: "its own stop",
             edit: Edit::From(
                 b"INSERT",
-                b"STOP 20 OVERFLOW F13 SUB 999999999000000000000000000 1/10000000000000000000 P 0 Q 0 I 2 J 0 TERM 1 THETA 0 CARD 5\nBASIS NONE\nWAY NONE\n",
+                b"STOP 20 OVERFLOW F13 SUB 999999999000000000000000000 1/10000000000000000000 P 0 Q 0 I 2 J 0 TERM 1 THETA 0 CARD 5
+BASIS NONE
+WAY NONE
+",
             ),
             status: 41,
             line: b"OPEN LINE 3\n",
@@ -176,8 +205,34 @@ pub const INSERT_REFUSED: Listing = Listing {
 /// The same with a deck that puts a row at a limit that it hasn't.
 pub const BAD_INSERT_REFUSED: Listing = Listing {
     name: "a range that is refused at INSERT of a bad deck",
-    job: b"         PROGRAM\n         CONVERT\n         SETUP('RANGE','R')\n         MOVE(XRHS,'B')\n         INSERT\n         EXIT\n         PEND\nNAME          T\nROWS\n N  COST\n L  LIM\nCOLUMNS\n    X         LIM       1\nRHS\n    A         LIM       4\n    B         LIM       999999999E18\nRANGES\n    R         LIM       .1E-18\nENDATA\nNAME          D\n XL X         COST\nENDATA\n",
-    text: b"CONVERT T        ROWS 2 COLUMNS 1 ENTRIES 1\nSETUP   T        MIN\nINSERT  D        BASIC 1\nEND 0\n",
+    job: b"         PROGRAM
+         CONVERT
+         SETUP('RANGE','R')
+         MOVE(XRHS,'B')
+         INSERT
+         EXIT
+         PEND
+NAME          T
+ROWS
+ N  COST
+ L  LIM
+COLUMNS
+    X         LIM       1
+RHS
+    A         LIM       4
+    B         LIM       999999999E18
+RANGES
+    R         LIM       .1E-18
+ENDATA
+NAME          D
+ XL X         COST
+ENDATA
+",
+    text: b"CONVERT T        ROWS 2 COLUMNS 1 ENTRIES 1
+SETUP   T        MIN
+INSERT  D        BASIC 1
+END 0
+",
     status: 42,
     line: b"UNCHECKED LINE 3\n",
     cases: &[],
