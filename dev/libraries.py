@@ -25,7 +25,7 @@ import sys
 import time
 from collections.abc import Iterable
 from concurrent.futures import FIRST_COMPLETED, Future, ThreadPoolExecutor, wait
-from typing import Any
+from typing import Any, NoReturn
 
 # what a check takes at most lies between these, and is far less than rt plans for it over libraries that are cut to their statements
 PLANNED, LEAST_BYTES, MOST_BYTES, MOST_OF_MEMORY = 0.08, 1_500_000_000, 4_200_000_000, 0.8
@@ -174,12 +174,19 @@ def build_all(rtlib: Any, store: Store, left: list[Any], lanes: int) -> bool:
     return not failed
 
 
+class Words(argparse.ArgumentParser):
+    "words of the command line; wrong ones end it with 64"
+
+    def error(self, message: str) -> NoReturn:
+        print(f"libraries.py: {message}\n{self.format_usage()}", end="", file=sys.stderr)
+        sys.exit(64)
+
+
 def main(words: list[str]) -> int:
-    rtlib = rt_library()
     if words[:1] == ["--rt"]:
-        return int(rtlib.main(*words[1:]))
+        return int(rt_library().main(*words[1:]))
     cache = pathlib.Path(os.environ.get("XDG_CACHE_HOME") or pathlib.Path.home() / ".cache")
-    parser = argparse.ArgumentParser(usage=str(__doc__).partition("usage: ")[2], add_help=False)
+    parser = Words(prog="libraries.py", usage="libraries.py [--lanes N] [--only-give] [--store FOLDER] [CRATE..] | --rt WORD..", add_help=False)
     parser.add_argument("--lanes", type=int, default=len(os.sched_getaffinity(0)))
     parser.add_argument("--only-give", action="store_true")
     parser.add_argument("--store", type=pathlib.Path, default=cache / "mps360/libraries")
@@ -189,6 +196,7 @@ def main(words: list[str]) -> int:
     if given.help:
         print(__doc__)
         return 0
+    rtlib = rt_library()
     store = Store(given.store)
     rtlib.guarded()
     crates = wanted_of(rtlib, given.names)

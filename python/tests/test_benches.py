@@ -5,6 +5,7 @@ import pathlib
 import re
 import shutil
 import subprocess
+import sys
 
 import fakes
 import places
@@ -112,9 +113,32 @@ def test_the_size_of_the_source():
     assert b"lines" in ran(0, places.DEV / "source_numbers.py")
 
 
+@pytest.mark.parametrize("words, status, said", (
+    (("--help",), 0, b"Builds the libraries of a checkout side by side"), (("--lanes", "x"), 64, b"usage: libraries.py"), ((), 1, b"no command rt on the path")))
+def test_libraries_without_rt(tmp_path, words, status, said):
+    ended = call(sys.executable, places.DEV / "libraries.py", *words, env={"PATH": str(tmp_path)})
+    assert ended.returncode == status and said in ended.stdout + ended.stderr
+
+
+def test_libraries(tmp_path):
+    "two crates of which the store has one; of a crate that isn't there it is said"
+    needs("rt")
+    kit = ran(0, "rt", "version")
+    if b"kit-13b" not in kit:
+        pytest.skip(f"it is for the inside of kit 13b, and this is {kit!r}")
+    for name in ("low", "high"):
+        (tmp_path / "crates" / name / "src").mkdir(parents=True)
+        (tmp_path / "crates" / name / "src/lib.rt").write_text("#![tactic(auto)]\n")
+    (tmp_path / "crates.txt").write_text("low:\nhigh: low\n")
+    subprocess.run(["git", "init", "-q", tmp_path], check=True)
+    words = (sys.executable, places.DEV / "libraries.py", "--only-give", "--store", tmp_path / "store")
+    assert ran(0, *words, cwd=tmp_path) == b"0 are there, 2 aren't: low high\n"
+    assert call(*words, "other", cwd=tmp_path).stderr == b"libraries.py: no library is named other\n"
+
+
 @pytest.mark.parametrize("name, words, status", (
     ("random_mps.py", ("1", "7"), 0), ("random_mps.py", ("x",), 64), ("solver_bases.py", ("--fresh", "1", "7"), 0), ("solver_bases.py", ("--fresh",), 64),
-    ("altered_listings.py", ("0", "2"), 0)))
+    ("altered_listings.py", ("0", "2"), 0), ("altered_cases.py", (places.DATA / "long_listings.jsonl", "0", "2"), 0)))
 def test_tools_that_make_cases_at_random(name, words, status):
     ran(status, places.TESTS / name, *words)
 
