@@ -134,7 +134,7 @@ def test_a_hostile_listing_on_a_page(tmp_path, old, new):
 
 @pytest.mark.parametrize("text", (
     "PRIMAL OPTIMAL STEPS " + "9" * 5000 + " OBJECTIVE 1 CHECKED\n", "    1 PROFIT   BS NONE 0 NONE NONE 0\n",
-    "PRIMAL OPTIMAL STEPS 1 OBJECTIVE 1/0 CHECKED\nEND 0\n", "PRIMAL OPTIMAL STEPS 1 OBJECTIVE " + "9" * 100_001 + " CHECKED\nEND 0\n"))
+    "PRIMAL OPTIMAL STEPS 1 OBJECTIVE 1/0 CHECKED\nEND 0\n", "PRIMAL OPTIMAL STEPS 1 OBJECTIVE " + "9" * 100_001 + " CHECKED\nEND 0\n", "", "\n"))
 def test_what_is_no_listing(tmp_path, text):
     listing = tmp_path / "hostile.listing"
     listing.write_text(text)

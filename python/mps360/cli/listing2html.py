@@ -55,6 +55,8 @@ def main(words: list[str] | None = None) -> int:
         return 65
     try:
         page = Page(job, listing, names, Origin(now(), options.job, checksum))
+        if not page.reports and not page.parsed["end"]:
+            raise NoListing("it is empty")
         text = page.whole()
     except (NoListing, OtherJob, LookupError, ZeroDivisionError, TypeError, ValueError) as cause:
         say(f"{options.listing}: no page of this: {cause}")
