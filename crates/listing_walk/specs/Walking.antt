@@ -27,6 +27,7 @@ use Rattle.listing_walk.specs.declared.went.Onward.{Onward}
 use Rattle.listing_walk.specs.declared.went.Onward.TheVariants as onward
 use Rattle.listing_walk.specs.Ended.{found_view}
 use Rattle.listing_walk.specs.Standing.{IsView, Faces, holding, Represents}
+use Rattle.run_definitions.specs.Run.{max_executed}
 
 -- ---- what is open
 
@@ -117,4 +118,4 @@ ComesTo turn cards machine executed place (onward.Finds found) = turn ≡ walks.
 
 abbrev pub Steps : Checker → Program → List (List ℕ) → ℕ → Machine Chosen → Machine Chosen → ListingPlace → ListingPlace → Onward → Type 0
 Steps C program cards position old new place_old place_new went =
-    (executed : ℕ) (w : walks.Walker) → executed < 100000 → Represents cards old position executed place_old w → ComesTo (walks.turn C program w) cards new (executed + 1) place_new went
+    (executed : ℕ) (w : walks.Walker) → executed < max_executed → Represents cards old position executed place_old w → ComesTo (walks.turn C program w) cards new (executed + 1) place_new went

@@ -11,6 +11,7 @@ ghost use Rattle.parametric_request.specs.Asking.{Serves, parametric_run_of};
 ghost use Rattle.listing_answers.specs.Taken.{conclusion_of, IsParametricRunAnswer};
 ghost use Rattle.listing_walk.specs.Standing.{ShowsPending};
 ghost use Rattle.listing_walk.specs.Asking.{WentBy, stopped_by, is_optimal, SettlesBy, Answered, IsMarked, IsAny, IsSettling};
+ghost use Rattle.walk_definitions.specs.Words.{max_count};
 
 use crate::found::Found;
 use crate::place::{ListingPlace, Pending};
@@ -98,7 +99,7 @@ pub fn answer_path<'a, T: Checks>(
     requires sheet { IsSheet sheet }
     requires lawful { IsLinearProgram sheet.lp.now }
     requires no_change { sheet.lp.now.change ≡ None }
-    requires few { place.old.reports < 4294967295 }
+    requires few { place.old.reports < max_count }
     ensures answered { (limit : Option ℕ) → Answered T.checker (OfPath solver limit) (sheet_view sheet.entry) place.old place.new IsMarked result }
     ensures few { place.new.reports ≤ place.old.reports + 1 }
 {
@@ -153,7 +154,7 @@ pub fn answer_solution<'a, T: Checks>(
     requires sheet { IsSheet sheet }
     requires lawful { IsLinearProgram sheet.lp.now }
     requires no_change { sheet.lp.now.change ≡ None }
-    requires few { place.old.reports < 4294967295 }
+    requires few { place.old.reports < max_count }
     ensures answered { Answered T.checker (OfSolution mark) (sheet_view sheet.entry) place.old place.new (IsAny (OfSolution mark)) result }
     ensures few { place.new.reports ≤ place.old.reports + 1 }
 {
@@ -199,7 +200,7 @@ pub fn answer_parametric_run<'a, T: Checks>(
     requires lawful { IsLinearProgram sheet.lp.now }
     requires no_change { sheet.lp.now.change ≡ None }
     requires serves { Serves sheet.problem.now sheet.lp.now request.now }
-    requires few { place.old.reports < 4294967295 }
+    requires few { place.old.reports < max_count }
     ensures answered { (limit : ℕ) → Answered T.checker (OfParametricRun (parametric_run_of limit request.now)) (sheet_view sheet.entry) place.old place.new IsParametricRunAnswer result }
     ensures few { place.new.reports ≤ place.old.reports + 1 }
 {

@@ -8,6 +8,7 @@ ghost use Rattle.listing_walk.specs.declared.parameter.ParameterUse.TheVariants.
 ghost use Rattle.listing_walk.specs.Parameter.{use_of};
 ghost use Rattle.listing_walk.specs.Standing.{IsSound, holding};
 ghost use Rattle.listing_walk.specs.Walking.{Walks, Steps};
+ghost use Rattle.walk_definitions.specs.Words.{max_count};
 
 use crate::chosen::Chosen;
 use crate::follow::follow;
@@ -41,7 +42,7 @@ fn execute<'a, T: Checks>(
 ) -> Result<Went<'a>, NoMemory>
     requires sound { IsSound cards.now machine.old }
     requires verb { IsSoundVerb (viewed verb.now) }
-    requires few { place.old.reports < 4294967295 }
+    requires few { place.old.reports < max_count }
     ensures walks { IfOk result (Walks T.checker (viewed verb.now) card cards.now machine.old machine.new place.old place.new) }
     ensures sound { IsSound cards.now machine.new }
     ensures few { place.new.reports ≤ place.old.reports + 1 }
@@ -103,7 +104,7 @@ fn execute_apart<'a, T: Checks>(
     requires sound { IsSound cards.now machine.old }
     requires verb { IsSoundVerb (viewed verb.now) }
     requires apart { use_of (viewed verb.now) ≡ Neither }
-    requires few { place.old.reports < 4294967295 }
+    requires few { place.old.reports < max_count }
     ensures walks { (last : ℚ) → IfOk result (Walks T.checker (viewed verb.now) card cards.now (holding (Some last) machine.old) (holding (Some last) machine.new) place.old place.new) }
     ensures sound { IsSound cards.now machine.new }
     ensures few { place.new.reports ≤ place.old.reports + 1 }
@@ -126,7 +127,7 @@ fn execute_with<'a, T: Checks>(
 ) -> Result<Went<'a>, NoMemory>
     requires sound { IsSound cards.now machine.old }
     requires verb { IsSoundVerb (viewed verb.now) }
-    requires few { place.old.reports < 4294967295 }
+    requires few { place.old.reports < max_count }
     ensures walks { IfOk result (Walks T.checker (viewed verb.now) card cards.now (holding last.old machine.old) (holding last.new machine.new) place.old place.new) }
     ensures sound { IsSound cards.now machine.new }
     ensures few { place.new.reports ≤ place.old.reports + 1 }
@@ -158,7 +159,7 @@ pub fn step<'a, T: Checks>(
     requires first { 1 ≤ position }
     requires within { position ≤ length program.now.statements }
     requires sound { IsSound cards.now machine.old }
-    requires few { place.old.reports < 4294967295 }
+    requires few { place.old.reports < max_count }
     ensures steps { IfOk result (Steps T.checker program.now cards.now position (holding last.old machine.old) (holding last.new machine.new) place.old place.new) }
     ensures sound { IsSound cards.now machine.new }
     ensures few { place.new.reports ≤ place.old.reports + 1 }

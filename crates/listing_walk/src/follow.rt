@@ -3,6 +3,7 @@ ghost use Rattle.std.specs.Prelude.{◌≡◌, ◌+◌, ◌≤◌, ◌<◌, [], 
 ghost use Rattle.run_machine.specs.declared.act.Act.TheVariants as acts;
 ghost use Rattle.run_machine.specs.declared.end.End.TheVariants as ends;
 ghost use Rattle.listing_walk.specs.Walking.{ends_run, Finishes, Passes, Refuses};
+ghost use Rattle.walk_definitions.specs.Words.{max_count};
 
 use crate::chosen::Chosen;
 use crate::found::Found;
@@ -51,7 +52,7 @@ pub fn follow<'a>(
     act: &Act,
     text: &[u8],
 ) -> Result<Went<'a>, NoMemory>
-    requires { place.old.reports < 4294967295 }
+    requires { place.old.reports < max_count }
     ensures passes { IfOk result (Passes machine.now place.old place.new act.now text.now) }
     ensures few { place.new.reports ≤ place.old.reports + 1 }
 {
@@ -76,7 +77,7 @@ pub fn fault<'a>(
     fault: VerbFault,
     card: u32,
 ) -> Result<Went<'a>, NoMemory>
-    requires { place.old.reports < 4294967295 }
+    requires { place.old.reports < max_count }
     ensures passes { IfOk result (Passes machine.now place.old place.new (acts.Ends (ends.Verb fault card)) []) }
     ensures few { place.new.reports ≤ place.old.reports + 1 }
 {
@@ -97,7 +98,7 @@ pub fn refuse<'a>(
     refusal: Unselected,
     card: u32,
 ) -> Result<Went<'a>, NoMemory>
-    requires { place.old.reports < 4294967295 }
+    requires { place.old.reports < max_count }
     ensures refuses { IfOk result (Refuses machine.now place.old place.new card refusal) }
     ensures few { place.new.reports ≤ place.old.reports + 1 }
 {

@@ -6,6 +6,7 @@ ghost use Rattle.listing_walk.specs.Standing.{IsSound};
 ghost use Rattle.listing_walk.specs.Walking.{Walks};
 ghost use Rattle.listing_walk.specs.Inserting.{is_line_of, is_line_due, LiesWithin, IsInstallDue, IsInstallRefused, RefusesInstall};
 ghost use Rattle.basis_deck_definitions.specs.Placings.{HasNames};
+ghost use Rattle.walk_definitions.specs.Words.{max_count};
 
 use crate::chosen::Chosen;
 use crate::follow::{fault, follow};
@@ -100,7 +101,7 @@ fn refuse_install<'a>(
     due: bool,
     card: u32,
 ) -> Result<Went<'a>, NoMemory>
-    requires { place.old.reports < 4294967295 }
+    requires { place.old.reports < max_count }
     ensures refuses { IfOk result (RefusesInstall machine.now place.old place.new card due refusal) }
     ensures few { place.new.reports ≤ place.old.reports + 1 }
 {
@@ -122,7 +123,7 @@ pub fn insert<'a>(
     card: u32,
 ) -> Result<Went<'a>, NoMemory>
     requires sound { IsSound cards.now machine.now }
-    requires few { place.old.reports < 4294967295 }
+    requires few { place.old.reports < max_count }
     ensures walks { (C : Checker) → IfOk result (Walks C program.Insert card cards.now machine.now machine.now place.old place.new) }
     ensures few { place.new.reports ≤ place.old.reports + 1 }
 {

@@ -6,6 +6,7 @@ ghost use Rattle.listing_answers.specs.declared.answer.ParametricRunAnswer.TheVa
 ghost use Rattle.listing_walk.specs.Parametric_verbs.{finding_of, left_by, IsUnasked};
 ghost use Rattle.listing_walk.specs.Standing.{IsReady, IsSound};
 ghost use Rattle.listing_walk.specs.Walking.{Walks};
+ghost use Rattle.walk_definitions.specs.Words.{max_count};
 
 use crate::answering::{answer_parametric_run, stop_walk};
 use crate::chosen::Chosen;
@@ -32,7 +33,7 @@ fn unasked<'a>(
     stop: RequestStop,
     card: u32,
 ) -> Result<Went<'a>, NoMemory>
-    requires { place.old.reports < 4294967295 }
+    requires { place.old.reports < max_count }
     ensures unasked { IfOk result (IsUnasked machine.now place.old place.new card stop) }
     ensures few { place.new.reports ≤ place.old.reports + 1 }
 {
@@ -78,7 +79,7 @@ pub fn parametric_run<'a, T: Checks>(
 ) -> Result<Went<'a>, NoMemory>
     requires demands { AreDemands machine.old.cells }
     requires ready { IfSome machine.old.setup (IsReady machine.old.file) }
-    requires few { place.old.reports < 4294967295 }
+    requires few { place.old.reports < max_count }
     ensures walks { (cards : List (List ℕ)) → IfOk result (Walks T.checker (verb_of verb) card cards machine.old machine.new place.old place.new) }
     ensures sound { (cards : List (List ℕ)) → IsSound cards machine.old → IsSound cards machine.new }
     ensures few { place.new.reports ≤ place.old.reports + 1 }

@@ -4,6 +4,7 @@ ghost use Rattle.control_definitions.specs.Program as program;
 ghost use Rattle.walk_definitions.specs.Checkers.{Checker};
 ghost use Rattle.listing_walk.specs.Standing.{IsReady, IsSolved};
 ghost use Rattle.listing_walk.specs.Walking.{RefusesReport, Walks};
+ghost use Rattle.walk_definitions.specs.Words.{max_count};
 
 use crate::answering::is_optimal;
 use crate::chosen::Chosen;
@@ -27,7 +28,7 @@ pub fn show_ranges<'a>(
     requires ready { IfSome machine.now.setup (IsReady machine.now.file) }
     requires solved { IfSome machine.now.mark
         (λ mark. IfSome machine.now.setup (IsSolved mark machine.now.cells.xobj machine.now.cells.xrhs machine.now.file)) }
-    requires few { place.old.reports < 4294967295 }
+    requires few { place.old.reports < max_count }
     ensures walks { (C : Checker) (cards : List (List ℕ)) → IfOk result (Walks C program.Ranging card cards machine.now machine.now place.old place.new) }
     ensures few { place.new.reports ≤ place.old.reports + 1 }
 {
@@ -53,7 +54,7 @@ fn refuse_report<'a>(
     stands: bool,
     card: u32,
 ) -> Result<Went<'a>, NoMemory>
-    requires { place.old.reports < 4294967295 }
+    requires { place.old.reports < max_count }
     ensures refuses { IfOk result (RefusesReport machine.now place.old place.new card stands refusal) }
     ensures few { place.new.reports ≤ place.old.reports + 1 }
 {
@@ -72,7 +73,7 @@ pub fn punch_basis<'a>(
     card: u32,
 ) -> Result<Went<'a>, NoMemory>
     requires ready { IfSome machine.now.setup (IsReady machine.now.file) }
-    requires few { place.old.reports < 4294967295 }
+    requires few { place.old.reports < max_count }
     ensures walks { (C : Checker) (cards : List (List ℕ)) → IfOk result (Walks C program.Punch card cards machine.now machine.now place.old place.new) }
     ensures few { place.new.reports ≤ place.old.reports + 1 }
 {

@@ -10,6 +10,7 @@ ghost use Rattle.walk_definitions.specs.Checkers.{Checker};
 ghost use Rattle.listing_walk.specs.Choosing.{IsOpened, IsNotOpened};
 ghost use Rattle.listing_walk.specs.Standing.{IsSound};
 ghost use Rattle.listing_walk.specs.Walking.{Walks};
+ghost use Rattle.walk_definitions.specs.Words.{max_count};
 
 use crate::chosen::{Chosen, Named};
 use crate::follow::{fault, follow};
@@ -81,7 +82,7 @@ pub fn set_up<'a>(
     card: u32,
     options: &SetupOptions,
 ) -> Result<Went<'a>, NoMemory>
-    requires { place.old.reports < 4294967295 }
+    requires { place.old.reports < max_count }
     ensures walks { (C : Checker) (cards : List (List ℕ)) → IfOk result
         (Walks C (program.Setup (options_view options.now)) card cards machine.old machine.new place.old place.new) }
     ensures sound { (cards : List (List ℕ)) → IsSound cards machine.old → IsSound cards machine.new }

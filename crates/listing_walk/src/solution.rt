@@ -3,6 +3,7 @@ ghost use Rattle.std.specs.Prelude.{◌≡◌, ◌+◌, ◌≤◌, ◌<◌, ℕ,
 ghost use Rattle.control_definitions.specs.Program as program;
 ghost use Rattle.listing_walk.specs.Standing.{IsReady, IsSolved};
 ghost use Rattle.listing_walk.specs.Walking.{Walks};
+ghost use Rattle.walk_definitions.specs.Words.{max_count};
 
 use crate::answering::{answer_solution, stop_walk};
 use crate::chosen::Chosen;
@@ -27,7 +28,7 @@ pub fn show_solution<'a, T: Checks>(
     requires ready { IfSome machine.now.setup (IsReady machine.now.file) }
     requires solved { IfSome machine.now.mark
         (λ mark. IfSome machine.now.setup (IsSolved mark machine.now.cells.xobj machine.now.cells.xrhs machine.now.file)) }
-    requires few { place.old.reports < 4294967295 }
+    requires few { place.old.reports < max_count }
     ensures walks { (cards : List (List ℕ)) → IfOk result (Walks T.checker program.Solution card cards machine.now machine.now place.old place.new) }
     ensures few { place.new.reports ≤ place.old.reports + 1 }
 {

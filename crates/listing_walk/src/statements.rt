@@ -4,6 +4,7 @@ ghost use Rattle.control_definitions.specs.Program as program;
 ghost use Rattle.walk_definitions.specs.Checkers.{Checker};
 ghost use Rattle.listing_walk.specs.Standing.{IsSound};
 ghost use Rattle.listing_walk.specs.Walking.{Walks};
+ghost use Rattle.walk_definitions.specs.Words.{max_count};
 
 use crate::chosen::Chosen;
 use crate::follow::follow;
@@ -22,7 +23,7 @@ pub fn title<'a>(
     place: &mut ListingPlace<'a>,
     text: &Text,
 ) -> Result<Went<'a>, NoMemory>
-    requires { place.old.reports < 4294967295 }
+    requires { place.old.reports < max_count }
     ensures walks { (C : Checker) (card : ℕ) (cards : List (List ℕ)) → IfOk result (Walks C (program.Title text.now) card cards machine.now machine.now place.old place.new) }
     ensures few { place.new.reports ≤ place.old.reports + 1 }
 {
@@ -42,7 +43,7 @@ pub fn convert<'a>(
     card: u32,
 ) -> Result<Went<'a>, NoMemory>
     requires sound { IsSound cards.now machine.old }
-    requires few { place.old.reports < 4294967295 }
+    requires few { place.old.reports < max_count }
     ensures walks { (C : Checker) → IfOk result (Walks C program.Convert card cards.now machine.old machine.new place.old place.new) }
     ensures sound { IsSound cards.now machine.new }
     ensures few { place.new.reports ≤ place.old.reports + 1 }
@@ -63,7 +64,7 @@ pub fn revise<'a>(
     card: u32,
 ) -> Result<Went<'a>, NoMemory>
     requires sound { IsSound cards.now machine.old }
-    requires few { place.old.reports < 4294967295 }
+    requires few { place.old.reports < max_count }
     ensures walks { (C : Checker) → IfOk result (Walks C program.Revise card cards.now machine.old machine.new place.old place.new) }
     ensures sound { IsSound cards.now machine.new }
     ensures few { place.new.reports ≤ place.old.reports + 1 }
@@ -82,7 +83,7 @@ pub fn punch_problem<'a>(
     place: &mut ListingPlace<'a>,
     card: u32,
 ) -> Result<Went<'a>, NoMemory>
-    requires { place.old.reports < 4294967295 }
+    requires { place.old.reports < max_count }
     ensures walks { (C : Checker) (cards : List (List ℕ)) → IfOk result (Walks C program.Bcdout card cards machine.now machine.now place.old place.new) }
     ensures few { place.new.reports ≤ place.old.reports + 1 }
 {
