@@ -89,7 +89,7 @@ impl DeckDraft {
     ghost use Rattle.deck_definitions.specs.declared.Style.TheVariants.{FixedFields};
     ghost use Rattle.deck_definitions.specs.DataCards.{style_begun};
     ghost use Rattle.deck_definitions.specs.Conversion.{section_fault, data_card_fault};
-    ghost use Rattle.deck_definitions.proofs.Steps.{with_card};
+    ghost use Rattle.deck_definitions.specs.Steps.{with_card};
     ghost use Rattle.mps_convert.specs.State.{with_data, fault_at, state_with};
     ghost use Rattle.deck_fields.specs.Reported.{ReportsDeckFault};
     ghost use Rattle.deck_fields.specs.Views.{viewed};
