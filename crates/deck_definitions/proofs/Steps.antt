@@ -11,7 +11,7 @@ use Rattle.card_definitions.specs.Fields.{Reading}
 use Rattle.card_definitions.proofs.FirstFaults.{first_fault_after, gathered-push, cons_option-nil}
 use Rattle.problem_definitions.specs.Names.{Name}
 use Rattle.problem_definitions.specs.Problem.{Problem, Group, Entry, Bound}
-use Rattle.problem_definitions.specs.Groups.{grouped, in_set}
+use Rattle.problem_definitions.specs.Groups.{grouped}
 use Rattle.problem_definitions.proofs.Groups.{grouped-push}
 use Rattle.deck_definitions.specs.declared.DeckFaultKind.{DeckFaultKind}
 use Rattle.deck_definitions.specs.declared.Section.{Section}
