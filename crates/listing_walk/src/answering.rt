@@ -10,12 +10,12 @@ ghost use Rattle.listing_words.specs.Read.{sheet_view};
 ghost use Rattle.parametric_request.specs.Asking.{Serves, parametric_run_of};
 ghost use Rattle.listing_answers.specs.Taken.{conclusion_of, IsParametricRunAnswer};
 ghost use Rattle.listing_walk.specs.Standing.{ShowsPending};
-ghost use Rattle.listing_walk.specs.Asking.{WentBy, stopped_by, is_optimal, SettlesBy, Answered, IsMarked, IsAny, IsSettling};
+ghost use Rattle.listing_walk.specs.Asking.{IsStopStep, stopped_by, is_optimal, SettlesBy, Answered, IsMarked, IsAny, IsSettling};
 ghost use Rattle.walk_definitions.specs.Words.{max_count};
 
 use crate::found::Found;
 use crate::place::{ListingPlace, Pending};
-use crate::went::Went;
+use crate::walk_step::WalkStep;
 use job_devices::NoMemory;
 use listing_answers::{
     Conclusion, ParametricRunAnswer, answer_to_parametric_run, answer_to_path, answer_to_solution,
@@ -40,11 +40,11 @@ pub enum Stopped<'a> {
 }
 
 /// How the walk ends, where it doesn't go on with an answer.
-pub fn stop_walk<'a>(stopped: Stopped<'a>) -> Result<Went<'a>, NoMemory>
-    ensures { IfOk result (WentBy stopped.entry) }
+pub fn stop_walk<'a>(stopped: Stopped<'a>) -> Result<WalkStep<'a>, NoMemory>
+    ensures { IfOk result (IsStopStep stopped.entry) }
 {
     match stopped {
-        Stopped::Finds(found) => Ok(Went::Finds(found)),
+        Stopped::Finds(found) => Ok(WalkStep::Finds(found)),
         Stopped::NoMemory => Err(NoMemory),
     }
 }

@@ -21,7 +21,7 @@ use crate::setup::set_up;
 use crate::solution::show_solution;
 use crate::solving::{SolvingVerb, solve};
 use crate::statements::{convert, punch_problem, revise, title};
-use crate::went::{Onward, Went};
+use crate::walk_step::{AfterStep, WalkStep};
 use card_reader::Cards;
 use control_compiler::{Program, Verb};
 use job_devices::NoMemory;
@@ -39,7 +39,7 @@ fn execute<'a, T: Checks>(
     place: &mut ListingPlace<'a>,
     card: u32,
     verb: &Verb<u32>,
-) -> Result<Went<'a>, NoMemory>
+) -> Result<WalkStep<'a>, NoMemory>
     requires sound { IsSound cards.now machine.old }
     requires verb { IsSoundVerb (viewed verb.now) }
     requires few { place.old.reports < max_count }
@@ -100,7 +100,7 @@ fn execute_apart<'a, T: Checks>(
     place: &mut ListingPlace<'a>,
     card: u32,
     verb: &Verb<u32>,
-) -> Result<Went<'a>, NoMemory>
+) -> Result<WalkStep<'a>, NoMemory>
     requires sound { IsSound cards.now machine.old }
     requires verb { IsSoundVerb (viewed verb.now) }
     requires apart { use_of (viewed verb.now) ≡ Neither }
@@ -110,7 +110,7 @@ fn execute_apart<'a, T: Checks>(
     ensures few { place.new.reports ≤ place.old.reports + 1 }
 {
     match execute::<T>(alloc, machine, cards, place, card, verb) {
-        Ok(went) => Ok(as_next(went)),
+        Ok(next_step) => Ok(as_next(next_step)),
         Err(refused) => Err(refused),
     }
 }
@@ -124,7 +124,7 @@ fn execute_with<'a, T: Checks>(
     last: &mut Option<Number<'a>>,
     card: u32,
     verb: &Verb<u32>,
-) -> Result<Went<'a>, NoMemory>
+) -> Result<WalkStep<'a>, NoMemory>
     requires sound { IsSound cards.now machine.old }
     requires verb { IsSoundVerb (viewed verb.now) }
     requires few { place.old.reports < max_count }
@@ -154,7 +154,7 @@ pub fn step<'a, T: Checks>(
     place: &mut ListingPlace<'a>,
     last: &mut Option<Number<'a>>,
     position: u32,
-) -> Result<Onward<'a>, NoMemory>
+) -> Result<AfterStep<'a>, NoMemory>
     requires valid { IsProgram program.now }
     requires first { 1 ≤ position }
     requires within { position ≤ length program.now.statements }
@@ -166,13 +166,13 @@ pub fn step<'a, T: Checks>(
 {
     let next = program.statement(position);
     match execute_with::<T>(alloc, machine, cards, place, last, next.card, &next.verb) {
-        Ok(Went::Next) => Ok(Onward::Goes(position + 1)),
-        Ok(Went::Leaves(value)) => {
+        Ok(WalkStep::Next) => Ok(AfterStep::Goes(position + 1)),
+        Ok(WalkStep::Leaves(value)) => {
             *last = Some(value);
-            Ok(Onward::Goes(position + 1))
+            Ok(AfterStep::Goes(position + 1))
         }
-        Ok(Went::Jump(to)) => Ok(Onward::Goes(to)),
-        Ok(Went::Finds(found)) => Ok(Onward::Finds(found)),
+        Ok(WalkStep::Jump(to)) => Ok(AfterStep::Goes(to)),
+        Ok(WalkStep::Finds(found)) => Ok(AfterStep::Finds(found)),
         Err(refused) => Err(refused),
     }
 }

@@ -3,7 +3,7 @@ ghost use Rattle.std.specs.Prelude.{◌≡◌, ◌+◌, ◌≤◌, ◌<◌, ℕ,
 ghost use Rattle.run_machine.specs.Standing.{AreDemands};
 ghost use Rattle.parametric_request.specs.Asking.{verb_of};
 ghost use Rattle.listing_answers.specs.declared.answer.ParametricRunAnswer.TheVariants.{RanThrough};
-ghost use Rattle.listing_walk.specs.Parametric_verbs.{finding_of, left_by, IsUnasked};
+ghost use Rattle.listing_walk.specs.ParametricVerbs.{finding_of, left_by, IsUnasked};
 ghost use Rattle.listing_walk.specs.Standing.{IsReady, IsSound};
 ghost use Rattle.listing_walk.specs.Walking.{Walks};
 ghost use Rattle.walk_definitions.specs.Words.{max_count};
@@ -13,7 +13,7 @@ use crate::chosen::Chosen;
 use crate::follow::{fault, finish, refuse};
 use crate::place::ListingPlace;
 use crate::selecting::select_present;
-use crate::went::Went;
+use crate::walk_step::WalkStep;
 use job_devices::NoMemory;
 use listing_answers::ParametricRunAnswer;
 use listing_claims::Checks;
@@ -32,7 +32,7 @@ fn unasked<'a>(
     place: &mut ListingPlace<'a>,
     stop: RequestStop,
     card: u32,
-) -> Result<Went<'a>, NoMemory>
+) -> Result<WalkStep<'a>, NoMemory>
     requires { place.old.reports < max_count }
     ensures unasked { IfOk result (IsUnasked machine.now place.old place.new card stop) }
     ensures few { place.new.reports ≤ place.old.reports + 1 }
@@ -76,7 +76,7 @@ pub fn parametric_run<'a, T: Checks>(
     place: &mut ListingPlace<'a>,
     card: u32,
     verb: ParametricVerb,
-) -> Result<Went<'a>, NoMemory>
+) -> Result<WalkStep<'a>, NoMemory>
     requires demands { AreDemands machine.old.cells }
     requires ready { IfSome machine.old.setup (IsReady machine.old.file) }
     requires few { place.old.reports < max_count }
@@ -108,7 +108,7 @@ pub fn parametric_run<'a, T: Checks>(
         Ok(finding) => finding,
         Err(last) => {
             machine.mark = None;
-            return Ok(Went::Leaves(last));
+            return Ok(WalkStep::Leaves(last));
         }
     };
     leave(machine, &finding);

@@ -9,7 +9,7 @@ use crate::answering::{answer_solution, stop_walk};
 use crate::chosen::Chosen;
 use crate::follow::fault;
 use crate::place::ListingPlace;
-use crate::went::Went;
+use crate::walk_step::WalkStep;
 use job_devices::NoMemory;
 use listing_claims::Checks;
 use listing_definitions::VerbFault;
@@ -24,7 +24,7 @@ pub fn show_solution<'a, T: Checks>(
     machine: &Machine<Chosen>,
     place: &mut ListingPlace<'a>,
     card: u32,
-) -> Result<Went<'a>, NoMemory>
+) -> Result<WalkStep<'a>, NoMemory>
     requires ready { IfSome machine.now.setup (IsReady machine.now.file) }
     requires solved { IfSome machine.now.mark
         (λ mark. IfSome machine.now.setup (IsSolved mark machine.now.cells.xobj machine.now.cells.xrhs machine.now.file)) }
@@ -48,7 +48,7 @@ pub fn show_solution<'a, T: Checks>(
     };
     let _lawful = chosen.lp.number_of_variables();
     match answer_solution::<T>(alloc, place, sheet, mark) {
-        Ok(()) => Ok(Went::Next),
+        Ok(()) => Ok(WalkStep::Next),
         Err(stopped) => stop_walk(stopped),
     }
 }

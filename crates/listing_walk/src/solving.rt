@@ -1,7 +1,7 @@
 // PRIMAL and DUAL.
 ghost use Rattle.std.specs.Prelude.{◌≡◌, ◌+◌, ◌≤◌, ◌<◌, ℕ, List, Some, IfOk, IfSome};
 ghost use Rattle.run_machine.specs.Standing.{AreDemands};
-ghost use Rattle.listing_walk.specs.Solving_verbs.{verb_of, solver_of};
+ghost use Rattle.listing_walk.specs.SolvingVerbs.{verb_of, solver_of};
 ghost use Rattle.listing_walk.specs.Standing.{IsReady, IsSound};
 ghost use Rattle.listing_walk.specs.Walking.{Walks};
 ghost use Rattle.walk_definitions.specs.Words.{max_count};
@@ -11,7 +11,7 @@ use crate::chosen::Chosen;
 use crate::follow::{fault, finish, refuse};
 use crate::place::ListingPlace;
 use crate::selecting::select_present;
-use crate::went::Went;
+use crate::walk_step::WalkStep;
 use job_devices::NoMemory;
 use listing_claims::Checks;
 use listing_definitions::{Mark, Solver, VerbFault};
@@ -56,7 +56,7 @@ pub fn solve<'a, T: Checks>(
     place: &mut ListingPlace<'a>,
     card: u32,
     verb: SolvingVerb,
-) -> Result<Went<'a>, NoMemory>
+) -> Result<WalkStep<'a>, NoMemory>
     requires demands { AreDemands machine.old.cells }
     requires ready { IfSome machine.old.setup (IsReady machine.old.file) }
     requires few { place.old.reports < max_count }

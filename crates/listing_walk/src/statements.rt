@@ -9,7 +9,7 @@ ghost use Rattle.walk_definitions.specs.Words.{max_count};
 use crate::chosen::Chosen;
 use crate::follow::follow;
 use crate::place::ListingPlace;
-use crate::went::Went;
+use crate::walk_step::WalkStep;
 use card_reader::Cards;
 use control_verbs::Text;
 use job_devices::{Discard, NoMemory, SureSink};
@@ -22,7 +22,7 @@ pub fn title<'a>(
     machine: &Machine<Chosen>,
     place: &mut ListingPlace<'a>,
     text: &Text,
-) -> Result<Went<'a>, NoMemory>
+) -> Result<WalkStep<'a>, NoMemory>
     requires { place.old.reports < max_count }
     ensures walks { (C : Checker) (card : ℕ) (cards : List (List ℕ)) → IfOk result (Walks C (program.Title text.now) card cards machine.now machine.now place.old place.new) }
     ensures few { place.new.reports ≤ place.old.reports + 1 }
@@ -41,7 +41,7 @@ pub fn convert<'a>(
     cards: &Cards,
     place: &mut ListingPlace<'a>,
     card: u32,
-) -> Result<Went<'a>, NoMemory>
+) -> Result<WalkStep<'a>, NoMemory>
     requires sound { IsSound cards.now machine.old }
     requires few { place.old.reports < max_count }
     ensures walks { (C : Checker) → IfOk result (Walks C program.Convert card cards.now machine.old machine.new place.old place.new) }
@@ -62,7 +62,7 @@ pub fn revise<'a>(
     cards: &Cards,
     place: &mut ListingPlace<'a>,
     card: u32,
-) -> Result<Went<'a>, NoMemory>
+) -> Result<WalkStep<'a>, NoMemory>
     requires sound { IsSound cards.now machine.old }
     requires few { place.old.reports < max_count }
     ensures walks { (C : Checker) → IfOk result (Walks C program.Revise card cards.now machine.old machine.new place.old place.new) }
@@ -82,7 +82,7 @@ pub fn punch_problem<'a>(
     machine: &Machine<Chosen>,
     place: &mut ListingPlace<'a>,
     card: u32,
-) -> Result<Went<'a>, NoMemory>
+) -> Result<WalkStep<'a>, NoMemory>
     requires { place.old.reports < max_count }
     ensures walks { (C : Checker) (cards : List (List ℕ)) → IfOk result (Walks C program.Bcdout card cards machine.now machine.now place.old place.new) }
     ensures few { place.new.reports ≤ place.old.reports + 1 }

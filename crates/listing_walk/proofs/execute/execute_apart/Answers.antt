@@ -5,5 +5,5 @@ use Rattle.listing_walk.proofs.execute.execute_apart.Goals as goal
 
 pub returns-in-Ok-clause-walks : goal.returns-in-Ok-clause-walks
 returns-in-Ok-clause-walks g c = λ last.
-    walks_held last g.T.Checks.checker (viewed c.args.verb.now) c.args.card c.args.cards.now c.args.machine.now c.execute.new.machine c.args.place.now c.execute.new.place c.requires.apart c.in-Ok.went c.as_next.result c.as_next.ensures
+    walks_held last g.T.Checks.checker (viewed c.args.verb.now) c.args.card c.args.cards.now c.args.machine.now c.execute.new.machine c.args.place.now c.execute.new.place c.requires.apart c.in-Ok.next_step c.as_next.result c.as_next.ensures
     c.in-Ok.ensures.walks
