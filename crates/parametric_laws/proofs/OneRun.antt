@@ -18,7 +18,7 @@ use Rattle.simplex_definitions.specs.ObjectiveRun.{objective_family, IsObjective
 use Rattle.simplex_definitions.specs.RhsRun.{rhs_family, IsRhsFace}
 use Rattle.parametric_laws.specs.Laws.{SameReports}
 use Rattle.parametric_laws.proofs.Runs.{face_step_leads, face_path_leads, opening_leads, objective_keeps, rhs_keeps}
-use Rattle.parametric_laws.specs.Families.{KeepsBases, HasOneFace}
+use Rattle.parametric_laws.specs.Families.{HasOneFace}
 use Rattle.parametric_laws.proofs.OneObjective.{lawful_objective, one_objective_face}
 use Rattle.parametric_laws.proofs.OneRhs.{lawful_rhs, one_rhs_face}
 

@@ -4,8 +4,6 @@ use Rattle.exact_values.specs.Rational.{ℚ}
 use Rattle.lp_definitions.specs.LinearProgram.{LinearProgram, IsRow, HasNoLimits, IsLinearProgram}
 use Rattle.simplex_definitions.specs.ObjectiveRun.{objective_family, IsObjectiveFace}
 use Rattle.simplex_definitions.specs.RhsRun.{rhs_family, IsRhsFace}
-use Rattle.simplex_definitions.specs.Chain.{FailedOpening, Chain}
-use Rattle.simplex_laws.specs.Laws.{IsNonsingularBasis}
 use Rattle.parametric_laws.proofs.Runs.{objective_keeps, rhs_keeps}
 use Rattle.parametric_laws.proofs.OneObjective.{lawful_objective}
 use Rattle.parametric_laws.proofs.OneRhs.{lawful_rhs}
