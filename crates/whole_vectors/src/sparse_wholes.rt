@@ -170,6 +170,11 @@ impl SparseWholes {
         if self.numbers[place] == n {
             return Some(());
         }
+        let held = self.numbers[place];
+        if held != 0 {
+            self.numbers[place] = n;
+            return Some(());
+        }
         enlist(&mut self.listed, &mut self.ranks, place)?;
         self.numbers[place] = n;
         Some(())
